@@ -1,0 +1,4 @@
+pub mod Test
+pub mod Constant
+pub mod Code
+pub mod Effect

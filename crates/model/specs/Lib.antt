@@ -1,0 +1,10 @@
+pub mod Limits
+pub mod Word
+pub mod Objects
+pub mod Method
+pub mod Depth
+pub mod Lookup
+pub mod Rules
+pub mod Image
+pub mod Arithmetic
+pub mod Primitive

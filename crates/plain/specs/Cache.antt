@@ -1,0 +1,44 @@
+-- The cache of lookups (01, "Calls": "Cache", and "Check").
+use Prim.Native.Nat.{ℕ, _+_, _*_, _/_, _%_}
+use mathlib.Core.Bool.{Bool, true, false, _&&_}
+use mathlib.Core.List.{List, [], _∷_}
+use lib.Dec.{eqb}
+use lib.ListN.{getD, replicate}
+use lib.Seq.{sets}
+use lib.Bits.{bitAnd}
+use Rattle.bytecode.specs.Test.{below}
+use Rattle.model.specs.declared.Found.{Found}
+use Rattle.model.specs.declared.Found.the-variants.{Method, Nothing}
+use Rattle.model.specs.Limits.{cacheEntries, cacheEntryWords, cacheWords}
+use Rattle.model.specs.Objects.{Objects}
+use Rattle.model.specs.Lookup.{lookup}
+use Rattle.plain.specs.Step.{Looked, noLookup, looked}
+
+-- The entry of a selector and the class where the lookup starts
+unfoldable pub cacheEntryOf : ℕ → ℕ → ℕ
+cacheEntryOf s c = bitAnd s c / 2 % cacheEntries
+
+-- Run writes selector, class and method of a lookup that missed and found. Where the entry already held them this writes what stands there.
+unfoldable pub filled : List ℕ → Looked → List ℕ
+filled cache noLookup = cache
+filled cache (looked s c m) = sets cache (cacheEntryWords * cacheEntryOf s c) (s ∷ c ∷ m ∷ [])
+
+abbrev pub emptyCache : List ℕ
+emptyCache = replicate cacheWords 0
+
+-- An entry is empty, or holds what plain lookup finds.
+abbrev pub finds : Found → ℕ → Bool
+finds (Method k) m = eqb (k .0) m
+finds Nothing m = false
+
+abbrev pub emptyOr : Bool → Bool → Bool
+emptyOr true b = true
+emptyOr false b = b
+
+unfoldable pub entryFine : Objects → ℕ → ℕ → ℕ → Bool
+entryFine o s c m = emptyOr (eqb s 0 && (eqb c 0 && eqb m 0)) (finds (lookup o s c) m)
+
+unfoldable pub cacheFine : Objects → List ℕ → Bool
+cacheFine o cache =
+    below cacheEntries (λ i.
+    entryFine o (getD cache (cacheEntryWords * i) 0) (getD cache (cacheEntryWords * i + 1) 0) (getD cache (cacheEntryWords * i + 2) 0))

@@ -1,0 +1,9 @@
+pub mod Registers
+pub mod State
+pub mod Step
+pub mod Calls
+pub mod Cache
+pub mod Flat
+pub mod Check
+pub mod FlatCalls
+pub mod Program
