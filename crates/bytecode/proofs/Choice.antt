@@ -1,0 +1,35 @@
+-- A choice whose test is decided. `search ranges` proves a definition by ranges at a number whose range is known.
+use Prim.Native.Nat.{ℕ, _<_, _≤_}
+use mathlib.Core.Path.{_≡_}
+use mathlib.Core.Bool.{Bool, true, false}
+use lib.Dec.{ltb, leb, eqb}
+use borrow.Author.Tests.{lt-ltb, le-ltb, le-leb, lt-leb, eq-eqb, ne-eqb}
+use Rattle.bytecode.specs.Test.{if_then_else_}
+
+pub if-yes : {A : Type 0} {t : Bool} (x y : A) → t ≡ true → (if t then x else y) ≡ x
+unfolding if_then_else_
+if-yes x y e = rw e
+
+pub if-no : {A : Type 0} {t : Bool} (x y : A) → t ≡ false → (if t then x else y) ≡ y
+unfolding if_then_else_
+if-no x y e = rw e
+
+pub if-lt : {A : Type 0} (a b : ℕ) (x y : A) → a < b → (if ltb a b then x else y) ≡ x
+if-lt a b x y h = if-yes x y (lt-ltb a b h)
+
+pub if-ge : {A : Type 0} (a b : ℕ) (x y : A) → b ≤ a → (if ltb a b then x else y) ≡ y
+if-ge a b x y h = if-no x y (le-ltb a b h)
+
+pub if-le : {A : Type 0} (a b : ℕ) (x y : A) → a ≤ b → (if leb a b then x else y) ≡ x
+if-le a b x y h = if-yes x y (le-leb a b h)
+
+pub if-gt : {A : Type 0} (a b : ℕ) (x y : A) → b < a → (if leb a b then x else y) ≡ y
+if-gt a b x y h = if-no x y (lt-leb a b h)
+
+pub if-eq : {A : Type 0} (a b : ℕ) (x y : A) → a ≡ b → (if eqb a b then x else y) ≡ x
+if-eq a b x y h = if-yes x y (eq-eqb a b h)
+
+pub if-ne : {A : Type 0} (a b : ℕ) (x y : A) → (a ≡ b → ⊥) → (if eqb a b then x else y) ≡ y
+if-ne a b x y h = if-no x y (ne-eqb a b h)
+
+pub ruleset ranges = (if-lt, if-ge, if-le, if-gt, if-eq, if-ne)
