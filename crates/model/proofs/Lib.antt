@@ -1,0 +1,4 @@
+pub mod Marks
+pub mod WalkLaws
+pub mod DepthLaws
+pub mod ChainLaws
