@@ -1,9 +1,12 @@
 -- Images for the examples, written object by object.
-use Prim.Native.Nat.{ℕ, _+_}
+use Prim.Native.Nat.{ℕ, _+_, _*_}
 use mathlib.Core.List.{List, [], _∷_, _++_}
 use lib.ListN.{length, replicate}
 use Rattle.bytecode.specs.Constant.{nilWord}
 use Rattle.model.specs.Image.{bytesOf}
+use Rattle.plain.specs.Registers.{noRegisters}
+use Rattle.plain.specs.Flat.{Flat}
+use Rattle.plain.specs.FlatCalls.{Given, gives, noAnswer}
 
 -- An object: its class, kind and size, and the words of its body
 pub record Object : Type 0 where
@@ -60,3 +63,12 @@ addTwo receiver =
     method 8 (1 ∷ 8 ∷ 28791 ∷ 45180 ∷ []) ∷
     class nilWord 16 1 5 ∷
     [])
+
+-- Buffers of so many words, all alike, and the state that a call left
+abbrev pub buffers : ℕ → ℕ → ℕ → Flat
+buffers objects stack fill =
+    record { registers = noRegisters; contents = replicate (4 * objects) fill; bodies = replicate 90 fill; stack = replicate stack fill; cache = replicate 192 fill }
+
+abbrev pub stateOf : Given → Flat
+stateOf (gives a s) = s
+stateOf noAnswer = record { registers = noRegisters; contents = []; bodies = []; stack = []; cache = [] }

@@ -1,3 +1,5 @@
 pub mod Computing
 pub mod Images
 pub mod Worked
+pub mod SuperSends
+pub mod Examples

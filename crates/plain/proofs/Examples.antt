@@ -1,0 +1,30 @@
+-- Three more computed examples, each for a slip that it shuts out.
+use Prim.Native.Nat.{ℕ, _+_, _*_}
+use mathlib.Core.Path.{_≡_, refl}
+use mathlib.Core.Bool.{Bool, true}
+use mathlib.Core.List.{List, [], _∷_, _++_}
+use mathlib.Core.Option.{Option, none}
+use lib.ListN.{replicate, take}
+use Rattle.model.specs.Depth.{depthTable}
+use Rattle.plain.specs.Calls.{wrote}
+use Rattle.plain.specs.FlatCalls.{Saved, saved, flatLoad, flatBegin, flatRun, flatSave}
+use Rattle.plain.proofs.Computing.{computing}
+use Rattle.plain.proofs.Images.{method, addTwo, buffers, stateOf}
+use Rattle.plain.proofs.SuperSends.{superImage}
+
+-- Both branches of a jump are examined: push true, jump on false over the next byte, return self, and an unused byte.
+both-branches : depthTable ((113 * 256 + 152) ∷ (120 * 256 + 126) ∷ []) 4 0 12 (λ i. true) ≡ none
+unfolding computing
+both-branches = refl
+
+-- Save after load gives the image at the output's front, and its length.
+saves : flatSave (stateOf (flatLoad (buffers 21 40 7) (addTwo 81))) (replicate 218 9) ≡ saved (wrote 216) (addTwo 81 ++ (9 ∷ 9 ∷ []))
+unfolding computing addTwo
+saves = refl
+
+-- A send pops receiver and arguments at once: after push self and a send to it, the sender's depth is 0, its operand word stays, and the
+-- new frame's words follow. Words of no frame stay.
+sent : take 25 (stateOf (flatRun (stateOf (flatBegin (stateOf (flatLoad (buffers 21 40 7) (superImage (method 6 (1 ∷ 18 ∷ 124 ∷ [])) 36))) 36 28 [])) 2) .stack)
+    ≡ 0 ∷ 3 ∷ 0 ∷ 34 ∷ 0 ∷ 36 ∷ 36 ∷ 7 ∷ 7 ∷ 7 ∷ 7 ∷ 7 ∷ 7 ∷ 7 ∷ 7 ∷ 7 ∷ 7 ∷ 7 ∷ 0 ∷ 0 ∷ 0 ∷ 32 ∷ 0 ∷ 36 ∷ 7 ∷ []
+unfolding computing superImage
+sent = refl
