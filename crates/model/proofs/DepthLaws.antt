@@ -1,15 +1,15 @@
 -- The depth table of code: computing it decides whether there is one, and its notes are those of the reached positions (01, "Code").
-use Prim.Native.Nat.{ℕ, _+_, _-_, _≤_, _<_}
+use Prim.Native.Nat.{ℕ, suc, pred, _+_, _-_, _≤_, _<_}
 use mathlib.Core.Path.{_≡_, refl, sym, ap, _∙_, subst}
 use mathlib.Core.Logic.{_↔_}
 use mathlib.Core.Bool.{Bool, true, false}
-use mathlib.Core.List.{List, [], _∷_}
-use mathlib.Core.Option.{Option, some}
+use mathlib.Core.List.{List, [], _∷_, List·Memᴰ}
+use mathlib.Core.Option.{Option, none, some}
 use native.Mathlib.Omega.{arith}
 use native.Mathlib.Decide.{decLt}
 use lib.Dec.{T, leb}
 use lib.ListN.{length}
-use Rattle.bytecode.specs.Test.{if_then_else_}
+use Rattle.bytecode.specs.Test.{if_then_else_, allOf}
 use Rattle.bytecode.specs.Code.{nextAt, decodeAt}
 use Rattle.bytecode.specs.Effect.{usable, successors}
 use Rattle.bytecode.specs.declared.Instruction.{Instruction}
@@ -18,9 +18,9 @@ use Rattle.bytecode.proofs.Choice.{if-ge}
 use Rattle.bytecode.proofs.TestLaws.{rule}
 use Rattle.model.specs.Objects.{Objects}
 use Rattle.model.specs.Method.{codeWords, codeSize, temporaryCount, frameWords}
-use Rattle.model.specs.Depth.{successorsAt, depthAfterAt, rulesAt, fineAt, Sound, depthTable, isSome}
+use Rattle.model.specs.Depth.{Reached, first, onward, noteAt, successorsAt, depthAfterAt, rulesAt, fineAt, Sound, depthTable, isSome}
 use Rattle.model.specs.Rules.{allowed, SoundMethod, methodTable}
-use Rattle.model.proofs.WalkLaws.{Notes, found, decides-walk}
+use Rattle.model.proofs.WalkLaws.{Notes, at-reached, found, decides-walk}
 
 one-or-none : (b : Bool) (p : ℕ) → length (if b then p ∷ [] else []) ≤ 2
 unfolding if_then_else_
@@ -81,3 +81,40 @@ module _ (words : List ℕ) (size temporaries limit : ℕ) (rules : Instruction 
 pub decides-method : (o : Objects) (m : ℕ) → SoundMethod o m ↔ T (isSome (methodTable o m))
 unfolding methodTable
 decides-method o m = decides (codeWords o m) (codeSize o m) (temporaryCount o m) (frameWords o m) (allowed o m)
+
+-- What a note of a method's table says of its position: the instruction there keeps its rules, and the successors are noted with the depth
+-- that it leaves.
+pub record Spot (o : Objects) (m p d : ℕ) : Type 0 where
+  pub kept : T (allOf (rulesAt (codeWords o m) (codeSize o m) (temporaryCount o m) (frameWords o m) (allowed o m) p d))
+  pub along : (q : ℕ) → List·Memᴰ q (successorsAt (codeWords o m) (codeSize o m) p)
+      → noteAt (methodTable o m) q ≡ suc (depthAfterAt (codeWords o m) (codeSize o m) p d)
+
+module _ (o : Objects) (m : ℕ) where
+  method-notes : (t : List ℕ) → methodTable o m ≡ some t
+      → Notes (fineAt (codeWords o m) (codeSize o m) (temporaryCount o m) (frameWords o m) (allowed o m)) (successorsAt (codeWords o m) (codeSize o m)) (depthAfterAt (codeWords o m) (codeSize o m)) (codeSize o m) t
+  unfolding methodTable
+  method-notes t e = table-notes (codeWords o m) (codeSize o m) (temporaryCount o m) (frameWords o m) (allowed o m) t e
+
+  pub spot : (p d : ℕ) → noteAt (methodTable o m) p ≡ suc d → Spot o m p d
+  unfolding fineAt
+  spot p d e = go (methodTable o m) refl e
+    where
+      go : (x : Option (List ℕ)) → methodTable o m ≡ x → noteAt x p ≡ suc d → Spot o m p d
+      go none h n = absurd (zero-not-suc n)
+        where
+          zero-not-suc : {k : ℕ} → _≡_ {A = ℕ} 0 (suc k) → ⊥
+          zero-not-suc z = omega arith
+      go (some t) h n =
+          let notes = method-notes t h in
+          let r : Reached (successorsAt (codeWords o m) (codeSize o m)) p = at-reached (notes .path p d n) in
+          record { kept = notes .kept p d n; along = λ q s. ap (λ (x : Option (List ℕ)). noteAt x q) h ∙ notes .reached q (onward r s) ∙ ap suc (notes .table .along p q r s ∙ ap (λ (k : ℕ). depthAfterAt (codeWords o m) (codeSize o m) p (pred k)) n) }
+
+  -- position 0 of a sound method is noted with depth 0
+  pub spot-start : T (isSome (methodTable o m)) → noteAt (methodTable o m) 0 ≡ 1
+  spot-start s = go (methodTable o m) refl s
+    where
+      go : (x : Option (List ℕ)) → methodTable o m ≡ x → T (isSome x) → noteAt (methodTable o m) 0 ≡ 1
+      go none h s′ = absurd s′
+      go (some t) h s′ =
+          let notes = method-notes t h in
+          ap (λ (x : Option (List ℕ)). noteAt x 0) h ∙ notes .reached 0 first ∙ ap suc (notes .table .start)

@@ -3,3 +3,5 @@ pub mod Images
 pub mod Worked
 pub mod SuperSends
 pub mod Examples
+pub mod FrameLaws
+pub mod LaidLaws
