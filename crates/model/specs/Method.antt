@@ -20,7 +20,7 @@ literal o m i = bodyWord o (objectNumber m) (2 + i)
 
 -- The header's bits from the high end: flag 3, T 5, large 1, L 6, tag 1
 abbrev pub flag : Objects → ℕ → ℕ
-flag o m = header o m / 8192
+flag o m = header o m / 8192 % 8
 
 abbrev pub temporaryCount : Objects → ℕ → ℕ
 temporaryCount o m = header o m / 256 % 32

@@ -5,3 +5,6 @@ pub mod SuperSends
 pub mod Examples
 pub mod FrameLaws
 pub mod LaidLaws
+pub mod NowLaws
+pub mod StepLaws
+pub mod Preserve
