@@ -4,3 +4,4 @@ pub mod DepthLaws
 pub mod ChainLaws
 pub mod Parts
 pub mod Facts
+pub mod Extends
