@@ -5,3 +5,4 @@ pub mod ChainLaws
 pub mod Parts
 pub mod Facts
 pub mod Extends
+pub mod Unchanged
