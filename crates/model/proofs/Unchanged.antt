@@ -1,0 +1,368 @@
+-- Lookups, class chains, argument counts and depth tables are the same in objects that extend others.
+use Prim.Native.Nat.{ℕ, zero, suc, _+_, _-_, _*_, _/_, _%_, _≤_, _<_}
+use mathlib.Core.Path.{_≡_, refl, sym, ap, ap₂, _∙_, subst, fun-ext}
+use mathlib.Core.Logic.{_≢_}
+use mathlib.Core.Bool.{Bool, true, false, _&&_, _||_}
+use mathlib.Core.List.{List, [], _∷_}
+use mathlib.Core.Option.{Option}
+use native.Mathlib.Omega.{arith}
+use borrow.Author.Tests.{eq-eqb, ne-eqb, ltb-true}
+use lib.Dec.{T, leb, ltb, eqb, ltb→lt, eqb→eq, eqb-refl}
+use Rattle.bytecode.specs.Test.{if_then_else_, upTo, below, every, implies, allOf}
+use Rattle.bytecode.specs.Constant.{nilWord}
+use Rattle.bytecode.specs.Code.{nextAt, decodeAt, instructionOf, shortOf, constantOf, extendedOf, jumpOf, sendOf, byteAt}
+use Rattle.bytecode.specs.Effect.{need, usable, specialCount}
+use Rattle.bytecode.specs.declared.Place.{Place}
+use Rattle.bytecode.specs.declared.Place.the-variants.{Field, Temporary, Literal, LiteralVariable}
+use Rattle.bytecode.specs.declared.Instruction.{Instruction}
+use Rattle.bytecode.specs.declared.Instruction.the-variants.{Push, Store, PopStore, PushSelf, PushConstant, ReturnSelf, ReturnConstant, ReturnTop, Pop, Duplicate, Jump, JumpOn, Send, SuperSend, SpecialSend, Unused}
+use Rattle.bytecode.proofs.TestLaws.{true→T, T→true, and-left, and-right, and-both, rule}
+use Rattle.model.specs.declared.Found.{Found}
+use Rattle.model.specs.declared.Found.the-variants.{Method, Nothing}
+use Rattle.model.specs.Limits.{fieldsKind, bytesKind, classKind, listKind, methodKind, selectorsObject, specialSelectors}
+use Rattle.model.specs.Word.{isValid, pointer, objectNumber}
+use Rattle.model.specs.Objects.{Objects, kind, size, bodyWords, bodyWord, isKind, isNilOr, superclassWord, dictionaryWord, fieldCount, pairCount, pairSelector, pairMethod}
+use Rattle.model.specs.Method.{home, literal, temporaryCount, literalCount, codeWords, codeSize, frameWords, argumentCount}
+use Rattle.model.specs.Lookup.{found, findFrom, findIn, lookupWithin, lookup, inChainWithin, inChain, endsWithin}
+use Rattle.model.specs.Depth.{walkFrom, successorsAt, depthAfterAt, rulesAt, fineAt, depthTable}
+use Rattle.model.specs.Rules.{knownObjectRules, takesCount, sendFine, variableFine, placeFine, isWritable, specialSelector, isSame, isClass, allowed, methodTable, rule8}
+use Rattle.model.proofs.ChainLaws.{Named, named}
+use Rattle.model.proofs.Parts.{same-test, below-same, upTo-same, if-either, implying}
+use Rattle.model.proofs.Facts.{Right, naming, named-pointer, least, layout, word-valid, known, class-facts, nil-no-class, pair-facts, method-facts, in-words, valid-kind}
+use Rattle.model.proofs.Extends.{Extends, valid-grows, kind-kept, kind-same, kind-valid, superclass-same, dictionary-same, pair-count-same, pair-selector-same, pair-method-same, header-same, home-same, home-fields-same, temporaries-same, literal-count-same, literal-same, frame-same, code-size-same, code-same, arguments-same}
+
+-- a test behind another is asked only where that one holds
+pub and-same : (a a′ b b′ : Bool) → a′ ≡ a → (T a → b′ ≡ b) → (a′ && b′) ≡ (a && b)
+and-same true a′ b b′ p q = ap₂ _&&_ p (q tt)
+and-same false a′ b b′ p q = ap (λ (z : Bool). z && b′) p
+
+pub implies-same : (a a′ b b′ : Bool) → a′ ≡ a → (T a → b′ ≡ b) → implies a′ b′ ≡ implies a b
+implies-same true a′ b b′ p q = ap₂ implies p (q tt)
+implies-same false a′ b b′ p q = ap (λ (z : Bool). implies z b′) p
+
+no-test : (b : Bool) → (T b → ⊥) → b ≡ false
+no-test true f = absurd (f tt)
+no-test false f = refl
+
+-- How a lookup and a chain turn
+module _ (o : Objects) where
+  find-hit : (d s i left : ℕ) → eqb (pairSelector o d i) s ≡ true → findFrom o d s i (suc left) ≡ found (pairMethod o d i)
+  unfolding findFrom
+  find-hit d s i left e = rw (e, findFrom)
+
+  find-miss : (d s i left : ℕ) → eqb (pairSelector o d i) s ≡ false → findFrom o d s i (suc left) ≡ findFrom o d s (suc i) left
+  unfolding findFrom
+  find-miss d s i left e = rw (e, findFrom)
+
+  pub class-hit : (left s c m : ℕ) → isKind o classKind c ≡ true → findIn o (dictionaryWord o c) s ≡ found m → lookupWithin (suc left) o s c ≡ found m
+  unfolding lookupWithin
+  class-hit left s c m e h = rw (e, h, lookupWithin)
+
+  pub class-miss : (left s c : ℕ) → isKind o classKind c ≡ true → findIn o (dictionaryWord o c) s ≡ Nothing
+      → lookupWithin (suc left) o s c ≡ lookupWithin left o s (superclassWord o c)
+  unfolding lookupWithin
+  class-miss left s c e h = rw (e, h, lookupWithin)
+
+  pub no-class : (left s c : ℕ) → isKind o classKind c ≡ false → lookupWithin left o s c ≡ Nothing
+  unfolding lookupWithin
+  no-class zero s c e = refl
+  no-class (suc left) s c e = rw (e, lookupWithin)
+
+  chain-class : (left a c : ℕ) → isKind o classKind c ≡ true → inChainWithin (suc left) o a c ≡ (eqb a c || inChainWithin left o a (superclassWord o c))
+  unfolding inChainWithin
+  chain-class left a c e = rw (e, inChainWithin)
+
+  chain-none : (left a c : ℕ) → isKind o classKind c ≡ false → inChainWithin left o a c ≡ false
+  unfolding inChainWithin
+  chain-none zero a c e = refl
+  chain-none (suc left) a c e = rw (e, inChainWithin)
+
+  pub ends-above : (left c : ℕ) → c ≢ nilWord → endsWithin (suc left) o c ≡ endsWithin left o (superclassWord o c)
+  unfolding endsWithin
+  ends-above left c h = rw (ne-eqb c nilWord h, endsWithin)
+
+  pub ends-nil : (left : ℕ) → T (endsWithin left o nilWord)
+  unfolding endsWithin
+  ends-nil zero = tt
+  ends-nil (suc left) = tt
+
+-- A chain that ends is gone through in its own turns: more of them change nothing.
+module _ {e : ℕ} {o : Objects} (r : Right e o) where
+  class-not-nil : (c : ℕ) → isKind o classKind c ≡ true → c ≢ nilWord
+  class-not-nil c p q = nil-no-class r (subst (λ (w : ℕ). T (isKind o classKind w)) q (true→T p))
+
+  nil-none : (c : ℕ) → c ≡ nilWord → isKind o classKind c ≡ false
+  nil-none c q = no-test (isKind o classKind c) (λ t. nil-no-class r (subst (λ (w : ℕ). T (isKind o classKind w)) q t))
+
+  lookup-step : (n m s c : ℕ) (b : Bool) (f : Found) → isKind o classKind c ≡ b → findIn o (dictionaryWord o c) s ≡ f
+      → (c ≢ nilWord → lookupWithin m o s (superclassWord o c) ≡ lookupWithin n o s (superclassWord o c))
+      → lookupWithin (suc m) o s c ≡ lookupWithin (suc n) o s c
+  lookup-step n m s c true (Method w) p q ih = class-hit o m s c (w .0) p q ∙ sym (class-hit o n s c (w .0) p q)
+  lookup-step n m s c true Nothing p q ih = class-miss o m s c p q ∙ ih (class-not-nil c p) ∙ sym (class-miss o n s c p q)
+  lookup-step n m s c false f p q ih = no-class o (suc m) s c p ∙ sym (no-class o (suc n) s c p)
+
+  lookup-more : (n m s c : ℕ) → n ≤ m → T (endsWithin n o c) → lookupWithin m o s c ≡ lookupWithin n o s c
+  unfolding endsWithin
+  lookup-more zero m s c h t = let p = nil-none c (eqb→eq c nilWord t) in no-class o m s c p ∙ sym (no-class o zero s c p)
+  lookup-more (suc n) zero s c h t = absurd (omega arith)
+  lookup-more (suc n) (suc m) s c h t =
+      lookup-step n m s c (isKind o classKind c) (findIn o (dictionaryWord o c) s) refl refl
+      (λ q. lookup-more n m s (superclassWord o c) (omega arith) (subst T (ends-above o n c q) t))
+
+  chain-step : (n m a c : ℕ) (b : Bool) → isKind o classKind c ≡ b
+      → (c ≢ nilWord → inChainWithin m o a (superclassWord o c) ≡ inChainWithin n o a (superclassWord o c))
+      → inChainWithin (suc m) o a c ≡ inChainWithin (suc n) o a c
+  chain-step n m a c true p ih = chain-class o m a c p ∙ ap (λ (z : Bool). eqb a c || z) (ih (class-not-nil c p)) ∙ sym (chain-class o n a c p)
+  chain-step n m a c false p ih = chain-none o (suc m) a c p ∙ sym (chain-none o (suc n) a c p)
+
+  chain-more : (n m a c : ℕ) → n ≤ m → T (endsWithin n o c) → inChainWithin m o a c ≡ inChainWithin n o a c
+  unfolding endsWithin
+  chain-more zero m a c h t = let p = nil-none c (eqb→eq c nilWord t) in chain-none o m a c p ∙ sym (chain-none o zero a c p)
+  chain-more (suc n) zero a c h t = absurd (omega arith)
+  chain-more (suc n) (suc m) a c h t =
+      chain-step n m a c (isKind o classKind c) refl (λ q. chain-more n m a (superclassWord o c) (omega arith) (subst T (ends-above o n c q) t))
+
+module _ {e : ℕ} {o o′ : Objects} (x : Extends o o′) (r : Right e o) where
+  -- lookups
+  find-from-same : (d s i left : ℕ) → T (isKind o listKind d) → i + left ≤ pairCount o d → findFrom o′ d s i left ≡ findFrom o d s i left
+  unfolding findFrom
+  find-from-same d s i zero t h = refl
+  find-from-same d s i (suc left) t h = go (eqb (pairSelector o d i) s) refl (find-from-same d s (suc i) left t (omega arith))
+    where
+      same : eqb (pairSelector o′ d i) s ≡ eqb (pairSelector o d i) s
+      same = ap (λ (w : ℕ). eqb w s) (pair-selector-same x r d i t (omega arith))
+
+      go : (b : Bool) → eqb (pairSelector o d i) s ≡ b → findFrom o′ d s (suc i) left ≡ findFrom o d s (suc i) left → findFrom o′ d s i (suc left) ≡ findFrom o d s i (suc left)
+      go true p ih = find-hit o′ d s i left (same ∙ p) ∙ ap found (pair-method-same x r d i t (omega arith)) ∙ sym (find-hit o d s i left p)
+      go false p ih = find-miss o′ d s i left (same ∙ p) ∙ ih ∙ sym (find-miss o d s i left p)
+
+  find-same : (c s : ℕ) → T (isKind o classKind c) → findIn o′ (dictionaryWord o′ c) s ≡ findIn o (dictionaryWord o c) s
+  unfolding findIn
+  find-same c s t =
+      let l = class-facts r c t .dictionary in
+      let d : ℕ = dictionaryWord o c in
+      ap (λ (w : ℕ). findFrom o′ w s 0 (pairCount o′ w)) (dictionary-same x r c t)
+      ∙ ap (findFrom o′ d s 0) (pair-count-same x r d l)
+      ∙ find-from-same d s 0 (pairCount o d) l (omega arith)
+
+  -- turn by turn
+  lookup-turns : (left s c : ℕ) → lookupWithin left o′ s c ≡ lookupWithin left o s c
+  unfolding lookupWithin
+  lookup-turns zero s c = refl
+  lookup-turns (suc left) s c = go (isKind o classKind c) (findIn o (dictionaryWord o c) s) refl refl (lookup-turns left s)
+    where
+      same : isKind o′ classKind c ≡ isKind o classKind c
+      same = kind-same x classKind c (omega arith)
+
+      go : (b : Bool) (f : Found) → isKind o classKind c ≡ b → findIn o (dictionaryWord o c) s ≡ f → ((a : ℕ) → lookupWithin left o′ s a ≡ lookupWithin left o s a)
+          → lookupWithin (suc left) o′ s c ≡ lookupWithin (suc left) o s c
+      go true (Method w) p q ih = class-hit o′ left s c (w .0) (same ∙ p) (find-same c s (true→T p) ∙ q) ∙ sym (class-hit o left s c (w .0) p q)
+      go true Nothing p q ih =
+          class-miss o′ left s c (same ∙ p) (find-same c s (true→T p) ∙ q) ∙ ap (lookupWithin left o′ s) (superclass-same x r c (true→T p)) ∙ ih (superclassWord o c)
+          ∙ sym (class-miss o left s c p q)
+      go false f p q ih = no-class o′ (suc left) s c (same ∙ p) ∙ sym (no-class o (suc left) s c p)
+
+  pub lookup-same : (s c : ℕ) → lookup o′ s c ≡ lookup o s c
+  unfolding lookup
+  lookup-same s c = lookup-turns (o′ .n) s c ∙ go (isKind o classKind c) refl
+    where
+      go : (b : Bool) → isKind o classKind c ≡ b → lookupWithin (o′ .n) o s c ≡ lookupWithin (o .n) o s c
+      go true p = lookup-more r (o .n) (o′ .n) s c (x .grows) (class-facts r c (true→T p) .ends)
+      go false p = no-class o (o′ .n) s c p ∙ sym (no-class o (o .n) s c p)
+
+  -- chains
+  chain-turns : (left a c : ℕ) → inChainWithin left o′ a c ≡ inChainWithin left o a c
+  unfolding inChainWithin
+  chain-turns zero a c = refl
+  chain-turns (suc left) a c = go (isKind o classKind c) refl (chain-turns left a)
+    where
+      same : isKind o′ classKind c ≡ isKind o classKind c
+      same = kind-same x classKind c (omega arith)
+
+      go : (b : Bool) → isKind o classKind c ≡ b → ((w : ℕ) → inChainWithin left o′ a w ≡ inChainWithin left o a w) → inChainWithin (suc left) o′ a c ≡ inChainWithin (suc left) o a c
+      go true p ih =
+          chain-class o′ left a c (same ∙ p) ∙ ap (λ (w : ℕ). eqb a c || inChainWithin left o′ a w) (superclass-same x r c (true→T p))
+          ∙ ap (λ (z : Bool). eqb a c || z) (ih (superclassWord o c)) ∙ sym (chain-class o left a c p)
+      go false p ih = chain-none o′ (suc left) a c (same ∙ p) ∙ sym (chain-none o (suc left) a c p)
+
+  pub chain-same : (a c : ℕ) → inChain o′ a c ≡ inChain o a c
+  unfolding inChain
+  chain-same a c = chain-turns (o′ .n) a c ∙ go (isKind o classKind c) refl
+    where
+      go : (b : Bool) → isKind o classKind c ≡ b → inChainWithin (o′ .n) o a c ≡ inChainWithin (o .n) o a c
+      go true p = chain-more r (o .n) (o′ .n) a c (x .grows) (class-facts r c (true→T p) .ends)
+      go false p = chain-none o (o′ .n) a c p ∙ sym (chain-none o (o .n) a c p)
+
+  -- argument counts
+  abbrev counts : Objects → ℕ → ℕ → ℕ → Bool
+  counts y s n d = below (pairCount y d) (λ i. implies (eqb (pairSelector y d i) s) (eqb (argumentCount y (pairMethod y d i)) n))
+
+  counts-same : (s n c : ℕ) → T (isKind o classKind c) → counts o′ s n (dictionaryWord o′ c) ≡ counts o s n (dictionaryWord o c)
+  counts-same s n c t =
+      let l = class-facts r c t .dictionary in
+      let d : ℕ = dictionaryWord o c in
+      ap (counts o′ s n) (dictionary-same x r c t)
+      ∙ ap (λ (k : ℕ). below k (λ i. implies (eqb (pairSelector o′ d i) s) (eqb (argumentCount o′ (pairMethod o′ d i)) n))) (pair-count-same x r d l)
+      ∙ below-same (pairCount o d) (λ i. implies (eqb (pairSelector o d i) s) (eqb (argumentCount o (pairMethod o d i)) n)) (λ i. implies (eqb (pairSelector o′ d i) s) (eqb (argumentCount o′ (pairMethod o′ d i)) n))
+      (λ i h. ap₂ (λ (a b : ℕ). implies (eqb a s) (eqb b n)) (pair-selector-same x r d i l h)
+      (ap (argumentCount o′) (pair-method-same x r d i l h) ∙ arguments-same x r (pairMethod o d i) (pair-facts r c i t h .method)))
+
+  pub count-same : (s n : ℕ) → takesCount o′ s n ≡ takesCount o s n
+  unfolding takesCount
+  count-same s n =
+      upTo-same (o .n) (o′ .n) (λ k. implies (eqb (kind o k) classKind) (counts o s n (dictionaryWord o (pointer k)))) (λ k. implies (eqb (kind o′ k) classKind) (counts o′ s n (dictionaryWord o′ (pointer k)))) (x .grows)
+      (λ k h g. implies-same (eqb (kind o k) classKind) (eqb (kind o′ k) classKind) (counts o s n (dictionaryWord o (pointer k))) (counts o′ s n (dictionaryWord o′ (pointer k)))
+      (ap (λ (z : ℕ). eqb z classKind) (x .entries k 1 h g (omega arith)))
+      (λ t. counts-same s n (pointer k) (subst (λ (z : ℕ). T (isKind o z (pointer k))) (eqb→eq (kind o k) classKind t) (naming o (kind o k) (pointer k) (named-pointer o k h g)))))
+      (λ k h g. implying (eqb (kind o′ k) classKind) (counts o′ s n (dictionaryWord o′ (pointer k))) (λ t. let a = x .new k h g in let b = eqb→eq (kind o′ k) classKind t in absurd (omega arith)))
+
+  pub send-same : (s n : ℕ) → T (isValid (o .n) s) → sendFine o′ s n ≡ sendFine o s n
+  unfolding sendFine
+  send-same s n v = ap₂ (λ (a b : Bool). (eqb s nilWord || a) && b) (kind-valid x bytesKind s v) (count-same s n)
+
+  variable-same : (w : ℕ) → T (isValid (o .n) w) → variableFine o′ w ≡ variableFine o w
+  unfolding variableFine
+  variable-same w v =
+      and-same (isKind o fieldsKind w) (isKind o′ fieldsKind w) (leb 2 (size o (w / 2))) (leb 2 (size o′ (w / 2))) (kind-valid x fieldsKind w v)
+      (λ t. let h = named o fieldsKind w t in ap (leb 2) (x .entries (w / 2) 3 (h .least) (h .most) (omega arith)))
+
+-- Special sends of code are 32: no instruction of another number is decoded.
+abbrev pub Small : Instruction → Type 0
+Small (Push p) = Unit {0}
+Small (Store p) = Unit {0}
+Small (PopStore p) = Unit {0}
+Small PushSelf = Unit {0}
+Small (PushConstant w) = Unit {0}
+Small ReturnSelf = Unit {0}
+Small (ReturnConstant w) = Unit {0}
+Small ReturnTop = Unit {0}
+Small Pop = Unit {0}
+Small Duplicate = Unit {0}
+Small (Jump a b) = Unit {0}
+Small (JumpOn y a) = Unit {0}
+Small (Send l n) = Unit {0}
+Small (SuperSend l n) = Unit {0}
+Small (SpecialSend k) = k < specialSelectors
+Small Unused = Unit {0}
+
+small-if : (b : Bool) (i j : Instruction) → Small i → Small j → Small (if b then i else j)
+small-if b i j s t = if-either Small b i j (λ p. s) (λ p. t)
+
+small-short : (b : ℕ) → Small (shortOf b)
+unfolding shortOf
+small-short b = small-if _ _ _ tt (small-if _ _ _ tt (small-if _ _ _ tt (small-if _ _ _ tt (small-if _ _ _ tt tt))))
+
+small-constant : (b : ℕ) → Small (constantOf b)
+unfolding constantOf
+small-constant b = small-if _ _ _ tt (small-if _ _ _ tt (small-if _ _ _ tt (small-if _ _ _ tt (small-if _ _ _ tt tt))))
+
+small-extended : (b y z : ℕ) → Small (extendedOf b y z)
+unfolding extendedOf
+small-extended b y z =
+    small-if _ _ _ tt (small-if _ _ _ tt (small-if _ _ _ tt (small-if _ _ _ tt (small-if _ _ _ tt (small-if _ _ _ tt (small-if _ _ _ tt (small-if _ _ _ tt (small-if _ _ _ tt tt))))))))
+
+small-jump : (b y : ℕ) → Small (jumpOf b y)
+unfolding jumpOf
+small-jump b y = small-if _ _ _ tt (small-if _ _ _ tt (small-if _ _ _ tt (small-if _ _ _ tt tt)))
+
+small-send : (b : ℕ) → Small (sendOf b)
+unfolding sendOf
+small-send b = if-either Small (ltb b 208) (SpecialSend (b - 176)) (Send (b % 16) ((b - 208) / 16)) (λ p. let h = ltb-true b 208 p in omega arith) (λ p. tt)
+
+pub small-instruction : (b y z : ℕ) → Small (instructionOf b y z)
+unfolding instructionOf
+small-instruction b y z = small-if _ _ _ (small-short b) (small-if _ _ _ (small-constant b) (small-if _ _ _ (small-extended b y z) (small-if _ _ _ (small-jump b y) (small-send b))))
+
+pub small-at : (words : List ℕ) (size p : ℕ) → Small (decodeAt words size p)
+unfolding decodeAt
+small-at words size p = small-if _ _ _ (small-if _ _ _ (small-instruction (byteAt words p) (byteAt words (p + 1)) (byteAt words (p + 2))) tt) tt
+
+module _ {e : ℕ} {o o′ : Objects} (x : Extends o o′) (r : Right e o) where
+  selectors-list : T (isKind o listKind (pointer selectorsObject))
+  unfolding knownObjectRules
+  selectors-list =
+      let l = least r in
+      naming o listKind (pointer selectorsObject) (record { even = omega arith; least = omega arith; most = omega arith; kinds = eqb→eq (kind o selectorsObject) listKind (rule (knownObjectRules e o) (known r) 5) })
+
+  selectors-words : size o selectorsObject ≡ specialSelectors
+  unfolding knownObjectRules
+  selectors-words = eqb→eq (size o selectorsObject) specialSelectors (rule (knownObjectRules e o) (known r) 6)
+
+  selectors-kind : kind o selectorsObject ≡ listKind
+  unfolding knownObjectRules
+  selectors-kind = eqb→eq (kind o selectorsObject) listKind (rule (knownObjectRules e o) (known r) 5)
+
+  inside-selectors : (k : ℕ) → k < specialSelectors → k < bodyWords o selectorsObject
+  inside-selectors k h =
+      let a = selectors-kind in
+      let b = selectors-words in
+      let w = in-words o selectorsObject (omega arith) (omega arith) in
+      omega arith
+
+  pub special-same : (k : ℕ) → k < specialSelectors → specialSelector o′ k ≡ specialSelector o k
+  special-same k h = let l = least r in let a = selectors-kind in x .bodies selectorsObject k (omega arith) (omega arith) (omega arith) (inside-selectors k h)
+
+  pub special-valid : (k : ℕ) → k < specialSelectors → T (isValid (o .n) (specialSelector o k))
+  special-valid k h = let l = least r in let a = selectors-kind in word-valid r selectorsObject k (omega arith) (omega arith) (omega arith) (omega arith) (inside-selectors k h)
+
+  module _ (m : ℕ) (t : T (isKind o methodKind m)) where
+    inside-literals : (i : ℕ) → T (ltb i (literalCount o m)) → i < literalCount o m
+    inside-literals i q = ltb→lt i (literalCount o m) q
+
+    at-literal : (i : ℕ) (f f′ : ℕ → Bool) → ((w : ℕ) → T (isValid (o .n) w) → f′ w ≡ f w)
+        → (ltb i (literalCount o′ m) && f′ (literal o′ m i)) ≡ (ltb i (literalCount o m) && f (literal o m i))
+    at-literal i f f′ h =
+        and-same (ltb i (literalCount o m)) (ltb i (literalCount o′ m)) (f (literal o m i)) (f′ (literal o′ m i)) (ap (ltb i) (literal-count-same x r m t))
+        (λ q. ap f′ (literal-same x r m t i (inside-literals i q)) ∙ h (literal o m i) (method-facts r m t .literals i (inside-literals i q)))
+
+    place-same : (p : Place) → placeFine o′ m p ≡ placeFine o m p
+    unfolding placeFine
+    place-same (Field i) = ap (ltb i) (home-fields-same x r m t)
+    place-same (Temporary i) = ap (ltb i) (temporaries-same x r m t)
+    place-same (Literal i) = ap (ltb i) (literal-count-same x r m t)
+    place-same (LiteralVariable i) = at-literal i (variableFine o) (variableFine o′) (variable-same x r)
+
+    -- the rules of an instruction
+    pub allowed-same : (i : Instruction) → Small i → allowed o′ m i ≡ allowed o m i
+    unfolding allowed
+    allowed-same (Push p) s = place-same p
+    allowed-same (Store p) s = ap (λ (b : Bool). isWritable p && b) (place-same p)
+    allowed-same (PopStore p) s = ap (λ (b : Bool). isWritable p && b) (place-same p)
+    allowed-same PushSelf s = refl
+    allowed-same (PushConstant w) s = refl
+    allowed-same ReturnSelf s = refl
+    allowed-same (ReturnConstant w) s = refl
+    allowed-same ReturnTop s = refl
+    allowed-same Pop s = refl
+    allowed-same Duplicate s = refl
+    allowed-same (Jump a b) s = refl
+    allowed-same (JumpOn y a) s = refl
+    allowed-same (Send l n) s = at-literal l (λ w. sendFine o w n) (λ w. sendFine o′ w n) (λ w v. send-same x r w n v)
+    allowed-same (SuperSend l n) s = at-literal l (λ w. sendFine o w n) (λ w. sendFine o′ w n) (λ w v. send-same x r w n v)
+    allowed-same (SpecialSend k) s =
+        ap (λ (b : Bool). isSame k || (isClass k || b))
+        (ap (λ (w : ℕ). sendFine o′ w (specialCount k)) (special-same k s) ∙ send-same x r (specialSelector o k) (specialCount k) (special-valid k s))
+    allowed-same Unused s = refl
+
+    fine-same : (ws : List ℕ) (sz tc fw p d : ℕ) → fineAt ws sz tc fw (allowed o′ m) p d ≡ fineAt ws sz tc fw (allowed o m) p d
+    unfolding fineAt rulesAt
+    fine-same ws sz tc fw p d =
+        ap (λ (b : Bool). usable (nextAt ws p) (decodeAt ws sz p) && (b && (leb (need (decodeAt ws sz p)) d && (leb (tc + d) fw && true)))) (allowed-same (decodeAt ws sz p) (small-at ws sz p))
+
+    rules-same : (ws : List ℕ) (sz tc fw : ℕ) → depthTable ws sz tc fw (allowed o′ m) ≡ depthTable ws sz tc fw (allowed o m)
+    unfolding depthTable
+    rules-same ws sz tc fw = ap (λ (f : ℕ → ℕ → Bool). walkFrom f (successorsAt ws sz) (depthAfterAt ws sz) sz) (fun-ext (λ p. fun-ext (λ d. fine-same ws sz tc fw p d)))
+
+    pub table-same : methodTable o′ m ≡ methodTable o m
+    unfolding methodTable
+    table-same =
+        ap₂ (λ (ws : List ℕ) (sz : ℕ). depthTable ws sz (temporaryCount o′ m) (frameWords o′ m) (allowed o′ m)) (code-same x r m t) (code-size-same x r m t)
+        ∙ ap₂ (λ (a b : ℕ). depthTable (codeWords o m) (codeSize o m) a b (allowed o′ m)) (temporaries-same x r m t) (frame-same x r m t)
+        ∙ rules-same (codeWords o m) (codeSize o m) (temporaryCount o m) (frameWords o m)
+
+-- start words stay right
+pub start-same : {o o′ : Objects} → Extends o o′ → (w s : ℕ) → T (rule8 o w s []) → T (rule8 o′ w s [])
+unfolding rule8
+start-same {o} {o′} x w s t =
+    and-both (isValid (o′ .n) w) (isKind o′ bytesKind s && true) (valid-grows x w (and-left (isValid (o .n) w) (isKind o bytesKind s && true) t))
+    (and-both (isKind o′ bytesKind s) true (kind-kept x bytesKind s (and-left (isKind o bytesKind s) true (and-right (isValid (o .n) w) (isKind o bytesKind s && true) t))) tt)
