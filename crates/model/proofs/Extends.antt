@@ -171,7 +171,7 @@ module _ {e : ℕ} {o o′ : Objects} (x : Extends o o′) (r : Right e o) where
     home-same = let w = method-words r m t in let f = method-facts r m t .long in method-word-same m 1 t (omega arith)
 
     pub flag-same : flag o′ m ≡ flag o m
-    flag-same = ap (λ (w : ℕ). w / 8192) header-same
+    flag-same = ap (λ (w : ℕ). w / 8192 % 8) header-same
 
     pub temporaries-same : temporaryCount o′ m ≡ temporaryCount o m
     temporaries-same = ap (λ (w : ℕ). w / 256 % 32) header-same
