@@ -8,3 +8,5 @@ pub mod LaidLaws
 pub mod NowLaws
 pub mod StepLaws
 pub mod Preserve
+pub mod StateLaws
+pub mod CacheLaws
