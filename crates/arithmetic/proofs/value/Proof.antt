@@ -1,24 +1,35 @@
+-- `arithmetic::value` meets its contract: the word raised by 16,384 integers is a natural number.
+use Prim.Native.Nat.{_≤_, _<_}
+use mathlib.Core.Path.{_≡_, refl, _∙_}
+use native.Mathlib.Omega.{arith}
 use borrow.Author.Needs.{needs}
+use lib.IntN.{pos, _-ℤ_}
+use mir.Syntax.{w32}
+use mir.Val.{SFits, toZ}
+use mir.ValLaws.{toZ-pos}
+use Rattle.arithmetic.proofs.Machine.{asks, gives}
+use Rattle.arithmetic.proofs.Magnitude.{fits, difference-of}
+use Rattle.arithmetic.proofs.Values.{raisedWord, lowered}
 use Rattle.arithmetic.proofs.value.Statement.{statement}
 use Rattle.arithmetic.proofs.value.Tie as tie
-use Rattle.arithmetic.proofs.value.Reads as reads
-use Rattle.arithmetic.proofs.value.Lts as lts
 
--- src/lib.rt:21:14
+read-raised : (c : tie.Start) → toZ w32 (raisedWord (c .args .w)) ≡ pos (raisedWord (c .args .w))
+read-raised c = toZ-pos w32 (raisedWord (c .args .w)) (omega arith)
+
+lowered-fits : (c : tie.Start) → SFits w32 (pos (raisedWord (c .args .w)) -ℤ pos 16384)
+lowered-fits c = let h = difference-of (pos (raisedWord (c .args .w))) (pos 16384) in fits 65536 (omega arith) (omega arith)
+
 add-n : tie.Need-add-n
 add-n c = search needs
 
--- src/lib.rt:22:5
 cast-result : tie.Need-cast-result
 cast-result c = search needs
 
--- src/lib.rt:22:5
 sub-result : tie.Need-sub-result
-sub-result c = ?
+sub-result c = asks _-ℤ_ (read-raised c) refl (lowered-fits c)
 
--- src/lib.rt:18:1
 returns : tie.Need-returns
-returns c = ?
+returns c = gives _-ℤ_ (read-raised c) refl (lowered-fits c) ∙ lowered (c .args .w) (c .fits .w .fits)
 
 pub value-spec : {M : Type 1} → statement M
 value-spec = tie.close (tie.spec add-n cast-result sub-result returns)

@@ -1,32 +1,41 @@
+-- `arithmetic::word` meets its contract: the integer raised by 16,384 is a natural number.
+use Prim.Native.Nat.{_≤_, _<_}
+use mathlib.Core.Path.{_≡_, refl, _∙_}
+use native.Mathlib.Omega.{arith}
 use borrow.Author.Needs.{needs}
+use lib.IntN.{ℤ, pos, _+ℤ_}
+use lib.Signed.{mag}
+use mir.Syntax.{w32}
+use mir.Val.{SFits, toZ, ofZ}
+use Rattle.arithmetic.proofs.Machine.{read, asks, gives}
+use Rattle.arithmetic.proofs.Magnitude.{fits, sum-mag}
+use Rattle.arithmetic.proofs.Values.{raise, raised, raise-below, word-of-raised}
 use Rattle.arithmetic.proofs.word.Statement.{statement}
 use Rattle.arithmetic.proofs.word.Tie as tie
-use Rattle.arithmetic.proofs.word.Reads as reads
-use Rattle.arithmetic.proofs.word.Lts as lts
 
--- src/lib.rt:30:14
+raised-fits : (c : tie.Start) → SFits w32 (c .args .z +ℤ pos 16384)
+raised-fits c = let h = sum-mag (c .args .z) (pos 16384) in fits 65536 (omega arith) (omega arith)
+
+read-raised : (c : tie.Start) → toZ w32 (ofZ w32 (toZ w32 (ofZ w32 (c .args .z)) +ℤ pos 16384)) ≡ pos (raise (c .args .z))
+read-raised c = gives _+ℤ_ (read (c .fits .z)) refl (raised-fits c) ∙ raised (c .args .z) (c .pre)
+
 add-n : tie.Need-add-n
-add-n c = ?
+add-n c = asks _+ℤ_ (read (c .fits .z)) refl (raised-fits c)
 
--- src/lib.rt:30:13
 cast-n : tie.Need-cast-n
-cast-n c = ?
+cast-n c = let h = raise-below (c .args .z) (c .pre) in rw (read-raised c) (tt, record { fits = omega arith })
 
--- src/lib.rt:31:7
 mul-result : tie.Need-mul-result
-mul-result c = ?
+mul-result c = let h = raise-below (c .args .z) (c .pre) in rw (read-raised c) (record { fits = omega arith })
 
--- src/lib.rt:31:7
 add-result : tie.Need-add-result
-add-result c = ?
+add-result c = let h = raise-below (c .args .z) (c .pre) in rw (read-raised c) (record { fits = omega arith })
 
--- src/lib.rt:31:5
 cast-result : tie.Need-cast-result
 cast-result c = search needs
 
--- src/lib.rt:26:1
 returns : tie.Need-returns
-returns c = ?
+returns c = rw (read-raised c) (word-of-raised (c .args .z) (c .pre))
 
 pub word-spec : {M : Type 1} → statement M
 word-spec = tie.close (tie.spec add-n cast-n mul-result add-result cast-result returns)

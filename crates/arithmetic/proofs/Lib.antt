@@ -1,0 +1,4 @@
+pub mod Machine
+pub mod Magnitude
+pub mod Values
+pub mod Ranges
