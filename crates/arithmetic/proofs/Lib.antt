@@ -2,3 +2,4 @@ pub mod Machine
 pub mod Magnitude
 pub mod Values
 pub mod Ranges
+pub mod Quotients

@@ -14,7 +14,7 @@ use mir.Val.{SFits}
 pub fits : {z : ℤ} (n : ℕ) → mag z ≤ n → n ≤ 2147483647 → SFits w32 z
 fits n h g = record { sfits = omega arith }
 
-neg-natural : (n : ℕ) → mag (negℤ (pos n)) ≤ n
+pub neg-natural : (n : ℕ) → mag (negℤ (pos n)) ≤ n
 neg-natural zero = omega arith
 neg-natural (suc n) = omega arith
 

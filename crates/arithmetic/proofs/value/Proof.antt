@@ -1,13 +1,13 @@
 -- `arithmetic::value` meets its contract: the word raised by 16,384 integers is a natural number.
 use Prim.Native.Nat.{_≤_, _<_}
-use mathlib.Core.Path.{_≡_, refl, _∙_}
+use mathlib.Core.Path.{_≡_, _∙_}
 use native.Mathlib.Omega.{arith}
 use borrow.Author.Needs.{needs}
 use lib.IntN.{pos, _-ℤ_}
 use mir.Syntax.{w32}
 use mir.Val.{SFits, toZ}
 use mir.ValLaws.{toZ-pos}
-use Rattle.arithmetic.proofs.Machine.{asks, gives}
+use Rattle.arithmetic.proofs.Machine.{literal, asks, gives}
 use Rattle.arithmetic.proofs.Magnitude.{fits, difference-of}
 use Rattle.arithmetic.proofs.Values.{raisedWord, lowered}
 use Rattle.arithmetic.proofs.value.Statement.{statement}
@@ -26,10 +26,10 @@ cast-result : tie.Need-cast-result
 cast-result c = search needs
 
 sub-result : tie.Need-sub-result
-sub-result c = asks _-ℤ_ (read-raised c) refl (lowered-fits c)
+sub-result c = asks _-ℤ_ (read-raised c) (literal (pos 16384)) (lowered-fits c)
 
 returns : tie.Need-returns
-returns c = gives _-ℤ_ (read-raised c) refl (lowered-fits c) ∙ lowered (c .args .w) (c .fits .w .fits)
+returns c = gives _-ℤ_ (read-raised c) (literal (pos 16384)) (lowered-fits c) ∙ lowered (c .args .w) (c .fits .w .fits)
 
 pub value-spec : {M : Type 1} → statement M
 value-spec = tie.close (tie.spec add-n cast-result sub-result returns)
