@@ -3,3 +3,4 @@ pub mod Magnitude
 pub mod Values
 pub mod Ranges
 pub mod Quotients
+pub mod Shifts

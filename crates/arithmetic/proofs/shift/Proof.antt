@@ -1,40 +1,61 @@
-use borrow.Author.Needs.{needs}
+-- `arithmetic::shift` meets its contract, by the sign of the count.
+use Prim.Native.Nat.{ℕ, _≤_, _<_, _^_}
+use mathlib.Core.Path.{_≡_, ap, _∙_}
+use native.Mathlib.Omega.{arith}
+use lib.IntN.{ℤ, pos, negℤ, natAbs, _-ℤ_, _*ℤ_, +ℤ-idl}
+use lib.Signed.{mag, shrZ}
+use mir.Syntax.{w32}
+use mir.Val.{SFits, toZ, ofZ}
+use Rattle.model.specs.Arithmetic.{number}
+use Rattle.arithmetic.proofs.Machine.{read, literal, asks, gives}
+use Rattle.arithmetic.proofs.Magnitude.{fits, neg-mag, difference-of}
+use Rattle.arithmetic.proofs.Shifts.{count-right, count-left, count-below, shifted-right, shifted-left}
 use Rattle.arithmetic.proofs.shift.Statement.{statement}
 use Rattle.arithmetic.proofs.shift.Tie as tie
-use Rattle.arithmetic.proofs.shift.Reads as reads
-use Rattle.arithmetic.proofs.shift.Lts as lts
-use Rattle.arithmetic.proofs.left.Reads as left-reads
-use Rattle.arithmetic.proofs.right.Reads as right-reads
 
--- src/lib.rt:149:26
+opposite-fits : (s : tie.Start) → SFits w32 (pos 0 -ℤ s .args .b)
+opposite-fits s = let h = difference-of (pos 0) (s .args .b) in fits 65536 (omega arith) (omega arith)
+
+read-opposite : (s : tie.Start) → toZ w32 (ofZ w32 (pos 0 -ℤ toZ w32 (ofZ w32 (s .args .b)))) ≡ negℤ (s .args .b)
+read-opposite s = gives _-ℤ_ (literal (pos 0)) (read (s .fits .b)) (opposite-fits s) ∙ +ℤ-idl (negℤ (s .args .b))
+
 sub-right : tie.Need-sub-right
-sub-right c = ?
+sub-right c = let s = c .before in asks _-ℤ_ (literal (pos 0)) (read (s .fits .b)) (opposite-fits s)
 
--- src/lib.rt:149:25
 cast-right : tie.Need-cast-right
-cast-right c = ?
+cast-right c =
+    let s = c .before in
+    let h = count-below (negℤ (s .args .b)) in
+    let g = neg-mag (s .args .b) in
+    rw (read-opposite s) (count-right (s .args .b) (rw (read (s .fits .b)) at (c .if1 .taken)), record { fits = omega arith })
 
--- src/lib.rt:149:9
 right-requires : tie.Need-right-requires
-right-requires c κs = search needs
+right-requires c κs = rw (read (c .before .fits .a)) (c .before .pre .0)
 
--- src/lib.rt:149:9
 returns : tie.Need-returns
-returns c = ?
+returns c =
+    let s = c .before .before in
+    c .right .ensures
+    ∙ ap number
+      ((λ i. shrZ (read (s .fits .a) i) (2 ^ natAbs (read-opposite s i)))
+      ∙ shifted-right (s .args .a) (s .args .b) (rw (read (s .fits .b)) at (c .before .if1 .taken)))
 
--- src/lib.rt:151:13
 cast-left : tie.Need-cast-left
-cast-left c = ?
+cast-left c =
+    let s = c .before in
+    let h = count-below (s .args .b) in
+    rw (read (s .fits .b)) (count-left (s .args .b) (rw (read (s .fits .b)) at (c .if1 .left)), record { fits = omega arith })
 
--- src/lib.rt:151:5
 left-requires : tie.Need-left-requires
-left-requires c κs = search needs
+left-requires c κs = rw (read (c .before .fits .a)) (c .before .pre .0)
 
--- src/lib.rt:144:1
 returns-2 : tie.Need-returns-2
-returns-2 c = ?
+returns-2 c =
+    let s = c .before .before in
+    c .left .ensures
+    ∙ ap number
+      ((λ i. read (s .fits .a) i *ℤ pos (2 ^ natAbs (read (s .fits .b) i)))
+      ∙ shifted-left (s .args .a) (s .args .b) (rw (read (s .fits .b)) at (c .before .if1 .left)))
 
 pub shift-spec : {M : Type 1} → statement M
-shift-spec =
-    tie.close
-    (tie.spec sub-right cast-right right-requires returns cast-left left-requires returns-2)
+shift-spec = tie.close (tie.spec sub-right cast-right right-requires returns cast-left left-requires returns-2)
