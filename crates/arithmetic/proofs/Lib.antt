@@ -4,3 +4,5 @@ pub mod Values
 pub mod Ranges
 pub mod Quotients
 pub mod Shifts
+pub mod Equality
+pub mod Dispatch

@@ -15,7 +15,7 @@ use Rattle.model.specs.declared.Computed.{Computed}
 use Rattle.model.specs.declared.Computed.the-variants.{Failed}
 use Rattle.model.specs.Limits.{largestInteger}
 use Rattle.model.specs.Arithmetic.{isZero, number, divided, exactQuotient, floorQuotient, floorRemainder}
-use Rattle.arithmetic.proofs.Magnitude.{fits, neg-natural, sum-mag, difference-of, product-mag, quotient-mag}
+use Rattle.arithmetic.proofs.Magnitude.{fits, neg-natural, sum-mag, difference-mag, product-mag, quotient-mag}
 
 -- ---- the definitions
 
@@ -123,14 +123,11 @@ module _ (a b : ℤ) (ha : mag a ≤ largestInteger) (hb : mag b ≤ largestInte
   next-less-fits =
       let h = sum-mag a (pos 1) in
       let g = quotient-mag (a +ℤ pos 1) b in
-      let k = difference-of (quotZ (a +ℤ pos 1) b) (pos 1) in
+      let k = difference-mag (quotZ (a +ℤ pos 1) b) (pos 1) in
       fits 65536 (omega arith) (omega arith)
 
-  pub apart-fits : SFits w32 (a -ℤ b)
-  apart-fits = let h = difference-of a b in fits 65536 (omega arith) (omega arith)
-
   apart-less-mag : mag (a -ℤ b -ℤ pos 1) ≤ 65536
-  apart-less-mag = let h = difference-of a b in let g = difference-of (a -ℤ b) (pos 1) in omega arith
+  apart-less-mag = let h = difference-mag a b in let g = difference-mag (a -ℤ b) (pos 1) in omega arith
 
   pub apart-less-fits : SFits w32 (a -ℤ b -ℤ pos 1)
   apart-less-fits = fits 65536 apart-less-mag (omega arith)
@@ -152,4 +149,4 @@ module _ (a b : ℤ) (ha : mag a ≤ largestInteger) (hb : mag b ≤ largestInte
   multiple-fits = let h = multiple-mag in fits 536870912 (omega arith) (omega arith)
 
   pub down-remainder-fits : SFits w32 (a -ℤ b *ℤ floorQuotient a b)
-  down-remainder-fits = let h = multiple-mag in let g = difference-of a (b *ℤ floorQuotient a b) in fits 536890000 (omega arith) (omega arith)
+  down-remainder-fits = let h = multiple-mag in let g = difference-mag a (b *ℤ floorQuotient a b) in fits 536890000 (omega arith) (omega arith)

@@ -7,7 +7,8 @@ use lib.Signed.{quotZ, ltZ}
 use mir.Syntax.{w32}
 use mir.Val.{SFits, toZ, ofZ}
 use Rattle.arithmetic.proofs.Machine.{read, literal, asks, gives, bits-not-zero}
-use Rattle.arithmetic.proofs.Quotients.{down-negatives, down-from-negative, down-by-negative, down-naturals, plain-fits, next-fits, next-quotient-fits, next-less-fits, apart-fits, apart-less-fits, apart-quotient-fits}
+use Rattle.arithmetic.proofs.Magnitude.{difference-fits}
+use Rattle.arithmetic.proofs.Quotients.{down-negatives, down-from-negative, down-by-negative, down-naturals, plain-fits, next-fits, next-quotient-fits, next-less-fits, apart-less-fits, apart-quotient-fits}
 use Rattle.arithmetic.proofs.floor_quotient.Statement.{statement}
 use Rattle.arithmetic.proofs.floor_quotient.Tie as tie
 
@@ -48,7 +49,7 @@ module _ (s : tie.Start) where
 
   -- a - b, and one less
   apart : toZ w32 (ofZ w32 (ra -ℤ rb)) ≡ a -ℤ b
-  apart = gives _-ℤ_ (read (s .fits .a)) (read (s .fits .b)) (apart-fits a b (s .pre .0) (s .pre .1 .0))
+  apart = gives _-ℤ_ (read (s .fits .a)) (read (s .fits .b)) (difference-fits a b (s .pre .0) (s .pre .1 .0))
 
   apart-less : toZ w32 (ofZ w32 (toZ w32 (ofZ w32 (ra -ℤ rb)) -ℤ pos 1)) ≡ a -ℤ b -ℤ pos 1
   apart-less = gives _-ℤ_ apart (literal (pos 1)) (apart-less-fits a b (s .pre .0) (s .pre .1 .0))
@@ -85,7 +86,7 @@ returns-2 c =
 sub-result-2 : tie.Need-sub-result-2
 sub-result-2 c =
     let s = c .before .before in
-    asks _-ℤ_ (read (s .fits .a)) (read (s .fits .b)) (apart-fits (a s) (b s) (s .pre .0) (s .pre .1 .0))
+    asks _-ℤ_ (read (s .fits .a)) (read (s .fits .b)) (difference-fits (a s) (b s) (s .pre .0) (s .pre .1 .0))
 
 sub-result-3 : tie.Need-sub-result-3
 sub-result-3 c =

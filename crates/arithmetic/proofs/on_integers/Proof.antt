@@ -1,143 +1,149 @@
+-- `arithmetic::on_integers` meets its contract: each arm is one line of the definition.
+use mathlib.Core.Path.{_≡_, ap, ap₂, _∙_}
+use mathlib.Core.Bool.{Bool, not}
 use borrow.Author.Needs.{needs}
+use lib.IntN.{ℤ, _+ℤ_, _-ℤ_, _*ℤ_}
+use lib.Signed.{ltZ, leZ, quotZ}
+use mir.Syntax.{w32}
+use mir.Val.{SFits, toZ, ofZ}
+use Rattle.bytecode.specs.Test.{if_then_else_}
+use Rattle.bytecode.proofs.Choice.{ranges}
+use Rattle.model.specs.declared.Computed.{Computed}
+use Rattle.model.specs.Arithmetic.{number, truth, divided, exactQuotient, floorQuotient, floorRemainder, shifted, onIntegers}
+use Rattle.arithmetic.proofs.Machine.{read, asks, gives}
+use Rattle.arithmetic.proofs.Magnitude.{sum-fits, difference-fits, product-fits}
+use Rattle.arithmetic.proofs.Equality.{equal-bits}
 use Rattle.arithmetic.proofs.on_integers.Statement.{statement}
 use Rattle.arithmetic.proofs.on_integers.Tie as tie
-use Rattle.arithmetic.proofs.on_integers.Reads as reads
-use Rattle.arithmetic.proofs.on_integers.Lts as lts
-use Rattle.arithmetic.proofs.exact_quotient.Reads as exact-quotient-reads
-use Rattle.arithmetic.proofs.number.Reads as number-reads
-use Rattle.arithmetic.proofs.quotient.Reads as quotient-reads
-use Rattle.arithmetic.proofs.quotient_down.Reads as quotient-down-reads
-use Rattle.arithmetic.proofs.remainder_down.Reads as remainder-down-reads
-use Rattle.arithmetic.proofs.shift.Reads as shift-reads
-use Rattle.arithmetic.proofs.truth.Reads as truth-reads
 
--- src/lib.rt:159:21
+module _ (s : tie.Start) where
+  abbrev a : ℤ
+  a = s .args .a
+
+  abbrev b : ℤ
+  b = s .args .b
+
+  -- an operation that 32 bits hold on integers in range: what it asks, and its number
+  op-asks : (op : ℤ → ℤ → ℤ) → SFits w32 (op a b) → SFits w32 (op (toZ w32 (ofZ w32 a)) (toZ w32 (ofZ w32 b)))
+  op-asks op f = asks op (read (s .fits .a)) (read (s .fits .b)) f
+
+  op-number : (op : ℤ → ℤ → ℤ) → SFits w32 (op a b) → number (toZ w32 (ofZ w32 (op (toZ w32 (ofZ w32 a)) (toZ w32 (ofZ w32 b))))) ≡ number (op a b)
+  op-number op f = ap number (gives op (read (s .fits .a)) (read (s .fits .b)) f)
+
+  -- what a call or a test says of the integers that it reads
+  at-read : (f : ℤ → ℤ → Computed) → f (toZ w32 (ofZ w32 a)) (toZ w32 (ofZ w32 b)) ≡ f a b
+  at-read f = ap₂ f (read (s .fits .a)) (read (s .fits .b))
+
 add-number : tie.Need-add-number
-add-number c = ?
+add-number c = let s = c .before in op-asks s _+ℤ_ (sum-fits (a s) (b s) (s .pre .0) (s .pre .1))
 
--- src/lib.rt:159:14
 number-requires : tie.Need-number-requires
 number-requires c κs = search needs
 
--- src/lib.rt:160:21
 sub-number : tie.Need-sub-number
-sub-number c = ?
+sub-number c = let s = c .before in op-asks s _-ℤ_ (difference-fits (a s) (b s) (s .pre .0) (s .pre .1))
 
--- src/lib.rt:160:14
 number-requires-2 : tie.Need-number-requires-2
 number-requires-2 c κs = search needs
 
--- src/lib.rt:161:14
 truth-requires : tie.Need-truth-requires
 truth-requires c κs = search needs
 
--- src/lib.rt:162:14
 truth-requires-2 : tie.Need-truth-requires-2
 truth-requires-2 c κs = search needs
 
--- src/lib.rt:163:14
 truth-requires-3 : tie.Need-truth-requires-3
 truth-requires-3 c κs = search needs
 
--- src/lib.rt:164:14
 truth-requires-4 : tie.Need-truth-requires-4
 truth-requires-4 c κs = search needs
 
--- src/lib.rt:165:14
 truth-requires-5 : tie.Need-truth-requires-5
 truth-requires-5 c κs = search needs
 
--- src/lib.rt:166:14
 truth-requires-6 : tie.Need-truth-requires-6
 truth-requires-6 c κs = search needs
 
--- src/lib.rt:167:21
 mul-number : tie.Need-mul-number
-mul-number c = ?
+mul-number c = let s = c .before in op-asks s _*ℤ_ (product-fits (a s) (b s) (s .pre .0) (s .pre .1))
 
--- src/lib.rt:167:14
 number-requires-3 : tie.Need-number-requires-3
 number-requires-3 c κs = search needs
 
--- src/lib.rt:168:15
 exact-quotient-requires : tie.Need-exact-quotient-requires
-exact-quotient-requires c κs = search needs
+exact-quotient-requires c κs = let s = c .before in rw (read (s .fits .a), read (s .fits .b)) (s .pre)
 
--- src/lib.rt:169:15
 remainder-down-requires : tie.Need-remainder-down-requires
-remainder-down-requires c κs = search needs
+remainder-down-requires c κs = let s = c .before in rw (read (s .fits .a), read (s .fits .b)) (s .pre)
 
--- src/lib.rt:170:15
 quotient-down-requires : tie.Need-quotient-down-requires
-quotient-down-requires c κs = search needs
+quotient-down-requires c κs = let s = c .before in rw (read (s .fits .a), read (s .fits .b)) (s .pre)
 
--- src/lib.rt:171:15
 quotient-requires : tie.Need-quotient-requires
-quotient-requires c κs = search needs
+quotient-requires c κs = let s = c .before in rw (read (s .fits .a), read (s .fits .b)) (s .pre)
 
--- src/lib.rt:172:15
 shift-requires : tie.Need-shift-requires
-shift-requires c κs = search needs
+shift-requires c κs = let s = c .before in rw (read (s .fits .a), read (s .fits .b)) (s .pre)
 
--- src/lib.rt:154:1
 returns : tie.Need-returns
-returns c = ?
+unfolding onIntegers if_then_else_
+returns c = let s = c .before .before in rw (c .before .match .keys1) (c .number .ensures ∙ op-number s _+ℤ_ (sum-fits (a s) (b s) (s .pre .0) (s .pre .1)))
 
--- src/lib.rt:154:1
 returns-2 : tie.Need-returns-2
-returns-2 c = ?
+unfolding onIntegers if_then_else_
+returns-2 c = let s = c .before .before in rw (c .before .match .keys2) (c .number2 .ensures ∙ op-number s _-ℤ_ (difference-fits (a s) (b s) (s .pre .0) (s .pre .1)))
 
--- src/lib.rt:154:1
 returns-3 : tie.Need-returns-3
-returns-3 c = ?
+unfolding onIntegers if_then_else_
+returns-3 c = let s = c .before .before in rw (c .before .match .keys3) (c .truth .ensures ∙ at-read s (λ x y. truth (ltZ x y)))
 
--- src/lib.rt:154:1
 returns-4 : tie.Need-returns-4
-returns-4 c = ?
+unfolding onIntegers if_then_else_
+returns-4 c = let s = c .before .before in rw (c .before .match .keys4) (c .truth2 .ensures ∙ at-read s (λ x y. truth (ltZ y x)))
 
--- src/lib.rt:154:1
 returns-5 : tie.Need-returns-5
-returns-5 c = ?
+unfolding onIntegers if_then_else_
+returns-5 c = let s = c .before .before in rw (c .before .match .keys5) (c .truth3 .ensures ∙ at-read s (λ x y. truth (leZ x y)))
 
--- src/lib.rt:154:1
 returns-6 : tie.Need-returns-6
-returns-6 c = ?
+unfolding onIntegers if_then_else_
+returns-6 c = let s = c .before .before in rw (c .before .match .keys6) (c .truth4 .ensures ∙ at-read s (λ x y. truth (leZ y x)))
 
--- src/lib.rt:154:1
 returns-7 : tie.Need-returns-7
-returns-7 c = ?
+unfolding onIntegers if_then_else_
+returns-7 c = let s = c .before .before in rw (c .before .match .keys7) (c .truth5 .ensures ∙ ap truth (equal-bits (a s) (b s) (s .fits .a) (s .fits .b)))
 
--- src/lib.rt:154:1
 returns-8 : tie.Need-returns-8
-returns-8 c = ?
+unfolding onIntegers if_then_else_
+returns-8 c = let s = c .before .before in rw (c .before .match .keys8) (c .truth6 .ensures ∙ ap (λ (t : Bool). truth (not t)) (equal-bits (a s) (b s) (s .fits .a) (s .fits .b)))
 
--- src/lib.rt:154:1
 returns-9 : tie.Need-returns-9
-returns-9 c = ?
+unfolding onIntegers if_then_else_
+returns-9 c = let s = c .before .before in rw (c .before .match .keys9) (c .number3 .ensures ∙ op-number s _*ℤ_ (product-fits (a s) (b s) (s .pre .0) (s .pre .1)))
 
--- src/lib.rt:154:1
 returns-10 : tie.Need-returns-10
-returns-10 c = ?
+unfolding onIntegers if_then_else_
+returns-10 c = let s = c .before .before in rw (c .before .match .keys10) (c .exact-quotient .ensures ∙ at-read s exactQuotient)
 
--- src/lib.rt:154:1
 returns-11 : tie.Need-returns-11
-returns-11 c = ?
+unfolding onIntegers if_then_else_
+returns-11 c = let s = c .before .before in rw (c .before .match .keys11) (c .remainder-down .ensures ∙ at-read s (λ x y. divided y (floorRemainder x y)))
 
--- src/lib.rt:154:1
 returns-12 : tie.Need-returns-12
-returns-12 c = ?
+unfolding onIntegers if_then_else_
+returns-12 c = let s = c .before .before in rw (c .before .match .keys12) (c .quotient-down .ensures ∙ at-read s (λ x y. divided y (floorQuotient x y)))
 
--- src/lib.rt:154:1
 returns-13 : tie.Need-returns-13
-returns-13 c = ?
+unfolding onIntegers if_then_else_
+returns-13 c = let s = c .before .before in rw (c .before .match .keys13) (c .quotient .ensures ∙ at-read s (λ x y. divided y (quotZ x y)))
 
--- src/lib.rt:154:1
 returns-14 : tie.Need-returns-14
-returns-14 c = ?
+unfolding onIntegers if_then_else_
+returns-14 c = let s = c .before .before in rw (c .before .match .keys14) (c .shift .ensures ∙ at-read s (λ x y. number (shifted x y)))
 
--- src/lib.rt:154:1
 returns-15 : tie.Need-returns-15
-returns-15 c = ?
+unfolding onIntegers
+returns-15 c = search ranges
 
 pub on-integers-spec : {M : Type 1} → statement M
 on-integers-spec =

@@ -8,13 +8,13 @@ use mir.Syntax.{w32}
 use mir.Val.{SFits, toZ, ofZ}
 use Rattle.model.specs.Arithmetic.{number}
 use Rattle.arithmetic.proofs.Machine.{read, literal, asks, gives}
-use Rattle.arithmetic.proofs.Magnitude.{fits, neg-mag, difference-of}
+use Rattle.arithmetic.proofs.Magnitude.{fits, neg-mag, difference-mag}
 use Rattle.arithmetic.proofs.Shifts.{count-right, count-left, count-below, shifted-right, shifted-left}
 use Rattle.arithmetic.proofs.shift.Statement.{statement}
 use Rattle.arithmetic.proofs.shift.Tie as tie
 
 opposite-fits : (s : tie.Start) → SFits w32 (pos 0 -ℤ s .args .b)
-opposite-fits s = let h = difference-of (pos 0) (s .args .b) in fits 65536 (omega arith) (omega arith)
+opposite-fits s = let h = difference-mag (pos 0) (s .args .b) in fits 65536 (omega arith) (omega arith)
 
 read-opposite : (s : tie.Start) → toZ w32 (ofZ w32 (pos 0 -ℤ toZ w32 (ofZ w32 (s .args .b)))) ≡ negℤ (s .args .b)
 read-opposite s = gives _-ℤ_ (literal (pos 0)) (read (s .fits .b)) (opposite-fits s) ∙ +ℤ-idl (negℤ (s .args .b))

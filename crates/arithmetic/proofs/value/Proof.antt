@@ -8,7 +8,7 @@ use mir.Syntax.{w32}
 use mir.Val.{SFits, toZ}
 use mir.ValLaws.{toZ-pos}
 use Rattle.arithmetic.proofs.Machine.{literal, asks, gives}
-use Rattle.arithmetic.proofs.Magnitude.{fits, difference-of}
+use Rattle.arithmetic.proofs.Magnitude.{fits, difference-mag}
 use Rattle.arithmetic.proofs.Values.{raisedWord, lowered}
 use Rattle.arithmetic.proofs.value.Statement.{statement}
 use Rattle.arithmetic.proofs.value.Tie as tie
@@ -17,7 +17,7 @@ read-raised : (c : tie.Start) → toZ w32 (raisedWord (c .args .w)) ≡ pos (rai
 read-raised c = toZ-pos w32 (raisedWord (c .args .w)) (omega arith)
 
 lowered-fits : (c : tie.Start) → SFits w32 (pos (raisedWord (c .args .w)) -ℤ pos 16384)
-lowered-fits c = let h = difference-of (pos (raisedWord (c .args .w))) (pos 16384) in fits 65536 (omega arith) (omega arith)
+lowered-fits c = let h = difference-mag (pos (raisedWord (c .args .w))) (pos 16384) in fits 65536 (omega arith) (omega arith)
 
 add-n : tie.Need-add-n
 add-n c = search needs
