@@ -1,11 +1,13 @@
 // Primitives 1 to 17 on two words. The definition is model's specs/Arithmetic.antt.
 ghost use mathlib.Core.Path.{_≡_};
-ghost use Prim.Native.Nat.{_≤_, _^_, min};
+ghost use Prim.Native.Nat.{_≤_, _%_, _^_, min};
+ghost use mathlib.Core.Bool.{_&&_};
+ghost use lib.Dec.{leb};
 ghost use lib.IntN.{pos, _*ℤ_};
 ghost use lib.Signed.{mag, quotZ, shrZ};
 ghost use Rattle.model.specs.Limits.{largestInteger};
 ghost use Rattle.model.specs.Word.{valueOf, wordOf};
-ghost use Rattle.model.specs.Arithmetic.{arithmetic, number, truth, divided, exactQuotient, floorQuotient, floorRemainder, shifted, onIntegers};
+ghost use Rattle.model.specs.Arithmetic.{arithmetic, number, truth, divided, exactQuotient, floorQuotient, floorRemainder, shifted, onIntegers, onBits};
 
 use model::Computed;
 
@@ -174,7 +176,25 @@ fn on_integers(k: u8, a: i32, b: i32) -> Computed
     }
 }
 
-// The primitive of a number, on a receiver and an argument.
+fn is_bitwise(k: u8) -> bool
+    ensures { λ r. ⌜ r ≡ (leb 14 k && leb k 16) ⌝ }
+{
+    (14 <= k) & (k <= 16)
+}
+
+// In two's complement, on the words themselves. Exclusive or of two tags is zero, so the tag is added.
+fn on_bits(k: u8, v: u16, w: u16) -> Computed
+    requires { ⌜ (v % 2 ≡ 1) × (w % 2 ≡ 1) ⌝ }
+    ensures { λ r. ⌜ r ≡ onBits k v w ⌝ }
+{
+    match k {
+        14 => Computed::Word(v & w),
+        15 => Computed::Word(v | w),
+        _ => Computed::Word((v ^ w) + 1),
+    }
+}
+
+// Primitive k on a receiver and an argument.
 pub fn arithmetic(k: u8, v: u16, w: u16) -> Computed
     ensures { λ r. ⌜ r ≡ arithmetic k v w ⌝ }
 {
@@ -184,10 +204,8 @@ pub fn arithmetic(k: u8, v: u16, w: u16) -> Computed
     if w % 2 != 1 {
         return Computed::Failed;
     }
-    match k {
-        14 => Computed::Word(v & w),
-        15 => Computed::Word(v | w),
-        16 => Computed::Word((v ^ w) + 1),
-        _ => on_integers(k, value(v), value(w)),
+    if is_bitwise(k) {
+        return on_bits(k, v, w);
     }
+    on_integers(k, value(v), value(w))
 }
