@@ -1,6 +1,6 @@
 -- Two integers have the same bits where each is at most the other.
 use Prim.Native.Nat.{ℕ, suc, _-_, _≤_, _<_}
-use mathlib.Core.Path.{_≡_, _∙_}
+use mathlib.Core.Path.{_≡_}
 use mathlib.Core.Bool.{Bool, true, false, _&&_}
 use native.Mathlib.Omega.{arith}
 use native.Mathlib.Decide.{ℕ-discrete, decLe}
@@ -34,5 +34,5 @@ equal-bits (negsuc a) (negsuc b) f g =
     let h : a < 2147483648 = f .sfits in
     let k : b < 2147483648 = g .sfits in
     both-ways (eqb (4294967296 - suc a) (4294967296 - suc b)) b a
-      (λ e. eq-eqb (4294967296 - suc a) (4294967296 - suc b) (omega arith))
-      (λ n. ne-eqb (4294967296 - suc a) (4294967296 - suc b) (λ e. n (omega arith)))
+    (λ e. eq-eqb (4294967296 - suc a) (4294967296 - suc b) (omega arith))
+    (λ n. ne-eqb (4294967296 - suc a) (4294967296 - suc b) (λ e. n (omega arith)))

@@ -1,6 +1,6 @@
 -- Quotients and remainders: the definitions by their cases, rounding down from rounding toward zero, and how large they are.
-use Prim.Native.Nat.{ℕ, zero, suc, _+_, _*_, _/_, _<_, _≤_}
-use mathlib.Core.Path.{_≡_, refl, sym, subst, ap, _∙_}
+use Prim.Native.Nat.{ℕ, zero, suc, _+_, _*_, _/_, _≤_}
+use mathlib.Core.Path.{_≡_, refl, subst, ap, _∙_}
 use mathlib.Core.Bool.{Bool, true, false}
 use native.Mathlib.Omega.{arith}
 use native.Mathlib.Nat.{div-le-self, zero-div, add-suc, mul-le-mul-left}
@@ -9,12 +9,12 @@ use lib.Dec.{T}
 use lib.IntN.{ℤ, pos, negsuc, negℤ, sucℤ, predℤ, _+ℤ_, _-ℤ_, _*ℤ_, +ℤ-one, -ℤ-one}
 use lib.Signed.{mag, ltZ, quotZ, remZ, mag-rem}
 use mir.Syntax.{w32}
-use mir.Val.{SFits, toZ, ofZ}
+use mir.Val.{SFits}
 use Rattle.bytecode.specs.Test.{if_then_else_}
 use Rattle.model.specs.declared.Computed.{Computed}
 use Rattle.model.specs.declared.Computed.the-variants.{Failed}
 use Rattle.model.specs.Limits.{largestInteger}
-use Rattle.model.specs.Arithmetic.{isZero, number, divided, exactQuotient, floorQuotient, floorRemainder}
+use Rattle.model.specs.Arithmetic.{isZero, number, divided, exactQuotient, floorQuotient}
 use Rattle.arithmetic.proofs.Magnitude.{fits, neg-natural, sum-mag, difference-mag, product-mag, quotient-mag}
 
 -- ---- the definitions

@@ -8,7 +8,6 @@ ghost use lib.Signed.{mag, quotZ, shrZ};
 ghost use Rattle.model.specs.Limits.{largestInteger};
 ghost use Rattle.model.specs.Word.{valueOf, wordOf};
 ghost use Rattle.model.specs.Arithmetic.{arithmetic, number, truth, divided, exactQuotient, floorQuotient, floorRemainder, shifted, onIntegers, onBits};
-
 use model::Computed;
 
 // The integers that have a word.
@@ -50,9 +49,14 @@ fn number(z: i32) -> Computed
 fn truth(x: bool) -> Computed
     ensures { λ r. ⌜ r ≡ truth x ⌝ }
 {
-    if x { Computed::Word(6) } else { Computed::Word(4) }
+    if x {
+        Computed::Word(6)
+    } else {
+        Computed::Word(4)
+    }
 }
 
+// The quotient, if nothing remains.
 fn exact_quotient(a: i32, b: i32) -> Computed
     requires { ⌜ (mag a ≤ largestInteger) × (mag b ≤ largestInteger) ⌝ }
     ensures { λ r. ⌜ r ≡ exactQuotient a b ⌝ }
@@ -77,7 +81,7 @@ fn quotient(a: i32, b: i32) -> Computed
     number(a / b)
 }
 
-// The quotient rounded down. The machine rounds toward zero, so unlike signs are led to a number that it rounds right.
+// The quotient rounded down. The machine rounds toward zero: where the signs differ, the dividend is moved so that this is down.
 fn floor_quotient(a: i32, b: i32) -> i32
     requires { ⌜ (mag a ≤ largestInteger) × ((mag b ≤ largestInteger) × (b ≡ pos 0 → ⊥)) ⌝ }
     ensures { λ r. ⌜ r ≡ floorQuotient a b ⌝ }
@@ -104,6 +108,7 @@ fn quotient_down(a: i32, b: i32) -> Computed
     number(floor_quotient(a, b))
 }
 
+// The remainder that belongs to the quotient rounded down.
 fn remainder_down(a: i32, b: i32) -> Computed
     requires { ⌜ (mag a ≤ largestInteger) × (mag b ≤ largestInteger) ⌝ }
     ensures { λ r. ⌜ r ≡ divided b (floorRemainder a b) ⌝ }
@@ -114,13 +119,14 @@ fn remainder_down(a: i32, b: i32) -> Computed
     number(a - b * floor_quotient(a, b))
 }
 
-// 15 places move every bit out, so a longer shift gives the same.
+// A longer shift gives what 15 places give: to the right no digit is left, to the left only 0 stays in range.
 fn places(n: u32) -> u32
     ensures { λ r. ⌜ r ≡ min n 15 ⌝ }
 {
     if n < 15 { n } else { 15 }
 }
 
+// A power of two.
 fn power(n: u32) -> i32
     requires { ⌜ n ≤ 15 ⌝ }
     ensures { λ r. ⌜ r ≡ pos (2 ^ n) ⌝ }
@@ -129,6 +135,7 @@ fn power(n: u32) -> i32
     (one << n) as i32
 }
 
+// a × 2^n
 fn left(a: i32, n: u32) -> Computed
     requires { ⌜ mag a ≤ largestInteger ⌝ }
     ensures { λ r. ⌜ r ≡ number (a *ℤ pos (2 ^ n)) ⌝ }
@@ -136,6 +143,7 @@ fn left(a: i32, n: u32) -> Computed
     number(a * power(places(n)))
 }
 
+// a / 2^n, rounded down
 fn right(a: i32, n: u32) -> Computed
     requires { ⌜ mag a ≤ largestInteger ⌝ }
     ensures { λ r. ⌜ r ≡ number (shrZ a (2 ^ n)) ⌝ }
@@ -143,6 +151,7 @@ fn right(a: i32, n: u32) -> Computed
     number(a >> (places(n) as i32))
 }
 
+// To the left, or by a negative count to the right.
 fn shift(a: i32, b: i32) -> Computed
     requires { ⌜ (mag a ≤ largestInteger) × (mag b ≤ largestInteger) ⌝ }
     ensures { λ r. ⌜ r ≡ number (shifted a b) ⌝ }
@@ -153,6 +162,7 @@ fn shift(a: i32, b: i32) -> Computed
     left(a, b as u32)
 }
 
+// Primitive k on two integers.
 fn on_integers(k: u8, a: i32, b: i32) -> Computed
     requires { ⌜ (mag a ≤ largestInteger) × (mag b ≤ largestInteger) ⌝ }
     ensures { λ r. ⌜ r ≡ onIntegers k a b ⌝ }
@@ -176,6 +186,7 @@ fn on_integers(k: u8, a: i32, b: i32) -> Computed
     }
 }
 
+// The primitives that work on bits.
 fn is_bitwise(k: u8) -> bool
     ensures { λ r. ⌜ r ≡ (leb 14 k && leb k 16) ⌝ }
 {

@@ -1,5 +1,5 @@
 -- `arithmetic::arithmetic` meets its contract.
-use Prim.Native.Nat.{ℕ, _≤_, _<_}
+use Prim.Native.Nat.{ℕ, _<_}
 use mathlib.Core.Path.{_≡_, sym, ap₂, _∙_}
 use native.Mathlib.Omega.{arith}
 use borrow.Author.Needs.{needs}
@@ -39,8 +39,8 @@ returns-3 c =
     let s = t .before .before in
     c .on-bits .ensures
     ∙ sym
-      (bitwise (s .args .k) (s .args .v) (s .args .w) (t .before .if1 .left) (t .if2 .left)
-      (sym (c .before .before .is-bitwise .ensures) ∙ c .before .if3 .taken))
+    (bitwise (s .args .k) (s .args .v) (s .args .w) (t .before .if1 .left) (t .if2 .left)
+    (sym (c .before .before .is-bitwise .ensures) ∙ c .before .if3 .taken))
 
 value-requires : tie.Need-value-requires
 value-requires c κs = search needs
@@ -60,11 +60,11 @@ returns-4 c =
     let s = t .before .before in
     c .on-integers .ensures
     ∙ ap₂ (onIntegers (s .args .k))
-      (read-value (s .args .v) (s .fits .v .fits) (c .before .before .value .ensures))
-      (read-value (s .args .w) (s .fits .w .fits) (c .before .value2 .ensures))
+    (read-value (s .args .v) (s .fits .v .fits) (c .before .before .value .ensures))
+    (read-value (s .args .w) (s .fits .w .fits) (c .before .value2 .ensures))
     ∙ sym
-      (not-bitwise (s .args .k) (s .args .v) (s .args .w) (t .before .if1 .left) (t .if2 .left)
-      (sym (c .before .before .before .before .is-bitwise .ensures) ∙ c .before .before .before .if3 .left))
+    (not-bitwise (s .args .k) (s .args .v) (s .args .w) (t .before .if1 .left) (t .if2 .left)
+    (sym (c .before .before .before .before .is-bitwise .ensures) ∙ c .before .before .before .if3 .left))
 
 pub arithmetic-spec : {M : Type 1} → statement M
 arithmetic-spec =

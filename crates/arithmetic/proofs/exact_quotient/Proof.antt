@@ -1,9 +1,7 @@
 -- `arithmetic::exact_quotient` meets its contract.
-use Prim.Native.Nat.{_≤_}
 use mathlib.Core.Path.{_≡_, sym, ap, ap₂, _∙_}
 use native.Mathlib.Omega.{arith}
 use borrow.Author.Needs.{needs}
-use lib.IntN.{pos}
 use lib.Signed.{quotZ, remZ}
 use mir.Syntax.{w32}
 use mir.Val.{SFits, toZ, ofZ}

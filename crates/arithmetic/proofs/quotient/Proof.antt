@@ -1,5 +1,4 @@
 -- `arithmetic::quotient` meets its contract.
-use Prim.Native.Nat.{_≤_}
 use mathlib.Core.Path.{sym, ap, _∙_}
 use native.Mathlib.Omega.{arith}
 use borrow.Author.Needs.{needs}

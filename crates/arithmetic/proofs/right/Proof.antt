@@ -26,8 +26,8 @@ returns c =
     let s = c .before .before in
     c .number .ensures
     ∙ ap number
-      (reads (λ i. shrZ (read (s .fits .a) i) (2 ^ (c .before .places .ensures i))) (right-fits (s .args .a) (2 ^ min (s .args .n) 15) (s .pre))
-      ∙ right-capped (s .args .a) (s .args .n) (s .pre))
+    (reads (λ i. shrZ (read (s .fits .a) i) (2 ^ (c .before .places .ensures i))) (right-fits (s .args .a) (2 ^ min (s .args .n) 15) (s .pre))
+    ∙ right-capped (s .args .a) (s .args .n) (s .pre))
 
 pub right-spec : {M : Type 1} → statement M
 right-spec = tie.close (tie.spec places-requires cast-number shr-number number-requires returns)

@@ -1,9 +1,9 @@
 -- `arithmetic::shift` meets its contract, by the sign of the count.
-use Prim.Native.Nat.{ℕ, _≤_, _<_, _^_}
+use Prim.Native.Nat.{_^_}
 use mathlib.Core.Path.{_≡_, ap, _∙_}
 use native.Mathlib.Omega.{arith}
-use lib.IntN.{ℤ, pos, negℤ, natAbs, _-ℤ_, _*ℤ_, +ℤ-idl}
-use lib.Signed.{mag, shrZ}
+use lib.IntN.{pos, negℤ, natAbs, _-ℤ_, _*ℤ_, +ℤ-idl}
+use lib.Signed.{shrZ}
 use mir.Syntax.{w32}
 use mir.Val.{SFits, toZ, ofZ}
 use Rattle.model.specs.Arithmetic.{number}
@@ -37,8 +37,8 @@ returns c =
     let s = c .before .before in
     c .right .ensures
     ∙ ap number
-      ((λ i. shrZ (read (s .fits .a) i) (2 ^ natAbs (read-opposite s i)))
-      ∙ shifted-right (s .args .a) (s .args .b) (rw (read (s .fits .b)) at (c .before .if1 .taken)))
+    ((λ i. shrZ (read (s .fits .a) i) (2 ^ natAbs (read-opposite s i)))
+    ∙ shifted-right (s .args .a) (s .args .b) (rw (read (s .fits .b)) at (c .before .if1 .taken)))
 
 cast-left : tie.Need-cast-left
 cast-left c =
@@ -54,8 +54,8 @@ returns-2 c =
     let s = c .before .before in
     c .left .ensures
     ∙ ap number
-      ((λ i. read (s .fits .a) i *ℤ pos (2 ^ natAbs (read (s .fits .b) i)))
-      ∙ shifted-left (s .args .a) (s .args .b) (rw (read (s .fits .b)) at (c .before .if1 .left)))
+    ((λ i. read (s .fits .a) i *ℤ pos (2 ^ natAbs (read (s .fits .b) i)))
+    ∙ shifted-left (s .args .a) (s .args .b) (rw (read (s .fits .b)) at (c .before .if1 .left)))
 
 pub shift-spec : {M : Type 1} → statement M
 shift-spec = tie.close (tie.spec sub-right cast-right right-requires returns cast-left left-requires returns-2)

@@ -1,5 +1,4 @@
 -- `arithmetic::value` meets its contract: the word raised by 16,384 integers is a natural number.
-use Prim.Native.Nat.{_≤_, _<_}
 use mathlib.Core.Path.{_≡_, _∙_}
 use native.Mathlib.Omega.{arith}
 use borrow.Author.Needs.{needs}

@@ -1,10 +1,8 @@
 -- `arithmetic::word` meets its contract: the integer raised by 16,384 is a natural number.
-use Prim.Native.Nat.{_≤_, _<_}
 use mathlib.Core.Path.{_≡_, _∙_}
 use native.Mathlib.Omega.{arith}
 use borrow.Author.Needs.{needs}
-use lib.IntN.{ℤ, pos, _+ℤ_}
-use lib.Signed.{mag}
+use lib.IntN.{pos, _+ℤ_}
 use mir.Syntax.{w32}
 use mir.Val.{SFits, toZ, ofZ}
 use Rattle.arithmetic.proofs.Machine.{read, literal, asks, gives}
