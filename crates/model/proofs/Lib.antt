@@ -6,3 +6,4 @@ pub mod Parts
 pub mod Facts
 pub mod Extends
 pub mod Unchanged
+pub mod RightLaws
