@@ -7,3 +7,4 @@ pub mod Facts
 pub mod Extends
 pub mod Unchanged
 pub mod RightLaws
+pub mod StoreLaws
