@@ -184,6 +184,21 @@ fits-cases e o k t = go (eqb (form o c) fixedForm) (eqb (form o c) indexedForm) 
         let d = eqb-false (form o c) bytesForm r in
         other (omega arith) (leb→le classKind (kind o k) (and-left (leb classKind (kind o k)) (leb (kind o k) methodKind) (subst T (if-no _ _ refl ∙ if-no _ _ refl ∙ if-no _ _ refl) s)))
 
+pub fits-rule : (e : ℕ) (o : Objects) (k : ℕ) → kind o k ≤ methodKind → Fits o k (classWord o k) → T (fits e o k)
+unfolding fits
+fits-rule e o k h (fixed a b c) =
+    subst T (sym (if-yes _ _ (eq-eqb (form o (classWord o k)) fixedForm a)))
+    (and-both (eqb (kind o k) fieldsKind) (eqb (size o k) (fieldCount o (classWord o k))) (true→T (eq-eqb (kind o k) fieldsKind b)) (true→T (eq-eqb (size o k) (fieldCount o (classWord o k)) c)))
+fits-rule e o k h (indexed a b c) =
+    subst T (sym (if-no _ _ (ne-eqb (form o (classWord o k)) fixedForm (omega arith)) ∙ if-yes _ _ (eq-eqb (form o (classWord o k)) indexedForm a)))
+    (and-both (eqb (kind o k) fieldsKind) (leb (fieldCount o (classWord o k)) (size o k)) (true→T (eq-eqb (kind o k) fieldsKind b)) (le→leb (fieldCount o (classWord o k)) (size o k) c))
+fits-rule e o k h (bytes a b) =
+    subst T (sym (if-no _ _ (ne-eqb (form o (classWord o k)) fixedForm (omega arith)) ∙ if-no _ _ (ne-eqb (form o (classWord o k)) indexedForm (omega arith)) ∙ if-yes _ _ (eq-eqb (form o (classWord o k)) bytesForm a)))
+    (true→T (eq-eqb (kind o k) bytesKind b))
+fits-rule e o k h (other a b) =
+    subst T (sym (if-no _ _ (ne-eqb (form o (classWord o k)) fixedForm (omega arith)) ∙ if-no _ _ (ne-eqb (form o (classWord o k)) indexedForm (omega arith)) ∙ if-no _ _ (ne-eqb (form o (classWord o k)) bytesForm (omega arith))))
+    (and-both (leb classKind (kind o k)) (leb (kind o k) methodKind) (le→leb classKind (kind o k) b) (le→leb (kind o k) methodKind h))
+
 -- Rule 6: a class, its dictionary's pairs
 pub record ClassFacts (e : ℕ) (o : Objects) (c : ℕ) : Type 0 where
   pub superclass : T (isNilOr o classKind (superclassWord o c))
@@ -389,7 +404,7 @@ module _ {e : ℕ} {o : Objects} (r : Right e o) where
       pair-facts-of o (dictionaryWord o c) i
       (below-at (pairCount o (dictionaryWord o c)) (pairFine o (dictionaryWord o c)) (and-right (eqb (size o (objectNumber (dictionaryWord o c)) % 2) 0) _ (class-facts c t .pairs)) i l)
 
-  fine-methods : (c : ℕ) → T (isKind o classKind c) → T (dictionaryMethodsFine o c)
+  pub fine-methods : (c : ℕ) → T (isKind o classKind c) → T (dictionaryMethodsFine o c)
   fine-methods c t =
       let h = named o classKind c t in
       let q = and-right (implies (eqb (kind o (c / 2)) methodKind) (allOf (methodRules e o (pointer (c / 2))))) (implies (eqb (kind o (c / 2)) classKind) (dictionaryMethodsFine o (pointer (c / 2)))) (fine-seven (c / 2) (h .least) (h .most)) in

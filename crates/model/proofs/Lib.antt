@@ -7,3 +7,5 @@ pub mod Facts
 pub mod Extends
 pub mod Unchanged
 pub mod FoundLaws
+pub mod RightLaws
+pub mod StoreLaws

@@ -10,3 +10,4 @@ pub mod StepLaws
 pub mod Preserve
 pub mod StateLaws
 pub mod CacheLaws
+pub mod After
