@@ -11,3 +11,4 @@ pub mod Preserve
 pub mod StateLaws
 pub mod CacheLaws
 pub mod After
+pub mod RunLaws

@@ -1,0 +1,182 @@
+-- A run from a right state: every step exists, and the state after it is right; its frames stand in the stack, and the cache is right.
+use Prim.Native.Nat.{ℕ, zero, suc, _+_, _*_, _≤_, _<_, max}
+use mathlib.Core.Path.{_≡_, refl, sym, ap, _∙_, subst}
+use mathlib.Core.Bool.{Bool, true, false}
+use mathlib.Core.List.{List, [], _∷_}
+use native.Mathlib.Omega.{arith}
+use borrow.Author.Tests.{eq-eqb, ne-eqb, eqb-true, eqb-false}
+use lib.Dec.{T, eqb}
+use lib.ListN.{length}
+use Rattle.bytecode.specs.Code.{nextAt, decodeAt}
+use Rattle.model.specs.Limits.{entryWords, cacheWords}
+use Rattle.model.specs.Objects.{Objects}
+use Rattle.model.specs.Method.{codeWords, codeSize, frameSize}
+use Rattle.model.specs.Image.{Room}
+use Rattle.model.proofs.Facts.{Right}
+use Rattle.model.proofs.Extends.{Extends, extends-refl, extends-trans}
+use Rattle.model.proofs.Unchanged.{lookup-same}
+use Rattle.plain.specs.Registers.{running, finished, hasFrames, Cause, notUnderstood, noBoolean, noStackRoom, phaseOf}
+use Rattle.plain.specs.State.{Frame, Plain, objects}
+use Rattle.plain.specs.Step.{Looked, Stepped, next, halts, missing, stepFrame, step}
+use Rattle.plain.specs.Calls.{Taken, taken, Ran, ran, stuck, counted, halted, onward, ifRunning, steps}
+use Rattle.plain.specs.Flat.{framesFrom}
+use Rattle.plain.specs.Cache.{filled, cacheFine}
+use Rattle.plain.specs.FlatCalls.{laid, stackAfter, cacheAfter, topEnd, highestEnd}
+use Rattle.plain.proofs.FrameLaws.{FrameRight, FramesRight}
+use Rattle.plain.proofs.LaidLaws.{laid-back, length-laid}
+use Rattle.plain.proofs.NowLaws.{now}
+use Rattle.plain.proofs.Preserve.{World, Shape, runs, ends, LookedRight, Kept, Goes, executes}
+use Rattle.plain.proofs.StateLaws.{PlainRight, Stands, goes, rests, waits}
+use Rattle.plain.proofs.CacheLaws.{cache-filled, cache-kept, length-filled}
+use Rattle.plain.proofs.After.{After, kept-right}
+
+-- The frames of a state stand in a stack.
+abbrev pub Stood : Plain → List ℕ → Type 0
+Stood p stack = hasFrames (p .registers .phase) ≡ true → framesFrom (suc (p .registers .top)) (objects p) stack (p .registers .top) ≡ p .frames
+
+-- the end of the uppermost frame is inside the stack
+top-inside : (room : Room) (p : Plain) → FramesRight (objects p) (room .stack) true (p .registers .top) (p .frames) → topEnd p ≤ room .stack
+unfolding topEnd
+top-inside room p r = go (p .frames) r
+  where
+    go : (fs : List Frame) → FramesRight (objects p) (room .stack) true (p .registers .top) fs
+        → elim fs as (λ _. ℕ) [ [] ↦ 0 | f ∷ rest ↦ p .registers .top + frameSize (objects p) (f .method) ] ≤ room .stack
+    go [] x = absurd x
+    go (f ∷ []) x = x .1 .inside
+    go (f ∷ g ∷ rest) x = x .1 .inside
+
+no-frames : (p : Plain) → p .frames ≡ [] → topEnd p ≡ 0
+unfolding topEnd
+no-frames p e = ap (λ (fs : List Frame). elim fs as (λ _. ℕ) [ [] ↦ 0 | f ∷ rest ↦ p .registers .top + frameSize (objects p) (f .method) ]) e
+
+pub top-end : (room : Room) (p : Plain) → Stands (room .stack) p → topEnd p ≤ room .stack
+top-end room p (goes (runs a b f)) = top-inside room p f
+top-end room p (goes (ends a b c f)) = subst (λ (k : ℕ). k ≤ room .stack) (sym (no-frames p f)) (omega arith)
+top-end room p (rests a b c f) = subst (λ (k : ℕ). k ≤ room .stack) (sym (no-frames p f)) (omega arith)
+top-end room p (waits a b c f) = top-inside room p f
+
+-- What is needed of all objects that a run meets
+abbrev pub Worlds : Room → Type 0
+Worlds room = (o : Objects) → Right 1 o → entryWords * o .n ≤ room .contents → o .b ≤ room .bodies → World (After room) room o
+
+module _ (room : Room) (worlds : Worlds room) where
+  world : (p : Plain) → PlainRight room p → World (After room) room (objects p)
+  world p r = worlds (objects p) (r .image) (r .contents) (r .bodies)
+
+  -- one step
+  frame-step : (p : Plain) → PlainRight room p → FramesRight (objects p) (room .stack) true (p .registers .top) (p .frames)
+      → Goes (After room) room p (step room p)
+  unfolding step
+  frame-step p r f = go (p .frames) f
+    where
+      head-right : (f : Frame) (rest : List Frame) → FramesRight (objects p) (room .stack) true (p .registers .top) (f ∷ rest) → FrameRight (objects p) true f
+      head-right f [] x = x .0
+      head-right f (g ∷ rest) x = x .0
+
+      go : (fs : List Frame) → FramesRight (objects p) (room .stack) true (p .registers .top) fs
+          → Goes (After room) room p (elim fs as (λ _. Stepped) [ [] ↦ missing | f ∷ rest ↦ stepFrame room p f rest ])
+      go [] x = absurd x
+      go (f ∷ rest) x =
+          unfold stepFrame in
+          executes (After room) room p (world p r) f rest (head-right f rest x) x
+          (nextAt (codeWords (objects p) (f .method)) (f .position))
+          (decodeAt (codeWords (objects p) (f .method)) (codeSize (objects p) (f .method)) (f .position))
+          (now (objects p) f (head-right f rest x))
+
+  pub step-goes : (p : Plain) → PlainRight room p → p .registers .phase ≡ running → Goes (After room) room p (step room p)
+  step-goes p r e = by-stands (r .stands)
+    where
+      by-stands : Stands (room .stack) p → Goes (After room) room p (step room p)
+      by-stands (goes (runs a b f)) = frame-step p r f
+      by-stands (goes (ends a b c f)) = absurd (omega arith)
+      by-stands (rests a b c f) = absurd (omega arith)
+      by-stands (waits a b c f) = absurd (omega arith)
+
+  -- a halt keeps all but the phase
+  cause-least : (c : Cause) → 3 ≤ phaseOf c
+  cause-least notUnderstood = omega arith
+  cause-least noBoolean = omega arith
+  cause-least noStackRoom = omega arith
+
+  cause-most : (c : Cause) → phaseOf c ≤ 5
+  cause-most notUnderstood = omega arith
+  cause-most noBoolean = omega arith
+  cause-most noStackRoom = omega arith
+
+  halted-right : (p : Plain) → PlainRight room p → p .registers .phase ≡ running → (c : Cause) → PlainRight room (halted p c)
+  halted-right p r e c =
+      record { image = r .image; contents = r .contents; bodies = r .bodies; starts = r .starts; stands = by-stands (r .stands) }
+    where
+      by-stands : Stands (room .stack) p → Stands (room .stack) (halted p c)
+      by-stands (goes (runs a b f)) = waits (cause-least c) (cause-most c) refl f
+      by-stands (goes (ends a b d f)) = absurd (omega arith)
+      by-stands (rests a b d f) = absurd (omega arith)
+      by-stands (waits a b d f) = absurd (omega arith)
+
+  -- What a run leaves: at most n steps, all of them where it still runs
+  pub record RanRight (n : ℕ) (p : Plain) (stack cache : List ℕ) (k : ℕ) (p′ : Plain) (ts : List Taken) : Type 0 where
+    pub made : k ≤ n
+    pub whole : p′ .registers .phase ≡ running → k ≡ n
+    pub right : PlainRight room p′
+    pub extends : Extends (objects p) (objects p′)
+    pub stood : Stood p′ (stackAfter stack ts)
+    pub cached : T (cacheFine (objects p′) (cacheAfter cache ts))
+    pub stackLength : length (stackAfter stack ts) ≡ length stack
+    pub cacheLength : length (cacheAfter cache ts) ≡ length cache
+    pub reach : highestEnd p ts ≤ room .stack
+
+  abbrev pub RunGoes : ℕ → Plain → List ℕ → List ℕ → Ran → Type 0
+  RunGoes n p stack cache (ran k p′ ts) = RanRight n p stack cache k p′ ts
+  RunGoes n p stack cache stuck = ⊥
+
+  -- a run of no steps
+  none : (n : ℕ) (p p′ : Plain) (stack cache : List ℕ) → PlainRight room p → PlainRight room p′ → objects p′ ≡ objects p → Stood p′ stack → T (cacheFine (objects p) cache)
+      → (p′ .registers .phase ≡ running → 0 ≡ n) → RanRight n p stack cache 0 p′ []
+  unfolding stackAfter cacheAfter highestEnd
+  none n p p′ stack cache r r′ e s c w =
+      record { made = omega arith; whole = w; right = r′; extends = subst (Extends (objects p)) (sym e) (extends-refl (objects p)); stood = s; cached = subst (λ (o : Objects). T (cacheFine o cache)) (sym e) c; stackLength = refl; cacheLength = refl; reach = top-end room p (r .stands) }
+
+  -- one step and a run
+  more : (n : ℕ) (p p₁ : Plain) (l : Looked) (stack cache : List ℕ) → PlainRight room p → Extends (objects p) (objects p₁) → length (filled cache l) ≡ length cache
+      → length (laid stack (p₁ .registers .top) (p₁ .frames)) ≡ length stack → (x : Ran)
+      → RunGoes n p₁ (laid stack (p₁ .registers .top) (p₁ .frames)) (filled cache l) x → RunGoes (suc n) p stack cache (counted (taken l p₁) x)
+  unfolding stackAfter cacheAfter highestEnd
+  more n p p₁ l stack cache r e lc ls (ran k p′ ts) g =
+      record { made = let m = g .made in omega arith; whole = λ q. ap suc (g .whole q); right = g .right; extends = extends-trans e (g .extends); stood = g .stood; cached = g .cached; stackLength = g .stackLength ∙ ls; cacheLength = g .cacheLength ∙ lc; reach = let a = top-end room p (r .stands) in let b = g .reach in omega arith }
+  more n p p₁ l stack cache r e lc ls stuck g = g
+
+  -- after a step the frames stand in the stack in which they were laid
+  shape-stood : (p : Plain) (stack : List ℕ) → length stack ≡ room .stack → Shape (room .stack) p → Stood p (laid stack (p .registers .top) (p .frames))
+  shape-stood p stack h (runs a b f) q = laid-back (objects p) (room .stack) stack h (p .frames) (p .registers .top) f
+  shape-stood p stack h (ends a b c f) q = absurd (subst (λ (k : ℕ). T (Rattle.plain.specs.Registers.hasFrames k)) a (subst T (sym q) tt))
+
+  pub runs-right : (n : ℕ) (p : Plain) (stack cache : List ℕ) → PlainRight room p → length stack ≡ room .stack → length cache ≡ cacheWords → Stood p stack → T (cacheFine (objects p) cache)
+      → RunGoes n p stack cache (steps room n p)
+  unfolding steps
+  runs-right zero p stack cache r ls lc s c = none zero p p stack cache r r refl s c (λ q. refl)
+  runs-right (suc n) p stack cache r ls lc s c =
+      by-phase (eqb (p .registers .phase) running) refl (λ p₁ stack₁ cache₁ r₁ a b d f. runs-right n p₁ stack₁ cache₁ r₁ a b d f)
+    where
+      Again : Type 0
+      Again =
+          (p₁ : Plain) (stack₁ cache₁ : List ℕ) → PlainRight room p₁ → length stack₁ ≡ room .stack → length cache₁ ≡ cacheWords → Stood p₁ stack₁ → T (cacheFine (objects p₁) cache₁)
+          → RunGoes n p₁ stack₁ cache₁ (steps room n p₁)
+
+      after-step : (x : Stepped) → Goes (After room) room p x → p .registers .phase ≡ running → Again → RunGoes (suc n) p stack cache (onward (λ s′. steps room n s′) p x)
+      after-step (next p₁ l) g e again =
+          let r₁ = kept-right room p p₁ r (g .0) in
+          let ls₁ = length-laid stack (p₁ .registers .top) (p₁ .frames) in
+          let lc₁ = length-filled cache l in
+          let x : Extends (objects p) (objects p₁) = g .0 .after .extends in
+          more n p p₁ l stack cache r x lc₁ ls₁ (steps room n p₁)
+          (again p₁ (laid stack (p₁ .registers .top) (p₁ .frames)) (filled cache l) r₁ (ls₁ ∙ ls) (lc₁ ∙ lc) (shape-stood p₁ stack ls (g .0 .shape))
+          (cache-kept (objects p) (objects p₁) (lookup-same x (r .image)) (filled cache l) (cache-filled (objects p) cache l lc (g .1) c)))
+      after-step (halts cause) g e again =
+          none (suc n) p (halted p cause) stack cache r (halted-right p r e cause) refl (λ q. s (ap hasFrames e)) c (λ q. absurd (let h = cause-least cause in omega arith))
+      after-step missing g e again = absurd g
+
+      by-phase : (b : Bool) → eqb (p .registers .phase) running ≡ b → Again → RunGoes (suc n) p stack cache (ifRunning (λ s′. steps room n s′) room p b)
+      by-phase true q again =
+          let e = eqb-true (p .registers .phase) running q in
+          after-step (step room p) (step-goes p r e) e again
+      by-phase false q again = none (suc n) p p stack cache r r refl s c (λ e. absurd (eqb-false (p .registers .phase) running q e))
