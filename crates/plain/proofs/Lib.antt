@@ -12,3 +12,5 @@ pub mod StateLaws
 pub mod CacheLaws
 pub mod After
 pub mod RunLaws
+pub mod BeginLaws
+pub mod FlatLaws

@@ -148,6 +148,62 @@ module _ (After : Objects → Objects → Type 0) (room : Room) (s : Plain) wher
   goes-provided true x t g = g
   goes-provided false x t g = absurd t
 
+  -- ---- activation
+  module _ (world : World After room o) where
+    -- what activation gives: an answer with the objects after it, or a method whose frame can be made
+    abbrev pub Activates : ℕ → ℕ → Activation → Type 0
+    Activates m receiver (answered w o′) = After o o′ × T (isValid (o′ .n) w)
+    Activates m receiver entered = T (runsCode o m) × T (inChain o (home o m) (classOf o receiver))
+    Activates m receiver unfit = Unit {0}
+
+    enters : (m receiver : ℕ) → T (runsCode o m) → Activates m receiver (entering o m receiver)
+    unfolding entering
+    enters m receiver t = if-cases (Activates m receiver) (inChain o (home o m) (classOf o receiver)) entered unfit (λ e. (t, true→T e)) (λ e. tt)
+
+    -- a field that was found is valid
+    field-valid : (v i w : ℕ) → fieldOf o v i ≡ some w → T (isValid (o .n) w)
+    unfolding fieldOf if_then_else_
+    field-valid v i w e = by-test (isKind o fieldsKind v && ltb i (size o (objectNumber v))) refl e
+      where
+        by-test : (b : Bool) → (isKind o fieldsKind v && ltb i (size o (objectNumber v))) ≡ b → (if b then some (bodyWord o (objectNumber v) i) else none) ≡ some w → T (isValid (o .n) w)
+        by-test true q h =
+            subst (λ (k : ℕ). T (isValid (o .n) k)) (mathlib.Core.Option.Option·some-injective (bodyWord o (objectNumber v) i) w h) (world .fieldValid v i (true→T q))
+        by-test false q h = absurd (mathlib.Core.Option.Option·none-ne-some w h)
+
+    field-answers : (m receiver : ℕ) (x : Option ℕ) → fieldOf o receiver (temporaryCount o m) ≡ x → Activates m receiver (fieldAnswered o x)
+    field-answers m receiver none e = tt
+    field-answers m receiver (some w) e = (world .self, field-valid receiver (temporaryCount o m) w e)
+
+    primitive-answers : (m receiver : ℕ) (arguments : List ℕ) → T (isValid (o .n) receiver) → Valid (o .n) arguments → argumentCount o m ≡ length arguments → T (runsCode o m)
+        → (x : Outcome) → primitive room o (primitiveNumber o m) (argumentCount o m) receiver arguments ≡ x → Activates m receiver (primitiveAnswered o m receiver x)
+    primitive-answers m receiver arguments v va c t (answers w o′) e = world .performs (primitiveNumber o m) (argumentCount o m) receiver arguments w o′ v va c e
+    primitive-answers m receiver arguments v va c t fails e = enters m receiver t
+
+    pub activates : (m receiver : ℕ) (arguments : List ℕ) → T (isValid (o .n) receiver) → Valid (o .n) arguments → argumentCount o m ≡ length arguments
+        → Activates m receiver (activate room o m receiver arguments)
+    unfolding activate
+    activates m receiver arguments v va c =
+        if-cases (Activates m receiver) (eqb (flag o m) receiverFlag) _ _ (λ e. (world .self, v))
+        (λ n5. if-cases (Activates m receiver) (eqb (flag o m) fieldFlag) _ _ (λ e. field-answers m receiver (fieldOf o receiver (temporaryCount o m)) refl)
+        (λ n6.
+          let code = runs-code 0 o m (borrow.Author.Tests.eqb-false (flag o m) receiverFlag n5) (borrow.Author.Tests.eqb-false (flag o m) fieldFlag n6) in
+          if-cases (Activates m receiver) (eqb (flag o m) primitiveFlag) _ _
+          (λ e. primitive-answers m receiver arguments v va c code (primitive room o (primitiveNumber o m) (argumentCount o m) receiver arguments) refl)
+          (λ e. enters m receiver code)))
+
+    -- the frame of a method that was found
+    pub new-right : (m receiver : ℕ) (arguments : List ℕ) → T (isKind o methodKind m) → T (isValid (o .n) receiver) → Valid (o .n) arguments → argumentCount o m ≡ length arguments
+        → T (runsCode o m) → T (inChain o (home o m) (classOf o receiver)) → (sender : ℕ) → FrameRight o true (newFrame o sender m receiver arguments)
+    unfolding newFrame
+    new-right m receiver arguments k v va c t h sender =
+        record { isMethod = k; unmarked = refl; receiver = v; chain = h; note = spot-start o m (world .runs m k t) ∙ sym (note-is true _); temporaries = temps; depth = refl; validTemporaries = valid-append (o .n) arguments (replicate (temporaryCount o m - length arguments) nilWord) va (valid-replicate (o .n) (temporaryCount o m - length arguments) nilWord (small-valid (o .n) nilWord (world .least) nil-valid)); validOperands = tt }
+      where
+        temps : length (arguments ++ replicate (temporaryCount o m - length arguments) nilWord) ≡ temporaryCount o m
+        temps =
+            length-append arguments (replicate (temporaryCount o m - length arguments) nilWord)
+            ∙ ap (λ (x : ℕ). length arguments + x) (length-replicate (temporaryCount o m - length arguments) nilWord)
+            ∙ (let x = world .arguments m k in omega arith)
+
   module _ (world : World After room o) (f : Frame) (rest : List Frame) (r : FrameRight o true f)
       (fr : FramesRight o (room .stack) true (s .registers .top) (f ∷ rest)) where
     -- ---- the objects change, the frames stay
@@ -306,60 +362,6 @@ module _ (After : Objects → Objects → Type 0) (room : Room) (s : Plain) wher
             (valid-append (o .n) (g .operands) (w ∷ []) (rg .validOperands) (valid-one (o .n) w v))
 
     -- ---- sends
-    -- what activation gives: an answer with the objects after it, or a method whose frame can be made
-    abbrev Activates : ℕ → ℕ → Activation → Type 0
-    Activates m receiver (answered w o′) = After o o′ × T (isValid (o′ .n) w)
-    Activates m receiver entered = T (runsCode o m) × T (inChain o (home o m) (classOf o receiver))
-    Activates m receiver unfit = Unit {0}
-
-    enters : (m receiver : ℕ) → T (runsCode o m) → Activates m receiver (entering o m receiver)
-    unfolding entering
-    enters m receiver t = if-cases (Activates m receiver) (inChain o (home o m) (classOf o receiver)) entered unfit (λ e. (t, true→T e)) (λ e. tt)
-
-    -- a field that was found is valid
-    field-valid : (v i w : ℕ) → fieldOf o v i ≡ some w → T (isValid (o .n) w)
-    unfolding fieldOf if_then_else_
-    field-valid v i w e = by-test (isKind o fieldsKind v && ltb i (size o (objectNumber v))) refl e
-      where
-        by-test : (b : Bool) → (isKind o fieldsKind v && ltb i (size o (objectNumber v))) ≡ b → (if b then some (bodyWord o (objectNumber v) i) else none) ≡ some w → T (isValid (o .n) w)
-        by-test true q h =
-            subst (λ (k : ℕ). T (isValid (o .n) k)) (mathlib.Core.Option.Option·some-injective (bodyWord o (objectNumber v) i) w h) (world .fieldValid v i (true→T q))
-        by-test false q h = absurd (mathlib.Core.Option.Option·none-ne-some w h)
-
-    field-answers : (m receiver : ℕ) (x : Option ℕ) → fieldOf o receiver (temporaryCount o m) ≡ x → Activates m receiver (fieldAnswered o x)
-    field-answers m receiver none e = tt
-    field-answers m receiver (some w) e = (world .self, field-valid receiver (temporaryCount o m) w e)
-
-    primitive-answers : (m receiver : ℕ) (arguments : List ℕ) → T (isValid (o .n) receiver) → Valid (o .n) arguments → argumentCount o m ≡ length arguments → T (runsCode o m)
-        → (x : Outcome) → primitive room o (primitiveNumber o m) (argumentCount o m) receiver arguments ≡ x → Activates m receiver (primitiveAnswered o m receiver x)
-    primitive-answers m receiver arguments v va c t (answers w o′) e = world .performs (primitiveNumber o m) (argumentCount o m) receiver arguments w o′ v va c e
-    primitive-answers m receiver arguments v va c t fails e = enters m receiver t
-
-    activates : (m receiver : ℕ) (arguments : List ℕ) → T (isValid (o .n) receiver) → Valid (o .n) arguments → argumentCount o m ≡ length arguments
-        → Activates m receiver (activate room o m receiver arguments)
-    unfolding activate
-    activates m receiver arguments v va c =
-        if-cases (Activates m receiver) (eqb (flag o m) receiverFlag) _ _ (λ e. (world .self, v))
-        (λ n5. if-cases (Activates m receiver) (eqb (flag o m) fieldFlag) _ _ (λ e. field-answers m receiver (fieldOf o receiver (temporaryCount o m)) refl)
-        (λ n6.
-          let code = runs-code 0 o m (borrow.Author.Tests.eqb-false (flag o m) receiverFlag n5) (borrow.Author.Tests.eqb-false (flag o m) fieldFlag n6) in
-          if-cases (Activates m receiver) (eqb (flag o m) primitiveFlag) _ _
-          (λ e. primitive-answers m receiver arguments v va c code (primitive room o (primitiveNumber o m) (argumentCount o m) receiver arguments) refl)
-          (λ e. enters m receiver code)))
-
-    -- the frame of a method that was found
-    new-right : (m receiver : ℕ) (arguments : List ℕ) → T (isKind o methodKind m) → T (isValid (o .n) receiver) → Valid (o .n) arguments → argumentCount o m ≡ length arguments
-        → T (runsCode o m) → T (inChain o (home o m) (classOf o receiver)) → FrameRight o true (newFrame o (s .registers .top) m receiver arguments)
-    unfolding newFrame
-    new-right m receiver arguments k v va c t h =
-        record { isMethod = k; unmarked = refl; receiver = v; chain = h; note = spot-start o m (world .runs m k t) ∙ sym (note-is true _); temporaries = temps; depth = refl; validTemporaries = valid-append (o .n) arguments (replicate (temporaryCount o m - length arguments) nilWord) va (valid-replicate (o .n) (temporaryCount o m - length arguments) nilWord (small-valid (o .n) nilWord (world .least) nil-valid)); validOperands = tt }
-      where
-        temps : length (arguments ++ replicate (temporaryCount o m - length arguments) nilWord) ≡ temporaryCount o m
-        temps =
-            length-append arguments (replicate (temporaryCount o m - length arguments) nilWord)
-            ∙ ap (λ (x : ℕ). length arguments + x) (length-replicate (temporaryCount o m - length arguments) nilWord)
-            ∙ (let x = world .arguments m k in omega arith)
-
     -- a send by the frame f′, which is f at its next position without receiver and arguments
     module _ (q n : ℕ) (needs : suc n ≤ f .depth) (noted : noteAt (methodTable o (f .method)) q ≡ suc (f .depth - suc n + 1)) where
       abbrev f′ : Frame
@@ -384,11 +386,11 @@ module _ (After : Objects → Objects → Type 0) (room : Room) (s : Plain) wher
           (λ e. tt)
 
       activated-goes : (selector class m receiver : ℕ) → lookup o selector class ≡ found m → argumentCount o m ≡ length arguments′ → T (isValid (o .n) receiver)
-          → (x : Activation) → Activates m receiver x → Goes (activated room s f′ rest m receiver arguments′ (looked selector class m) x)
+          → (x : Activation) → Activates world m receiver x → Goes (activated room s f′ rest m receiver arguments′ (looked selector class m) x)
       activated-goes selector class m receiver e c v (answered w o′) a =
           pushes-changed false f′ refl refl right′ o′ (a .0) q (without f (suc n)) w noted′ (without-valid o f r (suc n)) (a .1) (looked selector class m) e
       activated-goes selector class m receiver e c v entered a =
-          framed-goes m receiver (new-right m receiver arguments′ (world .lookupMethod selector class m e) v (arguments-valid o f r n) c (a .0) (a .1)) (looked selector class m) e
+          framed-goes m receiver (new-right world m receiver arguments′ (world .lookupMethod selector class m e) v (arguments-valid o f r n) c (a .0) (a .1) (s .registers .top)) (looked selector class m) e
       activated-goes selector class m receiver e c v unfit a = tt
 
       found-goes : (selector class receiver : ℕ) → T (takesCount o selector n) → T (isValid (o .n) receiver) → (x : Found) → lookup o selector class ≡ x
@@ -396,7 +398,7 @@ module _ (After : Objects → Objects → Type 0) (room : Room) (s : Plain) wher
       found-goes selector class receiver t v Nothing e = tt
       found-goes selector class receiver t v (Method m) e =
           let c : argumentCount o (m .0) ≡ length arguments′ = world .lookupCount selector class (m .0) n e t ∙ sym (arguments-length o f r n (omega arith)) in
-          activated-goes selector class (m .0) receiver e c v (activate room o (m .0) receiver arguments′) (activates (m .0) receiver arguments′ v (arguments-valid o f r n) c)
+          activated-goes selector class (m .0) receiver e c v (activate room o (m .0) receiver arguments′) (activates world (m .0) receiver arguments′ v (arguments-valid o f r n) c)
 
       send-goes : (from : ℕ → ℕ) (selector : ℕ) → T (takesCount o selector n) → Goes (sends room s f rest q from selector n)
       unfolding sends
