@@ -15,7 +15,7 @@ use Rattle.model.specs.Image.{Room}
 use Rattle.model.proofs.Facts.{Right}
 use Rattle.model.proofs.Extends.{Extends, extends-refl, extends-trans}
 use Rattle.model.proofs.Unchanged.{lookup-same}
-use Rattle.plain.specs.Registers.{running, finished, hasFrames, Cause, notUnderstood, noBoolean, noStackRoom, phaseOf}
+use Rattle.plain.specs.Registers.{idle, running, hasFrames, Cause, notUnderstood, noBoolean, noStackRoom, phaseOf}
 use Rattle.plain.specs.State.{Frame, Plain, objects}
 use Rattle.plain.specs.Step.{Looked, Stepped, next, halts, missing, stepFrame, step}
 use Rattle.plain.specs.Calls.{Taken, taken, Ran, ran, stuck, counted, halted, onward, ifRunning, steps}
@@ -117,6 +117,7 @@ module _ (room : Room) (worlds : Worlds room) where
   pub record RanRight (n : ℕ) (p : Plain) (stack cache : List ℕ) (k : ℕ) (p′ : Plain) (ts : List Taken) : Type 0 where
     pub made : k ≤ n
     pub whole : p′ .registers .phase ≡ running → k ≡ n
+    pub busy : (p .registers .phase ≡ idle → ⊥) → p′ .registers .phase ≡ idle → ⊥
     pub right : PlainRight room p′
     pub extends : Extends (objects p) (objects p′)
     pub stood : Stood p′ (stackAfter stack ts)
@@ -131,19 +132,23 @@ module _ (room : Room) (worlds : Worlds room) where
 
   -- a run of no steps
   none : (n : ℕ) (p p′ : Plain) (stack cache : List ℕ) → PlainRight room p → PlainRight room p′ → objects p′ ≡ objects p → Stood p′ stack → T (cacheFine (objects p) cache)
-      → (p′ .registers .phase ≡ running → 0 ≡ n) → RanRight n p stack cache 0 p′ []
+      → (p′ .registers .phase ≡ running → 0 ≡ n) → ((p .registers .phase ≡ idle → ⊥) → p′ .registers .phase ≡ idle → ⊥) → RanRight n p stack cache 0 p′ []
   unfolding stackAfter cacheAfter highestEnd
-  none n p p′ stack cache r r′ e s c w =
-      record { made = omega arith; whole = w; right = r′; extends = subst (Extends (objects p)) (sym e) (extends-refl (objects p)); stood = s; cached = subst (λ (o : Objects). T (cacheFine o cache)) (sym e) c; stackLength = refl; cacheLength = refl; reach = top-end room p (r .stands) }
+  none n p p′ stack cache r r′ e s c w i =
+      record { made = omega arith; whole = w; busy = i; right = r′; extends = subst (Extends (objects p)) (sym e) (extends-refl (objects p)); stood = s; cached = subst (λ (o : Objects). T (cacheFine o cache)) (sym e) c; stackLength = refl; cacheLength = refl; reach = top-end room p (r .stands) }
 
   -- one step and a run
-  more : (n : ℕ) (p p₁ : Plain) (l : Looked) (stack cache : List ℕ) → PlainRight room p → Extends (objects p) (objects p₁) → length (filled cache l) ≡ length cache
+  more : (n : ℕ) (p p₁ : Plain) (l : Looked) (stack cache : List ℕ) → PlainRight room p → (p₁ .registers .phase ≡ idle → ⊥) → Extends (objects p) (objects p₁) → length (filled cache l) ≡ length cache
       → length (laid stack (p₁ .registers .top) (p₁ .frames)) ≡ length stack → (x : Ran)
       → RunGoes n p₁ (laid stack (p₁ .registers .top) (p₁ .frames)) (filled cache l) x → RunGoes (suc n) p stack cache (counted (taken l p₁) x)
   unfolding stackAfter cacheAfter highestEnd
-  more n p p₁ l stack cache r e lc ls (ran k p′ ts) g =
-      record { made = let m = g .made in omega arith; whole = λ q. ap suc (g .whole q); right = g .right; extends = extends-trans e (g .extends); stood = g .stood; cached = g .cached; stackLength = g .stackLength ∙ ls; cacheLength = g .cacheLength ∙ lc; reach = let a = top-end room p (r .stands) in let b = g .reach in omega arith }
-  more n p p₁ l stack cache r e lc ls stuck g = g
+  more n p p₁ l stack cache r i e lc ls (ran k p′ ts) g =
+      record { made = let m = g .made in omega arith; whole = λ q. ap suc (g .whole q); busy = λ q. g .busy i; right = g .right; extends = extends-trans e (g .extends); stood = g .stood; cached = g .cached; stackLength = g .stackLength ∙ ls; cacheLength = g .cacheLength ∙ lc; reach = let a = top-end room p (r .stands) in let b = g .reach in omega arith }
+  more n p p₁ l stack cache r i e lc ls stuck g = g
+
+  shape-busy : (p : Plain) → Shape (room .stack) p → p .registers .phase ≡ idle → ⊥
+  shape-busy p (runs a b f) e = omega arith
+  shape-busy p (ends a b c f) e = omega arith
 
   -- after a step the frames stand in the stack in which they were laid
   shape-stood : (p : Plain) (stack : List ℕ) → length stack ≡ room .stack → Shape (room .stack) p → Stood p (laid stack (p .registers .top) (p .frames))
@@ -153,7 +158,7 @@ module _ (room : Room) (worlds : Worlds room) where
   pub runs-right : (n : ℕ) (p : Plain) (stack cache : List ℕ) → PlainRight room p → length stack ≡ room .stack → length cache ≡ cacheWords → Stood p stack → T (cacheFine (objects p) cache)
       → RunGoes n p stack cache (steps room n p)
   unfolding steps
-  runs-right zero p stack cache r ls lc s c = none zero p p stack cache r r refl s c (λ q. refl)
+  runs-right zero p stack cache r ls lc s c = none zero p p stack cache r r refl s c (λ q. refl) (λ i. i)
   runs-right (suc n) p stack cache r ls lc s c =
       by-phase (eqb (p .registers .phase) running) refl (λ p₁ stack₁ cache₁ r₁ a b d f. runs-right n p₁ stack₁ cache₁ r₁ a b d f)
     where
@@ -168,15 +173,15 @@ module _ (room : Room) (worlds : Worlds room) where
           let ls₁ = length-laid stack (p₁ .registers .top) (p₁ .frames) in
           let lc₁ = length-filled cache l in
           let x : Extends (objects p) (objects p₁) = g .0 .after .extends in
-          more n p p₁ l stack cache r x lc₁ ls₁ (steps room n p₁)
+          more n p p₁ l stack cache r (shape-busy p₁ (g .0 .shape)) x lc₁ ls₁ (steps room n p₁)
           (again p₁ (laid stack (p₁ .registers .top) (p₁ .frames)) (filled cache l) r₁ (ls₁ ∙ ls) (lc₁ ∙ lc) (shape-stood p₁ stack ls (g .0 .shape))
           (cache-kept (objects p) (objects p₁) (lookup-same x (r .image)) (filled cache l) (cache-filled (objects p) cache l lc (g .1) c)))
       after-step (halts cause) g e again =
-          none (suc n) p (halted p cause) stack cache r (halted-right p r e cause) refl (λ q. s (ap hasFrames e)) c (λ q. absurd (let h = cause-least cause in omega arith))
+          none (suc n) p (halted p cause) stack cache r (halted-right p r e cause) refl (λ q. s (ap hasFrames e)) c (λ q. absurd (let h = cause-least cause in omega arith)) (λ i q. let h = cause-least cause in omega arith)
       after-step missing g e again = absurd g
 
       by-phase : (b : Bool) → eqb (p .registers .phase) running ≡ b → Again → RunGoes (suc n) p stack cache (ifRunning (λ s′. steps room n s′) room p b)
       by-phase true q again =
           let e = eqb-true (p .registers .phase) running q in
           after-step (step room p) (step-goes p r e) e again
-      by-phase false q again = none (suc n) p p stack cache r r refl s c (λ e. absurd (eqb-false (p .registers .phase) running q e))
+      by-phase false q again = none (suc n) p p stack cache r r refl s c (λ e. absurd (eqb-false (p .registers .phase) running q e)) (λ i. i)

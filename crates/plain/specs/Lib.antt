@@ -7,3 +7,4 @@ pub mod Flat
 pub mod Check
 pub mod FlatCalls
 pub mod Program
+pub mod CallLists

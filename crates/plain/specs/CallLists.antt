@@ -1,0 +1,82 @@
+-- The statement about whole lists of calls. Its proof is proofs/Theorem.antt.
+--
+-- Two machines are fed the same list of begin, run, drop and forget calls, refused ones included: the flat one, which works on the lent
+-- buffers and checks its state at each call, and the plain one of 01. After each call their answers are equal (reach aside), the flat state
+-- stands for the plain one, and check accepts it; no call meets a bytecode that pops an empty stack, pushes past a frame, leaves its code or
+-- touches what is not there; a run does all its bytecodes, or finishes, or halts for a listed cause.
+use Prim.Native.Nat.{ℕ, _≤_, _<_}
+use mathlib.Core.Path.{_≡_}
+use mathlib.Core.Logic.{_⊎_, _≢_}
+use mathlib.Core.List.{List, [], _∷_}
+use Rattle.model.specs.Limits.{entryWords, classKind}
+use Rattle.model.specs.Objects.{Objects, entryWord, kind, bodyWords, bodyWord}
+use Rattle.model.specs.Image.{Room, accepted, loadVerdict}
+use Rattle.plain.specs.Registers.{running, finished, Cause, phaseOf}
+use Rattle.plain.specs.State.{Plain, objects}
+use Rattle.plain.specs.Calls.{loaded, Taken, Call, beginCall, runCall, dropCall, forgetCall, Answer, done, refusedBy, result, wrote, Called, called, impossible, call}
+use Rattle.plain.specs.Flat.{Flat, roomOf, plainOf}
+use Rattle.plain.specs.Check.{check}
+use Rattle.plain.specs.FlatCalls.{Given, gives, noAnswer, highestEnd, flatLoad, flatCall}
+
+-- From an accepted load of an image, in buffers of any sufficient lengths and with any stack: see `Agrees` below.
+-- (The statement itself stands at the end, after what it speaks of.)
+
+-- How a run ended: all n bytecodes made, or finished, or halted for a cause
+abbrev pub RunEnds : ℕ → Answer → Type 0
+RunEnds n (result phase count value) = (count ≤ n) × (((phase ≡ running) × (count ≡ n)) ⊎ ((phase ≡ finished) ⊎ ((cause : Cause) × (phase ≡ phaseOf cause))))
+RunEnds n done = ⊥
+RunEnds n (refusedBy k) = k ≡ 12
+RunEnds n (wrote k) = ⊥
+
+abbrev pub Ends : Call → Answer → Type 0
+Ends (beginCall receiver selector arguments) a = Unit {0}
+Ends (runCall n) a = RunEnds n a
+Ends dropCall a = a ≡ done
+Ends forgetCall a = a ≡ done
+
+-- What calls leave of the objects: N and B never shrink, no entry changes, and no word of a class, list or method does.
+pub record Keeps (o o′ : Objects) : Type 0 where
+  pub objects : o .n ≤ o′ .n
+  pub words : o .b ≤ o′ .b
+  pub entries : (k i : ℕ) → 1 ≤ k → k ≤ o .n → i < entryWords → entryWord o′ k i ≡ entryWord o k i
+  pub bodies : (k i : ℕ) → 1 ≤ k → k ≤ o .n → classKind ≤ kind o k → i < bodyWords o k → bodyWord o′ k i ≡ bodyWord o k i
+
+-- One call, from a flat state that stands for p, in buffers of these lengths: a and s′ are the flat machine's answer and state, a′ and p′ the
+-- plain one's, ts the steps that it made.
+pub record Agreed (room : Room) (c : Call) (p : Plain) (a : Answer) (s′ : Flat) (a′ : Answer) (p′ : Plain) (ts : List Taken) : Type 0 where
+  pub answer : a ≡ a′
+  pub state : plainOf s′ ≡ p′
+  pub checks : check s′ ≡ accepted
+  pub lengths : roomOf s′ ≡ room
+  pub never3 : a ≢ refusedBy 3
+  pub never11 : a ≢ refusedBy 11
+  pub ends : Ends c a
+  pub reach : highestEnd p ts ≤ room .stack
+  pub keeps : Keeps (objects p) (objects p′)
+
+-- Both machines answer, they agree, and so they do in what follows.
+abbrev pub Together : Room → Call → Plain → Given → Called → (Flat → Plain → Type 0) → Type 0
+Together room c p (gives a s′) (called a′ p′ ts) rest = Agreed room c p a s′ a′ p′ ts × rest s′ p′
+Together room c p (gives a s′) impossible rest = ⊥
+Together room c p noAnswer (called a′ p′ ts) rest = ⊥
+Together room c p noAnswer impossible rest = ⊥
+
+-- The two machines agree on a whole list, call by call.
+unfoldable pub Agrees : Room → List Call → Flat → Plain → Type 0
+Agrees room [] s p = Unit {0}
+Agrees room (c ∷ cs) s p = Together room c p (flatCall s c) (call room p c) (λ s′ p′. Agrees room cs s′ p′)
+
+-- From every state that check accepts, the plain machine starting from the frames and objects that it holds
+abbrev pub FromChecked : Type 0
+FromChecked = (s : Flat) → check s ≡ accepted → (cs : List Call) → Agrees (roomOf s) cs s (plainOf s)
+
+-- From an accepted load, in any buffers and with any stack: load gives a state that stands for the plain machine's start, check accepts it, and
+-- the machines agree on every list of calls.
+pub record Loads (s : Flat) (image : List ℕ) (s₀ : Flat) : Type 0 where
+  pub gave : flatLoad s image ≡ gives done s₀
+  pub start : plainOf s₀ ≡ loaded image
+  pub checks : check s₀ ≡ accepted
+  pub agrees : (cs : List Call) → Agrees (roomOf s) cs s₀ (loaded image)
+
+abbrev pub FromLoad : Type 0
+FromLoad = (s : Flat) (image : List ℕ) → loadVerdict (roomOf s) image ≡ accepted → (s₀ : Flat) × Loads s image s₀
