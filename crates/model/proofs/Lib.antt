@@ -8,3 +8,5 @@ pub mod Extends
 pub mod Unchanged
 pub mod RightLaws
 pub mod StoreLaws
+pub mod AppendLaws
+pub mod PrimitiveLaws
