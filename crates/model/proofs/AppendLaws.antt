@@ -42,6 +42,11 @@ pub data Suits (o : Objects) (c kd sz : ℕ) (body : List ℕ) : Type 0 where
   ofBytes : kd ≡ bytesKind → form o c ≡ bytesForm → length body ≡ (sz + 1) / 2
       → (sz % 2 ≡ 1 → getD body (length body - 1) 0 % 256 ≡ 0) → Suits o c kd sz body
 
+pub suits-kind : {o : Objects} {c kd sz : ℕ} {body : List ℕ} → Suits o c kd sz body → kd ≤ 1
+suits-kind (asMany p f m q v) = omega arith
+suits-kind (atLeast p f m q v) = omega arith
+suits-kind (ofBytes p f q v) = omega arith
+
 module _ {e : ℕ} {o : Objects} (r : Right e o) (c kd sz : ℕ) (body : List ℕ) where
   abbrev grown : Objects
   grown = appended o c kd sz body
@@ -87,16 +92,8 @@ module _ {e : ℕ} {o : Objects} (r : Right e o) (c kd sz : ℕ) (body : List �
       longer = unfold appended in let q = length-append (o .bodies) body in omega arith
 
   module _ (t : T (isKind o classKind c)) (s : Suits o c kd sz body) where
-    low-kind : kd ≤ 1
-    low-kind = go s
-      where
-        go : Suits o c kd sz body → kd ≤ 1
-        go (asMany p f m q v) = omega arith
-        go (atLeast p f m q v) = omega arith
-        go (ofBytes p f q v) = omega arith
-
     ext : Extends o grown
-    ext = appended-extends low-kind
+    ext = appended-extends (suits-kind s)
 
     new-words : (k : ℕ) → k ≡ o .n + 1 → bodyWords grown k ≡ length body
     new-words k h = go s
@@ -159,7 +156,7 @@ module _ {e : ℕ} {o : Objects} (r : Right e o) (c kd sz : ℕ) (body : List �
     new-layout k h =
         let l = least r in
         let a : kind grown k ≡ kd = new-entry k 1 h in
-        let d = low-kind in
+        let d = suits-kind s in
         record { kinds = omega arith; first = λ p. absurd (omega arith); next = λ p. new-entry k 2 h ∙ sym (last-end r) ∙ sym (ap₂ _+_ (ap (start grown) (before-new k h) ∙ appended-entry (o .n) 2 (omega arith) (omega arith) (omega arith)) (ap (bodyWords grown) (before-new k h) ∙ words-same ext (o .n) (omega arith) (omega arith))); four = λ p. absurd (omega arith); padded = new-padded k h }
 
     old-padded : (k : ℕ) → 1 ≤ k → k ≤ o .n → Padded grown k

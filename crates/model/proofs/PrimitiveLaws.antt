@@ -28,7 +28,7 @@ use Rattle.model.proofs.Parts.{if-either}
 use Rattle.model.proofs.Facts.{Right, Valid, odd, names, valid-cases, valid-odd, valid-name, valid-kind, Fits, fixed, indexed, bytes, other, in-words, least, word-valid, entry-class, entry-fits}
 use Rattle.model.proofs.Extends.{Extends, extends-refl, valid-grows}
 use Rattle.model.proofs.StoreLaws.{stored-extends, stored-right, byte-extends, byte-right}
-use Rattle.model.proofs.AppendLaws.{HasRoom, room-facts, Suits, asMany, atLeast, ofBytes, appended-extends, appended-right}
+use Rattle.model.proofs.AppendLaws.{HasRoom, room-facts, Suits, asMany, atLeast, ofBytes, suits-kind, appended-extends, appended-right}
 
 pub record Performed (room : Room) (e : ℕ) (o : Objects) (v : ℕ) (o′ : Objects) : Type 0 where
   pub right : Right e o′
@@ -53,11 +53,6 @@ record Element (o : Objects) (w : ℕ) : Type 0 where
   last : w / 2 ≤ o .n
   classed : classOf o w ≡ classWord o (w / 2)
   forms : (form o (classOf o w) ≡ indexedForm) ⊎ (form o (classOf o w) ≡ bytesForm)
-
-suits-kind : {o : Objects} {c kd sz : ℕ} {body : List ℕ} → Suits o c kd sz body → kd ≤ 1
-suits-kind (asMany p f m q v) = omega arith
-suits-kind (atLeast p f m q v) = omega arith
-suits-kind (ofBytes p f q v) = omega arith
 
 module _ {e : ℕ} {o : Objects} (r : Right e o) where
   boolean-valid : (b : Bool) → T (isValid (o .n) (booleanWord b))
@@ -131,9 +126,9 @@ module _ {e : ℕ} {o : Objects} (r : Right e o) where
     same-objects : (v : ℕ) → T (isValid (o .n) v) → Performed room e o v o
     same-objects v t = record { right = r; extends = extends-refl o; valid = t; contents = λ h. h; bodies = λ h. h }
 
-    computed-kept : (z : Computed) → ValidWord o z → Kept room e o (computed o z)
-    computed-kept (Word w) t = same-objects w t
-    computed-kept Failed t = tt
+    computed-law : (z : Computed) → ValidWord o z → Kept room e o (computed o z)
+    computed-law (Word w) t = same-objects w t
+    computed-law Failed t = tt
 
     -- 60 to 62: the receiver is an object of fields or of bytes
     module _ (w : ℕ) (v : T (isValid (o .n) w)) where
@@ -199,18 +194,18 @@ module _ {e : ℕ} {o : Objects} (r : Right e o) where
           let q = in-words o (w / 2) (omega arith) (omega arith) in
           word-valid r (w / 2) i (h .first) (h .last) (omega arith) (omega arith) (omega arith)
 
-      pub at-kept : (x : ℕ) → Kept room e o (at o w x)
+      pub at-law : (x : ℕ) → Kept room e o (at o w x)
       unfolding at
-      at-kept x =
+      at-law x =
           if-either (Kept room e o) (isIndexable o w && isIndex o w x) _ fails
           (λ p. same-objects _ (if-either (λ (z : ℕ). T (isValid (o .n) z)) (holdsBytes o w) (2 * objectByte o (w / 2) (placeOfIndex o w x) + 1) (bodyWord o (w / 2) (placeOfIndex o w x))
           (λ q. valid-odd (o .n) (2 * objectByte o (w / 2) (placeOfIndex o w x) + 1) (omega arith))
           (λ q. element-valid (placeOfIndex o w x) (element (and-left (isIndexable o w) (isIndex o w x) (true→T p))) q (place x (and-right (isIndexable o w) (isIndex o w x) (true→T p))))))
           (λ p. tt)
 
-      pub size-kept : Kept room e o (sizeAnswer o w)
+      pub size-law : Kept room e o (sizeAnswer o w)
       unfolding sizeAnswer
-      size-kept =
+      size-law =
           if-either (Kept room e o) (isIndexable o w) _ fails (λ p. same-objects (2 * elementCount o w + 1) (valid-odd (o .n) (2 * elementCount o w + 1) (omega arith))) (λ p. tt)
 
       byte-stored : (i b y : ℕ) → T (isValid (o .n) y) → Element o w → holdsBytes o w ≡ true → i < size o (w / 2) → Performed room e o y (storeByte o (w / 2) i b)
@@ -227,9 +222,9 @@ module _ {e : ℕ} {o : Objects} (r : Right e o) where
           x : Extends o (storeWord o (w / 2) i y)
           x = stored-extends r (w / 2) i y (h .first) (h .last) (fields-kind h p) l
 
-      pub at-put-kept : (x y : ℕ) → T (isValid (o .n) y) → Kept room e o (atPut o w x y)
+      pub atPut-law : (x y : ℕ) → T (isValid (o .n) y) → Kept room e o (atPut o w x y)
       unfolding atPut
-      at-put-kept x y u =
+      atPut-law x y u =
           if-either (Kept room e o) (isIndexable o w && isIndex o w x) _ fails
           (λ p. let h = element (and-left (isIndexable o w) (isIndex o w x) (true→T p)) in
           let l = place x (and-right (isIndexable o w) (isIndex o w x) (true→T p)) in
@@ -239,9 +234,9 @@ module _ {e : ℕ} {o : Objects} (r : Right e o) where
           (λ p. tt)
 
     -- 70 and 71
-    make-kept : (c kd sz count fill : ℕ) → T (isKind o classKind c) → Suits o c kd sz (replicate count fill) → Kept room e o (make room o c kd sz count fill)
+    pub make-law : (c kd sz count fill : ℕ) → T (isKind o classKind c) → Suits o c kd sz (replicate count fill) → Kept room e o (make room o c kd sz count fill)
     unfolding make
-    make-kept c kd sz count fill t s =
+    make-law c kd sz count fill t s =
         if-either (Kept room e o) (hasRoom room o count) _ fails (λ p. made (room-facts room o count (true→T p))) (λ p. tt)
       where
         long : length (replicate count fill) ≡ count
@@ -259,50 +254,54 @@ module _ {e : ℕ} {o : Objects} (r : Right e o) where
     fill-zero : (count i : ℕ) → getD (replicate count 0) i 0 % 256 ≡ 0
     fill-zero count i = ap (λ (z : ℕ). z % 256) (blank count i)
 
-    pub new-kept : (c : ℕ) → Kept room e o (new room o c)
+    pub new-law : (c : ℕ) → Kept room e o (new room o c)
     unfolding new
-    new-kept c =
+    new-law c =
         if-either (Kept room e o) (isKind o classKind c && eqb (form o c) fixedForm) _ fails
-        (λ p. make-kept c fieldsKind (fieldCount o c) (fieldCount o c) nilWord (and-left (isKind o classKind c) (eqb (form o c) fixedForm) (true→T p))
+        (λ p. make-law c fieldsKind (fieldCount o c) (fieldCount o c) nilWord (and-left (isKind o classKind c) (eqb (form o c) fixedForm) (true→T p))
         (asMany refl (eqb→eq (form o c) fixedForm (and-right (isKind o classKind c) (eqb (form o c) fixedForm) (true→T p))) refl (length-replicate (fieldCount o c) nilWord) (fill-valid (fieldCount o c))))
         (λ p. tt)
 
-    pub new-with-kept : (c x : ℕ) → Kept room e o (newWith room o c x)
+    pub newWith-law : (c x : ℕ) → Kept room e o (newWith room o c x)
     unfolding newWith
-    new-with-kept c x =
+    newWith-law c x =
         if-either (Kept room e o) (isKind o classKind c && isNatural largestInteger x) _ fails
         (λ p. let t = and-left (isKind o classKind c) (isNatural largestInteger x) (true→T p) in
         if-either (Kept room e o) (eqb (form o c) indexedForm) _ _
-        (λ q. make-kept c fieldsKind (fieldCount o c + x / 2) (fieldCount o c + x / 2) nilWord t
+        (λ q. make-law c fieldsKind (fieldCount o c + x / 2) (fieldCount o c + x / 2) nilWord t
         (atLeast refl (eqb-true (form o c) indexedForm q) (omega arith) (length-replicate (fieldCount o c + x / 2) nilWord) (fill-valid (fieldCount o c + x / 2))))
         (λ q. if-either (Kept room e o) (eqb (form o c) bytesForm) _ fails
-        (λ s. make-kept c bytesKind (x / 2) ((x / 2 + 1) / 2) 0 t
+        (λ s. make-law c bytesKind (x / 2) ((x / 2 + 1) / 2) 0 t
         (ofBytes refl (eqb-true (form o c) bytesForm s) (length-replicate ((x / 2 + 1) / 2) 0) (λ h. fill-zero ((x / 2 + 1) / 2) (length (replicate ((x / 2 + 1) / 2) 0) - 1))))
         (λ s. tt)))
         (λ p. tt)
 
     -- all of them
-    perform-kept : (k w x y : ℕ) → T (isValid (o .n) w) → (k ≡ 61 → T (isValid (o .n) y)) → Kept room e o (perform room o k w x y)
+    pub perform-law : (k w x y : ℕ) → T (isValid (o .n) w) → (k ≡ 61 → T (isValid (o .n) y)) → Kept room e o (perform room o k w x y)
     unfolding perform
-    perform-kept k w x y v u =
-        if-either (Kept room e o) _ _ _ (λ p. computed-kept (arithmetic k w x) (arithmetic-valid k w x))
-        (λ p. if-either (Kept room e o) _ _ _ (λ p. at-kept w v x)
-        (λ p. if-either (Kept room e o) (eqb k 61) _ _ (λ p. at-put-kept w v x y (u (eqb-true k 61 p)))
-        (λ p. if-either (Kept room e o) _ _ _ (λ p. size-kept w v)
-        (λ p. if-either (Kept room e o) _ _ _ (λ p. new-kept w)
-        (λ p. if-either (Kept room e o) _ _ _ (λ p. new-with-kept w x)
+    perform-law k w x y v u =
+        if-either (Kept room e o) _ _ _ (λ p. computed-law (arithmetic k w x) (arithmetic-valid k w x))
+        (λ p. if-either (Kept room e o) _ _ _ (λ p. at-law w v x)
+        (λ p. if-either (Kept room e o) (eqb k 61) _ _ (λ p. atPut-law w v x y (u (eqb-true k 61 p)))
+        (λ p. if-either (Kept room e o) _ _ _ (λ p. size-law w v)
+        (λ p. if-either (Kept room e o) _ _ _ (λ p. new-law w)
+        (λ p. if-either (Kept room e o) _ _ _ (λ p. newWith-law w x)
         (λ p. if-either (Kept room e o) _ _ _ (λ p. same-objects (booleanWord (eqb w x)) (boolean-valid (eqb w x)))
         (λ p. if-either (Kept room e o) _ _ fails (λ p. same-objects (classOf o w) (class-valid w v)) (λ p. tt))))))))
 
-    primitive-kept : (k count w : ℕ) (arguments : List ℕ) → count ≡ length arguments → T (isValid (o .n) w) → T (every (isValid (o .n)) arguments)
+    pub answer-law : (k count w : ℕ) (arguments : List ℕ) → count ≡ length arguments → T (isValid (o .n) w) → T (every (isValid (o .n)) arguments)
         → Kept room e o (primitive room o k count w arguments)
     unfolding primitive primitiveCount
-    primitive-kept k count w arguments l v a =
+    answer-law k count w arguments l v a =
         if-either (Kept room e o) (eqb count (primitiveCount k)) _ fails
-        (λ p. perform-kept k w (getD arguments 0 0) (getD arguments 1 0) v
+        (λ p. perform-law k w (getD arguments 0 0) (getD arguments 1 0) v
         (λ q. let c : count ≡ 2 = eqb-true count (primitiveCount k) p ∙ if-yes _ _ (eq-eqb k 61 q) in every-at (isValid (o .n)) arguments a 1 (omega arith)))
         (λ p. tt)
 
+-- from an outcome that answers
+pub answered : (room : Room) (e : ℕ) (o : Objects) {z : Outcome} {v : ℕ} {o′ : Objects} → Kept room e o z → z ≡ answers v o′ → Performed room e o v o′
+answered room e o t p = subst (Kept room e o) p t
+
 pub primitive-law : {e : ℕ} {o o′ : Objects} (room : Room) (k count w v : ℕ) (arguments : List ℕ) → Right e o → count ≡ length arguments → T (isValid (o .n) w)
     → T (every (isValid (o .n)) arguments) → primitive room o k count w arguments ≡ answers v o′ → Performed room e o v o′
-primitive-law {e = e} {o = o} room k count w v arguments r l t a p = subst (Kept room e o) p (primitive-kept r room k count w arguments l t a)
+primitive-law {e = e} {o = o} room k count w v arguments r l t a p = answered room e o (answer-law r room k count w arguments l t a) p
