@@ -199,21 +199,49 @@ fits-rule e o k h (other a b) =
     subst T (sym (if-no _ _ (ne-eqb (form o (classWord o k)) fixedForm (omega arith)) ∙ if-no _ _ (ne-eqb (form o (classWord o k)) indexedForm (omega arith)) ∙ if-no _ _ (ne-eqb (form o (classWord o k)) bytesForm (omega arith))))
     (and-both (leb classKind (kind o k)) (leb (kind o k) methodKind) (le→leb classKind (kind o k) b) (le→leb (kind o k) methodKind h))
 
--- Rule 6: a class, its dictionary's pairs
+-- Rule 6: a pair of a dictionary, a class, the known objects
+pub record PairFacts (o : Objects) (d i : ℕ) : Type 0 where
+  pub selector : T (isKind o bytesKind (pairSelector o d i))
+  pub method : T (isKind o methodKind (pairMethod o d i))
+  pub rises : 0 < i → pairSelector o d (i - 1) < pairSelector o d i
+
+pub pair-facts-of : (o : Objects) (d i : ℕ) → T (pairFine o d i) → PairFacts o d i
+unfolding pairFine
+pair-facts-of o d i t =
+    let q : T (isKind o methodKind (pairMethod o d i) && implies (ltb 0 i) (ltb (pairSelector o d (i - 1)) (pairSelector o d i))) = and-right (isKind o bytesKind (pairSelector o d i)) _ t in
+    record { selector = and-left (isKind o bytesKind (pairSelector o d i)) _ t; method = and-left (isKind o methodKind (pairMethod o d i)) _ q; rises = λ h. ltb→lt (pairSelector o d (i - 1)) (pairSelector o d i) (implied (ltb 0 i) _ (and-right (isKind o methodKind (pairMethod o d i)) _ q) (lt→ltb 0 i h)) }
+
 pub record ClassFacts (e : ℕ) (o : Objects) (c : ℕ) : Type 0 where
   pub superclass : T (isNilOr o classKind (superclassWord o c))
   pub dictionary : T (isKind o listKind (dictionaryWord o c))
-  pub fields : T (isNatural mostFields (fieldsWord o c))
-  pub forms : T (isNatural (lastForm e) (formWord o c))
+  pub fields : fieldCount o c ≤ mostFields
+  pub fields-tag : fieldsWord o c % 2 ≡ 1
+  pub forms : form o c ≤ lastForm e
+  pub form-tag : formWord o c % 2 ≡ 1
   pub none : bytesForm ≤ form o c → fieldCount o c ≡ 0
   pub ends : T (endsWithin (o .n) o c)
   pub rises : superclassWord o c ≢ nilWord → fieldCount o (superclassWord o c) ≤ fieldCount o c
-  pub pairs : T (dictionaryFine o (dictionaryWord o c))
+  pub even : size o (objectNumber (dictionaryWord o c)) % 2 ≡ 0
+  pub pairs : (i : ℕ) → i < pairCount o (dictionaryWord o c) → PairFacts o (dictionaryWord o c) i
 
 pub class-facts-of : (e : ℕ) (o : Objects) (c : ℕ) → T (allOf (classRules e o c)) → ClassFacts e o c
-unfolding classRules
+unfolding classRules dictionaryFine
 class-facts-of e o c t =
-    record { superclass = rule (classRules e o c) t 0; dictionary = rule (classRules e o c) t 1; fields = rule (classRules e o c) t 2; forms = rule (classRules e o c) t 3; none = λ h. eqb→eq (fieldCount o c) 0 (implied (leb bytesForm (form o c)) _ (rule (classRules e o c) t 4) (le→leb bytesForm (form o c) h)); ends = rule (classRules e o c) t 5; rises = λ h. leb→le (fieldCount o (superclassWord o c)) (fieldCount o c) (implied (not (eqb (superclassWord o c) nilWord)) _ (rule (classRules e o c) t 6) (not-T (eqb (superclassWord o c) nilWord) (λ q. h (eqb→eq (superclassWord o c) nilWord q)))); pairs = rule (classRules e o c) t 7 }
+    record { superclass = rule (classRules e o c) t 0; dictionary = rule (classRules e o c) t 1; fields = leb→le (fieldCount o c) mostFields (and-right (isInteger (fieldsWord o c)) _ (rule (classRules e o c) t 2)); fields-tag = eqb→eq (fieldsWord o c % 2) 1 (and-left (isInteger (fieldsWord o c)) _ (rule (classRules e o c) t 2)); forms = leb→le (form o c) (lastForm e) (and-right (isInteger (formWord o c)) _ (rule (classRules e o c) t 3)); form-tag = eqb→eq (formWord o c % 2) 1 (and-left (isInteger (formWord o c)) _ (rule (classRules e o c) t 3)); none = λ h. eqb→eq (fieldCount o c) 0 (implied (leb bytesForm (form o c)) _ (rule (classRules e o c) t 4) (le→leb bytesForm (form o c) h)); ends = rule (classRules e o c) t 5; rises = λ h. leb→le (fieldCount o (superclassWord o c)) (fieldCount o c) (implied (not (eqb (superclassWord o c) nilWord)) _ (rule (classRules e o c) t 6) (not-T (eqb (superclassWord o c) nilWord) (λ q. h (eqb→eq (superclassWord o c) nilWord q)))); even = eqb→eq (size o (objectNumber (dictionaryWord o c)) % 2) 0 (and-left (eqb (size o (objectNumber (dictionaryWord o c)) % 2) 0) _ (rule (classRules e o c) t 7)); pairs = λ i l. pair-facts-of o (dictionaryWord o c) i (below-at (pairCount o (dictionaryWord o c)) (pairFine o (dictionaryWord o c)) (and-right (eqb (size o (objectNumber (dictionaryWord o c)) % 2) 0) _ (rule (classRules e o c) t 7)) i l) }
+
+pub record KnownFacts (o : Objects) : Type 0 where
+  pub nil : kind o nilObject ≡ fieldsKind
+  pub falses : kind o falseObject ≡ fieldsKind
+  pub trues : kind o trueObject ≡ fieldsKind
+  pub integers : kind o integerClassObject ≡ classKind
+  pub integer-form : form o integerClass ≡ otherForm
+  pub selectors : kind o selectorsObject ≡ listKind
+  pub selectors-size : size o selectorsObject ≡ specialSelectors
+
+pub known-facts-of : (e : ℕ) (o : Objects) → T (allOf (knownObjectRules e o)) → KnownFacts o
+unfolding knownObjectRules
+known-facts-of e o t =
+    record { nil = eqb→eq (kind o nilObject) fieldsKind (rule (knownObjectRules e o) t 0); falses = eqb→eq (kind o falseObject) fieldsKind (rule (knownObjectRules e o) t 1); trues = eqb→eq (kind o trueObject) fieldsKind (rule (knownObjectRules e o) t 2); integers = eqb→eq (kind o integerClassObject) classKind (rule (knownObjectRules e o) t 3); integer-form = eqb→eq (form o integerClass) otherForm (rule (knownObjectRules e o) t 4); selectors = eqb→eq (kind o selectorsObject) listKind (rule (knownObjectRules e o) t 5); selectors-size = eqb→eq (size o selectorsObject) specialSelectors (rule (knownObjectRules e o) t 6) }
 
 -- Rule 7: a method
 pub record Extended (o : Objects) (m : ℕ) : Type 0 where
@@ -241,17 +269,6 @@ pub method-facts-of : (e : ℕ) (o : Objects) (m : ℕ) → T (allOf (methodRule
 unfolding methodRules
 method-facts-of e o m t =
     record { long = leb→le 4 (size o (objectNumber m)) (rule (methodRules e o m) t 0); tag = eqb→eq (header o m % 2) 1 (rule (methodRules e o m) t 1); holds = leb→le (4 + 2 * literalCount o m) (size o (objectNumber m)) (rule (methodRules e o m) t 2); homes = rule (methodRules e o m) t 3; literals = λ i h. below-at (literalCount o m) (λ j. isValid (o .n) (literal o m j)) (rule (methodRules e o m) t 4) i h; field = λ h. ltb→lt (temporaryCount o m) (fieldCount o (home o m)) (implied (eqb (flag o m) fieldFlag) _ (rule (methodRules e o m) t 5) (true→T (eq-eqb (flag o m) fieldFlag h))); extended = λ h. extended-facts o m (implied (eqb (flag o m) primitiveFlag) _ (rule (methodRules e o m) t 6) (true→T (eq-eqb (flag o m) primitiveFlag h))); arguments = leb→le (argumentCount o m) (temporaryCount o m) (rule (methodRules e o m) t 7); sound = implied (runsCode o m) _ (rule (methodRules e o m) t 8) }
-
-pub record PairFacts (o : Objects) (d i : ℕ) : Type 0 where
-  pub selector : T (isKind o bytesKind (pairSelector o d i))
-  pub method : T (isKind o methodKind (pairMethod o d i))
-  pub rises : 0 < i → pairSelector o d (i - 1) < pairSelector o d i
-
-pub pair-facts-of : (o : Objects) (d i : ℕ) → T (pairFine o d i) → PairFacts o d i
-unfolding pairFine
-pair-facts-of o d i t =
-    let q : T (isKind o methodKind (pairMethod o d i) && implies (ltb 0 i) (ltb (pairSelector o d (i - 1)) (pairSelector o d i))) = and-right (isKind o bytesKind (pairSelector o d i)) _ t in
-    record { selector = and-left (isKind o bytesKind (pairSelector o d i)) _ t; method = and-left (isKind o methodKind (pairMethod o d i)) _ q; rises = λ h. ltb→lt (pairSelector o d (i - 1)) (pairSelector o d i) (implied (ltb 0 i) _ (and-right (isKind o methodKind (pairMethod o d i)) _ q) (lt→ltb 0 i h)) }
 
 module _ {e : ℕ} {o : Objects} (r : Right e o) where
   pub least : 5 ≤ o .n
@@ -368,13 +385,34 @@ module _ {e : ℕ} {o : Objects} (r : Right e o) where
       let h = named o classKind c t in
       in-words o (c / 2) (omega (arith, h .kinds)) (omega (arith, h .kinds)) ∙ layout (c / 2) (h .least) (h .most) .four (h .kinds)
 
-  -- nil is no class
-  pub nil-kind : kind o nilObject ≡ fieldsKind
-  unfolding knownObjectRules
-  nil-kind = eqb→eq (kind o nilObject) fieldsKind (rule (knownObjectRules e o) known 0)
+  pub known-facts : KnownFacts o
+  known-facts = known-facts-of e o known
 
+  -- nil is no class, the class of integers is one
   pub nil-no-class : T (isKind o classKind nilWord) → ⊥
-  nil-no-class t = let h = named o classKind nilWord t in let k : kind o 1 ≡ 0 = nil-kind in let q : kind o 1 ≡ 2 = h .kinds in omega arith
+  nil-no-class t = let h = named o classKind nilWord t in let k : kind o 1 ≡ 0 = known-facts .nil in let q : kind o 1 ≡ 2 = h .kinds in omega arith
+
+  pub integer-class : T (isKind o classKind integerClass)
+  integer-class = let l = least in naming o classKind integerClass (record { even = omega arith; least = omega arith; most = omega arith; kinds = known-facts .integers })
+
+  -- the special selectors
+  pub inside-selectors : (k : ℕ) → k < specialSelectors → k < bodyWords o selectorsObject
+  inside-selectors k h =
+      let a = known-facts .selectors in
+      let b = known-facts .selectors-size in
+      let w = in-words o selectorsObject (omega arith) (omega arith) in
+      omega arith
+
+  pub special-selector : (k : ℕ) → k < specialSelectors → T (isNilOr o bytesKind (bodyWord o selectorsObject k))
+  unfolding knownObjectRules bodyOf
+  special-selector k h =
+      let l = least in
+      let i = inside selectorsObject (omega arith) (omega arith) in
+      let s = r .bodies in
+      let b = inside-selectors k h in
+      let p = length-part (o .bodies) (start o selectorsObject) (bodyWords o selectorsObject) (omega arith) in
+      subst (λ (w : ℕ). T (isNilOr o bytesKind w)) (part-at (o .bodies) (start o selectorsObject) (bodyWords o selectorsObject) k b)
+      (every-at (isNilOr o bytesKind) (bodyOf o selectorsObject) (rule (knownObjectRules e o) known 7) k (omega arith))
 
   -- methods
   fine-seven : (k : ℕ) → 1 ≤ k → k ≤ o .n → T (implies (eqb (kind o k) methodKind) (allOf (methodRules e o (pointer k))) && implies (eqb (kind o k) classKind) (dictionaryMethodsFine o (pointer k)))
@@ -399,10 +437,7 @@ module _ {e : ℕ} {o : Objects} (r : Right e o) where
   list-words d t = let h = named o listKind d t in in-words o (d / 2) (omega (arith, h .kinds)) (omega (arith, h .kinds))
 
   pub pair-facts : (c i : ℕ) → T (isKind o classKind c) → i < pairCount o (dictionaryWord o c) → PairFacts o (dictionaryWord o c) i
-  unfolding dictionaryFine
-  pair-facts c i t l =
-      pair-facts-of o (dictionaryWord o c) i
-      (below-at (pairCount o (dictionaryWord o c)) (pairFine o (dictionaryWord o c)) (and-right (eqb (size o (objectNumber (dictionaryWord o c)) % 2) 0) _ (class-facts c t .pairs)) i l)
+  pair-facts c i t l = class-facts c t .pairs i l
 
   pub fine-methods : (c : ℕ) → T (isKind o classKind c) → T (dictionaryMethodsFine o c)
   fine-methods c t =

@@ -9,3 +9,5 @@ pub mod Unchanged
 pub mod FoundLaws
 pub mod RightLaws
 pub mod StoreLaws
+pub mod AppendLaws
+pub mod PrimitiveLaws

@@ -21,7 +21,7 @@ use Rattle.model.specs.Depth.{isSome}
 use Rattle.model.specs.Rules.{sizesFine, layoutRules, rule4, wordsFine, rule5, fits, entryFine, pairFine, dictionaryFine, classRules, knownObjectRules, objectFine, rule6, takesCount, methodTable, extensionFine, methodRules, dictionaryMethodsFine, rule7}
 use Rattle.model.proofs.ChainLaws.{Named, named}
 use Rattle.model.proofs.Parts.{implying, every-more, below-same, or-right}
-use Rattle.model.proofs.Facts.{Right, Padded, Layout, layout-rules, words-rule, Fits, fixed, indexed, bytes, other, fits-rule, naming, named-pointer, valid-kind, least, layout, inside, word-valid, entry-class, entry-fits, known, class-rules, class-facts, method-rules, method-facts, pair-facts, fine-methods}
+use Rattle.model.proofs.Facts.{Right, Padded, Layout, layout-rules, words-rule, Fits, fixed, indexed, bytes, other, fits-rule, naming, named-pointer, valid-kind, least, layout, inside, word-valid, entry-class, entry-fits, known, known-facts, integer-class, class-rules, class-facts, method-rules, method-facts, pair-facts, fine-methods}
 use Rattle.model.proofs.Extends.{Extends, words-same, valid-grows, kind-kept, kind-same, nil-or-same, body-same, class-word-same, superclass-same, dictionary-same, fields-same, form-same, pair-count-same, pair-selector-same, pair-method-same, method-size-same, header-same, home-same, home-fields-same, flag-same, temporaries-same, literal-count-same, literal-same, extension-same, arguments-same, runs-same}
 use Rattle.model.proofs.Unchanged.{and-same, implies-same, ends-above, ends-nil, count-same, table-same}
 
@@ -94,7 +94,7 @@ module _ {e : ℕ} {o o′ : Objects} (x : Extends o o′) (r : Right e o) where
       let q = class-facts r c t .dictionary in
       let h = named o listKind d q in
       and-both (eqb (size o′ (d / 2) % 2) 0) (below (pairCount o′ d) (pairFine o′ d))
-      (moved (ap (λ (z : ℕ). eqb (z % 2) 0) (x .entries (d / 2) 3 (h .least) (h .most) (omega arith))) (and-left (eqb (size o (d / 2) % 2) 0) _ (class-facts r c t .pairs)))
+      (moved (ap (λ (z : ℕ). eqb (z % 2) 0) (x .entries (d / 2) 3 (h .least) (h .most) (omega arith))) (true→T (eq-eqb (size o (d / 2) % 2) 0 (class-facts r c t .even))))
       (moved (ap (λ (z : ℕ). below z (pairFine o′ d)) (pair-count-same x r d q)) (at-below (pairCount o d) (pairFine o′ d) (λ i l. pair-kept c i t l)))
 
   class-kept : (c : ℕ) → T (isKind o classKind c) → T (allOf (classRules e o′ c))
@@ -107,8 +107,8 @@ module _ {e : ℕ} {o o′ : Objects} (x : Extends o o′) (r : Right e o) where
       rules (classRules e o′ c)
       (moved (ap (isNilOr o′ classKind) s ∙ nil-or-same x classKind (superclassWord o c) (omega arith)) (f .superclass),
       (moved (ap (isKind o′ listKind) d) (kind-kept x listKind (dictionaryWord o c) (f .dictionary)),
-      (moved (ap (isNatural mostFields) (class-word-same x r c 2 t (omega arith))) (f .fields),
-      (moved (ap (isNatural (lastForm e)) (class-word-same x r c 3 t (omega arith))) (f .forms),
+      (moved (ap (isNatural mostFields) (class-word-same x r c 2 t (omega arith))) (rule (classRules e o c) old 2),
+      (moved (ap (isNatural (lastForm e)) (class-word-same x r c 3 t (omega arith))) (rule (classRules e o c) old 3),
       (moved (ap₂ (λ (a b : ℕ). implies (leb bytesForm a) (eqb b 0)) (form-same x r c t) (fields-same x r c t)) (rule (classRules e o c) old 4),
       (ends-more o′ (o .n) (o′ .n) c (x .grows) (ends-kept (o .n) c (or-right (eqb c nilWord) (isKind o classKind c) t) (f .ends)),
       (moved (implies-same (not (eqb (superclassWord o c) nilWord)) (not (eqb (superclassWord o′ c) nilWord)) (leb (fieldCount o (superclassWord o c)) (fieldCount o c)) (leb (fieldCount o′ (superclassWord o′ c)) (fieldCount o′ c)) (ap (λ (w : ℕ). not (eqb w nilWord)) s)
@@ -175,14 +175,13 @@ module _ {e : ℕ} {o o′ : Objects} (x : Extends o o′) (r : Right e o) where
   known-kept =
       let l = least r in
       let same : (k i : ℕ) → 1 ≤ k → k ≤ 5 → i < 4 → entryWord o′ k i ≡ entryWord o k i = λ k i a b c. x .entries k i a (omega arith) c in
-      let k5 : kind o 5 ≡ 3 = eqb→eq (kind o 5) 3 (rule (knownObjectRules e o) (known r) 5) in
-      let k4 : kind o 4 ≡ 2 = eqb→eq (kind o 4) 2 (rule (knownObjectRules e o) (known r) 3) in
+      let k5 = known-facts r .selectors in
       rules (knownObjectRules e o′)
       (moved (ap (λ (z : ℕ). eqb z 0) (same 1 1 (omega arith) (omega arith) (omega arith))) (rule (knownObjectRules e o) (known r) 0),
       (moved (ap (λ (z : ℕ). eqb z 0) (same 2 1 (omega arith) (omega arith) (omega arith))) (rule (knownObjectRules e o) (known r) 1),
       (moved (ap (λ (z : ℕ). eqb z 0) (same 3 1 (omega arith) (omega arith) (omega arith))) (rule (knownObjectRules e o) (known r) 2),
       (moved (ap (λ (z : ℕ). eqb z 2) (same 4 1 (omega arith) (omega arith) (omega arith))) (rule (knownObjectRules e o) (known r) 3),
-      (moved (ap (λ (z : ℕ). eqb z 3) (form-same x r integerClass (naming o classKind integerClass (record { even = omega arith; least = omega arith; most = omega arith; kinds = k4 })))) (rule (knownObjectRules e o) (known r) 4),
+      (moved (ap (λ (z : ℕ). eqb z 3) (form-same x r integerClass (integer-class r))) (rule (knownObjectRules e o) (known r) 4),
       (moved (ap (λ (z : ℕ). eqb z 3) (same 5 1 (omega arith) (omega arith) (omega arith))) (rule (knownObjectRules e o) (known r) 5),
       (moved (ap (λ (z : ℕ). eqb z 32) (same 5 3 (omega arith) (omega arith) (omega arith))) (rule (knownObjectRules e o) (known r) 6),
       (moved (ap (every (isNilOr o′ bytesKind)) (body-same x r 5 (omega arith) (omega arith) (omega arith)))

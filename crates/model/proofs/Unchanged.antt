@@ -28,7 +28,7 @@ use Rattle.model.specs.Depth.{walkFrom, successorsAt, depthAfterAt, rule
 use Rattle.model.specs.Rules.{knownObjectRules, takesCount, sendFine, variableFine, placeFine, isWritable, specialSelector, isSame, isClass, allowed, methodTable, rule8}
 use Rattle.model.proofs.ChainLaws.{Named, named}
 use Rattle.model.proofs.Parts.{same-test, below-same, upTo-same, if-either, implying}
-use Rattle.model.proofs.Facts.{Right, naming, named-pointer, least, layout, word-valid, known, class-facts, nil-no-class, pair-facts, method-facts, in-words, valid-kind}
+use Rattle.model.proofs.Facts.{Right, naming, named-pointer, least, layout, word-valid, known-facts, inside-selectors, class-facts, nil-no-class, pair-facts, method-facts, in-words, valid-kind}
 use Rattle.model.proofs.Extends.{Extends, valid-grows, kind-kept, kind-same, kind-valid, superclass-same, dictionary-same, pair-count-same, pair-selector-same, pair-method-same, header-same, home-same, home-fields-same, temporaries-same, literal-count-same, literal-same, frame-same, code-size-same, code-same, arguments-same}
 
 -- a test behind another is asked only where that one holds
@@ -278,32 +278,11 @@ unfolding decodeAt
 small-at words size p = small-if _ _ _ (small-if _ _ _ (small-instruction (byteAt words p) (byteAt words (p + 1)) (byteAt words (p + 2))) tt) tt
 
 module _ {e : ℕ} {o o′ : Objects} (x : Extends o o′) (r : Right e o) where
-  selectors-list : T (isKind o listKind (pointer selectorsObject))
-  unfolding knownObjectRules
-  selectors-list =
-      let l = least r in
-      naming o listKind (pointer selectorsObject) (record { even = omega arith; least = omega arith; most = omega arith; kinds = eqb→eq (kind o selectorsObject) listKind (rule (knownObjectRules e o) (known r) 5) })
-
-  selectors-words : size o selectorsObject ≡ specialSelectors
-  unfolding knownObjectRules
-  selectors-words = eqb→eq (size o selectorsObject) specialSelectors (rule (knownObjectRules e o) (known r) 6)
-
-  selectors-kind : kind o selectorsObject ≡ listKind
-  unfolding knownObjectRules
-  selectors-kind = eqb→eq (kind o selectorsObject) listKind (rule (knownObjectRules e o) (known r) 5)
-
-  inside-selectors : (k : ℕ) → k < specialSelectors → k < bodyWords o selectorsObject
-  inside-selectors k h =
-      let a = selectors-kind in
-      let b = selectors-words in
-      let w = in-words o selectorsObject (omega arith) (omega arith) in
-      omega arith
-
   pub special-same : (k : ℕ) → k < specialSelectors → specialSelector o′ k ≡ specialSelector o k
-  special-same k h = let l = least r in let a = selectors-kind in x .bodies selectorsObject k (omega arith) (omega arith) (omega arith) (inside-selectors k h)
+  special-same k h = let l = least r in let a = known-facts r .selectors in x .bodies selectorsObject k (omega arith) (omega arith) (omega arith) (inside-selectors r k h)
 
   pub special-valid : (k : ℕ) → k < specialSelectors → T (isValid (o .n) (specialSelector o k))
-  special-valid k h = let l = least r in let a = selectors-kind in word-valid r selectorsObject k (omega arith) (omega arith) (omega arith) (omega arith) (inside-selectors k h)
+  special-valid k h = let l = least r in let a = known-facts r .selectors in word-valid r selectorsObject k (omega arith) (omega arith) (omega arith) (omega arith) (inside-selectors r k h)
 
   module _ (m : ℕ) (t : T (isKind o methodKind m)) where
     inside-literals : (i : ℕ) → T (ltb i (literalCount o m)) → i < literalCount o m
