@@ -14,3 +14,4 @@ pub mod After
 pub mod RunLaws
 pub mod BeginLaws
 pub mod FlatLaws
+pub mod Worlds
