@@ -15,3 +15,5 @@ pub mod RunLaws
 pub mod BeginLaws
 pub mod FlatLaws
 pub mod Worlds
+pub mod LoadLaws
+pub mod Theorem

@@ -1,0 +1,86 @@
+-- An accepted load leaves a right state.
+use Prim.Native.Nat.{ℕ, zero, suc, _+_, _*_, _/_, _≤_, _<_}
+use mathlib.Core.Path.{_≡_, refl, sym, ap, _∙_, subst}
+use mathlib.Core.Bool.{Bool, true, false, _&&_}
+use mathlib.Core.List.{List, [], _∷_}
+use native.Mathlib.Omega.{arith}
+use lib.Dec.{T, leb, eqb, leb→le, eqb→eq}
+use lib.ListN.{length}
+use Rattle.bytecode.proofs.TestLaws.{and-left, and-right}
+use Rattle.model.specs.Limits.{isEdition, headerWords, entryWords, cacheWords}
+use Rattle.model.specs.Objects.{Objects}
+use Rattle.model.specs.Rules.{sizesFine, headerFine, rule4, rule5, rule6, rule7, rule8}
+use Rattle.model.specs.Image.{Room, wordsOf, imageHeader, imageObjects, objectsIn, imageBytes, Verdict, accepted, refused, unless, _then_, lengthFine, buffersFine, objectsVerdict, loadVerdict}
+use Rattle.model.proofs.Parts.{length-part}
+use Rattle.model.proofs.Facts.{Right}
+use Rattle.plain.specs.Registers.{hasFrames}
+use Rattle.plain.specs.State.{Plain, objects}
+use Rattle.plain.specs.Calls.{loaded}
+use Rattle.plain.proofs.StateLaws.{PlainRight, rests}
+use Rattle.plain.proofs.RunLaws.{Stood}
+
+pub length-words : (bytes : List ℕ) → length (wordsOf bytes) ≡ length bytes / 2
+unfolding wordsOf
+length-words [] = refl
+length-words (h ∷ []) = refl
+length-words (h ∷ l ∷ bytes) = ap suc (length-words bytes) ∙ omega arith
+
+refused-not : (k : ℕ) → refused k ≡ accepted → ⊥
+refused-not k e = subst is-refused e tt
+  where
+    is-refused : Verdict → Type 0
+    is-refused accepted = ⊥
+    is-refused (refused j) = Unit {0}
+
+-- the first test of a chain that accepts, and the rest of it
+passed : (b : Bool) (k : ℕ) (v : Verdict) → (unless b k then v) ≡ accepted → T b × (v ≡ accepted)
+passed true k v e = (tt, e)
+passed false k v e = absurd (refused-not k e)
+
+last-passed : (b : Bool) (k : ℕ) → unless b k ≡ accepted → T b
+last-passed true k e = tt
+last-passed false k e = absurd (refused-not k e)
+
+pub record Accepted (room : Room) (bytes : List ℕ) : Type 0 where
+  pub long : length bytes ≡ imageBytes (imageHeader bytes .n) (imageHeader bytes .b)
+  pub edition : imageHeader bytes .edition ≡ 1
+  pub sizes : T (sizesFine 1 (imageHeader bytes .n) (imageHeader bytes .b))
+  pub contents : entryWords * imageHeader bytes .n ≤ room .contents
+  pub bodies : imageHeader bytes .b ≤ room .bodies
+  pub cache : room .cache ≡ cacheWords
+  pub rule-4 : T (rule4 1 (imageObjects bytes))
+  pub rule-5 : T (rule5 1 (imageObjects bytes))
+  pub rule-6 : T (rule6 1 (imageObjects bytes))
+  pub rule-7 : T (rule7 1 (imageObjects bytes))
+  pub rule-8 : T (rule8 (imageObjects bytes) (imageHeader bytes .receiver) (imageHeader bytes .selector) [])
+
+pub accepts : (room : Room) (bytes : List ℕ) → loadVerdict room bytes ≡ accepted → Accepted room bytes
+unfolding loadVerdict objectsVerdict lengthFine buffersFine
+accepts room bytes a =
+    let h = imageHeader bytes in
+    let o = imageObjects bytes in
+    let one = passed (leb (2 * headerWords) (length bytes) && eqb (length bytes) (imageBytes (h .n) (h .b))) 1 _ a in
+    let two = passed (headerFine (h .edition) (h .n) (h .b)) 2 _ (one .1) in
+    let e = eqb→eq (h .edition) 1 (and-left (isEdition (h .edition)) (sizesFine (h .edition) (h .n) (h .b)) (two .0)) in
+    let c = leb (entryWords * h .n) (room .contents) in
+    let b = leb (h .b) (room .bodies) in
+    let k = eqb (room .cache) cacheWords in
+    let three = passed (c && (b && k)) 3 _ (two .1) in
+    let four = passed (rule4 (h .edition) o) 4 _ (three .1) in
+    let five = passed (rule5 (h .edition) o) 5 _ (four .1) in
+    let six = passed (rule6 (h .edition) o) 6 _ (five .1) in
+    let seven = passed (rule7 (h .edition) o) 7 _ (six .1) in
+    record { long = eqb→eq (length bytes) (imageBytes (h .n) (h .b)) (and-right (leb (2 * headerWords) (length bytes)) (eqb (length bytes) (imageBytes (h .n) (h .b))) (one .0)); edition = e; sizes = and-right (isEdition (h .edition)) (sizesFine (h .edition) (h .n) (h .b)) (two .0); contents = leb→le (entryWords * h .n) (room .contents) (and-left c (b && k) (three .0)); bodies = leb→le (h .b) (room .bodies) (and-left b k (and-right c (b && k) (three .0))); cache = eqb→eq (room .cache) cacheWords (and-right b k (and-right c (b && k) (three .0))); rule-4 = subst (λ (x : ℕ). T (rule4 x o)) e (four .0); rule-5 = subst (λ (x : ℕ). T (rule5 x o)) e (five .0); rule-6 = subst (λ (x : ℕ). T (rule6 x o)) e (six .0); rule-7 = subst (λ (x : ℕ). T (rule7 x o)) e (seven .0); rule-8 = last-passed (rule8 o (h .receiver) (h .selector) []) 8 (seven .1) }
+
+pub loaded-right : (room : Room) (bytes : List ℕ) → Accepted room bytes → PlainRight room (loaded bytes)
+unfolding loaded imageObjects objectsIn
+loaded-right room bytes a =
+    let n = imageHeader bytes .n in
+    let b = imageHeader bytes .b in
+    let w : length (wordsOf bytes) ≡ length bytes / 2 = length-words bytes in
+    let l = a .long in
+    record { image = record { contents = length-part (wordsOf bytes) 5 (entryWords * n) (omega arith); bodies = length-part (wordsOf bytes) (5 + entryWords * n) b (omega arith); sizes = a .sizes; rule-4 = a .rule-4; rule-5 = a .rule-5; rule-6 = a .rule-6; rule-7 = a .rule-7 }; contents = a .contents; bodies = a .bodies; starts = a .rule-8; stands = rests refl refl refl refl }
+
+pub loaded-stood : (bytes stack : List ℕ) → Stood (loaded bytes) stack
+unfolding loaded
+loaded-stood bytes stack e = absurd (subst T (sym e) tt)
