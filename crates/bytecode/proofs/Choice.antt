@@ -1,7 +1,8 @@
 -- A choice whose test is decided. `search ranges` proves a definition by ranges at a number whose range is known.
-use Prim.Native.Nat.{ℕ, _<_, _≤_}
-use mathlib.Core.Path.{_≡_}
+use Prim.Native.Nat.{ℕ, suc, _<_, _≤_}
+use mathlib.Core.Path.{_≡_, refl}
 use mathlib.Core.Bool.{Bool, true, false}
+use native.Mathlib.Omega.{arith}
 use lib.Dec.{ltb, leb, eqb}
 use borrow.Author.Tests.{lt-ltb, le-ltb, le-leb, lt-leb, eq-eqb, ne-eqb}
 use Rattle.bytecode.specs.Test.{if_then_else_}
@@ -33,3 +34,12 @@ pub if-ne : {A : Type 0} (a b : ℕ) (x y : A) → (a ≡ b → ⊥) → (if eqb
 if-ne a b x y h = if-no x y (ne-eqb a b h)
 
 pub ruleset ranges = (if-lt, if-ge, if-le, if-gt, if-eq, if-ne)
+
+-- a number from k on that is not k is one from the next on
+pub past : (k b : ℕ) → k ≤ b → (b ≡ k → ⊥) → suc k ≤ b
+past k b h n = omega arith
+
+pub if-same : {A : Type 0} (t : Bool) (x : A) → (if t then x else x) ≡ x
+unfolding if_then_else_
+if-same true x = refl
+if-same false x = refl

@@ -60,3 +60,214 @@ pub fn table() -> [u16; 256]
 {
     ENTRIES
 }
+
+// The code's byte at a position, high byte of a word first; 0 past the end.
+pub fn byte(words: &[u16], at: usize) -> u8
+    ensures { λ r. ⌜ r ≡ byteAt (now (words .entry)) at ⌝ }
+{
+    let i = at / 2;
+    if words.len() <= i {
+        return 0;
+    }
+    let w = words[i];
+    if at % 2 == 0 {
+        return (w / 256) as u8;
+    }
+    (w % 256) as u8
+}
+
+// The same inside the code, with no test.
+pub fn fetch(words: &[u16], at: usize) -> u8
+    requires { ⌜ at / 2 < length (now words) ⌝ }
+    ensures { λ r. ⌜ r ≡ byteAt (now (words .entry)) at ⌝ }
+{
+    let i = at / 2;
+    let w = words[i];
+    if at % 2 == 0 {
+        return (w / 256) as u8;
+    }
+    (w % 256) as u8
+}
+
+// The byte `k` further on. No code is so long that the sum, where it is made, would not fit.
+fn byte_after(words: &[u16], at: usize, k: usize) -> u8
+    requires { ⌜ k ≤ 2 ⌝ }
+    ensures { λ r. ⌜ r ≡ byteAt (now (words .entry)) (at + k) ⌝ }
+{
+    if words.len() <= at / 2 {
+        return 0;
+    }
+    byte(words, at + k)
+}
+
+// How many bytes the instruction has that begins with b.
+pub fn length(b: u8) -> usize
+    ensures { λ r. ⌜ r ≡ lengthOf b ⌝ }
+{
+    if b < 128 {
+        return 1;
+    }
+    match b {
+        128 => 2,
+        129 => 2,
+        130 => 2,
+        131 => 2,
+        132 => 3,
+        133 => 2,
+        134 => 3,
+        _ => {
+            if b < 160 {
+                return 1;
+            }
+            if b < 176 {
+                return 2;
+            }
+            1
+        }
+    }
+}
+
+fn place_of(x: u8) -> Place
+    ensures { λ r. ⌜ r ≡ placeOf x ⌝ }
+{
+    match x / 64 {
+        0 => Place::Field(x % 64),
+        1 => Place::Temporary(x % 64),
+        2 => Place::Literal(x % 64),
+        _ => Place::LiteralVariable(x % 64),
+    }
+}
+
+// 112 to 127.
+fn constant(b: u8) -> Instruction
+    requires { ⌜ 112 ≤ b ⌝ }
+    ensures { λ r. ⌜ r ≡ constantOf b ⌝ }
+{
+    match b {
+        112 => Instruction::PushSelf,
+        113 => Instruction::PushConstant(6),
+        114 => Instruction::PushConstant(4),
+        115 => Instruction::PushConstant(2),
+        116 => Instruction::PushConstant(65535),
+        117 => Instruction::PushConstant(1),
+        118 => Instruction::PushConstant(3),
+        119 => Instruction::PushConstant(5),
+        120 => Instruction::ReturnSelf,
+        121 => Instruction::ReturnConstant(6),
+        122 => Instruction::ReturnConstant(4),
+        123 => Instruction::ReturnConstant(2),
+        124 => Instruction::ReturnTop,
+        _ => Instruction::Unused,
+    }
+}
+
+// 128 to 143.
+fn extended(b: u8, x: u8, y: u8) -> Instruction
+    ensures { λ r. ⌜ r ≡ extendedOf b x y ⌝ }
+{
+    match b {
+        128 => Instruction::Push(place_of(x)),
+        129 => Instruction::Store(place_of(x)),
+        130 => Instruction::PopStore(place_of(x)),
+        131 => Instruction::Send {
+            literal: x % 32,
+            arguments: x / 32,
+        },
+        132 => Instruction::Send {
+            literal: y,
+            arguments: x,
+        },
+        133 => Instruction::SuperSend {
+            literal: x % 32,
+            arguments: x / 32,
+        },
+        134 => Instruction::SuperSend {
+            literal: y,
+            arguments: x,
+        },
+        135 => Instruction::Pop,
+        136 => Instruction::Duplicate,
+        _ => Instruction::Unused,
+    }
+}
+
+// The instruction of a byte and the two that follow it.
+pub fn instruction_of(b: u8, x: u8, y: u8) -> Instruction
+    ensures { λ r. ⌜ r ≡ instructionOf b x y ⌝ }
+{
+    match b / 16 {
+        0 => Instruction::Push(Place::Field(b % 16)),
+        1 => Instruction::Push(Place::Temporary(b % 16)),
+        2 => Instruction::Push(Place::Literal(b % 32)),
+        3 => Instruction::Push(Place::Literal(b % 32)),
+        4 => Instruction::Push(Place::LiteralVariable(b % 32)),
+        5 => Instruction::Push(Place::LiteralVariable(b % 32)),
+        6 => {
+            if b < 104 {
+                return Instruction::PopStore(Place::Field(b % 8));
+            }
+            Instruction::PopStore(Place::Temporary(b % 8))
+        }
+        7 => constant(b),
+        8 => extended(b, x, y),
+        9 => {
+            if b < 152 {
+                return Instruction::Jump {
+                    ahead: (b % 8) as u16 + 1,
+                    back: 0,
+                };
+            }
+            Instruction::JumpOn {
+                condition: false,
+                ahead: (b % 8) as u16 + 1,
+            }
+        }
+        10 => {
+            if b < 168 {
+                return Instruction::Jump {
+                    ahead: (b % 8) as u16 * 256 + x as u16,
+                    back: 1024,
+                };
+            }
+            if b < 172 {
+                return Instruction::JumpOn {
+                    condition: true,
+                    ahead: (b % 4) as u16 * 256 + x as u16,
+                };
+            }
+            Instruction::JumpOn {
+                condition: false,
+                ahead: (b % 4) as u16 * 256 + x as u16,
+            }
+        }
+        11 => Instruction::SpecialSend(b - 176),
+        12 => Instruction::SpecialSend(b - 176),
+        13 => Instruction::Send {
+            literal: b % 16,
+            arguments: 0,
+        },
+        14 => Instruction::Send {
+            literal: b % 16,
+            arguments: 1,
+        },
+        _ => Instruction::Send {
+            literal: b % 16,
+            arguments: 2,
+        },
+    }
+}
+
+// The instruction at a position of code of `size` bytes: `Unused` outside, and where it is not whole.
+pub fn decode(words: &[u16], size: usize, at: usize) -> Instruction
+    ensures { λ r. ⌜ r ≡ decodeAt (now (words .entry)) size at ⌝ }
+{
+    if size <= at {
+        return Instruction::Unused;
+    }
+    let b = byte(words, at);
+    let n = length(b);
+    if size - at < n {
+        return Instruction::Unused;
+    }
+    instruction_of(b, byte_after(words, at, 1), byte_after(words, at, 2))
+}

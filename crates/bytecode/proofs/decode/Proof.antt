@@ -1,0 +1,59 @@
+use borrow.Author.Needs.{needs}
+use Rattle.bytecode.proofs.decode.Statement.{statement}
+use Rattle.bytecode.proofs.decode.Tie as tie
+use Rattle.bytecode.proofs.decode.Reads as reads
+use Rattle.bytecode.proofs.decode.Lts as lts
+use Rattle.bytecode.proofs.byte.Reads as byte-reads
+use Rattle.bytecode.proofs.byte_after.Reads as byte-after-reads
+use Rattle.bytecode.proofs.instruction_of.Reads as instruction-of-reads
+use Rattle.bytecode.proofs.length.Reads as length-reads
+
+-- src/lib.rt:255:9
+returns : tie.Need-returns
+returns c = ?
+
+-- src/lib.rt:257:9
+byte-requires : tie.Need-byte-requires
+byte-requires c κs = search needs
+
+-- src/lib.rt:258:9
+length-requires : tie.Need-length-requires
+length-requires c κs = search needs
+
+-- src/lib.rt:259:8
+sub-if2 : tie.Need-sub-if2
+sub-if2 c = search needs
+
+-- src/lib.rt:260:9
+returns-2 : tie.Need-returns-2
+returns-2 c = ?
+
+-- src/lib.rt:262:23
+byte-after-requires : tie.Need-byte-after-requires
+byte-after-requires c κs = search needs
+
+-- src/lib.rt:262:49
+byte-after-requires-2 : tie.Need-byte-after-requires-2
+byte-after-requires-2 c κs = search needs
+
+-- src/lib.rt:262:5
+instruction-of-requires : tie.Need-instruction-of-requires
+instruction-of-requires c κs = search needs
+
+-- src/lib.rt:251:1
+returns-3 : tie.Need-returns-3
+returns-3 c = ?
+
+pub decode-spec : {M : Type 1} → statement M
+decode-spec =
+    tie.close
+    (tie.spec
+    returns
+    byte-requires
+    length-requires
+    sub-if2
+    returns-2
+    byte-after-requires
+    byte-after-requires-2
+    instruction-of-requires
+    returns-3)
