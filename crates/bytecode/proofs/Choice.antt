@@ -43,3 +43,8 @@ pub if-same : {A : Type 0} (t : Bool) (x : A) → (if t then x else x) ≡ x
 unfolding if_then_else_
 if-same true x = refl
 if-same false x = refl
+
+pub if-either : {A : Type 0} (P : A → Type 0) (t : Bool) (x y : A) → P x → P y → P (if t then x else y)
+unfolding if_then_else_
+if-either P true x y p q = p
+if-either P false x y p q = q

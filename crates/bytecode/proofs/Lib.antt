@@ -2,3 +2,4 @@ pub mod Choice
 pub mod TestLaws
 pub mod TableLaws
 pub mod CodeLaws
+pub mod DecodeLaws

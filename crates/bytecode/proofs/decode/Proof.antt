@@ -1,3 +1,7 @@
+use mathlib.Core.Path.{sym, ap, ap₂, _∙_}
+use native.Mathlib.Omega.{arith}
+use Rattle.bytecode.specs.Code.{instructionOf, lengthOf}
+use Rattle.bytecode.proofs.DecodeLaws.{decode-outside, decode-short, decode-whole, next-is}
 use borrow.Author.Needs.{needs}
 use Rattle.bytecode.proofs.decode.Statement.{statement}
 use Rattle.bytecode.proofs.decode.Tie as tie
@@ -10,7 +14,7 @@ use Rattle.bytecode.proofs.length.Reads as length-reads
 
 -- src/lib.rt:255:9
 returns : tie.Need-returns
-returns c = ?
+returns c = sym (decode-outside _ _ _ (c .if1 .taken))
 
 -- src/lib.rt:257:9
 byte-requires : tie.Need-byte-requires
@@ -26,7 +30,11 @@ sub-if2 c = search needs
 
 -- src/lib.rt:260:9
 returns-2 : tie.Need-returns-2
-returns-2 c = ?
+returns-2 c = 
+    let words = c .before .before .before .before .before .args .words .now in
+    let at = c .before .before .before .before .before .args .at in
+    let e = c .before .length .ensures ∙ ap lengthOf (c .before .before .byte .ensures) in
+    sym (decode-short words _ at (omega (arith, next-is words at, e)))
 
 -- src/lib.rt:262:23
 byte-after-requires : tie.Need-byte-after-requires
@@ -42,7 +50,13 @@ instruction-of-requires c κs = search needs
 
 -- src/lib.rt:251:1
 returns-3 : tie.Need-returns-3
-returns-3 c = ?
+returns-3 c = 
+    let words = c .before .before .before .before .before .before .before .before .args .words .now in
+    let at = c .before .before .before .before .before .before .before .before .args .at in
+    let e = c .before .before .before .before .length .ensures ∙ ap lengthOf (c .before .before .before .before .before .byte .ensures) in
+    c .instruction-of .ensures
+    ∙ rw (c .before .before .before .before .before .byte .ensures, c .before .before .byte-after .ensures, c .before .byte-after2 .ensures)
+      (sym (decode-whole words _ at (omega (arith, next-is words at, e))))
 
 pub decode-spec : {M : Type 1} → statement M
 decode-spec =
