@@ -85,6 +85,10 @@ module _ (b x y : ℕ) where
       let p : 96 ≤ b = omega arith in
       search ranges
 
+  pub is-short : b < 112 → instructionOf b x y ≡ shortOf b
+  unfolding instructionOf
+  is-short h = search ranges
+
   pub is-constant : 112 ≤ b → b < 128 → instructionOf b x y ≡ constantOf b
   unfolding instructionOf
   is-constant l h = search ranges
@@ -97,7 +101,7 @@ module _ (b x y : ℕ) where
   unfolding instructionOf
   is-jump l h = let k : 112 ≤ b = omega arith in let m : 128 ≤ b = omega arith in search ranges
 
-  is-send : 176 ≤ b → instructionOf b x y ≡ sendOf b
+  pub is-send : 176 ≤ b → instructionOf b x y ≡ sendOf b
   unfolding instructionOf
   is-send l =
       let k : 112 ≤ b = omega arith in let m : 128 ≤ b = omega arith in let n : 144 ≤ b = omega arith in search ranges

@@ -3,3 +3,4 @@ pub mod TestLaws
 pub mod TableLaws
 pub mod CodeLaws
 pub mod DecodeLaws
+pub mod EntryLaws

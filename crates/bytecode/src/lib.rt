@@ -3,7 +3,7 @@ ghost use mathlib.Core.Path.{_≡_};
 ghost use Prim.Native.Nat.{ℕ, _+_, _*_, _/_, _%_, _<_, _≤_};
 ghost use lib.ListN.{length, getD};
 ghost use Rattle.bytecode.specs.Code.{byteAt, placeOf, constantOf, extendedOf, instructionOf, lengthOf, decodeAt};
-ghost use Rattle.bytecode.specs.Table.{Entry, IsTable};
+ghost use Rattle.bytecode.specs.Table.{groupPart, lengthPart, needPart, leavesPart, boundPart, indexPart, Entry, IsTable};
 
 // Where a push or a store finds its operand.
 pub enum Place {
@@ -59,6 +59,57 @@ pub fn table() -> [u16; 256]
     ensures { λ r. ⌜ IsTable r ⌝ }
 {
     ENTRIES
+}
+
+fn wide(x: u16) -> usize
+    ensures { λ r. ⌜ r ≡ x ⌝ }
+{
+    x as usize
+}
+
+// A byte's entry in a lent table, widened: its parts are read by the functions below.
+pub fn entry(table: &[u16; 256], b: u8) -> usize
+    requires { ⌜ IsTable (now table) ⌝ }
+    ensures { λ r. ⌜ Entry b r ⌝ }
+{
+    let i = b as usize;
+    wide(table[i])
+}
+
+pub fn entry_group(entry: usize) -> usize
+    ensures { λ r. ⌜ r ≡ groupPart entry ⌝ }
+{
+    entry / 8192
+}
+
+pub fn entry_length(entry: usize) -> usize
+    ensures { λ r. ⌜ r ≡ lengthPart entry ⌝ }
+{
+    entry / 2048 % 4
+}
+
+pub fn entry_need(entry: usize) -> usize
+    ensures { λ r. ⌜ r ≡ needPart entry ⌝ }
+{
+    entry / 512 % 4
+}
+
+pub fn entry_leaves(entry: usize) -> usize
+    ensures { λ r. ⌜ r ≡ leavesPart entry ⌝ }
+{
+    entry / 128 % 4
+}
+
+pub fn entry_bound(entry: usize) -> usize
+    ensures { λ r. ⌜ r ≡ boundPart entry ⌝ }
+{
+    entry / 32 % 4
+}
+
+pub fn entry_index(entry: usize) -> usize
+    ensures { λ r. ⌜ r ≡ indexPart entry ⌝ }
+{
+    entry % 32
 }
 
 // The code's byte at a position, high byte of a word first; 0 past the end.
