@@ -111,3 +111,66 @@ one-byte b x y e = short (decLt b 112)
     short : Dec (b < 112) → instructionOf b x y ≡ instructionOf b 0 0
     short (yes h) = is-short b x y h ∙ sym (is-short b 0 0 h)
     short (no h) = constants (decLt b 128) (omega arith)
+
+-- What the group of an instruction says of it
+abbrev GroupSays : ℕ → Instruction → ℕ → Type 0
+GroupSays next i zero = (usable next i ≡ true) × (successors next i ≡ next ∷ [])
+GroupSays next i (suc zero) = (usable next i ≡ true) × (successors next i ≡ next ∷ [])
+GroupSays next i (suc (suc zero)) = (usable next i ≡ true) × (successors next i ≡ [])
+GroupSays next i (suc (suc (suc zero))) = Unit {0}
+GroupSays next i (suc (suc (suc (suc k)))) = i ≡ Unused
+
+group-says : (next : ℕ) (i : Instruction) → GroupSays next i (group i)
+unfolding group placeGroup usable successors
+group-says next (Push (Field i)) = (refl, refl)
+group-says next (Push (Temporary i)) = (refl, refl)
+group-says next (Push (Literal i)) = (refl, refl)
+group-says next (Push (LiteralVariable i)) = (refl, refl)
+group-says next (Store p) = (refl, refl)
+group-says next (PopStore (Field i)) = (refl, refl)
+group-says next (PopStore (Temporary i)) = (refl, refl)
+group-says next (PopStore (Literal i)) = (refl, refl)
+group-says next (PopStore (LiteralVariable i)) = (refl, refl)
+group-says next PushSelf = (refl, refl)
+group-says next (PushConstant w) = (refl, refl)
+group-says next ReturnSelf = (refl, refl)
+group-says next (ReturnConstant w) = (refl, refl)
+group-says next ReturnTop = (refl, refl)
+group-says next Pop = (refl, refl)
+group-says next Duplicate = (refl, refl)
+group-says next (Jump a b) = tt
+group-says next (JumpOn x a) = tt
+group-says next (Send l n) = (refl, refl)
+group-says next (SuperSend l n) = (refl, refl)
+group-says next (SpecialSend k) = (refl, refl)
+group-says next Unused = refl
+
+pub goes-on : (next : ℕ) (i : Instruction) → group i < 2 → (usable next i ≡ true) × (successors next i ≡ next ∷ [])
+goes-on next i h = by (group i) h (group-says next i)
+  where
+    by : (k : ℕ) → k < 2 → GroupSays next i k → (usable next i ≡ true) × (successors next i ≡ next ∷ [])
+    by zero l s = s
+    by (suc zero) l s = s
+    by (suc (suc k)) l s = absurd (omega arith)
+
+pub returning : (next : ℕ) (i : Instruction) → group i ≡ 2 → (usable next i ≡ true) × (successors next i ≡ [])
+returning next i e = subst (GroupSays next i) e (group-says next i)
+
+pub unused : (i : Instruction) → 4 ≤ group i → i ≡ Unused
+unused i h = by (group i) h (group-says 0 i)
+  where
+    by : (k : ℕ) → 4 ≤ k → GroupSays 0 i k → i ≡ Unused
+    by zero l s = absurd (omega arith)
+    by (suc zero) l s = absurd (omega arith)
+    by (suc (suc zero)) l s = absurd (omega arith)
+    by (suc (suc (suc zero))) l s = absurd (omega arith)
+    by (suc (suc (suc (suc k)))) l s = s
+
+-- A byte's group other than 3 is that of its instruction, which has one byte.
+pub group-of : (b x y : ℕ) → (groupOf b ≡ 3 → ⊥) → (lengthOf b ≡ 1) × (groupOf b ≡ group (instructionOf b x y))
+unfolding groupOf
+group-of b x y n = by (ℕ-discrete (lengthOf b) 1)
+  where
+    by : Dec (lengthOf b ≡ 1) → (lengthOf b ≡ 1) × (groupOf b ≡ group (instructionOf b x y))
+    by (yes e) = (e, if-eq (lengthOf b) 1 (group (instructionOf b 0 0)) 3 e ∙ ap group (sym (one-byte b x y e)))
+    by (no d) = absurd (n (if-ne (lengthOf b) 1 (group (instructionOf b 0 0)) 3 d))

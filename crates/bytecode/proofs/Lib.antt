@@ -4,3 +4,4 @@ pub mod TableLaws
 pub mod CodeLaws
 pub mod DecodeLaws
 pub mod EntryLaws
+pub mod PositionLaws
