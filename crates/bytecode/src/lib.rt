@@ -2,7 +2,7 @@
 ghost use mathlib.Core.Path.{_≡_};
 ghost use Prim.Native.Nat.{ℕ, _+_, _*_, _/_, _%_, _<_, _≤_};
 ghost use lib.ListN.{length, getD};
-ghost use Rattle.bytecode.specs.Code.{byteAt, placeOf, constantOf, extendedOf, instructionOf, lengthOf, decodeAt};
+ghost use Rattle.bytecode.specs.Code.{byteAt, placeOf, shortOf, constantOf, jumpOf, sendOf, extendedOf, instructionOf, lengthOf, decodeAt};
 ghost use Rattle.bytecode.specs.Table.{groupPart, lengthPart, needPart, leavesPart, boundPart, indexPart, Entry, IsTable};
 
 // Where a push or a store finds its operand.
@@ -308,6 +308,94 @@ pub fn instruction_of(b: u8, x: u8, y: u8) -> Instruction
     }
 }
 
+// 0 to 111.
+fn short(b: u8) -> Instruction
+    ensures { λ r. ⌜ r ≡ shortOf b ⌝ }
+{
+    if b < 16 {
+        return Instruction::Push(Place::Field(b % 16));
+    }
+    if b < 32 {
+        return Instruction::Push(Place::Temporary(b % 16));
+    }
+    if b < 64 {
+        return Instruction::Push(Place::Literal(b % 32));
+    }
+    if b < 96 {
+        return Instruction::Push(Place::LiteralVariable(b % 32));
+    }
+    if b < 104 {
+        return Instruction::PopStore(Place::Field(b % 8));
+    }
+    Instruction::PopStore(Place::Temporary(b % 8))
+}
+
+// 144 to 175.
+fn jump(b: u8, x: u8) -> Instruction
+    ensures { λ r. ⌜ r ≡ jumpOf b x ⌝ }
+{
+    if b < 152 {
+        return Instruction::Jump {
+            ahead: (b % 8) as u16 + 1,
+            back: 0,
+        };
+    }
+    if b < 160 {
+        return Instruction::JumpOn {
+            condition: false,
+            ahead: (b % 8) as u16 + 1,
+        };
+    }
+    if b < 168 {
+        return Instruction::Jump {
+            ahead: (b % 8) as u16 * 256 + x as u16,
+            back: 1024,
+        };
+    }
+    if b < 172 {
+        return Instruction::JumpOn {
+            condition: true,
+            ahead: (b % 4) as u16 * 256 + x as u16,
+        };
+    }
+    Instruction::JumpOn {
+        condition: false,
+        ahead: (b % 4) as u16 * 256 + x as u16,
+    }
+}
+
+// 176 to 255.
+fn send(b: u8) -> Instruction
+    requires { ⌜ 176 ≤ b ⌝ }
+    ensures { λ r. ⌜ r ≡ sendOf b ⌝ }
+{
+    if b < 208 {
+        return Instruction::SpecialSend(b - 176);
+    }
+    Instruction::Send {
+        literal: b % 16,
+        arguments: (b - 208) / 16,
+    }
+}
+
+fn by_range(b: u8, x: u8, y: u8) -> Instruction
+    ensures { λ r. ⌜ r ≡ instructionOf b x y ⌝ }
+{
+    if b < 112 {
+        return short(b);
+    }
+    if b < 128 {
+        return constant(b);
+    }
+    if b < 144 {
+        return extended(b, x, y);
+    }
+    if b < 176 {
+        return jump(b, x);
+    }
+    send(b)
+}
+
 // The instruction at a position of code of `size` bytes: `Unused` outside, and where it is not whole.
 pub fn decode(words: &[u16], size: usize, at: usize) -> Instruction
     ensures { λ r. ⌜ r ≡ decodeAt (now (words .entry)) size at ⌝ }
@@ -320,5 +408,5 @@ pub fn decode(words: &[u16], size: usize, at: usize) -> Instruction
     if size - at < n {
         return Instruction::Unused;
     }
-    instruction_of(b, byte_after(words, at, 1), byte_after(words, at, 2))
+    by_range(b, byte_after(words, at, 1), byte_after(words, at, 2))
 }

@@ -9,7 +9,7 @@ use Rattle.bytecode.proofs.decode.Reads as reads
 use Rattle.bytecode.proofs.decode.Lts as lts
 use Rattle.bytecode.proofs.byte.Reads as byte-reads
 use Rattle.bytecode.proofs.byte_after.Reads as byte-after-reads
-use Rattle.bytecode.proofs.instruction_of.Reads as instruction-of-reads
+use Rattle.bytecode.proofs.by_range.Reads as by-range-reads
 use Rattle.bytecode.proofs.length.Reads as length-reads
 
 -- src/lib.rt:255:9
@@ -45,8 +45,8 @@ byte-after-requires-2 : tie.Need-byte-after-requires-2
 byte-after-requires-2 c κs = search needs
 
 -- src/lib.rt:262:5
-instruction-of-requires : tie.Need-instruction-of-requires
-instruction-of-requires c κs = search needs
+by-range-requires : tie.Need-by-range-requires
+by-range-requires c κs = search needs
 
 -- src/lib.rt:251:1
 returns-3 : tie.Need-returns-3
@@ -54,7 +54,7 @@ returns-3 c =
     let words = c .before .before .before .before .before .before .before .before .args .words .now in
     let at = c .before .before .before .before .before .before .before .before .args .at in
     let e = c .before .before .before .before .length .ensures ∙ ap lengthOf (c .before .before .before .before .before .byte .ensures) in
-    c .instruction-of .ensures
+    c .by-range .ensures
     ∙ rw (c .before .before .before .before .before .byte .ensures, c .before .before .byte-after .ensures, c .before .byte-after2 .ensures)
       (sym (decode-whole words _ at (omega (arith, next-is words at, e))))
 
@@ -69,5 +69,5 @@ decode-spec =
     returns-2
     byte-after-requires
     byte-after-requires-2
-    instruction-of-requires
+    by-range-requires
     returns-3)
