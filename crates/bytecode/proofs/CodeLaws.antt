@@ -1,12 +1,11 @@
 -- Which instruction a byte begins and how long it is, where the byte's range is known. Callers do not open the definitions.
-use Prim.Native.Nat.{ℕ, _+_, _-_, _*_, _/_, _%_, _<_, _≤_}
-use mathlib.Core.Path.{_≡_, _∙_, ap}
-use mathlib.Core.Bool.{true, false}
+use Prim.Native.Nat.{ℕ, _+_, _%_, _<_, _≤_}
+use mathlib.Core.Path.{_≡_, _∙_}
+use mathlib.Core.Bool.{false}
 use native.Mathlib.Omega.{arith}
-use Rattle.bytecode.specs.Code.{placeOf, shortOf, constantOf, extendedOf, jumpOf, sendOf, instructionOf, lengthOf}
+use Rattle.bytecode.specs.Code.{shortOf, constantOf, extendedOf, jumpOf, sendOf, instructionOf, lengthOf}
 use Rattle.bytecode.specs.declared.Place.the-variants.{Field, Temporary, Literal, LiteralVariable}
-use Rattle.bytecode.specs.declared.Instruction.{Instruction}
-use Rattle.bytecode.specs.declared.Instruction.the-variants.{Push, PopStore, Jump, JumpOn, Send, SpecialSend, Unused}
+use Rattle.bytecode.specs.declared.Instruction.the-variants.{Push, PopStore, Jump, JumpOn, Unused}
 use Rattle.bytecode.proofs.Choice.{ranges}
 
 pub constant-unused : (b : ℕ) → 125 ≤ b → constantOf b ≡ Unused
@@ -97,7 +96,7 @@ module _ (b x y : ℕ) where
   unfolding instructionOf
   is-extended l h = let k : 112 ≤ b = omega arith in search ranges
 
-  is-jump : 144 ≤ b → b < 176 → instructionOf b x y ≡ jumpOf b x
+  pub is-jump : 144 ≤ b → b < 176 → instructionOf b x y ≡ jumpOf b x
   unfolding instructionOf
   is-jump l h = let k : 112 ≤ b = omega arith in let m : 128 ≤ b = omega arith in search ranges
 
@@ -113,32 +112,3 @@ module _ (b x y : ℕ) where
   pub jump-on-short : 152 ≤ b → b < 160 → instructionOf b x y ≡ JumpOn false (b % 8 + 1)
   unfolding jumpOf
   jump-on-short l h = is-jump (omega arith) (omega arith) ∙ search ranges
-
-  pub jump-long : 160 ≤ b → b < 168 → instructionOf b x y ≡ Jump (b % 8 * 256 + x) 1024
-  unfolding jumpOf
-  jump-long l h = is-jump (omega arith) (omega arith) ∙ (let k : 152 ≤ b = omega arith in search ranges)
-
-  pub jump-on-true : 168 ≤ b → b < 172 → instructionOf b x y ≡ JumpOn true (b % 4 * 256 + x)
-  unfolding jumpOf
-  jump-on-true l h =
-      is-jump (omega arith) (omega arith) ∙ (let k : 152 ≤ b = omega arith in let m : 160 ≤ b = omega arith in search ranges)
-
-  pub jump-on-false : 172 ≤ b → b < 176 → instructionOf b x y ≡ JumpOn false (b % 4 * 256 + x)
-  unfolding jumpOf
-  jump-on-false l h =
-      is-jump (omega arith) h
-      ∙ (let k : 152 ≤ b = omega arith in let m : 160 ≤ b = omega arith in let n : 168 ≤ b = omega arith in search ranges)
-
-  pub special-send : 176 ≤ b → b < 208 → instructionOf b x y ≡ SpecialSend (b - 176)
-  unfolding sendOf
-  special-send l h = is-send l ∙ search ranges
-
-  send-counted : 208 ≤ b → sendOf b ≡ Send (b % 16) ((b - 208) / 16)
-  unfolding sendOf
-  send-counted l = search ranges
-
-  -- with n arguments
-  pub literal-send : (n : ℕ) → 208 + 16 * n ≤ b → b < 224 + 16 * n → instructionOf b x y ≡ Send (b % 16) n
-  literal-send n l h =
-      let e : (b - 208) / 16 ≡ n = omega arith in
-      is-send (omega arith) ∙ send-counted (omega arith) ∙ ap (Send (b % 16)) e

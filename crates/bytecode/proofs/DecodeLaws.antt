@@ -1,12 +1,10 @@
 -- Lengths, and the three cases of a decoded position: outside, not whole, whole.
-use Prim.Native.Nat.{ℕ, _+_, _-_, _<_, _≤_}
+use Prim.Native.Nat.{ℕ, _+_, _<_, _≤_}
 use mathlib.Core.Path.{_≡_, refl}
 use mathlib.Core.List.{List}
 use native.Mathlib.Omega.{arith}
-use lib.Dec.{ltb, leb, eqb}
-use Rattle.bytecode.specs.Test.{if_then_else_}
+use lib.Dec.{ltb, eqb}
 use Rattle.bytecode.specs.Code.{byteAt, instructionOf, lengthOf, nextAt, decodeAt}
-use Rattle.bytecode.specs.declared.Instruction.{Instruction}
 use Rattle.bytecode.specs.declared.Instruction.the-variants.{Unused}
 use Rattle.bytecode.proofs.Choice.{ranges, if-gt, if-same, if-either}
 

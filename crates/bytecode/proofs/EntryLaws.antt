@@ -1,23 +1,22 @@
 -- What a byte's entry says of the instruction that the byte begins.
-use Prim.Native.Nat.{ℕ, zero, suc, _+_, _-_, _*_, _/_, _%_, _<_, _≤_}
+use Prim.Native.Nat.{ℕ, zero, suc, _+_, _-_, _<_, _≤_}
 use mathlib.Core.Path.{_≡_, refl, sym, _∙_, ap, subst}
-use mathlib.Core.Bool.{Bool, true, false, _&&_, _||_}
-use mathlib.Core.Logic.{_⊎_, inl, inr, ⊎-elim}
-use mathlib.Core.List.{List, [], _∷_}
+use mathlib.Core.Bool.{Bool, true, _&&_, _||_}
+use mathlib.Core.Logic.{_⊎_, ⊎-elim}
+use mathlib.Core.List.{[], _∷_}
 use native.Mathlib.Omega.{arith}
 use native.Mathlib.Decide.{ℕ-discrete, decLt}
 use lib.Dec.{T, ltb, eqb, eqb→eq, ltb→lt}
-use Rattle.bytecode.specs.Test.{if_then_else_, below}
-use Rattle.bytecode.specs.Code.{byteAt, placeOf, shortOf, constantOf, extendedOf, jumpOf, sendOf, instructionOf, lengthOf, nextAt, decodeAt}
+use Rattle.bytecode.specs.Test.{if_then_else_}
+use Rattle.bytecode.specs.Code.{placeOf, shortOf, constantOf, extendedOf, jumpOf, sendOf, instructionOf, lengthOf}
 use Rattle.bytecode.specs.Effect.{specialCount, need, leaves, usable, successors}
-use Rattle.bytecode.specs.Table.{placeGroup, bound, index, group, groupOf, extraOf, groupPart, lengthPart, needPart, leavesPart, boundPart, indexPart, Entry}
+use Rattle.bytecode.specs.Table.{pushGroup, storeGroup, group, groupOf, extraOf}
 use Rattle.bytecode.specs.declared.Place.the-variants.{Field, Temporary, Literal, LiteralVariable}
 use Rattle.bytecode.specs.declared.Instruction.{Instruction}
 use Rattle.bytecode.specs.declared.Instruction.the-variants.{Push, Store, PopStore, PushSelf, PushConstant, ReturnSelf, ReturnConstant, ReturnTop, Pop, Duplicate, Jump, JumpOn, Send, SuperSend, SpecialSend, Unused}
 use Rattle.bytecode.proofs.TestLaws.{and-left, and-right, or-cases, below-at}
-use Rattle.bytecode.proofs.Choice.{ranges, if-ne, if-eq}
+use Rattle.bytecode.proofs.Choice.{if-ne, if-eq}
 use Rattle.bytecode.proofs.CodeLaws.{is-short, is-constant, is-extended, is-send, jump-short, jump-on-short, length-jump}
-use Rattle.bytecode.proofs.DecodeLaws.{next-is, decode-whole, decode-outside}
 
 -- Need and what is left do not depend on the further bytes, but for the sends 131 to 134.
 counted : ℕ → Bool
@@ -53,9 +52,9 @@ effects x y b h =
     let l = leaves (instructionOf b 0 0) in
     ⊎-elim
     (λ t.
-      let p : 130 < b = ltb→lt 130 b (and-left (ltb 130 b) (ltb b 135) t) in
-      let q : b < 135 = ltb→lt b 135 (and-right (ltb 130 b) (ltb b 135) t) in
-      subst (Effect x y) (omega arith) (counted-effects x y (b - 131) (omega arith)))
+    let p : 130 < b = ltb→lt 130 b (and-left (ltb 130 b) (ltb b 135) t) in
+    let q : b < 135 = ltb→lt b 135 (and-right (ltb 130 b) (ltb b 135) t) in
+    subst (Effect x y) (omega arith) (counted-effects x y (b - 131) (omega arith)))
     (λ t. (eqb→eq n m (and-left (eqb n m) (eqb k l) t), eqb→eq k l (and-right (eqb n m) (eqb k l) t)))
     (or-cases (counted b) (eqb n m && eqb k l) (effects-tested x y b h))
 
@@ -121,12 +120,15 @@ GroupSays next i (suc (suc (suc zero))) = Unit {0}
 GroupSays next i (suc (suc (suc (suc k)))) = i ≡ Unused
 
 group-says : (next : ℕ) (i : Instruction) → GroupSays next i (group i)
-unfolding group placeGroup usable successors
+unfolding group pushGroup storeGroup usable successors
 group-says next (Push (Field i)) = (refl, refl)
 group-says next (Push (Temporary i)) = (refl, refl)
 group-says next (Push (Literal i)) = (refl, refl)
 group-says next (Push (LiteralVariable i)) = (refl, refl)
-group-says next (Store p) = (refl, refl)
+group-says next (Store (Field i)) = (refl, refl)
+group-says next (Store (Temporary i)) = (refl, refl)
+group-says next (Store (Literal i)) = (refl, refl)
+group-says next (Store (LiteralVariable i)) = (refl, refl)
 group-says next (PopStore (Field i)) = (refl, refl)
 group-says next (PopStore (Temporary i)) = (refl, refl)
 group-says next (PopStore (Literal i)) = (refl, refl)

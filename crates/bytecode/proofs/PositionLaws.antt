@@ -1,13 +1,12 @@
 -- What the entry of the byte at a position says of the instruction there, for a walk over the code.
 use Prim.Native.Nat.{ℕ, _+_, _<_, _≤_}
-use mathlib.Core.Path.{_≡_, refl, sym, _∙_, ap, subst}
+use mathlib.Core.Path.{_≡_, sym, _∙_, ap}
 use mathlib.Core.Bool.{true}
 use mathlib.Core.List.{List, [], _∷_}
 use native.Mathlib.Omega.{arith}
 use Rattle.bytecode.specs.Code.{byteAt, instructionOf, lengthOf, nextAt, decodeAt}
 use Rattle.bytecode.specs.Effect.{need, leaves, usable, successors}
-use Rattle.bytecode.specs.Table.{bound, index, group, groupOf, extraOf, groupPart, lengthPart, needPart, leavesPart, boundPart, indexPart, Entry}
-use Rattle.bytecode.specs.declared.Instruction.{Instruction}
+use Rattle.bytecode.specs.Table.{bound, index, group, extraOf, groupPart, lengthPart, needPart, leavesPart, boundPart, indexPart, Entry}
 use Rattle.bytecode.specs.declared.Instruction.the-variants.{Unused}
 use Rattle.bytecode.proofs.DecodeLaws.{next-is, decode-short, decode-whole}
 use Rattle.bytecode.proofs.EntryLaws.{effects, one-byte, goes-on, returning, unused, group-of}
@@ -55,7 +54,8 @@ module _ (words : List ℕ) (size p b e : ℕ) (inside : p < size) (here : b ≡
         needs = ap need d ∙ sym (right .needs);
         leave = ap leaves d ∙ sym (right .leave);
         bounds = ap bound d ∙ sym (right .bounds);
-        indexes = ap index d ∙ sym (right .indexes) }
+        indexes = ap index d ∙ sym (right .indexes);
+      }
 
   pub plain-at : groupPart e < 2 → PlainAt words size p e
   plain-at h =
@@ -79,10 +79,11 @@ module _ (words : List ℕ) (size p b e : ℕ) (inside : p < size) (here : b ≡
   whole-at small h =
       let l = right .length ∙ ap lengthOf here in
       let d : decodeAt words size p ≡ instructionOf b (byteAt words (p + 1)) (byteAt words (p + 2)) =
-        decode-whole words size p (omega (arith, next-is words p, l)) ∙ ap (λ k. instructionOf k (byteAt words (p + 1)) (byteAt words (p + 2))) (sym here) in
+      decode-whole words size p (omega (arith, next-is words p, l)) ∙ ap (λ k. instructionOf k (byteAt words (p + 1)) (byteAt words (p + 2))) (sym here) in
       let f = effects (byteAt words (p + 1)) (byteAt words (p + 2)) b small in
       record {
         next = next-is words p ∙ ap (λ k. p + k) (sym l);
         decoded = d;
         needs = ap need d ∙ f .0 ∙ ap (λ k. k + extraOf b (byteAt words (p + 1))) (sym (right .needs));
-        leave = ap leaves d ∙ f .1 ∙ sym (right .leave) }
+        leave = ap leaves d ∙ f .1 ∙ sym (right .leave);
+      }

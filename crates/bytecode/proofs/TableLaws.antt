@@ -1,6 +1,5 @@
 -- The table's rule, tested at every byte.
-use Prim.Native.Nat.{ℕ, _/_, _%_, _<_}
-use mathlib.Core.Path.{_≡_}
+use Prim.Native.Nat.{ℕ}
 use mathlib.Core.Bool.{Bool}
 use mathlib.Core.List.{List, [], _∷_}
 use lib.Dec.{T, eqb, eqb→eq}
@@ -32,7 +31,8 @@ right b e t =
       needs = eqb→eq (needPart e) (need (instructionOf b 0 0)) (rule (entryRules b e) t 2);
       leave = eqb→eq (leavesPart e) (leaves (instructionOf b 0 0)) (rule (entryRules b e) t 3);
       bounds = eqb→eq (boundPart e) (bound (instructionOf b 0 0)) (rule (entryRules b e) t 4);
-      indexes = eqb→eq (indexPart e) (index (instructionOf b 0 0)) (rule (entryRules b e) t 5) }
+      indexes = eqb→eq (indexPart e) (index (instructionOf b 0 0)) (rule (entryRules b e) t 5);
+    }
 
 pub table-right : (t : List ℕ) → T (tableTest t) → IsTable t
 table-right t r = record { entry = λ b h. right b (getD t b 0) (below-at 256 (λ k. allOf (entryRules k (getD t k 0))) r b h) }

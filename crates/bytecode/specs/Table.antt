@@ -66,21 +66,24 @@ index Unused = 0
 abbrev pub counts : ℕ → ℕ → ℕ → List ℕ
 counts fields temporaries literals = 1 ∷ fields ∷ temporaries ∷ literals ∷ []
 
--- 0: goes on to the next instruction, and has no rule but its index and its operands. 1: goes on to the next instruction, and what its
--- literal or selector is has rules too. 2: a return. 3: a jump. 4: unused.
-unfoldable pub placeGroup : Place → ℕ
-placeGroup (Field i) = 0
-placeGroup (Temporary i) = 0
-placeGroup (Literal i) = 0
-placeGroup (LiteralVariable i) = 1
+-- 0: goes on to the next instruction, and has no rule but on its index and its operands. 1: goes on to the next instruction, and has
+-- further rules: on a literal variable, on a selector, or against a store to a literal. 2: a return. 3: a jump. 4: unused.
+unfoldable pub pushGroup : Place → ℕ
+pushGroup (Field i) = 0
+pushGroup (Temporary i) = 0
+pushGroup (Literal i) = 0
+pushGroup (LiteralVariable i) = 1
+
+unfoldable pub storeGroup : Place → ℕ
+storeGroup (Field i) = 0
+storeGroup (Temporary i) = 0
+storeGroup (Literal i) = 1
+storeGroup (LiteralVariable i) = 1
 
 unfoldable pub group : Instruction → ℕ
-group (Push p) = placeGroup p
-group (Store p) = 1
-group (PopStore (Field i)) = 0
-group (PopStore (Temporary i)) = 0
-group (PopStore (Literal i)) = 1
-group (PopStore (LiteralVariable i)) = 1
+group (Push p) = pushGroup p
+group (Store p) = storeGroup p
+group (PopStore p) = storeGroup p
 group PushSelf = 0
 group (PushConstant w) = 0
 group ReturnSelf = 2
@@ -95,7 +98,7 @@ group (SuperSend l n) = 1
 group (SpecialSend k) = 1
 group Unused = 4
 
--- Of a byte: instructions with further bytes are counted to the jumps, since the entry does not say all of them.
+-- The group of a byte. 3 has also the instructions with further bytes, since an entry does not say all of them.
 unfoldable pub groupOf : ℕ → ℕ
 groupOf b = if eqb (lengthOf b) 1 then group (instructionOf b 0 0) else 3
 

@@ -1,9 +1,11 @@
 // The instructions of a method's code. specs/Code.antt says which bytes mean which, specs/Effect.antt what each needs and leaves.
 ghost use mathlib.Core.Path.{_≡_};
-ghost use Prim.Native.Nat.{ℕ, _+_, _*_, _/_, _%_, _<_, _≤_};
-ghost use lib.ListN.{length, getD};
+ghost use Prim.Native.Nat.{_+_, _/_, _<_, _≤_};
+ghost use lib.ListN.{length};
 ghost use Rattle.bytecode.specs.Code.{byteAt, placeOf, shortOf, constantOf, jumpOf, sendOf, extendedOf, instructionOf, lengthOf, decodeAt};
-ghost use Rattle.bytecode.specs.Table.{groupPart, lengthPart, needPart, leavesPart, boundPart, indexPart, Entry, IsTable};
+ghost use Rattle.bytecode.specs.Table.{groupPart, lengthPart, needPart, leavesPart, boundPart, indexPart, extraOf, Entry, IsTable};
+
+mod entries;
 
 // Where a push or a store finds its operand.
 pub enum Place {
@@ -34,31 +36,11 @@ pub enum Instruction {
     Unused,
 }
 
-// Of each byte, from the high end: group, length, need, leaves, bound, index (specs/Table.antt).
-const ENTRIES: [u16; 256] = [
-    2208, 2209, 2210, 2211, 2212, 2213, 2214, 2215, 2216, 2217, 2218, 2219, 2220, 2221, 2222, 2223,
-    2240, 2241, 2242, 2243, 2244, 2245, 2246, 2247, 2248, 2249, 2250, 2251, 2252, 2253, 2254, 2255,
-    2272, 2273, 2274, 2275, 2276, 2277, 2278, 2279, 2280, 2281, 2282, 2283, 2284, 2285, 2286, 2287,
-    2288, 2289, 2290, 2291, 2292, 2293, 2294, 2295, 2296, 2297, 2298, 2299, 2300, 2301, 2302, 2303,
-    10464, 10465, 10466, 10467, 10468, 10469, 10470, 10471, 10472, 10473, 10474, 10475, 10476, 10477, 10478, 10479,
-    10480, 10481, 10482, 10483, 10484, 10485, 10486, 10487, 10488, 10489, 10490, 10491, 10492, 10493, 10494, 10495,
-    2592, 2593, 2594, 2595, 2596, 2597, 2598, 2599, 2624, 2625, 2626, 2627, 2628, 2629, 2630, 2631,
-    2176, 2176, 2176, 2176, 2176, 2176, 2176, 2176, 18432, 18432, 18432, 18432, 18944, 34816, 34816, 34816,
-    28832, 29344, 29216, 29408, 31456, 29408, 31456, 2560, 2816, 34816, 34816, 34816, 34816, 34816, 34816, 34816,
-    26624, 26624, 26624, 26624, 26624, 26624, 26624, 26624, 27136, 27136, 27136, 27136, 27136, 27136, 27136, 27136,
-    28672, 28672, 28672, 28672, 28672, 28672, 28672, 28672, 29184, 29184, 29184, 29184, 29184, 29184, 29184, 29184,
-    11392, 11392, 11392, 11392, 11392, 11392, 11392, 11392, 11392, 11392, 11392, 11392, 11392, 11392, 11392, 11392,
-    11392, 11904, 10880, 10880, 11392, 10880, 11392, 10880, 11392, 10880, 11392, 11392, 10880, 11392, 10880, 10880,
-    10976, 10977, 10978, 10979, 10980, 10981, 10982, 10983, 10984, 10985, 10986, 10987, 10988, 10989, 10990, 10991,
-    11488, 11489, 11490, 11491, 11492, 11493, 11494, 11495, 11496, 11497, 11498, 11499, 11500, 11501, 11502, 11503,
-    12000, 12001, 12002, 12003, 12004, 12005, 12006, 12007, 12008, 12009, 12010, 12011, 12012, 12013, 12014, 12015,
-];
-
 // The table. Whoever calls this builds it anew: call it once, and lend it.
 pub fn table() -> [u16; 256]
     ensures { λ r. ⌜ IsTable r ⌝ }
 {
-    ENTRIES
+    entries::ENTRIES
 }
 
 fn wide(x: u16) -> usize
@@ -110,6 +92,19 @@ pub fn entry_index(entry: usize) -> usize
     ensures { λ r. ⌜ r ≡ indexPart entry ⌝ }
 {
     entry % 32
+}
+
+// The operands that the sends 131 to 134 need beside those of their entry: `x` is the byte after b.
+pub fn extra(b: u8, x: u8) -> usize
+    ensures { λ r. ⌜ r ≡ extraOf b x ⌝ }
+{
+    match b {
+        131 => (x / 32) as usize,
+        132 => x as usize,
+        133 => (x / 32) as usize,
+        134 => x as usize,
+        _ => 0,
+    }
 }
 
 // The code's byte at a position, high byte of a word first; 0 past the end.
@@ -216,21 +211,23 @@ fn constant(b: u8) -> Instruction
 fn extended(b: u8, x: u8, y: u8) -> Instruction
     ensures { λ r. ⌜ r ≡ extendedOf b x y ⌝ }
 {
+    let low = x % 32;
+    let high = x / 32;
     match b {
         128 => Instruction::Push(place_of(x)),
         129 => Instruction::Store(place_of(x)),
         130 => Instruction::PopStore(place_of(x)),
         131 => Instruction::Send {
-            literal: x % 32,
-            arguments: x / 32,
+            literal: low,
+            arguments: high,
         },
         132 => Instruction::Send {
             literal: y,
             arguments: x,
         },
         133 => Instruction::SuperSend {
-            literal: x % 32,
-            arguments: x / 32,
+            literal: low,
+            arguments: high,
         },
         134 => Instruction::SuperSend {
             literal: y,
@@ -239,72 +236,6 @@ fn extended(b: u8, x: u8, y: u8) -> Instruction
         135 => Instruction::Pop,
         136 => Instruction::Duplicate,
         _ => Instruction::Unused,
-    }
-}
-
-// The instruction of a byte and the two that follow it.
-pub fn instruction_of(b: u8, x: u8, y: u8) -> Instruction
-    ensures { λ r. ⌜ r ≡ instructionOf b x y ⌝ }
-{
-    match b / 16 {
-        0 => Instruction::Push(Place::Field(b % 16)),
-        1 => Instruction::Push(Place::Temporary(b % 16)),
-        2 => Instruction::Push(Place::Literal(b % 32)),
-        3 => Instruction::Push(Place::Literal(b % 32)),
-        4 => Instruction::Push(Place::LiteralVariable(b % 32)),
-        5 => Instruction::Push(Place::LiteralVariable(b % 32)),
-        6 => {
-            if b < 104 {
-                return Instruction::PopStore(Place::Field(b % 8));
-            }
-            Instruction::PopStore(Place::Temporary(b % 8))
-        }
-        7 => constant(b),
-        8 => extended(b, x, y),
-        9 => {
-            if b < 152 {
-                return Instruction::Jump {
-                    ahead: (b % 8) as u16 + 1,
-                    back: 0,
-                };
-            }
-            Instruction::JumpOn {
-                condition: false,
-                ahead: (b % 8) as u16 + 1,
-            }
-        }
-        10 => {
-            if b < 168 {
-                return Instruction::Jump {
-                    ahead: (b % 8) as u16 * 256 + x as u16,
-                    back: 1024,
-                };
-            }
-            if b < 172 {
-                return Instruction::JumpOn {
-                    condition: true,
-                    ahead: (b % 4) as u16 * 256 + x as u16,
-                };
-            }
-            Instruction::JumpOn {
-                condition: false,
-                ahead: (b % 4) as u16 * 256 + x as u16,
-            }
-        }
-        11 => Instruction::SpecialSend(b - 176),
-        12 => Instruction::SpecialSend(b - 176),
-        13 => Instruction::Send {
-            literal: b % 16,
-            arguments: 0,
-        },
-        14 => Instruction::Send {
-            literal: b % 16,
-            arguments: 1,
-        },
-        _ => Instruction::Send {
-            literal: b % 16,
-            arguments: 2,
-        },
     }
 }
 
@@ -378,6 +309,33 @@ fn send(b: u8) -> Instruction
     }
 }
 
+// The instruction of a byte and the two that follow it, by rows of 16 bytes. It is for the run loop alone: a function with one caller is
+// compiled into it. Everyone else decodes by `decode`.
+pub fn instruction_of(b: u8, x: u8, y: u8) -> Instruction
+    ensures { λ r. ⌜ r ≡ instructionOf b x y ⌝ }
+{
+    match b / 16 {
+        0 => Instruction::Push(Place::Field(b % 16)),
+        1 => Instruction::Push(Place::Temporary(b % 16)),
+        2 => Instruction::Push(Place::Literal(b % 32)),
+        3 => Instruction::Push(Place::Literal(b % 32)),
+        4 => Instruction::Push(Place::LiteralVariable(b % 32)),
+        5 => Instruction::Push(Place::LiteralVariable(b % 32)),
+        6 => {
+            if b < 104 {
+                return Instruction::PopStore(Place::Field(b % 8));
+            }
+            Instruction::PopStore(Place::Temporary(b % 8))
+        }
+        7 => constant(b),
+        8 => extended(b, x, y),
+        9 => jump(b, x),
+        10 => jump(b, x),
+        _ => send(b),
+    }
+}
+
+// The same by ranges, for `decode`.
 fn by_range(b: u8, x: u8, y: u8) -> Instruction
     ensures { λ r. ⌜ r ≡ instructionOf b x y ⌝ }
 {

@@ -1,3 +1,4 @@
+-- `byte` is `byteAt`, past the end too.
 use Prim.Native.Nat.{_/_}
 use native.Mathlib.Omega.{arith}
 use lib.ListN.{List·getD-eq-default}
@@ -6,36 +7,27 @@ use Rattle.bytecode.proofs.Choice.{ranges, if-same}
 use borrow.Author.Needs.{needs}
 use Rattle.bytecode.proofs.byte.Statement.{statement}
 use Rattle.bytecode.proofs.byte.Tie as tie
-use Rattle.bytecode.proofs.byte.Reads as reads
-use Rattle.bytecode.proofs.byte.Lts as lts
 
--- src/lib.rt:70:9
 returns : tie.Need-returns
 unfolding byteAt
 returns c = let h = c .if1 .taken in simp (List·getD-eq-default, if-same)
 
--- src/lib.rt:72:13
 mul-w : tie.Need-mul-w
 mul-w c = search needs
 
--- src/lib.rt:72:13
 shared-slice-read-w : tie.Need-shared-slice-read-w
 shared-slice-read-w c = search needs
 
--- src/lib.rt:74:16
 cast-result : tie.Need-cast-result
 cast-result c = omega (arith, c .before .shared-slice-known .given (c .before .before .before .args .at / 2))
 
--- src/lib.rt:74:9
 returns-2 : tie.Need-returns-2
 unfolding byteAt
 returns-2 c = search ranges
 
--- src/lib.rt:76:5
 cast-result-2 : tie.Need-cast-result-2
 cast-result-2 c = search needs
 
--- src/lib.rt:65:1
 returns-3 : tie.Need-returns-3
 unfolding byteAt
 returns-3 c = search ranges

@@ -1,3 +1,4 @@
+-- `byte_after` is `byteAt`: where no word is, both are 0.
 use Prim.Native.Nat.{_+_, _/_, _≤_}
 use native.Mathlib.Omega.{arith}
 use lib.ListN.{length, List·getD-eq-default}
@@ -6,24 +7,17 @@ use Rattle.bytecode.proofs.Choice.{if-same}
 use borrow.Author.Needs.{needs}
 use Rattle.bytecode.proofs.byte_after.Statement.{statement}
 use Rattle.bytecode.proofs.byte_after.Tie as tie
-use Rattle.bytecode.proofs.byte_after.Reads as reads
-use Rattle.bytecode.proofs.byte_after.Lts as lts
-use Rattle.bytecode.proofs.byte.Reads as byte-reads
 
--- src/lib.rt:98:9
 returns : tie.Need-returns
 unfolding byteAt
 returns c = let h : length (c .before .before .args .words .now) ≤ (c .before .before .args .at + c .before .before .args .k) / 2 = omega arith in simp (List·getD-eq-default, if-same)
 
--- src/lib.rt:100:17
 add-byte : tie.Need-add-byte
 add-byte c = search needs
 
--- src/lib.rt:100:5
 byte-requires : tie.Need-byte-requires
 byte-requires c κs = search needs
 
--- src/lib.rt:93:1
 returns-2 : tie.Need-returns-2
 returns-2 c = search needs
 

@@ -1,3 +1,4 @@
+-- `constant` is `constantOf` from 112 on.
 use Rattle.bytecode.proofs.Choice.{past}
 use mathlib.Core.Path.{sym}
 use Rattle.bytecode.proofs.CodeLaws.{constant-unused}
@@ -5,77 +6,61 @@ use Rattle.bytecode.specs.Test.{if_then_else_}
 use Rattle.bytecode.specs.Code.{constantOf}
 use Rattle.bytecode.proofs.constant.Statement.{statement}
 use Rattle.bytecode.proofs.constant.Tie as tie
-use Rattle.bytecode.proofs.constant.Reads as reads
-use Rattle.bytecode.proofs.constant.Lts as lts
 
--- src/lib.rt:132:1
 returns : tie.Need-returns
 unfolding constantOf if_then_else_
 returns c = rw (c .match .keys1)
 
--- src/lib.rt:132:1
 returns-2 : tie.Need-returns-2
 unfolding constantOf if_then_else_
 returns-2 c = rw (c .match .keys2)
 
--- src/lib.rt:132:1
 returns-3 : tie.Need-returns-3
 unfolding constantOf if_then_else_
 returns-3 c = rw (c .match .keys3)
 
--- src/lib.rt:132:1
 returns-4 : tie.Need-returns-4
 unfolding constantOf if_then_else_
 returns-4 c = rw (c .match .keys4)
 
--- src/lib.rt:132:1
 returns-5 : tie.Need-returns-5
 unfolding constantOf if_then_else_
 returns-5 c = rw (c .match .keys5)
 
--- src/lib.rt:132:1
 returns-6 : tie.Need-returns-6
 unfolding constantOf if_then_else_
 returns-6 c = rw (c .match .keys6)
 
--- src/lib.rt:132:1
 returns-7 : tie.Need-returns-7
 unfolding constantOf if_then_else_
 returns-7 c = rw (c .match .keys7)
 
--- src/lib.rt:132:1
 returns-8 : tie.Need-returns-8
 unfolding constantOf if_then_else_
 returns-8 c = rw (c .match .keys8)
 
--- src/lib.rt:132:1
 returns-9 : tie.Need-returns-9
 unfolding constantOf if_then_else_
 returns-9 c = rw (c .match .keys9)
 
--- src/lib.rt:132:1
 returns-10 : tie.Need-returns-10
 unfolding constantOf if_then_else_
 returns-10 c = rw (c .match .keys10)
 
--- src/lib.rt:132:1
 returns-11 : tie.Need-returns-11
 unfolding constantOf if_then_else_
 returns-11 c = rw (c .match .keys11)
 
--- src/lib.rt:132:1
 returns-12 : tie.Need-returns-12
 unfolding constantOf if_then_else_
 returns-12 c = rw (c .match .keys12)
 
--- src/lib.rt:132:1
 returns-13 : tie.Need-returns-13
 unfolding constantOf if_then_else_
 returns-13 c = rw (c .match .keys13)
 
--- src/lib.rt:132:1
 returns-14 : tie.Need-returns-14
-returns-14 c = sym (constant-unused _ (past 124 _ (past 123 _ (past 122 _ (past 121 _ (past 120 _ (past 119 _ (past 118 _ (past 117 _ (past 116 _ (past 115 _ (past 114 _ (past 113 _ (past 112 _ (c .before .pre) (c .match .rest .0 .0 .0 .0 .0 .0 .0 .0 .0 .0 .0 .0 .1)) (c .match .rest .0 .0 .0 .0 .0 .0 .0 .0 .0 .0 .0 .1)) (c .match .rest .0 .0 .0 .0 .0 .0 .0 .0 .0 .0 .1)) (c .match .rest .0 .0 .0 .0 .0 .0 .0 .0 .0 .1)) (c .match .rest .0 .0 .0 .0 .0 .0 .0 .0 .1)) (c .match .rest .0 .0 .0 .0 .0 .0 .0 .1)) (c .match .rest .0 .0 .0 .0 .0 .0 .1)) (c .match .rest .0 .0 .0 .0 .0 .1)) (c .match .rest .0 .0 .0 .0 .1)) (c .match .rest .0 .0 .0 .1)) (c .match .rest .0 .0 .1)) (c .match .rest .0 .1)) (c .match .rest .1)))
+returns-14 c = sym (constant-unused _ (past 112 13 _ (c .before .pre) (c .match .rest)))
 
 pub constant-spec : {M : Type 1} → statement M
 constant-spec =

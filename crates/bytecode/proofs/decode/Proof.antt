@@ -1,62 +1,48 @@
-use mathlib.Core.Path.{sym, ap, ap₂, _∙_}
+-- `decode` is `decodeAt` at every position.
+use mathlib.Core.Path.{sym, ap, _∙_}
 use native.Mathlib.Omega.{arith}
-use Rattle.bytecode.specs.Code.{instructionOf, lengthOf}
+use Rattle.bytecode.specs.Code.{lengthOf}
 use Rattle.bytecode.proofs.DecodeLaws.{decode-outside, decode-short, decode-whole, next-is}
 use borrow.Author.Needs.{needs}
 use Rattle.bytecode.proofs.decode.Statement.{statement}
 use Rattle.bytecode.proofs.decode.Tie as tie
-use Rattle.bytecode.proofs.decode.Reads as reads
-use Rattle.bytecode.proofs.decode.Lts as lts
-use Rattle.bytecode.proofs.byte.Reads as byte-reads
-use Rattle.bytecode.proofs.byte_after.Reads as byte-after-reads
-use Rattle.bytecode.proofs.by_range.Reads as by-range-reads
-use Rattle.bytecode.proofs.length.Reads as length-reads
 
--- src/lib.rt:255:9
 returns : tie.Need-returns
 returns c = sym (decode-outside _ _ _ (c .if1 .taken))
 
--- src/lib.rt:257:9
 byte-requires : tie.Need-byte-requires
 byte-requires c κs = search needs
 
--- src/lib.rt:258:9
 length-requires : tie.Need-length-requires
 length-requires c κs = search needs
 
--- src/lib.rt:259:8
 sub-if2 : tie.Need-sub-if2
 sub-if2 c = search needs
 
--- src/lib.rt:260:9
 returns-2 : tie.Need-returns-2
-returns-2 c = 
+returns-2 c =
     let words = c .before .before .before .before .before .args .words .now in
     let at = c .before .before .before .before .before .args .at in
     let e = c .before .length .ensures ∙ ap lengthOf (c .before .before .byte .ensures) in
     sym (decode-short words _ at (omega (arith, next-is words at, e)))
 
--- src/lib.rt:262:23
 byte-after-requires : tie.Need-byte-after-requires
 byte-after-requires c κs = search needs
 
--- src/lib.rt:262:49
 byte-after-requires-2 : tie.Need-byte-after-requires-2
 byte-after-requires-2 c κs = search needs
 
--- src/lib.rt:262:5
 by-range-requires : tie.Need-by-range-requires
 by-range-requires c κs = search needs
 
--- src/lib.rt:251:1
 returns-3 : tie.Need-returns-3
-returns-3 c = 
+returns-3 c =
     let words = c .before .before .before .before .before .before .before .before .args .words .now in
     let at = c .before .before .before .before .before .before .before .before .args .at in
     let e = c .before .before .before .before .length .ensures ∙ ap lengthOf (c .before .before .before .before .before .byte .ensures) in
     c .by-range .ensures
     ∙ rw (c .before .before .before .before .before .byte .ensures, c .before .before .byte-after .ensures, c .before .byte-after2 .ensures)
-      (sym (decode-whole words _ at (omega (arith, next-is words at, e))))
+    (sym (decode-whole words _ at (omega (arith, next-is words at, e))))
 
 pub decode-spec : {M : Type 1} → statement M
 decode-spec =

@@ -1,3 +1,4 @@
+-- `fetch` is `byteAt` inside the words.
 use Prim.Native.Nat.{_/_}
 use native.Mathlib.Omega.{arith}
 use Rattle.bytecode.specs.Code.{byteAt}
@@ -5,31 +6,23 @@ use Rattle.bytecode.proofs.Choice.{ranges}
 use borrow.Author.Needs.{needs}
 use Rattle.bytecode.proofs.fetch.Statement.{statement}
 use Rattle.bytecode.proofs.fetch.Tie as tie
-use Rattle.bytecode.proofs.fetch.Reads as reads
-use Rattle.bytecode.proofs.fetch.Lts as lts
 
--- src/lib.rt:85:13
 mul-w : tie.Need-mul-w
 mul-w c = search needs
 
--- src/lib.rt:85:13
 shared-slice-read-w : tie.Need-shared-slice-read-w
 shared-slice-read-w c = search needs
 
--- src/lib.rt:87:16
 cast-result : tie.Need-cast-result
 cast-result c = omega (arith, c .before .shared-slice-known .given (c .before .before .args .at / 2))
 
--- src/lib.rt:87:9
 returns : tie.Need-returns
 unfolding byteAt
 returns c = search ranges
 
--- src/lib.rt:89:5
 cast-result-2 : tie.Need-cast-result-2
 cast-result-2 c = search needs
 
--- src/lib.rt:80:1
 returns-2 : tie.Need-returns-2
 unfolding byteAt
 returns-2 c = search ranges
