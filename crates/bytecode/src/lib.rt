@@ -107,22 +107,7 @@ pub fn extra(b: u8, x: u8) -> usize
     }
 }
 
-// The code's byte at a position, high byte of a word first; 0 past the end.
-pub fn byte(words: &[u16], at: usize) -> u8
-    ensures { λ r. ⌜ r ≡ byteAt (now (words .entry)) at ⌝ }
-{
-    let i = at / 2;
-    if words.len() <= i {
-        return 0;
-    }
-    let w = words[i];
-    if at % 2 == 0 {
-        return (w / 256) as u8;
-    }
-    (w % 256) as u8
-}
-
-// The same inside the code, with no test.
+// The code's byte at a position, high byte of a word first, with no test.
 pub fn fetch(words: &[u16], at: usize) -> u8
     requires { ⌜ at / 2 < length (now words) ⌝ }
     ensures { λ r. ⌜ r ≡ byteAt (now (words .entry)) at ⌝ }
@@ -135,7 +120,17 @@ pub fn fetch(words: &[u16], at: usize) -> u8
     (w % 256) as u8
 }
 
-// The byte `k` further on. No code is so long that the sum, where it is made, would not fit.
+// The same at every position: 0 past the end.
+pub fn byte(words: &[u16], at: usize) -> u8
+    ensures { λ r. ⌜ r ≡ byteAt (now (words .entry)) at ⌝ }
+{
+    if words.len() <= at / 2 {
+        return 0;
+    }
+    fetch(words, at)
+}
+
+// The byte `k` further on; 0 where no word stands, so that the sum is made only where it fits.
 fn byte_after(words: &[u16], at: usize, k: usize) -> u8
     requires { ⌜ k ≤ 2 ⌝ }
     ensures { λ r. ⌜ r ≡ byteAt (now (words .entry)) (at + k) ⌝ }
@@ -146,7 +141,7 @@ fn byte_after(words: &[u16], at: usize, k: usize) -> u8
     byte(words, at + k)
 }
 
-// How many bytes the instruction has that begins with b.
+// How many bytes the instruction has that begins with b. It is found by tests, since the table would be built here at each call.
 pub fn length(b: u8) -> usize
     ensures { λ r. ⌜ r ≡ lengthOf b ⌝ }
 {
