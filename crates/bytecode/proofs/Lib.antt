@@ -1,2 +1,7 @@
 pub mod Choice
 pub mod TestLaws
+pub mod TableLaws
+pub mod CodeLaws
+pub mod DecodeLaws
+pub mod EntryLaws
+pub mod PositionLaws

@@ -2,3 +2,4 @@ pub mod Test
 pub mod Constant
 pub mod Code
 pub mod Effect
+pub mod Table

@@ -1,4 +1,11 @@
-// The instructions of a method's code. specs/Code.antt says which bytes mean which.
+// The instructions of a method's code. specs/Code.antt says which bytes mean which, specs/Effect.antt what each needs and leaves.
+ghost use mathlib.Core.Path.{_≡_};
+ghost use Prim.Native.Nat.{_+_, _/_, _<_, _≤_};
+ghost use lib.ListN.{length};
+ghost use Rattle.bytecode.specs.Code.{byteAt, placeOf, shortOf, constantOf, jumpOf, sendOf, extendedOf, instructionOf, lengthOf, decodeAt};
+ghost use Rattle.bytecode.specs.Table.{groupPart, lengthPart, needPart, leavesPart, boundPart, indexPart, extraOf, Entry, IsTable};
+
+mod entries;
 
 // Where a push or a store finds its operand.
 pub enum Place {
@@ -27,4 +34,332 @@ pub enum Instruction {
     SuperSend { literal: u8, arguments: u8 },
     SpecialSend(u8),
     Unused,
+}
+
+// The table. Whoever calls this builds it anew: call it once, and lend it.
+pub fn table() -> [u16; 256]
+    ensures { λ r. ⌜ IsTable r ⌝ }
+{
+    entries::ENTRIES
+}
+
+fn wide(x: u16) -> usize
+    ensures { λ r. ⌜ r ≡ x ⌝ }
+{
+    x as usize
+}
+
+// A byte's entry in a lent table, widened: its parts are read by the functions below.
+pub fn entry(table: &[u16; 256], b: u8) -> usize
+    requires { ⌜ IsTable (now table) ⌝ }
+    ensures { λ r. ⌜ Entry b r ⌝ }
+{
+    let i = b as usize;
+    wide(table[i])
+}
+
+pub fn entry_group(entry: usize) -> usize
+    ensures { λ r. ⌜ r ≡ groupPart entry ⌝ }
+{
+    entry / 8192
+}
+
+pub fn entry_length(entry: usize) -> usize
+    ensures { λ r. ⌜ r ≡ lengthPart entry ⌝ }
+{
+    entry / 2048 % 4
+}
+
+pub fn entry_need(entry: usize) -> usize
+    ensures { λ r. ⌜ r ≡ needPart entry ⌝ }
+{
+    entry / 512 % 4
+}
+
+pub fn entry_leaves(entry: usize) -> usize
+    ensures { λ r. ⌜ r ≡ leavesPart entry ⌝ }
+{
+    entry / 128 % 4
+}
+
+pub fn entry_bound(entry: usize) -> usize
+    ensures { λ r. ⌜ r ≡ boundPart entry ⌝ }
+{
+    entry / 32 % 4
+}
+
+pub fn entry_index(entry: usize) -> usize
+    ensures { λ r. ⌜ r ≡ indexPart entry ⌝ }
+{
+    entry % 32
+}
+
+// The operands that the sends 131 to 134 need beside those of their entry: `x` is the byte after b.
+pub fn extra(b: u8, x: u8) -> usize
+    ensures { λ r. ⌜ r ≡ extraOf b x ⌝ }
+{
+    match b {
+        131 => (x / 32) as usize,
+        132 => x as usize,
+        133 => (x / 32) as usize,
+        134 => x as usize,
+        _ => 0,
+    }
+}
+
+// The code's byte at a position, high byte of a word first, with no test.
+pub fn fetch(words: &[u16], at: usize) -> u8
+    requires { ⌜ at / 2 < length (now words) ⌝ }
+    ensures { λ r. ⌜ r ≡ byteAt (now (words .entry)) at ⌝ }
+{
+    let i = at / 2;
+    let w = words[i];
+    if at % 2 == 0 {
+        return (w / 256) as u8;
+    }
+    (w % 256) as u8
+}
+
+// The same at every position: 0 past the end.
+pub fn byte(words: &[u16], at: usize) -> u8
+    ensures { λ r. ⌜ r ≡ byteAt (now (words .entry)) at ⌝ }
+{
+    if words.len() <= at / 2 {
+        return 0;
+    }
+    fetch(words, at)
+}
+
+// The byte `k` further on; 0 where no word stands, so that the sum is made only where it fits.
+fn byte_after(words: &[u16], at: usize, k: usize) -> u8
+    requires { ⌜ k ≤ 2 ⌝ }
+    ensures { λ r. ⌜ r ≡ byteAt (now (words .entry)) (at + k) ⌝ }
+{
+    if words.len() <= at / 2 {
+        return 0;
+    }
+    byte(words, at + k)
+}
+
+// How many bytes the instruction has that begins with b. It is found by tests, since the table would be built here at each call.
+pub fn length(b: u8) -> usize
+    ensures { λ r. ⌜ r ≡ lengthOf b ⌝ }
+{
+    if b < 128 {
+        return 1;
+    }
+    match b {
+        128 => 2,
+        129 => 2,
+        130 => 2,
+        131 => 2,
+        132 => 3,
+        133 => 2,
+        134 => 3,
+        _ => {
+            if b < 160 {
+                return 1;
+            }
+            if b < 176 {
+                return 2;
+            }
+            1
+        }
+    }
+}
+
+fn place_of(x: u8) -> Place
+    ensures { λ r. ⌜ r ≡ placeOf x ⌝ }
+{
+    match x / 64 {
+        0 => Place::Field(x % 64),
+        1 => Place::Temporary(x % 64),
+        2 => Place::Literal(x % 64),
+        _ => Place::LiteralVariable(x % 64),
+    }
+}
+
+// 112 to 127.
+fn constant(b: u8) -> Instruction
+    requires { ⌜ 112 ≤ b ⌝ }
+    ensures { λ r. ⌜ r ≡ constantOf b ⌝ }
+{
+    match b {
+        112 => Instruction::PushSelf,
+        113 => Instruction::PushConstant(6),
+        114 => Instruction::PushConstant(4),
+        115 => Instruction::PushConstant(2),
+        116 => Instruction::PushConstant(65535),
+        117 => Instruction::PushConstant(1),
+        118 => Instruction::PushConstant(3),
+        119 => Instruction::PushConstant(5),
+        120 => Instruction::ReturnSelf,
+        121 => Instruction::ReturnConstant(6),
+        122 => Instruction::ReturnConstant(4),
+        123 => Instruction::ReturnConstant(2),
+        124 => Instruction::ReturnTop,
+        _ => Instruction::Unused,
+    }
+}
+
+// 128 to 143.
+fn extended(b: u8, x: u8, y: u8) -> Instruction
+    ensures { λ r. ⌜ r ≡ extendedOf b x y ⌝ }
+{
+    let low = x % 32;
+    let high = x / 32;
+    match b {
+        128 => Instruction::Push(place_of(x)),
+        129 => Instruction::Store(place_of(x)),
+        130 => Instruction::PopStore(place_of(x)),
+        131 => Instruction::Send {
+            literal: low,
+            arguments: high,
+        },
+        132 => Instruction::Send {
+            literal: y,
+            arguments: x,
+        },
+        133 => Instruction::SuperSend {
+            literal: low,
+            arguments: high,
+        },
+        134 => Instruction::SuperSend {
+            literal: y,
+            arguments: x,
+        },
+        135 => Instruction::Pop,
+        136 => Instruction::Duplicate,
+        _ => Instruction::Unused,
+    }
+}
+
+// 0 to 111.
+fn short(b: u8) -> Instruction
+    ensures { λ r. ⌜ r ≡ shortOf b ⌝ }
+{
+    if b < 16 {
+        return Instruction::Push(Place::Field(b % 16));
+    }
+    if b < 32 {
+        return Instruction::Push(Place::Temporary(b % 16));
+    }
+    if b < 64 {
+        return Instruction::Push(Place::Literal(b % 32));
+    }
+    if b < 96 {
+        return Instruction::Push(Place::LiteralVariable(b % 32));
+    }
+    if b < 104 {
+        return Instruction::PopStore(Place::Field(b % 8));
+    }
+    Instruction::PopStore(Place::Temporary(b % 8))
+}
+
+// 144 to 175.
+fn jump(b: u8, x: u8) -> Instruction
+    ensures { λ r. ⌜ r ≡ jumpOf b x ⌝ }
+{
+    if b < 152 {
+        return Instruction::Jump {
+            ahead: (b % 8) as u16 + 1,
+            back: 0,
+        };
+    }
+    if b < 160 {
+        return Instruction::JumpOn {
+            condition: false,
+            ahead: (b % 8) as u16 + 1,
+        };
+    }
+    if b < 168 {
+        return Instruction::Jump {
+            ahead: (b % 8) as u16 * 256 + x as u16,
+            back: 1024,
+        };
+    }
+    if b < 172 {
+        return Instruction::JumpOn {
+            condition: true,
+            ahead: (b % 4) as u16 * 256 + x as u16,
+        };
+    }
+    Instruction::JumpOn {
+        condition: false,
+        ahead: (b % 4) as u16 * 256 + x as u16,
+    }
+}
+
+// 176 to 255.
+fn send(b: u8) -> Instruction
+    requires { ⌜ 176 ≤ b ⌝ }
+    ensures { λ r. ⌜ r ≡ sendOf b ⌝ }
+{
+    if b < 208 {
+        return Instruction::SpecialSend(b - 176);
+    }
+    Instruction::Send {
+        literal: b % 16,
+        arguments: (b - 208) / 16,
+    }
+}
+
+// The instruction of a byte and the two that follow it, by rows of 16 bytes. It is for the run loop alone: a function with one caller is
+// compiled into it. Everyone else decodes by `decode`.
+pub fn instruction_of(b: u8, x: u8, y: u8) -> Instruction
+    ensures { λ r. ⌜ r ≡ instructionOf b x y ⌝ }
+{
+    match b / 16 {
+        0 => Instruction::Push(Place::Field(b % 16)),
+        1 => Instruction::Push(Place::Temporary(b % 16)),
+        2 => Instruction::Push(Place::Literal(b % 32)),
+        3 => Instruction::Push(Place::Literal(b % 32)),
+        4 => Instruction::Push(Place::LiteralVariable(b % 32)),
+        5 => Instruction::Push(Place::LiteralVariable(b % 32)),
+        6 => {
+            if b < 104 {
+                return Instruction::PopStore(Place::Field(b % 8));
+            }
+            Instruction::PopStore(Place::Temporary(b % 8))
+        }
+        7 => constant(b),
+        8 => extended(b, x, y),
+        9 => jump(b, x),
+        10 => jump(b, x),
+        _ => send(b),
+    }
+}
+
+// The same by ranges, for `decode`.
+fn by_range(b: u8, x: u8, y: u8) -> Instruction
+    ensures { λ r. ⌜ r ≡ instructionOf b x y ⌝ }
+{
+    if b < 112 {
+        return short(b);
+    }
+    if b < 128 {
+        return constant(b);
+    }
+    if b < 144 {
+        return extended(b, x, y);
+    }
+    if b < 176 {
+        return jump(b, x);
+    }
+    send(b)
+}
+
+// The instruction at a position of code of `size` bytes: `Unused` outside, and where it is not whole.
+pub fn decode(words: &[u16], size: usize, at: usize) -> Instruction
+    ensures { λ r. ⌜ r ≡ decodeAt (now (words .entry)) size at ⌝ }
+{
+    if size <= at {
+        return Instruction::Unused;
+    }
+    let b = byte(words, at);
+    let n = length(b);
+    if size - at < n {
+        return Instruction::Unused;
+    }
+    by_range(b, byte_after(words, at, 1), byte_after(words, at, 2))
 }
