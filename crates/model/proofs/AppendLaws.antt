@@ -1,8 +1,7 @@
 -- One more object, of a class that it fits, leaves right objects right and extends them.
 use Prim.Native.Nat.{ℕ, _+_, _-_, _*_, _/_, _%_, _≤_, _<_}
 use mathlib.Core.Path.{_≡_, refl, sym, ap, ap₂, _∙_, subst}
-use mathlib.Core.Logic.{_≢_}
-use mathlib.Core.Bool.{Bool, true, false, _&&_}
+use mathlib.Core.Bool.{_&&_}
 use mathlib.Core.List.{List, [], _∷_, _++_}
 use native.Mathlib.Omega.{arith}
 use native.Mathlib.Decide.{decLe}
@@ -10,7 +9,7 @@ use lib.Dec.{T, leb, ltb, leb→le, le→leb, ltb→lt}
 use lib.ListN.{length, getD, length-append, List·getD-append}
 use lib.Seq.{getD-append-add}
 use Rattle.bytecode.proofs.TestLaws.{and-left, and-right, and-both}
-use Rattle.model.specs.Limits.{mostObjects, mostBodyWords, entryWords, fieldsKind, bytesKind, classKind, methodKind, fixedForm, indexedForm, bytesForm}
+use Rattle.model.specs.Limits.{mostObjects, mostBodyWords, entryWords, fieldsKind, bytesKind, classKind, fixedForm, indexedForm, bytesForm}
 use Rattle.model.specs.Word.{isValid}
 use Rattle.model.specs.Objects.{Objects, entryWord, classWord, kind, start, size, sizedInBytes, bodyWords, bodyWord, isKind, fieldCount, form}
 use Rattle.model.specs.Image.{Room}

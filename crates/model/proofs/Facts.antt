@@ -3,19 +3,18 @@ use Prim.Native.Nat.{ℕ, zero, suc, _+_, _-_, _*_, _/_, _%_, _≤_, _<_}
 use mathlib.Core.Path.{_≡_, refl, sym, ap, ap₂, _∙_, subst}
 use mathlib.Core.Logic.{_≢_, _⊎_, inl, inr}
 use mathlib.Core.Bool.{Bool, true, false, _&&_, _||_, not}
-use mathlib.Core.List.{List, [], _∷_}
 use native.Mathlib.Omega.{arith}
-use native.Mathlib.Decide.{ℕ-discrete, decLe}
+use native.Mathlib.Decide.{ℕ-discrete}
 use borrow.Author.Tests.{eq-eqb, ne-eqb, eqb-true, eqb-false}
-use lib.Dec.{T, T-not, not-T, leb, ltb, eqb, leb→le, le→leb, ltb→lt, lt→ltb, eqb→eq, eqb-refl}
-use lib.ListN.{length, getD}
-use Rattle.bytecode.specs.Test.{if_then_else_, upTo, below, every, implies, allOf}
+use lib.Dec.{T, T-not, not-T, leb, ltb, eqb, leb→le, le→leb, ltb→lt, lt→ltb, eqb→eq}
+use lib.ListN.{length}
+use Rattle.bytecode.specs.Test.{if_then_else_, upTo, every, implies, allOf}
 use Rattle.bytecode.specs.Constant.{nilWord}
 use Rattle.bytecode.proofs.Choice.{if-yes, if-no}
-use Rattle.bytecode.proofs.TestLaws.{true→T, T→true, and-left, and-right, and-both, or-cases, implied, rule, rules, upTo-at, at-upTo, below-at, every-at, at-every}
-use Rattle.model.specs.Limits.{leastObjects, mostObjects, mostBodyWords, entryWords, fieldsKind, bytesKind, classKind, listKind, methodKind, lastKind, lastForm, fixedForm, indexedForm, bytesForm, otherForm, classWords, mostFields, nilObject, falseObject, trueObject, integerClassObject, selectorsObject, specialSelectors, fieldFlag, primitiveFlag}
-use Rattle.model.specs.Word.{isInteger, isNatural, isPointer, isValid, pointer, objectNumber, integerClass}
-use Rattle.model.specs.Objects.{Objects, entryWord, classWord, kind, start, size, sizedInBytes, bodyWords, bodyEnd, bodyWord, bodyOf, isKind, isNilOr, classOf, superclassWord, dictionaryWord, fieldsWord, formWord, fieldCount, form, pairCount, pairSelector, pairMethod}
+use Rattle.bytecode.proofs.TestLaws.{true→T, T→true, and-left, and-right, and-both, or-cases, implied, rule, rules, upTo-at, below-at, every-at, at-every}
+use Rattle.model.specs.Limits.{mostObjects, mostBodyWords, entryWords, fieldsKind, bytesKind, classKind, listKind, methodKind, lastForm, fixedForm, indexedForm, bytesForm, otherForm, classWords, mostFields, nilObject, falseObject, trueObject, integerClassObject, selectorsObject, specialSelectors, fieldFlag, primitiveFlag}
+use Rattle.model.specs.Word.{isInteger, isPointer, isValid, pointer, objectNumber, integerClass}
+use Rattle.model.specs.Objects.{Objects, classWord, kind, start, size, sizedInBytes, bodyWords, bodyEnd, bodyWord, bodyOf, isKind, isNilOr, superclassWord, dictionaryWord, fieldsWord, formWord, fieldCount, form, pairCount, pairSelector, pairMethod}
 use Rattle.model.specs.Method.{header, home, literal, flag, temporaryCount, literalCount, extension, argumentCount, runsCode}
 use Rattle.model.specs.Lookup.{endsWithin}
 use Rattle.model.specs.Depth.{isSome}

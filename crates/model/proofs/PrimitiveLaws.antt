@@ -1,12 +1,12 @@
 -- A primitive that answers leaves right objects right, extends them, and answers a valid word.
-use Prim.Native.Nat.{ℕ, zero, suc, _+_, _-_, _*_, _/_, _%_, _≤_, _<_, min, max}
+use Prim.Native.Nat.{ℕ, _+_, _-_, _*_, _/_, _%_, _≤_, _<_, min, max}
 use mathlib.Core.Path.{_≡_, refl, sym, ap, ap₂, _∙_, subst}
 use mathlib.Core.Logic.{_⊎_, inl, inr}
 use mathlib.Core.Bool.{Bool, true, false, _&&_, _||_, not}
-use mathlib.Core.List.{List, [], _∷_}
+use mathlib.Core.List.{List}
 use native.Mathlib.Omega.{arith}
 use borrow.Author.Tests.{eq-eqb, ne-eqb, eqb-true, eqb-false}
-use lib.Dec.{T, T-not, leb, ltb, eqb, leb→le, eqb→eq}
+use lib.Dec.{T, T-not, leb, eqb, leb→le, eqb→eq}
 use lib.ListN.{length, getD, replicate, length-replicate, getD-replicate}
 use lib.IntN.{ℤ, pos, negsuc}
 use lib.Signed.{ltZ, leZ}
@@ -17,9 +17,9 @@ use Rattle.bytecode.proofs.Choice.{if-yes, if-no}
 use Rattle.bytecode.proofs.TestLaws.{true→T, and-left, and-right, or-cases, every-at}
 use Rattle.model.specs.declared.Computed.{Computed}
 use Rattle.model.specs.declared.Computed.the-variants.{Word, Failed}
-use Rattle.model.specs.Limits.{entryWords, fieldsKind, bytesKind, classKind, fixedForm, indexedForm, bytesForm, integerClassObject, largestInteger, mostElements}
-use Rattle.model.specs.Word.{isInteger, isNatural, isValid, inRange, wordOf, valueOf, pointer, objectNumber, booleanWord, integerClass}
-use Rattle.model.specs.Objects.{Objects, classWord, kind, size, bodyWords, bodyWord, isKind, classOf, fieldCount, form}
+use Rattle.model.specs.Limits.{entryWords, fieldsKind, bytesKind, classKind, fixedForm, indexedForm, bytesForm, largestInteger, mostElements}
+use Rattle.model.specs.Word.{isInteger, isNatural, isValid, inRange, wordOf, valueOf, pointer, booleanWord, integerClass}
+use Rattle.model.specs.Objects.{Objects, classWord, kind, size, bodyWord, isKind, classOf, fieldCount, form}
 use Rattle.model.specs.Image.{Room}
 use Rattle.model.specs.Arithmetic.{number, divided, exactQuotient, onIntegers, onBits, arithmetic}
 use Rattle.model.specs.Primitive.{Outcome, answers, fails, storeWord, objectByte, storeByte, isIndexable, holdsBytes, elementCount, isIndex, placeOfIndex, at, atPut, sizeAnswer, appended, hasRoom, make, new, newWith, computed, perform, primitiveCount, primitive}

@@ -1,29 +1,28 @@
 -- Objects that extend right ones are right where their layout, the words of their fields and their new objects are.
 use Prim.Native.Nat.{ℕ, zero, suc, _+_, _-_, _*_, _/_, _%_, _≤_, _<_}
-use mathlib.Core.Path.{_≡_, refl, sym, ap, ap₂, _∙_, subst}
+use mathlib.Core.Path.{_≡_, sym, ap, ap₂, _∙_, subst}
 use mathlib.Core.Logic.{_≢_, _⊎_, inl, inr}
 use mathlib.Core.Bool.{Bool, true, false, _&&_, _||_, not}
-use mathlib.Core.List.{List, [], _∷_}
 use native.Mathlib.Omega.{arith}
 use native.Mathlib.Decide.{ℕ-discrete, decLe}
-use borrow.Author.Tests.{eq-eqb, ne-eqb}
-use lib.Dec.{T, T-not, leb, ltb, eqb, leb→le, le→leb, ltb→lt, lt→ltb, eqb→eq}
-use lib.ListN.{length, getD}
+use borrow.Author.Tests.{eq-eqb}
+use lib.Dec.{T, T-not, leb, ltb, eqb, ltb→lt, lt→ltb, eqb→eq}
+use lib.ListN.{length}
 use Rattle.bytecode.specs.Test.{upTo, below, every, implies, allOf}
 use Rattle.bytecode.specs.Constant.{nilWord}
-use Rattle.bytecode.proofs.TestLaws.{true→T, and-left, and-right, and-both, or-cases, rule, rules, at-upTo, below-at, at-below}
-use Rattle.model.specs.Limits.{entryWords, fieldsKind, bytesKind, classKind, listKind, methodKind, bytesForm, classWords, mostFields, lastForm, integerClassObject, selectorsObject, specialSelectors, otherForm, fieldFlag, primitiveFlag}
-use Rattle.model.specs.Word.{isInteger, isNatural, isValid, pointer, objectNumber, integerClass}
-use Rattle.model.specs.Objects.{Objects, entryWord, classWord, kind, start, size, sizedInBytes, bodyWords, bodyEnd, bodyWord, bodyOf, isKind, isNilOr, superclassWord, dictionaryWord, fieldsWord, formWord, fieldCount, form, pairCount, pairSelector, pairMethod}
-use Rattle.model.specs.Method.{header, home, literal, flag, temporaryCount, literalCount, extension, argumentCount, runsCode}
+use Rattle.bytecode.proofs.TestLaws.{true→T, and-both, or-cases, rule, rules, at-upTo, at-below}
+use Rattle.model.specs.Limits.{entryWords, fieldsKind, bytesKind, classKind, listKind, methodKind, bytesForm, mostFields, lastForm, fieldFlag, primitiveFlag}
+use Rattle.model.specs.Word.{isInteger, isNatural, isValid, pointer, integerClass}
+use Rattle.model.specs.Objects.{Objects, entryWord, classWord, kind, start, size, bodyWords, bodyEnd, bodyWord, bodyOf, isKind, isNilOr, superclassWord, dictionaryWord, fieldCount, form, pairCount, pairSelector, pairMethod}
+use Rattle.model.specs.Method.{home, literal, flag, literalCount, argumentCount}
 use Rattle.model.specs.Lookup.{endsWithin}
 use Rattle.model.specs.Depth.{isSome}
-use Rattle.model.specs.Rules.{sizesFine, layoutRules, rule4, wordsFine, rule5, fits, entryFine, pairFine, dictionaryFine, classRules, knownObjectRules, objectFine, rule6, takesCount, methodTable, extensionFine, methodRules, dictionaryMethodsFine, rule7}
-use Rattle.model.proofs.ChainLaws.{Named, named}
+use Rattle.model.specs.Rules.{sizesFine, layoutRules, rule4, wordsFine, rule5, fits, entryFine, pairFine, dictionaryFine, classRules, knownObjectRules, objectFine, rule6, takesCount, extensionFine, methodRules, dictionaryMethodsFine, rule7}
+use Rattle.model.proofs.ChainLaws.{named}
 use Rattle.model.proofs.Parts.{implying, every-more, below-same, or-right}
 use Rattle.model.proofs.Facts.{Right, Padded, Layout, layout-rules, words-rule, Fits, fixed, indexed, bytes, other, fits-rule, naming, named-pointer, valid-kind, least, layout, inside, word-valid, entry-class, entry-fits, known, known-facts, integer-class, class-rules, class-facts, method-rules, method-facts, pair-facts, fine-methods}
 use Rattle.model.proofs.Extends.{Extends, words-same, valid-grows, kind-kept, kind-same, nil-or-same, body-same, class-word-same, superclass-same, dictionary-same, fields-same, form-same, pair-count-same, pair-selector-same, pair-method-same, method-size-same, header-same, home-same, home-fields-same, flag-same, temporaries-same, literal-count-same, literal-same, extension-same, arguments-same, runs-same}
-use Rattle.model.proofs.Unchanged.{and-same, implies-same, ends-above, ends-nil, count-same, table-same}
+use Rattle.model.proofs.Unchanged.{implies-same, ends-above, ends-nil, count-same, table-same}
 
 -- what a change has to show besides
 pub record Renewed (e : ℕ) (o o′ : Objects) : Type 0 where
