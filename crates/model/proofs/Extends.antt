@@ -84,7 +84,13 @@ module _ {o o′ : Objects} (x : Extends o o′) where
 
 pub extends-trans : {o o′ o″ : Objects} → Extends o o′ → Extends o′ o″ → Extends o o″
 extends-trans {o} {o′} {o″} x y =
-    record { grows = x .grows |> y .grows; longer = x .longer |> y .longer; entries = λ k i a b c. y .entries k i a (b |> x .grows) c ∙ x .entries k i a b c; bodies = words; new = fresh }
+    record {
+      grows = x .grows |> y .grows;
+      longer = x .longer |> y .longer;
+      entries = λ k i a b c. y .entries k i a (b |> x .grows) c ∙ x .entries k i a b c;
+      bodies = words;
+      new = fresh;
+    }
   where
     infixl 60 _|>_
     _|>_ : {a b c : ℕ} → a ≤ b → b ≤ c → a ≤ c

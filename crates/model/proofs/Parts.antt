@@ -12,6 +12,11 @@ use Rattle.bytecode.specs.Test.{if_then_else_, upTo, below, every, implies}
 use Rattle.bytecode.proofs.TestLaws.{and-left, and-right, and-both, upTo-at, at-upTo}
 use Rattle.model.specs.Objects.{part}
 
+-- one rule of a list after another
+infixr 3 _also_
+pub _also_ : {A B : Type 0} → A → B → A × B
+a also b = (a, b)
+
 -- Two tests that follow from each other are equal.
 pub same-test : (a b : Bool) → (T a → T b) → (T b → T a) → a ≡ b
 same-test true true f g = refl

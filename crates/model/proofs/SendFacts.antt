@@ -73,10 +73,20 @@ module _ {e : ℕ} {o : Objects} (r : Right e o) where
     where
       go : (b : Bool) (f : Found) → isKind o classKind c ≡ b → findIn o (dictionaryWord o c) s ≡ f → (lookupWithin left o s (superclassWord o c) ≡ found m → Holder o left s (superclassWord o c) m) → Holder o (suc left) s c m
       go true (Method w) q f ih =
-          record { holder = c; classes = true→T q; chain = chain-class o left c c q ∙ ap (λ (b : Bool). b || inChainWithin left o c (superclassWord o c)) (eq-eqb c c refl); pair = found-in o (dictionaryWord o c) s m (f ∙ sym (class-hit o left s c (w .0) q f) ∙ p) }
+          record {
+            holder = c;
+            classes = true→T q;
+            chain = chain-class o left c c q ∙ ap (λ (b : Bool). b || inChainWithin left o c (superclassWord o c)) (eq-eqb c c refl);
+            pair = found-in o (dictionaryWord o c) s m (f ∙ sym (class-hit o left s c (w .0) q f) ∙ p);
+          }
       go true Nothing q f ih =
           let h = ih (sym (class-miss o left s c q f) ∙ p) in
-          record { holder = h .holder; classes = h .classes; chain = chain-class o left (h .holder) c q ∙ ap (λ (b : Bool). eqb (h .holder) c || b) (h .chain) ∙ or-true (eqb (h .holder) c); pair = h .pair }
+          record {
+            holder = h .holder;
+            classes = h .classes;
+            chain = chain-class o left (h .holder) c q ∙ ap (λ (b : Bool). eqb (h .holder) c || b) (h .chain) ∙ or-true (eqb (h .holder) c);
+            pair = h .pair;
+          }
         where
           or-true : (b : Bool) → (b || true) ≡ true
           or-true true = refl
@@ -107,7 +117,11 @@ module _ {e : ℕ} {o : Objects} (r : Right e o) where
       let h = holder-of (o .n) s c m p in
       let q = h .pair in
       let home-is : home o m ≡ h .holder = ap (home o) (sym (q .method)) ∙ pair-home r (h .holder) (q .place) (h .classes) (q .inside) in
-      record { method = subst (λ (x : ℕ). T (isKind o methodKind x)) (q .method) (pair-facts r (h .holder) (q .place) (h .classes) (q .inside) .method); homes = subst (λ (x : ℕ). T (inChainWithin (o .n) o x c)) (sym home-is) (true→T (h .chain)); counts = λ n t. count-at (h .holder) s m n (h .classes) q t }
+      record {
+        method = subst (λ (x : ℕ). T (isKind o methodKind x)) (q .method) (pair-facts r (h .holder) (q .place) (h .classes) (q .inside) .method);
+        homes = subst (λ (x : ℕ). T (inChainWithin (o .n) o x c)) (sym home-is) (true→T (h .chain));
+        counts = λ n t. count-at (h .holder) s m n (h .classes) q t;
+      }
 
   -- F is not below that of a class above
   record Above (a c : ℕ) : Type 0 where
@@ -127,7 +141,11 @@ module _ {e : ℕ} {o : Objects} (r : Right e o) where
           either : T (eqb a c) ⊎ T (inChainWithin left o a (superclassWord o c)) → Above a c
           either (inl s) =
               let same = eqb→eq a c s in
-              record { class-a = subst (λ (x : ℕ). T (isKind o classKind x)) (sym same) (true→T q); class-c = true→T q; fewer = subst (λ (x : ℕ). fieldCount o x ≤ fieldCount o c) (sym same) (omega arith) }
+              record {
+                class-a = subst (λ (x : ℕ). T (isKind o classKind x)) (sym same) (true→T q);
+                class-c = true→T q;
+                fewer = subst (λ (x : ℕ). fieldCount o x ≤ fieldCount o c) (sym same) (omega arith);
+              }
           either (inr s) =
               let h = ih s in
               let f = class-facts r c (true→T q) .rises (class-not-nil r (superclassWord o c) (T→true (isKind o classKind (superclassWord o c)) (h .class-c))) in
