@@ -462,6 +462,12 @@ module _ {e : ℕ} {o : Objects} (r : Right e o) where
       subst (λ (w : ℕ). T (isNilOr o bytesKind w)) (part-at (o .bodies) (start o selectorsObject) (bodyWords o selectorsObject) k b)
       (every-at (isNilOr o bytesKind) (bodyOf o selectorsObject) (rule (knownObjectRules e o) known 7) k (omega arith))
 
+  pub special-valid : (k : ℕ) → k < specialSelectors → T (isValid (o .n) (bodyWord o selectorsObject k))
+  special-valid k h =
+      let l = least in
+      let a = known-facts .selectors in
+      word-valid selectorsObject k (omega arith) (omega arith) (omega arith) (omega arith) (inside-selectors k h)
+
   -- methods
   fine-seven : (k : ℕ) → 1 ≤ k → k ≤ o .n → T (implies (eqb (kind o k) methodKind) (allOf (methodRules e o (pointer k))) && implies (eqb (kind o k) classKind) (dictionaryMethodsFine o (pointer k)))
   unfolding rule7

@@ -43,7 +43,7 @@ Kept room e o (answers v o′) = Performed room e o v o′
 Kept room e o fails = Unit {0}
 
 -- Arithmetic: an odd word, or true or false
-abbrev ValidWord : Objects → Computed → Type 0
+abbrev pub ValidWord : Objects → Computed → Type 0
 ValidWord o (Word w) = T (isValid (o .n) w)
 ValidWord o Failed = Unit {0}
 

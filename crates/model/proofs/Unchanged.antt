@@ -27,7 +27,7 @@ use Rattle.model.specs.Depth.{walkFrom, successorsAt, depthAfterAt, rule
 use Rattle.model.specs.Rules.{takesCount, sendFine, variableFine, placeFine, isWritable, specialSelector, isSame, isClass, allowed, methodTable, rule8}
 use Rattle.model.proofs.ChainLaws.{named}
 use Rattle.model.proofs.Parts.{below-same, upTo-same, if-either, implying}
-use Rattle.model.proofs.Facts.{Right, naming, named-pointer, least, word-valid, known-facts, inside-selectors, class-facts, nil-no-class, pair-facts, method-facts}
+use Rattle.model.proofs.Facts.{Right, naming, named-pointer, least, known-facts, inside-selectors, special-valid, class-facts, nil-no-class, pair-facts, method-facts}
 use Rattle.model.proofs.Extends.{Extends, valid-grows, kind-kept, kind-same, kind-valid, superclass-same, dictionary-same, pair-count-same, pair-selector-same, pair-method-same, home-fields-same, temporaries-same, literal-count-same, literal-same, frame-same, code-size-same, code-same, arguments-same}
 
 -- a test behind another is asked only where that one holds
@@ -280,9 +280,6 @@ module _ {e : ℕ} {o o′ : Objects} (x : Extends o o′) (r : Right e o) where
   pub special-same : (k : ℕ) → k < specialSelectors → specialSelector o′ k ≡ specialSelector o k
   special-same k h = let l = least r in let a = known-facts r .selectors in x .bodies selectorsObject k (omega arith) (omega arith) (omega arith) (inside-selectors r k h)
 
-  pub special-valid : (k : ℕ) → k < specialSelectors → T (isValid (o .n) (specialSelector o k))
-  special-valid k h = let l = least r in let a = known-facts r .selectors in word-valid r selectorsObject k (omega arith) (omega arith) (omega arith) (omega arith) (inside-selectors r k h)
-
   module _ (m : ℕ) (t : T (isKind o methodKind m)) where
     inside-literals : (i : ℕ) → T (ltb i (literalCount o m)) → i < literalCount o m
     inside-literals i q = ltb→lt i (literalCount o m) q
@@ -319,7 +316,7 @@ module _ {e : ℕ} {o o′ : Objects} (x : Extends o o′) (r : Right e o) where
     allowed-same (SuperSend l n) s = at-literal l (λ w. sendFine o w n) (λ w. sendFine o′ w n) (λ w v. send-same x r w n v)
     allowed-same (SpecialSend k) s =
         ap (λ (b : Bool). isSame k || (isClass k || b))
-        (ap (λ (w : ℕ). sendFine o′ w (specialCount k)) (special-same k s) ∙ send-same x r (specialSelector o k) (specialCount k) (special-valid k s))
+        (ap (λ (w : ℕ). sendFine o′ w (specialCount k)) (special-same k s) ∙ send-same x r (specialSelector o k) (specialCount k) (special-valid r k s))
     allowed-same Unused s = refl
 
     fine-same : (ws : List ℕ) (sz tc fw p d : ℕ) → fineAt ws sz tc fw (allowed o′ m) p d ≡ fineAt ws sz tc fw (allowed o m) p d
