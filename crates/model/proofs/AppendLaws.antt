@@ -1,8 +1,7 @@
 -- One more object, of a class that it fits, leaves right objects right and extends them.
 use Prim.Native.Nat.{ℕ, _+_, _-_, _*_, _/_, _%_, _≤_, _<_}
 use mathlib.Core.Path.{_≡_, refl, sym, ap, ap₂, _∙_, subst}
-use mathlib.Core.Logic.{_≢_}
-use mathlib.Core.Bool.{Bool, true, false, _&&_}
+use mathlib.Core.Bool.{_&&_}
 use mathlib.Core.List.{List, [], _∷_, _++_}
 use native.Mathlib.Omega.{arith}
 use native.Mathlib.Decide.{decLe}
@@ -10,7 +9,7 @@ use lib.Dec.{T, leb, ltb, leb→le, le→leb, ltb→lt}
 use lib.ListN.{length, getD, length-append, List·getD-append}
 use lib.Seq.{getD-append-add}
 use Rattle.bytecode.proofs.TestLaws.{and-left, and-right, and-both}
-use Rattle.model.specs.Limits.{mostObjects, mostBodyWords, entryWords, fieldsKind, bytesKind, classKind, methodKind, fixedForm, indexedForm, bytesForm}
+use Rattle.model.specs.Limits.{leastObjects, mostObjects, mostBodyWords, entryWords, fieldsKind, bytesKind, classKind, fixedForm, indexedForm, bytesForm}
 use Rattle.model.specs.Word.{isValid}
 use Rattle.model.specs.Objects.{Objects, entryWord, classWord, kind, start, size, sizedInBytes, bodyWords, bodyWord, isKind, fieldCount, form}
 use Rattle.model.specs.Image.{Room}
@@ -31,7 +30,12 @@ unfolding hasRoom
 room-facts room o count t =
     let p : T (leb (o .b + count) mostBodyWords && (leb (entryWords * (o .n + 1)) (room .contents) && leb (o .b + count) (room .bodies))) = and-right (ltb (o .n) mostObjects) _ t in
     let q : T (leb (entryWords * (o .n + 1)) (room .contents) && leb (o .b + count) (room .bodies)) = and-right (leb (o .b + count) mostBodyWords) _ p in
-    record { objects = ltb→lt (o .n) mostObjects (and-left (ltb (o .n) mostObjects) _ t); words = leb→le (o .b + count) mostBodyWords (and-left (leb (o .b + count) mostBodyWords) _ p); contents = leb→le (entryWords * (o .n + 1)) (room .contents) (and-left (leb (entryWords * (o .n + 1)) (room .contents)) _ q); bodies = leb→le (o .b + count) (room .bodies) (and-right (leb (entryWords * (o .n + 1)) (room .contents)) _ q) }
+    record {
+      objects = ltb→lt (o .n) mostObjects (and-left (ltb (o .n) mostObjects) _ t);
+      words = leb→le (o .b + count) mostBodyWords (and-left (leb (o .b + count) mostBodyWords) _ p);
+      contents = leb→le (entryWords * (o .n + 1)) (room .contents) (and-left (leb (entryWords * (o .n + 1)) (room .contents)) _ q);
+      bodies = leb→le (o .b + count) (room .bodies) (and-right (leb (entryWords * (o .n + 1)) (room .contents)) _ q);
+    }
 
 -- A body that suits the form of class c: as many fields, at least as many, or bytes with their padding
 pub data Suits (o : Objects) (c kd sz : ℕ) (body : List ℕ) : Type 0 where
@@ -83,7 +87,13 @@ module _ {e : ℕ} {o : Objects} (r : Right e o) (c kd sz : ℕ) (body : List �
 
   pub appended-extends : kd ≤ 1 → Extends o grown
   appended-extends h =
-      record { grows = more; longer = longer; entries = appended-entry; bodies = λ k i a b d l. appended-word k i a b l; new = λ k a b. subst (λ (x : ℕ). x ≤ 1) (sym (new-entry k 1 (one-more k a b))) h }
+      record {
+        grows = more;
+        longer = longer;
+        entries = appended-entry;
+        bodies = λ k i a b d l. appended-word k i a b l;
+        new = λ k a b. subst (λ (x : ℕ). x ≤ 1) (sym (new-entry k 1 (one-more k a b))) h;
+      }
     where
       more : o .n ≤ grown .n
       more = unfold appended in omega arith
@@ -157,7 +167,13 @@ module _ {e : ℕ} {o : Objects} (r : Right e o) (c kd sz : ℕ) (body : List �
         let l = least r in
         let a : kind grown k ≡ kd = new-entry k 1 h in
         let d = suits-kind s in
-        record { kinds = omega arith; first = λ p. absurd (omega arith); next = λ p. new-entry k 2 h ∙ sym (last-end r) ∙ sym (ap₂ _+_ (ap (start grown) (before-new k h) ∙ appended-entry (o .n) 2 (omega arith) (omega arith) (omega arith)) (ap (bodyWords grown) (before-new k h) ∙ words-same ext (o .n) (omega arith) (omega arith))); four = λ p. absurd (omega arith); padded = new-padded k h }
+        record {
+          kinds = omega arith;
+          first = λ p. absurd (omega arith);
+          next = λ p. new-entry k 2 h ∙ sym (last-end r) ∙ sym (ap₂ _+_ (ap (start grown) (before-new k h) ∙ appended-entry (o .n) 2 (omega arith) (omega arith) (omega arith)) (ap (bodyWords grown) (before-new k h) ∙ words-same ext (o .n) (omega arith) (omega arith)));
+          four = λ p. absurd (omega arith);
+          padded = new-padded k h;
+        }
 
     old-padded : (k : ℕ) → 1 ≤ k → k ≤ o .n → Padded grown k
     old-padded k h g a b =
@@ -189,11 +205,11 @@ module _ {e : ℕ} {o : Objects} (r : Right e o) (c kd sz : ℕ) (body : List �
             subst (λ (x : ℕ). T (isValid (grown .n) x)) (sym (new-word k i m)) (unfold appended in new-valid i (sym (new-entry k 1 m) ∙ p) (omega arith))
 
     module _ (f : o .n < mostObjects) (g : o .b + length body ≤ mostBodyWords) where
-      fine-sizes : T (leb 5 (grown .n) && (leb (grown .n) mostObjects && leb (grown .b) mostBodyWords))
+      fine-sizes : T (leb (leastObjects e) (grown .n) && (leb (grown .n) mostObjects && leb (grown .b) mostBodyWords))
       unfolding appended
       fine-sizes =
           let l = least r in
-          and-both (leb 5 (o .n + 1)) (leb (o .n + 1) mostObjects && leb (o .b + length body) mostBodyWords) (le→leb 5 (o .n + 1) (omega arith))
+          and-both (leb (leastObjects e) (o .n + 1)) (leb (o .n + 1) mostObjects && leb (o .b + length body) mostBodyWords) (le→leb (leastObjects e) (o .n + 1) (omega arith))
           (and-both (leb (o .n + 1) mostObjects) (leb (o .b + length body) mostBodyWords) (le→leb (o .n + 1) mostObjects (omega arith)) (le→leb (o .b + length body) mostBodyWords g))
 
       new-end : (k : ℕ) → k ≡ o .n + 1 → start grown k + bodyWords grown k ≡ grown .b
@@ -201,7 +217,18 @@ module _ {e : ℕ} {o : Objects} (r : Right e o) (c kd sz : ℕ) (body : List �
 
       appended-renewed : Renewed e o grown
       appended-renewed =
-          record { contents = long; bodies = (unfold appended in length-append (o .bodies) body ∙ ap (λ (x : ℕ). x + length body) (r .bodies)); sizes = fine-sizes; last = new-end (grown .n) (unfold appended in refl); padded = old-padded; fields = all-valid; laid = λ k a b. new-layout k (one-more k a b); room = λ k a b. let q = new-end k (one-more k a b) in omega arith; classes = λ k a b. new-class k (one-more k a b); fitting = λ k a b. new-fits k (one-more k a b) }
+          record {
+            contents = long;
+            bodies = (unfold appended in length-append (o .bodies) body ∙ ap (λ (x : ℕ). x + length body) (r .bodies));
+            sizes = fine-sizes;
+            last = new-end (grown .n) (unfold appended in refl);
+            padded = old-padded;
+            fields = all-valid;
+            laid = λ k a b. new-layout k (one-more k a b);
+            room = λ k a b. let q = new-end k (one-more k a b) in omega arith;
+            classes = λ k a b. new-class k (one-more k a b);
+            fitting = λ k a b. new-fits k (one-more k a b);
+          }
         where
           long : length (grown .contents) ≡ entryWords * grown .n
           long = unfold appended in let q = r .contents in let p = length-append (o .contents) (c ∷ kd ∷ o .b ∷ sz ∷ []) in omega arith

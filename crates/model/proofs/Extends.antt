@@ -1,26 +1,23 @@
 -- Objects that hold others: the entries stay, classes, lists and methods keep their words, and new objects have fields or bytes.
 -- Lookups, chains and depth tables are then the same.
-use Prim.Native.Nat.{ℕ, zero, suc, _+_, _-_, _*_, _/_, _%_, _≤_, _<_}
-use mathlib.Core.Path.{_≡_, refl, sym, ap, ap₂, _∙_, subst, fun-ext}
-use mathlib.Core.Logic.{_≢_, _⊎_, inl, inr}
-use mathlib.Core.Bool.{Bool, true, false, _&&_, _||_, not}
-use mathlib.Core.List.{List, [], _∷_}
+use Prim.Native.Nat.{ℕ, _+_, _-_, _*_, _/_, _%_, _≤_, _<_}
+use mathlib.Core.Path.{_≡_, refl, sym, ap, ap₂, _∙_}
+use mathlib.Core.Bool.{Bool, _||_}
 use native.Mathlib.Omega.{arith}
 use native.Mathlib.Decide.{ℕ-discrete, decLe}
-use borrow.Author.Tests.{eq-eqb, ne-eqb, eqb-true}
-use lib.Dec.{T, leb, ltb, eqb, leb→le, ltb→lt, lt→ltb, eqb→eq, eqb-refl}
+use borrow.Author.Tests.{eq-eqb, ne-eqb}
+use lib.Dec.{T, leb, eqb}
 use lib.ListN.{length, getD}
-use Rattle.bytecode.specs.Test.{if_then_else_, upTo, below, every, implies, allOf}
+use Rattle.bytecode.specs.Test.{if_then_else_}
 use Rattle.bytecode.specs.Constant.{nilWord}
 use Rattle.bytecode.proofs.Choice.{if-yes, if-no}
-use Rattle.bytecode.proofs.TestLaws.{true→T, T→true, and-left, and-right, and-both, rule}
-use Rattle.model.specs.Limits.{entryWords, fieldsKind, bytesKind, classKind, listKind, methodKind, classWords, lastCountFlag, selectorsObject, specialSelectors, primitiveFlag, largeFrameWords, smallFrameWords}
-use Rattle.model.specs.Word.{isInteger, isValid, pointer, objectNumber, integerClass}
-use Rattle.model.specs.Objects.{Objects, entryWord, classWord, kind, start, size, sizedInBytes, bodyWords, bodyWord, bodyOf, part, isKind, isNilOr, classOf, superclassWord, dictionaryWord, fieldsWord, formWord, fieldCount, form, pairCount, pairSelector, pairMethod}
-use Rattle.model.specs.Method.{header, home, literal, flag, temporaryCount, literalCount, isLarge, codeWords, codeSize, frameWords, extension, primitiveNumber, argumentCount, runsCode}
+use Rattle.model.specs.Limits.{entryWords, classKind, listKind, methodKind, classWords, lastCountFlag, primitiveFlag, largeFrameWords, smallFrameWords}
+use Rattle.model.specs.Word.{isInteger, isValid, integerClass}
+use Rattle.model.specs.Objects.{Objects, entryWord, classWord, kind, start, size, sizedInBytes, bodyWords, bodyWord, bodyOf, part, isKind, isNilOr, classOf, superclassWord, dictionaryWord, fieldCount, form, pairCount, pairSelector, pairMethod}
+use Rattle.model.specs.Method.{header, home, literal, flag, temporaryCount, literalCount, codeWords, codeSize, frameWords, extension, primitiveNumber, argumentCount, runsCode}
 use Rattle.model.proofs.ChainLaws.{Named, named}
 use Rattle.model.proofs.Parts.{same-test, part-same}
-use Rattle.model.proofs.Facts.{Right, Valid, odd, names, naming, valid-cases, valid-odd, valid-name, least, inside, class-words, method-words, list-words, class-facts, method-facts}
+use Rattle.model.proofs.Facts.{Right, Valid, odd, names, naming, valid-cases, valid-odd, valid-name, least, inside, class-words, method-words, list-words, method-facts}
 
 pub record Extends (o o′ : Objects) : Type 0 where
   pub grows : o .n ≤ o′ .n
@@ -87,7 +84,13 @@ module _ {o o′ : Objects} (x : Extends o o′) where
 
 pub extends-trans : {o o′ o″ : Objects} → Extends o o′ → Extends o′ o″ → Extends o o″
 extends-trans {o} {o′} {o″} x y =
-    record { grows = x .grows |> y .grows; longer = x .longer |> y .longer; entries = λ k i a b c. y .entries k i a (b |> x .grows) c ∙ x .entries k i a b c; bodies = words; new = fresh }
+    record {
+      grows = x .grows |> y .grows;
+      longer = x .longer |> y .longer;
+      entries = λ k i a b c. y .entries k i a (b |> x .grows) c ∙ x .entries k i a b c;
+      bodies = words;
+      new = fresh;
+    }
   where
     infixl 60 _|>_
     _|>_ : {a b c : ℕ} → a ≤ b → b ≤ c → a ≤ c

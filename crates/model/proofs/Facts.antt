@@ -3,25 +3,24 @@ use Prim.Native.Nat.{ℕ, zero, suc, _+_, _-_, _*_, _/_, _%_, _≤_, _<_}
 use mathlib.Core.Path.{_≡_, refl, sym, ap, ap₂, _∙_, subst}
 use mathlib.Core.Logic.{_≢_, _⊎_, inl, inr}
 use mathlib.Core.Bool.{Bool, true, false, _&&_, _||_, not}
-use mathlib.Core.List.{List, [], _∷_}
 use native.Mathlib.Omega.{arith}
-use native.Mathlib.Decide.{ℕ-discrete, decLe}
+use native.Mathlib.Decide.{ℕ-discrete}
 use borrow.Author.Tests.{eq-eqb, ne-eqb, eqb-true, eqb-false}
-use lib.Dec.{T, T-not, not-T, leb, ltb, eqb, leb→le, le→leb, ltb→lt, lt→ltb, eqb→eq, eqb-refl}
-use lib.ListN.{length, getD}
-use Rattle.bytecode.specs.Test.{if_then_else_, upTo, below, every, implies, allOf}
+use lib.Dec.{T, T-not, not-T, leb, ltb, eqb, leb→le, le→leb, ltb→lt, lt→ltb, eqb→eq}
+use lib.ListN.{length}
+use Rattle.bytecode.specs.Test.{if_then_else_, upTo, every, implies, allOf}
 use Rattle.bytecode.specs.Constant.{nilWord}
 use Rattle.bytecode.proofs.Choice.{if-yes, if-no}
-use Rattle.bytecode.proofs.TestLaws.{true→T, T→true, and-left, and-right, and-both, or-cases, implied, rule, rules, upTo-at, at-upTo, below-at, every-at, at-every}
-use Rattle.model.specs.Limits.{leastObjects, mostObjects, mostBodyWords, entryWords, fieldsKind, bytesKind, classKind, listKind, methodKind, lastKind, lastForm, fixedForm, indexedForm, bytesForm, otherForm, classWords, mostFields, nilObject, falseObject, trueObject, integerClassObject, selectorsObject, specialSelectors, fieldFlag, primitiveFlag}
-use Rattle.model.specs.Word.{isInteger, isNatural, isPointer, isValid, pointer, objectNumber, integerClass}
-use Rattle.model.specs.Objects.{Objects, entryWord, classWord, kind, start, size, sizedInBytes, bodyWords, bodyEnd, bodyWord, bodyOf, isKind, isNilOr, classOf, superclassWord, dictionaryWord, fieldsWord, formWord, fieldCount, form, pairCount, pairSelector, pairMethod}
+use Rattle.bytecode.proofs.TestLaws.{true→T, T→true, and-left, and-right, and-both, or-cases, implied, rule, rules, upTo-at, below-at, every-at, at-every}
+use Rattle.model.specs.Limits.{leastObjects, mostObjects, mostBodyWords, entryWords, fieldsKind, bytesKind, classKind, listKind, methodKind, lastForm, fixedForm, indexedForm, bytesForm, otherForm, classWords, mostFields, nilObject, falseObject, trueObject, integerClassObject, selectorsObject, specialSelectors, fieldFlag, primitiveFlag}
+use Rattle.model.specs.Word.{isInteger, isPointer, isValid, pointer, objectNumber, integerClass}
+use Rattle.model.specs.Objects.{Objects, classWord, kind, start, size, sizedInBytes, bodyWords, bodyEnd, bodyWord, bodyOf, isKind, isNilOr, superclassWord, dictionaryWord, fieldsWord, formWord, fieldCount, form, pairCount, pairSelector, pairMethod}
 use Rattle.model.specs.Method.{header, home, literal, flag, temporaryCount, literalCount, extension, argumentCount, runsCode}
 use Rattle.model.specs.Lookup.{endsWithin}
 use Rattle.model.specs.Depth.{isSome}
 use Rattle.model.specs.Rules.{sizesFine, startFine, paddingFine, layoutRules, rule4, wordsFine, rule5, fits, entryFine, pairFine, dictionaryFine, classRules, knownObjectRules, objectFine, rule6, takesCount, methodTable, extensionFine, methodRules, dictionaryMethodsFine, rule7}
 use Rattle.model.proofs.ChainLaws.{Named, named}
-use Rattle.model.proofs.Parts.{implying, or-left, or-right, if-either, length-part, part-at}
+use Rattle.model.proofs.Parts.{_also_, implying, or-left, or-right, if-either, length-part, part-at}
 
 pub record Right (e : ℕ) (o : Objects) : Type 0 where
   pub contents : length (o .contents) ≡ entryWords * o .n
@@ -121,17 +120,28 @@ pub record Layout (o : Objects) (k : ℕ) : Type 0 where
 pub layout-facts : (e : ℕ) (o : Objects) (k : ℕ) → T (allOf (layoutRules e o k)) → Layout o k
 unfolding layoutRules startFine paddingFine
 layout-facts e o k t =
-    record { kinds = leb→le (kind o k) methodKind (rule (layoutRules e o k) t 0); first = λ h. eqb→eq (start o k) 0 (subst T (if-yes _ _ (eq-eqb k 1 h)) (rule (layoutRules e o k) t 1)); next = λ h. eqb→eq (start o k) (bodyEnd o (k - 1)) (subst T (if-no _ _ (ne-eqb k 1 h)) (rule (layoutRules e o k) t 1)); four = λ h. eqb→eq (size o k) classWords (implied (eqb (kind o k) classKind) _ (rule (layoutRules e o k) t 2) (true→T (eq-eqb (kind o k) classKind h))); padded = λ a b. eqb→eq _ 0 (implied (sizedInBytes (kind o k) && eqb (size o k % 2) 1) _ (rule (layoutRules e o k) t 3) (and-both (sizedInBytes (kind o k)) (eqb (size o k % 2) 1) a (true→T (eq-eqb (size o k % 2) 1 b)))) }
+    record {
+      kinds = leb→le (kind o k) methodKind (rule (layoutRules e o k) t 0);
+      first = λ h. eqb→eq (start o k) 0 (subst T (if-yes _ _ (eq-eqb k 1 h)) (rule (layoutRules e o k) t 1));
+      next = λ h. eqb→eq (start o k) (bodyEnd o (k - 1)) (subst T (if-no _ _ (ne-eqb k 1 h)) (rule (layoutRules e o k) t 1));
+      four = λ h. eqb→eq (size o k) classWords (implied (eqb (kind o k) classKind) _ (rule (layoutRules e o k) t 2) (true→T (eq-eqb (kind o k) classKind h)));
+      padded = λ a b. eqb→eq _ 0 (implied (sizedInBytes (kind o k) && eqb (size o k % 2) 1) _ (rule (layoutRules e o k) t 3) (and-both (sizedInBytes (kind o k)) (eqb (size o k % 2) 1) a (true→T (eq-eqb (size o k % 2) 1 b))));
+    }
 
 pub layout-rules : (e : ℕ) (o : Objects) (k : ℕ) → Layout o k → T (allOf (layoutRules e o k))
 unfolding layoutRules startFine paddingFine
 layout-rules e o k h =
     rules (layoutRules e o k)
-    (le→leb (kind o k) methodKind (h .kinds),
-    (if-either T (eqb k 1) (eqb (start o k) 0) (eqb (start o k) (bodyEnd o (k - 1))) (λ q. true→T (eq-eqb (start o k) 0 (h .first (eqb-true k 1 q)))) (λ q. true→T (eq-eqb (start o k) (bodyEnd o (k - 1)) (h .next (eqb-false k 1 q)))),
-    (implying (eqb (kind o k) classKind) (eqb (size o k) classWords) (λ q. true→T (eq-eqb (size o k) classWords (h .four (eqb→eq (kind o k) classKind q)))),
-    (implying (sizedInBytes (kind o k) && eqb (size o k % 2) 1) (eqb (bodyWord o k (bodyWords o k - 1) % 256) 0) (λ q. true→T (eq-eqb (bodyWord o k (bodyWords o k - 1) % 256) 0 (h .padded (and-left (sizedInBytes (kind o k)) (eqb (size o k % 2) 1) q) (eqb→eq (size o k % 2) 1 (and-right (sizedInBytes (kind o k)) (eqb (size o k % 2) 1) q))))),
-    tt))))
+    (le→leb (kind o k) methodKind (h .kinds)
+    also if-either T (eqb k 1) (eqb (start o k) 0) (eqb (start o k) (bodyEnd o (k - 1))) (λ q. true→T (eq-eqb (start o k) 0 (h .first (eqb-true k 1 q)))) (λ q. true→T (eq-eqb (start o k) (bodyEnd o (k - 1)) (h .next (eqb-false k 1 q))))
+    also implying (eqb (kind o k) classKind) (eqb (size o k) classWords) (λ q. true→T (eq-eqb (size o k) classWords (h .four (eqb→eq (kind o k) classKind q))))
+    also implying (sizedInBytes (kind o k) && eqb (size o k % 2) 1) (eqb (bodyWord o k (bodyWords o k - 1) % 256) 0) padding
+    also tt)
+  where
+    padding : T (sizedInBytes (kind o k) && eqb (size o k % 2) 1) → T (eqb (bodyWord o k (bodyWords o k - 1) % 256) 0)
+    padding q =
+        true→T (eq-eqb (bodyWord o k (bodyWords o k - 1) % 256) 0
+        (h .padded (and-left (sizedInBytes (kind o k)) (eqb (size o k % 2) 1) q) (eqb→eq (size o k % 2) 1 (and-right (sizedInBytes (kind o k)) (eqb (size o k % 2) 1) q))))
 
 -- Rule 5, word by word
 pub words-rule : (o : Objects) (k : ℕ) → bodyEnd o k ≤ length (o .bodies) → T (isValid (o .n) (classWord o k))
@@ -209,7 +219,11 @@ pub pair-facts-of : (o : Objects) (d i : ℕ) → T (pairFine o d i) → PairFac
 unfolding pairFine
 pair-facts-of o d i t =
     let q : T (isKind o methodKind (pairMethod o d i) && implies (ltb 0 i) (ltb (pairSelector o d (i - 1)) (pairSelector o d i))) = and-right (isKind o bytesKind (pairSelector o d i)) _ t in
-    record { selector = and-left (isKind o bytesKind (pairSelector o d i)) _ t; method = and-left (isKind o methodKind (pairMethod o d i)) _ q; rises = λ h. ltb→lt (pairSelector o d (i - 1)) (pairSelector o d i) (implied (ltb 0 i) _ (and-right (isKind o methodKind (pairMethod o d i)) _ q) (lt→ltb 0 i h)) }
+    record {
+      selector = and-left (isKind o bytesKind (pairSelector o d i)) _ t;
+      method = and-left (isKind o methodKind (pairMethod o d i)) _ q;
+      rises = λ h. ltb→lt (pairSelector o d (i - 1)) (pairSelector o d i) (implied (ltb 0 i) _ (and-right (isKind o methodKind (pairMethod o d i)) _ q) (lt→ltb 0 i h));
+    }
 
 pub record ClassFacts (e : ℕ) (o : Objects) (c : ℕ) : Type 0 where
   pub superclass : T (isNilOr o classKind (superclassWord o c))
@@ -227,7 +241,19 @@ pub record ClassFacts (e : ℕ) (o : Objects) (c : ℕ) : Type 0 where
 pub class-facts-of : (e : ℕ) (o : Objects) (c : ℕ) → T (allOf (classRules e o c)) → ClassFacts e o c
 unfolding classRules dictionaryFine
 class-facts-of e o c t =
-    record { superclass = rule (classRules e o c) t 0; dictionary = rule (classRules e o c) t 1; fields = leb→le (fieldCount o c) mostFields (and-right (isInteger (fieldsWord o c)) _ (rule (classRules e o c) t 2)); fields-tag = eqb→eq (fieldsWord o c % 2) 1 (and-left (isInteger (fieldsWord o c)) _ (rule (classRules e o c) t 2)); forms = leb→le (form o c) (lastForm e) (and-right (isInteger (formWord o c)) _ (rule (classRules e o c) t 3)); form-tag = eqb→eq (formWord o c % 2) 1 (and-left (isInteger (formWord o c)) _ (rule (classRules e o c) t 3)); none = λ h. eqb→eq (fieldCount o c) 0 (implied (leb bytesForm (form o c)) _ (rule (classRules e o c) t 4) (le→leb bytesForm (form o c) h)); ends = rule (classRules e o c) t 5; rises = λ h. leb→le (fieldCount o (superclassWord o c)) (fieldCount o c) (implied (not (eqb (superclassWord o c) nilWord)) _ (rule (classRules e o c) t 6) (not-T (eqb (superclassWord o c) nilWord) (λ q. h (eqb→eq (superclassWord o c) nilWord q)))); even = eqb→eq (size o (objectNumber (dictionaryWord o c)) % 2) 0 (and-left (eqb (size o (objectNumber (dictionaryWord o c)) % 2) 0) _ (rule (classRules e o c) t 7)); pairs = λ i l. pair-facts-of o (dictionaryWord o c) i (below-at (pairCount o (dictionaryWord o c)) (pairFine o (dictionaryWord o c)) (and-right (eqb (size o (objectNumber (dictionaryWord o c)) % 2) 0) _ (rule (classRules e o c) t 7)) i l) }
+    record {
+      superclass = rule (classRules e o c) t 0;
+      dictionary = rule (classRules e o c) t 1;
+      fields = leb→le (fieldCount o c) mostFields (and-right (isInteger (fieldsWord o c)) _ (rule (classRules e o c) t 2));
+      fields-tag = eqb→eq (fieldsWord o c % 2) 1 (and-left (isInteger (fieldsWord o c)) _ (rule (classRules e o c) t 2));
+      forms = leb→le (form o c) (lastForm e) (and-right (isInteger (formWord o c)) _ (rule (classRules e o c) t 3));
+      form-tag = eqb→eq (formWord o c % 2) 1 (and-left (isInteger (formWord o c)) _ (rule (classRules e o c) t 3));
+      none = λ h. eqb→eq (fieldCount o c) 0 (implied (leb bytesForm (form o c)) _ (rule (classRules e o c) t 4) (le→leb bytesForm (form o c) h));
+      ends = rule (classRules e o c) t 5;
+      rises = λ h. leb→le (fieldCount o (superclassWord o c)) (fieldCount o c) (implied (not (eqb (superclassWord o c) nilWord)) _ (rule (classRules e o c) t 6) (not-T (eqb (superclassWord o c) nilWord) (λ q. h (eqb→eq (superclassWord o c) nilWord q))));
+      even = eqb→eq (size o (objectNumber (dictionaryWord o c)) % 2) 0 (and-left (eqb (size o (objectNumber (dictionaryWord o c)) % 2) 0) _ (rule (classRules e o c) t 7));
+      pairs = λ i l. pair-facts-of o (dictionaryWord o c) i (below-at (pairCount o (dictionaryWord o c)) (pairFine o (dictionaryWord o c)) (and-right (eqb (size o (objectNumber (dictionaryWord o c)) % 2) 0) _ (rule (classRules e o c) t 7)) i l);
+    }
 
 pub record KnownFacts (o : Objects) : Type 0 where
   pub nil : kind o nilObject ≡ fieldsKind
@@ -241,7 +267,15 @@ pub record KnownFacts (o : Objects) : Type 0 where
 pub known-facts-of : (e : ℕ) (o : Objects) → T (allOf (knownObjectRules e o)) → KnownFacts o
 unfolding knownObjectRules
 known-facts-of e o t =
-    record { nil = eqb→eq (kind o nilObject) fieldsKind (rule (knownObjectRules e o) t 0); falses = eqb→eq (kind o falseObject) fieldsKind (rule (knownObjectRules e o) t 1); trues = eqb→eq (kind o trueObject) fieldsKind (rule (knownObjectRules e o) t 2); integers = eqb→eq (kind o integerClassObject) classKind (rule (knownObjectRules e o) t 3); integer-form = eqb→eq (form o integerClass) otherForm (rule (knownObjectRules e o) t 4); selectors = eqb→eq (kind o selectorsObject) listKind (rule (knownObjectRules e o) t 5); selectors-size = eqb→eq (size o selectorsObject) specialSelectors (rule (knownObjectRules e o) t 6) }
+    record {
+      nil = eqb→eq (kind o nilObject) fieldsKind (rule (knownObjectRules e o) t 0);
+      falses = eqb→eq (kind o falseObject) fieldsKind (rule (knownObjectRules e o) t 1);
+      trues = eqb→eq (kind o trueObject) fieldsKind (rule (knownObjectRules e o) t 2);
+      integers = eqb→eq (kind o integerClassObject) classKind (rule (knownObjectRules e o) t 3);
+      integer-form = eqb→eq (form o integerClass) otherForm (rule (knownObjectRules e o) t 4);
+      selectors = eqb→eq (kind o selectorsObject) listKind (rule (knownObjectRules e o) t 5);
+      selectors-size = eqb→eq (size o selectorsObject) specialSelectors (rule (knownObjectRules e o) t 6);
+    }
 
 -- Rule 7: a method
 pub record Extended (o : Objects) (m : ℕ) : Type 0 where
@@ -263,24 +297,38 @@ pub record MethodFacts (o : Objects) (m : ℕ) : Type 0 where
 pub extended-facts : (o : Objects) (m : ℕ) → T (extensionFine o m) → Extended o m
 extended-facts o m t =
     let q : T (isInteger (extension o m) && ltb (extension o m) 16384) = and-right (leb 2 (literalCount o m)) (isInteger (extension o m) && ltb (extension o m) 16384) t in
-    record { two = leb→le 2 (literalCount o m) (and-left (leb 2 (literalCount o m)) (isInteger (extension o m) && ltb (extension o m) 16384) t); tag = eqb→eq (extension o m % 2) 1 (and-left (isInteger (extension o m)) (ltb (extension o m) 16384) q); small = ltb→lt (extension o m) 16384 (and-right (isInteger (extension o m)) (ltb (extension o m) 16384) q) }
+    record {
+      two = leb→le 2 (literalCount o m) (and-left (leb 2 (literalCount o m)) (isInteger (extension o m) && ltb (extension o m) 16384) t);
+      tag = eqb→eq (extension o m % 2) 1 (and-left (isInteger (extension o m)) (ltb (extension o m) 16384) q);
+      small = ltb→lt (extension o m) 16384 (and-right (isInteger (extension o m)) (ltb (extension o m) 16384) q);
+    }
 
 pub method-facts-of : (e : ℕ) (o : Objects) (m : ℕ) → T (allOf (methodRules e o m)) → MethodFacts o m
 unfolding methodRules
 method-facts-of e o m t =
-    record { long = leb→le 4 (size o (objectNumber m)) (rule (methodRules e o m) t 0); tag = eqb→eq (header o m % 2) 1 (rule (methodRules e o m) t 1); holds = leb→le (4 + 2 * literalCount o m) (size o (objectNumber m)) (rule (methodRules e o m) t 2); homes = rule (methodRules e o m) t 3; literals = λ i h. below-at (literalCount o m) (λ j. isValid (o .n) (literal o m j)) (rule (methodRules e o m) t 4) i h; field = λ h. ltb→lt (temporaryCount o m) (fieldCount o (home o m)) (implied (eqb (flag o m) fieldFlag) _ (rule (methodRules e o m) t 5) (true→T (eq-eqb (flag o m) fieldFlag h))); extended = λ h. extended-facts o m (implied (eqb (flag o m) primitiveFlag) _ (rule (methodRules e o m) t 6) (true→T (eq-eqb (flag o m) primitiveFlag h))); arguments = leb→le (argumentCount o m) (temporaryCount o m) (rule (methodRules e o m) t 7); sound = implied (runsCode o m) _ (rule (methodRules e o m) t 8) }
+    record {
+      long = leb→le 4 (size o (objectNumber m)) (rule (methodRules e o m) t 0);
+      tag = eqb→eq (header o m % 2) 1 (rule (methodRules e o m) t 1);
+      holds = leb→le (4 + 2 * literalCount o m) (size o (objectNumber m)) (rule (methodRules e o m) t 2);
+      homes = rule (methodRules e o m) t 3;
+      literals = λ i h. below-at (literalCount o m) (λ j. isValid (o .n) (literal o m j)) (rule (methodRules e o m) t 4) i h;
+      field = λ h. ltb→lt (temporaryCount o m) (fieldCount o (home o m)) (implied (eqb (flag o m) fieldFlag) _ (rule (methodRules e o m) t 5) (true→T (eq-eqb (flag o m) fieldFlag h)));
+      extended = λ h. extended-facts o m (implied (eqb (flag o m) primitiveFlag) _ (rule (methodRules e o m) t 6) (true→T (eq-eqb (flag o m) primitiveFlag h)));
+      arguments = leb→le (argumentCount o m) (temporaryCount o m) (rule (methodRules e o m) t 7);
+      sound = implied (runsCode o m) _ (rule (methodRules e o m) t 8);
+    }
 
 module _ {e : ℕ} {o : Objects} (r : Right e o) where
-  pub least : 5 ≤ o .n
-  least = leb→le 5 (o .n) (and-left (leb 5 (o .n)) (leb (o .n) mostObjects && leb (o .b) mostBodyWords) (r .sizes))
+  pub least : leastObjects e ≤ o .n
+  least = leb→le (leastObjects e) (o .n) (and-left (leb (leastObjects e) (o .n)) (leb (o .n) mostObjects && leb (o .b) mostBodyWords) (r .sizes))
 
   pub most : o .n ≤ mostObjects
   most =
-      leb→le (o .n) mostObjects (and-left (leb (o .n) mostObjects) (leb (o .b) mostBodyWords) (and-right (leb 5 (o .n)) (leb (o .n) mostObjects && leb (o .b) mostBodyWords) (r .sizes)))
+      leb→le (o .n) mostObjects (and-left (leb (o .n) mostObjects) (leb (o .b) mostBodyWords) (and-right (leb (leastObjects e) (o .n)) (leb (o .n) mostObjects && leb (o .b) mostBodyWords) (r .sizes)))
 
   pub most-words : o .b ≤ mostBodyWords
   most-words =
-      leb→le (o .b) mostBodyWords (and-right (leb (o .n) mostObjects) (leb (o .b) mostBodyWords) (and-right (leb 5 (o .n)) (leb (o .n) mostObjects && leb (o .b) mostBodyWords) (r .sizes)))
+      leb→le (o .b) mostBodyWords (and-right (leb (o .n) mostObjects) (leb (o .b) mostBodyWords) (and-right (leb (leastObjects e) (o .n)) (leb (o .n) mostObjects && leb (o .b) mostBodyWords) (r .sizes)))
 
   -- layout
   pub layout : (k : ℕ) → 1 ≤ k → k ≤ o .n → Layout o k
@@ -413,6 +461,12 @@ module _ {e : ℕ} {o : Objects} (r : Right e o) where
       let p = length-part (o .bodies) (start o selectorsObject) (bodyWords o selectorsObject) (omega arith) in
       subst (λ (w : ℕ). T (isNilOr o bytesKind w)) (part-at (o .bodies) (start o selectorsObject) (bodyWords o selectorsObject) k b)
       (every-at (isNilOr o bytesKind) (bodyOf o selectorsObject) (rule (knownObjectRules e o) known 7) k (omega arith))
+
+  pub special-valid : (k : ℕ) → k < specialSelectors → T (isValid (o .n) (bodyWord o selectorsObject k))
+  special-valid k h =
+      let l = least in
+      let a = known-facts .selectors in
+      word-valid selectorsObject k (omega arith) (omega arith) (omega arith) (omega arith) (inside-selectors k h)
 
   -- methods
   fine-seven : (k : ℕ) → 1 ≤ k → k ≤ o .n → T (implies (eqb (kind o k) methodKind) (allOf (methodRules e o (pointer k))) && implies (eqb (kind o k) classKind) (dictionaryMethodsFine o (pointer k)))

@@ -11,3 +11,4 @@ pub mod RightLaws
 pub mod StoreLaws
 pub mod AppendLaws
 pub mod PrimitiveLaws
+pub mod SendFacts

@@ -1,16 +1,21 @@
 -- Equal tests, and parts of a list of words.
-use Prim.Native.Nat.{ℕ, zero, suc, _+_, _-_, _≤_, _<_}
-use mathlib.Core.Path.{_≡_, refl, sym, ap, ap₂, _∙_, subst}
-use mathlib.Core.Bool.{Bool, true, false, _&&_, _||_, not}
+use Prim.Native.Nat.{ℕ, zero, suc, _+_, _≤_, _<_}
+use mathlib.Core.Path.{_≡_, refl, sym, ap₂, _∙_, subst}
+use mathlib.Core.Bool.{Bool, true, false, _&&_, _||_}
 use mathlib.Core.List.{List, [], _∷_}
 use native.Mathlib.Omega.{arith}
 use native.Mathlib.Decide.{decLe}
 use lib.Dec.{T}
-use lib.ListN.{length, getD, take, drop, length-drop}
+use lib.ListN.{length, getD, drop, length-drop}
 use lib.Seq.{length-take-le, getD-take, getD-drop, ext-getD}
 use Rattle.bytecode.specs.Test.{if_then_else_, upTo, below, every, implies}
 use Rattle.bytecode.proofs.TestLaws.{and-left, and-right, and-both, upTo-at, at-upTo}
 use Rattle.model.specs.Objects.{part}
+
+-- one rule of a list after another
+infixr 3 _also_
+pub _also_ : {A B : Type 0} → A → B → A × B
+a also b = (a, b)
 
 -- Two tests that follow from each other are equal.
 pub same-test : (a b : Bool) → (T a → T b) → (T b → T a) → a ≡ b

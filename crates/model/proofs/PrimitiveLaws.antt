@@ -1,12 +1,12 @@
 -- A primitive that answers leaves right objects right, extends them, and answers a valid word.
-use Prim.Native.Nat.{ℕ, zero, suc, _+_, _-_, _*_, _/_, _%_, _≤_, _<_, min, max}
+use Prim.Native.Nat.{ℕ, _+_, _-_, _*_, _/_, _%_, _≤_, _<_, min, max}
 use mathlib.Core.Path.{_≡_, refl, sym, ap, ap₂, _∙_, subst}
 use mathlib.Core.Logic.{_⊎_, inl, inr}
 use mathlib.Core.Bool.{Bool, true, false, _&&_, _||_, not}
-use mathlib.Core.List.{List, [], _∷_}
+use mathlib.Core.List.{List}
 use native.Mathlib.Omega.{arith}
 use borrow.Author.Tests.{eq-eqb, ne-eqb, eqb-true, eqb-false}
-use lib.Dec.{T, T-not, leb, ltb, eqb, leb→le, eqb→eq}
+use lib.Dec.{T, T-not, leb, eqb, leb→le, eqb→eq}
 use lib.ListN.{length, getD, replicate, length-replicate, getD-replicate}
 use lib.IntN.{ℤ, pos, negsuc}
 use lib.Signed.{ltZ, leZ}
@@ -17,9 +17,9 @@ use Rattle.bytecode.proofs.Choice.{if-yes, if-no}
 use Rattle.bytecode.proofs.TestLaws.{true→T, and-left, and-right, or-cases, every-at}
 use Rattle.model.specs.declared.Computed.{Computed}
 use Rattle.model.specs.declared.Computed.the-variants.{Word, Failed}
-use Rattle.model.specs.Limits.{entryWords, fieldsKind, bytesKind, classKind, fixedForm, indexedForm, bytesForm, integerClassObject, largestInteger, mostElements}
-use Rattle.model.specs.Word.{isInteger, isNatural, isValid, inRange, wordOf, valueOf, pointer, objectNumber, booleanWord, integerClass}
-use Rattle.model.specs.Objects.{Objects, classWord, kind, size, bodyWords, bodyWord, isKind, classOf, fieldCount, form}
+use Rattle.model.specs.Limits.{mostBodyWords, entryWords, fieldsKind, bytesKind, classKind, fixedForm, indexedForm, bytesForm, largestInteger, mostElements}
+use Rattle.model.specs.Word.{isInteger, isNatural, isValid, inRange, wordOf, valueOf, pointer, booleanWord, integerClass}
+use Rattle.model.specs.Objects.{Objects, classWord, kind, size, bodyWord, isKind, classOf, fieldCount, form}
 use Rattle.model.specs.Image.{Room}
 use Rattle.model.specs.Arithmetic.{number, divided, exactQuotient, onIntegers, onBits, arithmetic}
 use Rattle.model.specs.Primitive.{Outcome, answers, fails, storeWord, objectByte, storeByte, isIndexable, holdsBytes, elementCount, isIndex, placeOfIndex, at, atPut, sizeAnswer, appended, hasRoom, make, new, newWith, computed, perform, primitiveCount, primitive}
@@ -157,7 +157,12 @@ module _ {e : ℕ} {o : Objects} (r : Right e o) where
           go : Valid (o .n) w → Element o w
           go (odd h) = absurd (T-not (isInteger w) (and-left (not (isInteger w)) ((eqb (form o (classOf o w)) indexedForm || eqb (form o (classOf o w)) bytesForm) && leb (size o (w / 2)) mostElements) t) (true→T (eq-eqb (w % 2) 1 h)))
           go (names a b c) =
-              record { first = b; last = c; classed = if-no _ _ (ne-eqb (w % 2) 1 (omega arith)); forms = forms (or-cases (eqb (form o (classOf o w)) indexedForm) (eqb (form o (classOf o w)) bytesForm) (and-left (eqb (form o (classOf o w)) indexedForm || eqb (form o (classOf o w)) bytesForm) (leb (size o (w / 2)) mostElements) rest)) }
+              record {
+                first = b;
+                last = c;
+                classed = if-no _ _ (ne-eqb (w % 2) 1 (omega arith));
+                forms = forms (or-cases (eqb (form o (classOf o w)) indexedForm) (eqb (form o (classOf o w)) bytesForm) (and-left (eqb (form o (classOf o w)) indexedForm || eqb (form o (classOf o w)) bytesForm) (leb (size o (w / 2)) mostElements) rest));
+              }
 
       fits-class : (h : Element o w) → Fits o (w / 2) (classOf o w)
       fits-class h = subst (Fits o (w / 2)) (sym (h .classed)) (entry-fits r (w / 2) (h .first) (h .last))
@@ -210,14 +215,26 @@ module _ {e : ℕ} {o : Objects} (r : Right e o) where
 
       byte-stored : (i b y : ℕ) → T (isValid (o .n) y) → Element o w → holdsBytes o w ≡ true → i < size o (w / 2) → Performed room e o y (storeByte o (w / 2) i b)
       byte-stored i b y u h p l =
-          record { right = byte-right r (w / 2) i b (h .first) (h .last) (bytes-kind h p) l; extends = x; valid = valid-grows x y u; contents = λ q. (unfold storeByte storeWord in q); bodies = λ q. (unfold storeByte storeWord in q) }
+          record {
+            right = byte-right r (w / 2) i b (h .first) (h .last) (bytes-kind h p) l;
+            extends = x;
+            valid = valid-grows x y u;
+            contents = λ q. (unfold storeByte storeWord in q);
+            bodies = λ q. (unfold storeByte storeWord in q);
+          }
         where
           x : Extends o (storeByte o (w / 2) i b)
           x = byte-extends r (w / 2) i b (h .first) (h .last) (bytes-kind h p) l
 
       word-stored : (i y : ℕ) → T (isValid (o .n) y) → Element o w → holdsBytes o w ≡ false → i < size o (w / 2) → Performed room e o y (storeWord o (w / 2) i y)
       word-stored i y u h p l =
-          record { right = stored-right r (w / 2) i y (h .first) (h .last) (fields-kind h p) l u; extends = x; valid = valid-grows x y u; contents = λ q. (unfold storeWord in q); bodies = λ q. (unfold storeWord in q) }
+          record {
+            right = stored-right r (w / 2) i y (h .first) (h .last) (fields-kind h p) l u;
+            extends = x;
+            valid = valid-grows x y u;
+            contents = λ q. (unfold storeWord in q);
+            bodies = λ q. (unfold storeWord in q);
+          }
         where
           x : Extends o (storeWord o (w / 2) i y)
           x = stored-extends r (w / 2) i y (h .first) (h .last) (fields-kind h p) l
@@ -244,7 +261,13 @@ module _ {e : ℕ} {o : Objects} (r : Right e o) where
 
         made : HasRoom room o count → Performed room e o (pointer (o .n + 1)) (appended o c kd sz (replicate count fill))
         made h =
-            record { right = appended-right r c kd sz (replicate count fill) t s (h .objects) (subst (λ (z : ℕ). o .b + z ≤ 24000) (sym long) (h .words)); extends = appended-extends r c kd sz (replicate count fill) (suits-kind s); valid = (unfold appended in valid-name (o .n + 1) (pointer (o .n + 1)) (omega arith) (omega arith) (omega arith)); contents = λ q. (unfold appended in h .contents); bodies = λ q. (unfold appended in subst (λ (z : ℕ). o .b + z ≤ room .bodies) (sym long) (h .bodies)) }
+            record {
+              right = appended-right r c kd sz (replicate count fill) t s (h .objects) (subst (λ (z : ℕ). o .b + z ≤ mostBodyWords) (sym long) (h .words));
+              extends = appended-extends r c kd sz (replicate count fill) (suits-kind s);
+              valid = (unfold appended in valid-name (o .n + 1) (pointer (o .n + 1)) (omega arith) (omega arith) (omega arith));
+              contents = λ q. (unfold appended in h .contents);
+              bodies = λ q. (unfold appended in subst (λ (z : ℕ). o .b + z ≤ room .bodies) (sym long) (h .bodies));
+            }
 
     fill-valid : (count i : ℕ) → i < length (replicate count nilWord) → T (isValid (o .n + 1) (getD (replicate count nilWord) i 0))
     fill-valid count i l =

@@ -1,29 +1,28 @@
 -- Objects that extend right ones are right where their layout, the words of their fields and their new objects are.
 use Prim.Native.Nat.{ℕ, zero, suc, _+_, _-_, _*_, _/_, _%_, _≤_, _<_}
-use mathlib.Core.Path.{_≡_, refl, sym, ap, ap₂, _∙_, subst}
+use mathlib.Core.Path.{_≡_, sym, ap, ap₂, _∙_, subst}
 use mathlib.Core.Logic.{_≢_, _⊎_, inl, inr}
 use mathlib.Core.Bool.{Bool, true, false, _&&_, _||_, not}
-use mathlib.Core.List.{List, [], _∷_}
 use native.Mathlib.Omega.{arith}
 use native.Mathlib.Decide.{ℕ-discrete, decLe}
-use borrow.Author.Tests.{eq-eqb, ne-eqb}
-use lib.Dec.{T, T-not, leb, ltb, eqb, leb→le, le→leb, ltb→lt, lt→ltb, eqb→eq}
-use lib.ListN.{length, getD}
+use borrow.Author.Tests.{eq-eqb}
+use lib.Dec.{T, T-not, leb, ltb, eqb, ltb→lt, lt→ltb, eqb→eq}
+use lib.ListN.{length}
 use Rattle.bytecode.specs.Test.{upTo, below, every, implies, allOf}
 use Rattle.bytecode.specs.Constant.{nilWord}
-use Rattle.bytecode.proofs.TestLaws.{true→T, and-left, and-right, and-both, or-cases, rule, rules, at-upTo, below-at, at-below}
-use Rattle.model.specs.Limits.{entryWords, fieldsKind, bytesKind, classKind, listKind, methodKind, bytesForm, classWords, mostFields, lastForm, integerClassObject, selectorsObject, specialSelectors, otherForm, fieldFlag, primitiveFlag}
-use Rattle.model.specs.Word.{isInteger, isNatural, isValid, pointer, objectNumber, integerClass}
-use Rattle.model.specs.Objects.{Objects, entryWord, classWord, kind, start, size, sizedInBytes, bodyWords, bodyEnd, bodyWord, bodyOf, isKind, isNilOr, superclassWord, dictionaryWord, fieldsWord, formWord, fieldCount, form, pairCount, pairSelector, pairMethod}
-use Rattle.model.specs.Method.{header, home, literal, flag, temporaryCount, literalCount, extension, argumentCount, runsCode}
+use Rattle.bytecode.proofs.TestLaws.{true→T, and-both, or-cases, rule, rules, at-upTo, at-below}
+use Rattle.model.specs.Limits.{leastObjects, entryWords, otherForm, nilObject, falseObject, trueObject, integerClassObject, selectorsObject, specialSelectors, fieldsKind, bytesKind, classKind, listKind, methodKind, bytesForm, mostFields, lastForm, fieldFlag, primitiveFlag}
+use Rattle.model.specs.Word.{isInteger, isNatural, isValid, pointer, integerClass}
+use Rattle.model.specs.Objects.{Objects, entryWord, classWord, kind, start, size, bodyWords, bodyEnd, bodyWord, bodyOf, isKind, isNilOr, superclassWord, dictionaryWord, fieldCount, form, pairCount, pairSelector, pairMethod}
+use Rattle.model.specs.Method.{home, literal, flag, literalCount, argumentCount}
 use Rattle.model.specs.Lookup.{endsWithin}
 use Rattle.model.specs.Depth.{isSome}
-use Rattle.model.specs.Rules.{sizesFine, layoutRules, rule4, wordsFine, rule5, fits, entryFine, pairFine, dictionaryFine, classRules, knownObjectRules, objectFine, rule6, takesCount, methodTable, extensionFine, methodRules, dictionaryMethodsFine, rule7}
-use Rattle.model.proofs.ChainLaws.{Named, named}
-use Rattle.model.proofs.Parts.{implying, every-more, below-same, or-right}
+use Rattle.model.specs.Rules.{sizesFine, layoutRules, rule4, wordsFine, rule5, fits, entryFine, pairFine, dictionaryFine, classRules, knownObjectRules, objectFine, rule6, takesCount, extensionFine, methodRules, dictionaryMethodsFine, rule7}
+use Rattle.model.proofs.ChainLaws.{named}
+use Rattle.model.proofs.Parts.{_also_, implying, every-more, below-same, or-right}
 use Rattle.model.proofs.Facts.{Right, Padded, Layout, layout-rules, words-rule, Fits, fixed, indexed, bytes, other, fits-rule, naming, named-pointer, valid-kind, least, layout, inside, word-valid, entry-class, entry-fits, known, known-facts, integer-class, class-rules, class-facts, method-rules, method-facts, pair-facts, fine-methods}
 use Rattle.model.proofs.Extends.{Extends, words-same, valid-grows, kind-kept, kind-same, nil-or-same, body-same, class-word-same, superclass-same, dictionary-same, fields-same, form-same, pair-count-same, pair-selector-same, pair-method-same, method-size-same, header-same, home-same, home-fields-same, flag-same, temporaries-same, literal-count-same, literal-same, extension-same, arguments-same, runs-same}
-use Rattle.model.proofs.Unchanged.{and-same, implies-same, ends-above, ends-nil, count-same, table-same}
+use Rattle.model.proofs.Unchanged.{implies-same, ends-above, ends-nil, count-same, table-same}
 
 -- what a change has to show besides
 pub record Renewed (e : ℕ) (o o′ : Objects) : Type 0 where
@@ -105,17 +104,17 @@ module _ {e : ℕ} {o o′ : Objects} (x : Extends o o′) (r : Right e o) where
       let f = class-facts r c t in
       let old = class-rules r c t in
       rules (classRules e o′ c)
-      (moved (ap (isNilOr o′ classKind) s ∙ nil-or-same x classKind (superclassWord o c) (omega arith)) (f .superclass),
-      (moved (ap (isKind o′ listKind) d) (kind-kept x listKind (dictionaryWord o c) (f .dictionary)),
-      (moved (ap (isNatural mostFields) (class-word-same x r c 2 t (omega arith))) (rule (classRules e o c) old 2),
-      (moved (ap (isNatural (lastForm e)) (class-word-same x r c 3 t (omega arith))) (rule (classRules e o c) old 3),
-      (moved (ap₂ (λ (a b : ℕ). implies (leb bytesForm a) (eqb b 0)) (form-same x r c t) (fields-same x r c t)) (rule (classRules e o c) old 4),
-      (ends-more o′ (o .n) (o′ .n) c (x .grows) (ends-kept (o .n) c (or-right (eqb c nilWord) (isKind o classKind c) t) (f .ends)),
-      (moved (implies-same (not (eqb (superclassWord o c) nilWord)) (not (eqb (superclassWord o′ c) nilWord)) (leb (fieldCount o (superclassWord o c)) (fieldCount o c)) (leb (fieldCount o′ (superclassWord o′ c)) (fieldCount o′ c)) (ap (λ (w : ℕ). not (eqb w nilWord)) s)
+      (moved (ap (isNilOr o′ classKind) s ∙ nil-or-same x classKind (superclassWord o c) (omega arith)) (f .superclass)
+      also moved (ap (isKind o′ listKind) d) (kind-kept x listKind (dictionaryWord o c) (f .dictionary))
+      also moved (ap (isNatural mostFields) (class-word-same x r c 2 t (omega arith))) (rule (classRules e o c) old 2)
+      also moved (ap (isNatural (lastForm e)) (class-word-same x r c 3 t (omega arith))) (rule (classRules e o c) old 3)
+      also moved (ap₂ (λ (a b : ℕ). implies (leb bytesForm a) (eqb b 0)) (form-same x r c t) (fields-same x r c t)) (rule (classRules e o c) old 4)
+      also ends-more o′ (o .n) (o′ .n) c (x .grows) (ends-kept (o .n) c (or-right (eqb c nilWord) (isKind o classKind c) t) (f .ends))
+      also moved (implies-same (not (eqb (superclassWord o c) nilWord)) (not (eqb (superclassWord o′ c) nilWord)) (leb (fieldCount o (superclassWord o c)) (fieldCount o c)) (leb (fieldCount o′ (superclassWord o′ c)) (fieldCount o′ c)) (ap (λ (w : ℕ). not (eqb w nilWord)) s)
       (λ q. ap₂ leb (ap (fieldCount o′) s ∙ fields-same x r (superclassWord o c) (is-class o (superclassWord o c) (f .superclass) (λ h. T-not (eqb (superclassWord o c) nilWord) q (true→T (eq-eqb (superclassWord o c) nilWord h))))) (fields-same x r c t)))
-      (rule (classRules e o c) old 6),
-      (moved (ap (dictionaryFine o′) d) (dictionary-kept c t),
-      tt))))))))
+      (rule (classRules e o c) old 6)
+      also moved (ap (dictionaryFine o′) d) (dictionary-kept c t)
+      also tt)
 
   -- methods keep theirs
   method-kept : (m : ℕ) → T (isKind o methodKind m) → T (allOf (methodRules e o′ m))
@@ -125,19 +124,19 @@ module _ {e : ℕ} {o o′ : Objects} (x : Extends o o′) (r : Right e o) where
       let old = method-rules r m t in
       let l = literal-count-same x r m t in
       rules (methodRules e o′ m)
-      (moved (ap (leb 4) (method-size-same x r m t)) (rule (methodRules e o m) old 0),
-      (moved (ap isInteger (header-same x r m t)) (rule (methodRules e o m) old 1),
-      (moved (ap₂ (λ (a b : ℕ). leb (4 + 2 * a) b) l (method-size-same x r m t)) (rule (methodRules e o m) old 2),
-      (moved (ap (isKind o′ classKind) (home-same x r m t)) (kind-kept x classKind (home o m) (f .homes)),
-      (moved (ap (λ (z : ℕ). below z (λ i. isValid (o′ .n) (literal o′ m i))) l)
-      (at-below (literalCount o m) (λ i. isValid (o′ .n) (literal o′ m i)) (λ i h. moved (ap (isValid (o′ .n)) (literal-same x r m t i h)) (valid-grows x (literal o m i) (f .literals i h)))),
-      (moved (ap₂ (λ (a : ℕ) (b : Bool). implies (eqb a fieldFlag) b) (flag-same x r m t) (ap₂ ltb (temporaries-same x r m t) (home-fields-same x r m t))) (rule (methodRules e o m) old 5),
-      (moved (implies-same (eqb (flag o m) primitiveFlag) (eqb (flag o′ m) primitiveFlag) (extensionFine o m) (extensionFine o′ m) (ap (λ (a : ℕ). eqb a primitiveFlag) (flag-same x r m t))
+      (moved (ap (leb 4) (method-size-same x r m t)) (rule (methodRules e o m) old 0)
+      also moved (ap isInteger (header-same x r m t)) (rule (methodRules e o m) old 1)
+      also moved (ap₂ (λ (a b : ℕ). leb (4 + 2 * a) b) l (method-size-same x r m t)) (rule (methodRules e o m) old 2)
+      also moved (ap (isKind o′ classKind) (home-same x r m t)) (kind-kept x classKind (home o m) (f .homes))
+      also moved (ap (λ (z : ℕ). below z (λ i. isValid (o′ .n) (literal o′ m i))) l)
+      (at-below (literalCount o m) (λ i. isValid (o′ .n) (literal o′ m i)) (λ i h. moved (ap (isValid (o′ .n)) (literal-same x r m t i h)) (valid-grows x (literal o m i) (f .literals i h))))
+      also moved (ap₂ (λ (a : ℕ) (b : Bool). implies (eqb a fieldFlag) b) (flag-same x r m t) (ap₂ ltb (temporaries-same x r m t) (home-fields-same x r m t))) (rule (methodRules e o m) old 5)
+      also moved (implies-same (eqb (flag o m) primitiveFlag) (eqb (flag o′ m) primitiveFlag) (extensionFine o m) (extensionFine o′ m) (ap (λ (a : ℕ). eqb a primitiveFlag) (flag-same x r m t))
       (λ q. ap₂ (λ (a b : ℕ). leb 2 a && (isInteger b && ltb b 16384)) l (extension-same x r m t (eqb→eq (flag o m) primitiveFlag q))))
-      (rule (methodRules e o m) old 6),
-      (moved (ap₂ leb (arguments-same x r m t) (temporaries-same x r m t)) (rule (methodRules e o m) old 7),
-      (moved (ap₂ implies (runs-same x r m t) (ap isSome (table-same x r m t))) (rule (methodRules e o m) old 8),
-      tt)))))))))
+      (rule (methodRules e o m) old 6)
+      also moved (ap₂ leb (arguments-same x r m t) (temporaries-same x r m t)) (rule (methodRules e o m) old 7)
+      also moved (ap₂ implies (runs-same x r m t) (ap isSome (table-same x r m t))) (rule (methodRules e o m) old 8)
+      also tt)
 
   abbrev homes : Objects → ℕ → ℕ → ℕ → Bool
   homes y c d i = eqb (home y (pairMethod y d i)) c && takesCount y (pairSelector y d i) (argumentCount y (pairMethod y d i))
@@ -174,19 +173,19 @@ module _ {e : ℕ} {o o′ : Objects} (x : Extends o o′) (r : Right e o) where
   unfolding knownObjectRules
   known-kept =
       let l = least r in
-      let same : (k i : ℕ) → 1 ≤ k → k ≤ 5 → i < 4 → entryWord o′ k i ≡ entryWord o k i = λ k i a b c. x .entries k i a (omega arith) c in
-      let k5 = known-facts r .selectors in
+      let same : (k i : ℕ) → 1 ≤ k → k ≤ leastObjects e → i < entryWords → entryWord o′ k i ≡ entryWord o k i = λ k i a b c. x .entries k i a (omega arith) c in
+      let list = known-facts r .selectors in
       rules (knownObjectRules e o′)
-      (moved (ap (λ (z : ℕ). eqb z 0) (same 1 1 (omega arith) (omega arith) (omega arith))) (rule (knownObjectRules e o) (known r) 0),
-      (moved (ap (λ (z : ℕ). eqb z 0) (same 2 1 (omega arith) (omega arith) (omega arith))) (rule (knownObjectRules e o) (known r) 1),
-      (moved (ap (λ (z : ℕ). eqb z 0) (same 3 1 (omega arith) (omega arith) (omega arith))) (rule (knownObjectRules e o) (known r) 2),
-      (moved (ap (λ (z : ℕ). eqb z 2) (same 4 1 (omega arith) (omega arith) (omega arith))) (rule (knownObjectRules e o) (known r) 3),
-      (moved (ap (λ (z : ℕ). eqb z 3) (form-same x r integerClass (integer-class r))) (rule (knownObjectRules e o) (known r) 4),
-      (moved (ap (λ (z : ℕ). eqb z 3) (same 5 1 (omega arith) (omega arith) (omega arith))) (rule (knownObjectRules e o) (known r) 5),
-      (moved (ap (λ (z : ℕ). eqb z 32) (same 5 3 (omega arith) (omega arith) (omega arith))) (rule (knownObjectRules e o) (known r) 6),
-      (moved (ap (every (isNilOr o′ bytesKind)) (body-same x r 5 (omega arith) (omega arith) (omega arith)))
-      (every-more (isNilOr o bytesKind) (isNilOr o′ bytesKind) (bodyOf o 5) (λ w. selector w) (rule (knownObjectRules e o) (known r) 7)),
-      tt))))))))
+      (moved (ap (λ (z : ℕ). eqb z fieldsKind) (same nilObject 1 (omega arith) (omega arith) (omega arith))) (rule (knownObjectRules e o) (known r) 0)
+      also moved (ap (λ (z : ℕ). eqb z fieldsKind) (same falseObject 1 (omega arith) (omega arith) (omega arith))) (rule (knownObjectRules e o) (known r) 1)
+      also moved (ap (λ (z : ℕ). eqb z fieldsKind) (same trueObject 1 (omega arith) (omega arith) (omega arith))) (rule (knownObjectRules e o) (known r) 2)
+      also moved (ap (λ (z : ℕ). eqb z classKind) (same integerClassObject 1 (omega arith) (omega arith) (omega arith))) (rule (knownObjectRules e o) (known r) 3)
+      also moved (ap (λ (z : ℕ). eqb z otherForm) (form-same x r integerClass (integer-class r))) (rule (knownObjectRules e o) (known r) 4)
+      also moved (ap (λ (z : ℕ). eqb z listKind) (same selectorsObject 1 (omega arith) (omega arith) (omega arith))) (rule (knownObjectRules e o) (known r) 5)
+      also moved (ap (λ (z : ℕ). eqb z specialSelectors) (same selectorsObject 3 (omega arith) (omega arith) (omega arith))) (rule (knownObjectRules e o) (known r) 6)
+      also moved (ap (every (isNilOr o′ bytesKind)) (body-same x r selectorsObject (omega arith) (omega arith) (omega arith)))
+      (every-more (isNilOr o bytesKind) (isNilOr o′ bytesKind) (bodyOf o selectorsObject) (λ w. selector w) (rule (knownObjectRules e o) (known r) 7))
+      also tt)
     where
       selector : (w : ℕ) → T (isNilOr o bytesKind w) → T (isNilOr o′ bytesKind w)
       selector w t = go (eqb w nilWord) t
@@ -210,7 +209,13 @@ module _ {e : ℕ} {o o′ : Objects} (x : Extends o o′) (r : Right e o) where
         let kd : kind o′ k ≡ kind o k = x .entries k 1 h g (omega arith) in
         let st : start o′ k ≡ start o k = x .entries k 2 h g (omega arith) in
         let sz : size o′ k ≡ size o k = x .entries k 3 h g (omega arith) in
-        record { kinds = subst (λ (z : ℕ). z ≤ methodKind) (sym kd) (f .kinds); first = λ p. st ∙ f .first p; next = λ p. st ∙ f .next p ∙ sym (ap₂ _+_ (x .entries (k - 1) 2 (omega arith) (omega arith) (omega arith)) (words-same x (k - 1) (omega arith) (omega arith))); four = λ p. sz ∙ f .four (sym kd ∙ p); padded = y .padded k h g }
+        record {
+          kinds = subst (λ (z : ℕ). z ≤ methodKind) (sym kd) (f .kinds);
+          first = λ p. st ∙ f .first p;
+          next = λ p. st ∙ f .next p ∙ sym (ap₂ _+_ (x .entries (k - 1) 2 (omega arith) (omega arith) (omega arith)) (words-same x (k - 1) (omega arith) (omega arith)));
+          four = λ p. sz ∙ f .four (sym kd ∙ p);
+          padded = y .padded k h g;
+        }
 
     laid-out : (k : ℕ) → 1 ≤ k → k ≤ o′ .n → Layout o′ k
     laid-out = entry-at (Layout o′) layout-kept (y .laid)

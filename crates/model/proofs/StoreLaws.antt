@@ -2,14 +2,12 @@
 use Prim.Native.Nat.{ℕ, _+_, _-_, _*_, _/_, _%_, _≤_, _<_}
 use mathlib.Core.Path.{_≡_, refl, sym, ap, _∙_, subst}
 use mathlib.Core.Logic.{_≢_, _⊎_, inl, inr}
-use mathlib.Core.Bool.{Bool, true, false}
 use native.Mathlib.Omega.{arith}
 use native.Mathlib.Decide.{ℕ-discrete, decLt}
 use borrow.Author.Tests.{eq-eqb}
-use lib.Dec.{T, eqb}
-use lib.ListN.{length, getD, set, length-set}
+use lib.Dec.{T}
+use lib.ListN.{length-set}
 use lib.Seq.{getD-set-same, getD-set-other}
-use Rattle.bytecode.specs.Test.{if_then_else_}
 use Rattle.bytecode.proofs.Choice.{if-yes}
 use Rattle.model.specs.Limits.{fieldsKind, bytesKind, methodKind}
 use Rattle.model.specs.Word.{isValid}
@@ -54,7 +52,13 @@ module _ {e : ℕ} {o : Objects} (r : Right e o) (k j w : ℕ) (h : 1 ≤ k) (g 
   pub put-extends : Extends o (storeWord o k j w)
   unfolding storeWord
   put-extends =
-      record { grows = omega arith; longer = let s = length-set (o .bodies) (start o k + j) w in omega arith; entries = λ m i b c d. refl; bodies = λ m i b c d f. put-elsewhere m i b c (λ p. let q : kind o m ≡ kind o k = ap (kind o) p in omega arith) f; new = λ m b c. absurd (omega arith) }
+      record {
+        grows = omega arith;
+        longer = let s = length-set (o .bodies) (start o k + j) w in omega arith;
+        entries = λ m i b c d. refl;
+        bodies = λ m i b c d f. put-elsewhere m i b c (λ p. let q : kind o m ≡ kind o k = ap (kind o) p in omega arith) f;
+        new = λ m b c. absurd (omega arith);
+      }
 
   -- it is valid in fields, and leaves the padding of bytes
   module _ (valid : kind o k ≡ fieldsKind → T (isValid (o .n) w))
@@ -92,7 +96,18 @@ module _ {e : ℕ} {o : Objects} (r : Right e o) (k j w : ℕ) (h : 1 ≤ k) (g 
     put-renewed : Renewed e o (storeWord o k j w)
     unfolding storeWord bodyWords
     put-renewed =
-        record { contents = r .contents; bodies = length-set (o .bodies) (start o k + j) w ∙ r .bodies; sizes = r .sizes; last = last-end r; padded = put-padded; fields = put-fields; laid = λ m b c. absurd (omega arith); room = λ m b c. absurd (omega arith); classes = λ m b c. absurd (omega arith); fitting = λ m b c. absurd (omega arith) }
+        record {
+          contents = r .contents;
+          bodies = length-set (o .bodies) (start o k + j) w ∙ r .bodies;
+          sizes = r .sizes;
+          last = last-end r;
+          padded = put-padded;
+          fields = put-fields;
+          laid = λ m b c. absurd (omega arith);
+          room = λ m b c. absurd (omega arith);
+          classes = λ m b c. absurd (omega arith);
+          fitting = λ m b c. absurd (omega arith);
+        }
 
     pub put-right : Right e (storeWord o k j w)
     put-right = right-kept put-extends r put-renewed

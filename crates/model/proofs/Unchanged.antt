@@ -1,14 +1,13 @@
 -- Lookups, class chains, argument counts and depth tables are the same in objects that extend others.
-use Prim.Native.Nat.{ℕ, zero, suc, _+_, _-_, _*_, _/_, _%_, _≤_, _<_}
+use Prim.Native.Nat.{ℕ, zero, suc, _+_, _-_, _/_, _%_, _≤_, _<_}
 use mathlib.Core.Path.{_≡_, refl, sym, ap, ap₂, _∙_, subst, fun-ext}
 use mathlib.Core.Logic.{_≢_}
 use mathlib.Core.Bool.{Bool, true, false, _&&_, _||_}
-use mathlib.Core.List.{List, [], _∷_}
-use mathlib.Core.Option.{Option}
+use mathlib.Core.List.{List, []}
 use native.Mathlib.Omega.{arith}
-use borrow.Author.Tests.{eq-eqb, ne-eqb, ltb-true}
-use lib.Dec.{T, leb, ltb, eqb, ltb→lt, eqb→eq, eqb-refl}
-use Rattle.bytecode.specs.Test.{if_then_else_, upTo, below, every, implies, allOf}
+use borrow.Author.Tests.{ne-eqb, ltb-true}
+use lib.Dec.{T, leb, ltb, eqb, ltb→lt, eqb→eq}
+use Rattle.bytecode.specs.Test.{if_then_else_, below, implies}
 use Rattle.bytecode.specs.Constant.{nilWord}
 use Rattle.bytecode.specs.Code.{nextAt, decodeAt, instructionOf, shortOf, constantOf, extendedOf, jumpOf, sendOf, byteAt}
 use Rattle.bytecode.specs.Effect.{need, usable, specialCount}
@@ -16,20 +15,20 @@ use Rattle.bytecode.specs.declared.Place.{Place}
 use Rattle.bytecode.specs.declared.Place.the-variants.{Field, Temporary, Literal, LiteralVariable}
 use Rattle.bytecode.specs.declared.Instruction.{Instruction}
 use Rattle.bytecode.specs.declared.Instruction.the-variants.{Push, Store, PopStore, PushSelf, PushConstant, ReturnSelf, ReturnConstant, ReturnTop, Pop, Duplicate, Jump, JumpOn, Send, SuperSend, SpecialSend, Unused}
-use Rattle.bytecode.proofs.TestLaws.{true→T, T→true, and-left, and-right, and-both, rule}
+use Rattle.bytecode.proofs.TestLaws.{true→T, and-left, and-right, and-both}
 use Rattle.model.specs.declared.Found.{Found}
 use Rattle.model.specs.declared.Found.the-variants.{Method, Nothing}
 use Rattle.model.specs.Limits.{fieldsKind, bytesKind, classKind, listKind, methodKind, selectorsObject, specialSelectors}
-use Rattle.model.specs.Word.{isValid, pointer, objectNumber}
-use Rattle.model.specs.Objects.{Objects, kind, size, bodyWords, bodyWord, isKind, isNilOr, superclassWord, dictionaryWord, fieldCount, pairCount, pairSelector, pairMethod}
-use Rattle.model.specs.Method.{home, literal, temporaryCount, literalCount, codeWords, codeSize, frameWords, argumentCount}
+use Rattle.model.specs.Word.{isValid, pointer}
+use Rattle.model.specs.Objects.{Objects, kind, size, isKind, superclassWord, dictionaryWord, pairCount, pairSelector, pairMethod}
+use Rattle.model.specs.Method.{literal, temporaryCount, literalCount, codeWords, codeSize, frameWords, argumentCount}
 use Rattle.model.specs.Lookup.{found, findFrom, findIn, lookupWithin, lookup, inChainWithin, inChain, endsWithin}
 use Rattle.model.specs.Depth.{walkFrom, successorsAt, depthAfterAt, rulesAt, fineAt, depthTable}
-use Rattle.model.specs.Rules.{knownObjectRules, takesCount, sendFine, variableFine, placeFine, isWritable, specialSelector, isSame, isClass, allowed, methodTable, rule8}
-use Rattle.model.proofs.ChainLaws.{Named, named}
-use Rattle.model.proofs.Parts.{same-test, below-same, upTo-same, if-either, implying}
-use Rattle.model.proofs.Facts.{Right, naming, named-pointer, least, layout, word-valid, known-facts, inside-selectors, class-facts, nil-no-class, pair-facts, method-facts, in-words, valid-kind}
-use Rattle.model.proofs.Extends.{Extends, valid-grows, kind-kept, kind-same, kind-valid, superclass-same, dictionary-same, pair-count-same, pair-selector-same, pair-method-same, header-same, home-same, home-fields-same, temporaries-same, literal-count-same, literal-same, frame-same, code-size-same, code-same, arguments-same}
+use Rattle.model.specs.Rules.{takesCount, sendFine, variableFine, placeFine, isWritable, specialSelector, isSame, isClass, allowed, methodTable, rule8}
+use Rattle.model.proofs.ChainLaws.{named}
+use Rattle.model.proofs.Parts.{below-same, upTo-same, if-either, implying}
+use Rattle.model.proofs.Facts.{Right, naming, named-pointer, least, known-facts, inside-selectors, special-valid, class-facts, nil-no-class, pair-facts, method-facts}
+use Rattle.model.proofs.Extends.{Extends, valid-grows, kind-kept, kind-same, kind-valid, superclass-same, dictionary-same, pair-count-same, pair-selector-same, pair-method-same, home-fields-same, temporaries-same, literal-count-same, literal-same, frame-same, code-size-same, code-same, arguments-same}
 
 -- a test behind another is asked only where that one holds
 pub and-same : (a a′ b b′ : Bool) → a′ ≡ a → (T a → b′ ≡ b) → (a′ && b′) ≡ (a && b)
@@ -46,11 +45,11 @@ no-test false f = refl
 
 -- How a lookup and a chain turn
 module _ (o : Objects) where
-  find-hit : (d s i left : ℕ) → eqb (pairSelector o d i) s ≡ true → findFrom o d s i (suc left) ≡ found (pairMethod o d i)
+  pub find-hit : (d s i left : ℕ) → eqb (pairSelector o d i) s ≡ true → findFrom o d s i (suc left) ≡ found (pairMethod o d i)
   unfolding findFrom
   find-hit d s i left e = rw (e, findFrom)
 
-  find-miss : (d s i left : ℕ) → eqb (pairSelector o d i) s ≡ false → findFrom o d s i (suc left) ≡ findFrom o d s (suc i) left
+  pub find-miss : (d s i left : ℕ) → eqb (pairSelector o d i) s ≡ false → findFrom o d s i (suc left) ≡ findFrom o d s (suc i) left
   unfolding findFrom
   find-miss d s i left e = rw (e, findFrom)
 
@@ -68,11 +67,11 @@ module _ (o : Objects) where
   no-class zero s c e = refl
   no-class (suc left) s c e = rw (e, lookupWithin)
 
-  chain-class : (left a c : ℕ) → isKind o classKind c ≡ true → inChainWithin (suc left) o a c ≡ (eqb a c || inChainWithin left o a (superclassWord o c))
+  pub chain-class : (left a c : ℕ) → isKind o classKind c ≡ true → inChainWithin (suc left) o a c ≡ (eqb a c || inChainWithin left o a (superclassWord o c))
   unfolding inChainWithin
   chain-class left a c e = rw (e, inChainWithin)
 
-  chain-none : (left a c : ℕ) → isKind o classKind c ≡ false → inChainWithin left o a c ≡ false
+  pub chain-none : (left a c : ℕ) → isKind o classKind c ≡ false → inChainWithin left o a c ≡ false
   unfolding inChainWithin
   chain-none zero a c e = refl
   chain-none (suc left) a c e = rw (e, inChainWithin)
@@ -88,7 +87,7 @@ module _ (o : Objects) where
 
 -- A chain that ends is gone through in its own turns: more of them change nothing.
 module _ {e : ℕ} {o : Objects} (r : Right e o) where
-  class-not-nil : (c : ℕ) → isKind o classKind c ≡ true → c ≢ nilWord
+  pub class-not-nil : (c : ℕ) → isKind o classKind c ≡ true → c ≢ nilWord
   class-not-nil c p q = nil-no-class r (subst (λ (w : ℕ). T (isKind o classKind w)) q (true→T p))
 
   nil-none : (c : ℕ) → c ≡ nilWord → isKind o classKind c ≡ false
@@ -281,9 +280,6 @@ module _ {e : ℕ} {o o′ : Objects} (x : Extends o o′) (r : Right e o) where
   pub special-same : (k : ℕ) → k < specialSelectors → specialSelector o′ k ≡ specialSelector o k
   special-same k h = let l = least r in let a = known-facts r .selectors in x .bodies selectorsObject k (omega arith) (omega arith) (omega arith) (inside-selectors r k h)
 
-  pub special-valid : (k : ℕ) → k < specialSelectors → T (isValid (o .n) (specialSelector o k))
-  special-valid k h = let l = least r in let a = known-facts r .selectors in word-valid r selectorsObject k (omega arith) (omega arith) (omega arith) (omega arith) (inside-selectors r k h)
-
   module _ (m : ℕ) (t : T (isKind o methodKind m)) where
     inside-literals : (i : ℕ) → T (ltb i (literalCount o m)) → i < literalCount o m
     inside-literals i q = ltb→lt i (literalCount o m) q
@@ -320,7 +316,7 @@ module _ {e : ℕ} {o o′ : Objects} (x : Extends o o′) (r : Right e o) where
     allowed-same (SuperSend l n) s = at-literal l (λ w. sendFine o w n) (λ w. sendFine o′ w n) (λ w v. send-same x r w n v)
     allowed-same (SpecialSend k) s =
         ap (λ (b : Bool). isSame k || (isClass k || b))
-        (ap (λ (w : ℕ). sendFine o′ w (specialCount k)) (special-same k s) ∙ send-same x r (specialSelector o k) (specialCount k) (special-valid k s))
+        (ap (λ (w : ℕ). sendFine o′ w (specialCount k)) (special-same k s) ∙ send-same x r (specialSelector o k) (specialCount k) (special-valid r k s))
     allowed-same Unused s = refl
 
     fine-same : (ws : List ℕ) (sz tc fw p d : ℕ) → fineAt ws sz tc fw (allowed o′ m) p d ≡ fineAt ws sz tc fw (allowed o m) p d

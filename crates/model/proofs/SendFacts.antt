@@ -1,0 +1,192 @@
+-- What a lookup finds, and the fields of a receiver whose class chain holds a method's home.
+use Prim.Native.Nat.{ℕ, zero, suc, _+_, _/_, _%_, _≤_, _<_}
+use mathlib.Core.Path.{_≡_, refl, sym, ap, _∙_, subst}
+use mathlib.Core.Logic.{_⊎_, inl, inr}
+use mathlib.Core.Bool.{Bool, true, false, _||_}
+use native.Mathlib.Omega.{arith}
+use borrow.Author.Tests.{eq-eqb, ne-eqb, eqb-true}
+use lib.Dec.{T, eqb, eqb→eq}
+use Rattle.bytecode.specs.Test.{below, implies}
+use Rattle.bytecode.proofs.Choice.{if-yes, if-no}
+use Rattle.bytecode.proofs.TestLaws.{true→T, T→true, or-cases, implied, upTo-at, below-at}
+use Rattle.model.specs.declared.Found.{Found}
+use Rattle.model.specs.declared.Found.the-variants.{Method, Nothing}
+use Rattle.model.specs.Limits.{fieldsKind, classKind, methodKind}
+use Rattle.model.specs.Word.{isValid, pointer, integerClass}
+use Rattle.model.specs.Objects.{Objects, classWord, kind, size, isKind, classOf, superclassWord, dictionaryWord, fieldCount, form, pairCount, pairSelector, pairMethod}
+use Rattle.model.specs.Method.{home, argumentCount}
+use Rattle.model.specs.Lookup.{found, findFrom, findIn, lookupWithin, lookup, inChainWithin, inChain}
+use Rattle.model.specs.Rules.{takesCount}
+use Rattle.model.proofs.ChainLaws.{named}
+use Rattle.model.proofs.Facts.{Right, Valid, odd, names, naming, valid-cases, pointer-of, Fits, fixed, indexed, bytes, other, entry-class, entry-fits, class-facts, known-facts, integer-class, pair-facts, pair-home}
+use Rattle.model.proofs.Unchanged.{find-hit, find-miss, class-hit, class-miss, no-class, chain-class, chain-none, class-not-nil}
+
+abbrev IsMethod : Found → Type 0
+IsMethod (Method w) = Unit {0}
+IsMethod Nothing = ⊥
+
+abbrev wordFound : Found → ℕ
+wordFound (Method w) = w .0
+wordFound Nothing = 0
+
+nothing-found : (m : ℕ) → Nothing ≡ found m → ⊥
+nothing-found m p = subst IsMethod (sym p) tt
+
+-- a pair of a dictionary
+pub record PairOf (o : Objects) (d s m : ℕ) : Type 0 where
+  pub place : ℕ
+  pub inside : place < pairCount o d
+  pub selector : pairSelector o d place ≡ s
+  pub method : pairMethod o d place ≡ m
+
+module _ (o : Objects) where
+  found-from : (d s m i left : ℕ) → i + left ≤ pairCount o d → findFrom o d s i left ≡ found m → PairOf o d s m
+  unfolding findFrom
+  found-from d s m i zero h p = absurd (nothing-found m p)
+  found-from d s m i (suc left) h p = go (eqb (pairSelector o d i) s) refl (found-from d s m (suc i) left (omega arith))
+    where
+      go : (b : Bool) → eqb (pairSelector o d i) s ≡ b → (findFrom o d s (suc i) left ≡ found m → PairOf o d s m) → PairOf o d s m
+      go true q ih = record { place = i; inside = omega arith; selector = eqb-true (pairSelector o d i) s q; method = ap wordFound (sym (find-hit o d s i left q) ∙ p) }
+      go false q ih = ih (sym (find-miss o d s i left q) ∙ p)
+
+  pub found-in : (d s m : ℕ) → findIn o d s ≡ found m → PairOf o d s m
+  unfolding findIn
+  found-in d s m p = found-from d s m 0 (pairCount o d) (omega arith) p
+
+-- the class whose dictionary has the method
+record Holder (o : Objects) (left s c m : ℕ) : Type 0 where
+  holder : ℕ
+  classes : T (isKind o classKind holder)
+  chain : inChainWithin left o holder c ≡ true
+  pair : PairOf o (dictionaryWord o holder) s m
+
+pub record FoundFacts (o : Objects) (s c m : ℕ) : Type 0 where
+  pub method : T (isKind o methodKind m)
+  pub homes : T (inChain o (home o m) c)
+  pub counts : (n : ℕ) → T (takesCount o s n) → argumentCount o m ≡ n
+
+module _ {e : ℕ} {o : Objects} (r : Right e o) where
+  holder-of : (left s c m : ℕ) → lookupWithin left o s c ≡ found m → Holder o left s c m
+  unfolding lookupWithin
+  holder-of zero s c m p = absurd (nothing-found m p)
+  holder-of (suc left) s c m p = go (isKind o classKind c) (findIn o (dictionaryWord o c) s) refl refl (holder-of left s (superclassWord o c) m)
+    where
+      go : (b : Bool) (f : Found) → isKind o classKind c ≡ b → findIn o (dictionaryWord o c) s ≡ f → (lookupWithin left o s (superclassWord o c) ≡ found m → Holder o left s (superclassWord o c) m) → Holder o (suc left) s c m
+      go true (Method w) q f ih =
+          record {
+            holder = c;
+            classes = true→T q;
+            chain = chain-class o left c c q ∙ ap (λ (b : Bool). b || inChainWithin left o c (superclassWord o c)) (eq-eqb c c refl);
+            pair = found-in o (dictionaryWord o c) s m (f ∙ sym (class-hit o left s c (w .0) q f) ∙ p);
+          }
+      go true Nothing q f ih =
+          let h = ih (sym (class-miss o left s c q f) ∙ p) in
+          record {
+            holder = h .holder;
+            classes = h .classes;
+            chain = chain-class o left (h .holder) c q ∙ ap (λ (b : Bool). eqb (h .holder) c || b) (h .chain) ∙ or-true (eqb (h .holder) c);
+            pair = h .pair;
+          }
+        where
+          or-true : (b : Bool) → (b || true) ≡ true
+          or-true true = refl
+          or-true false = refl
+      go false f q g ih = absurd (nothing-found m (sym (no-class o (suc left) s c q) ∙ p))
+
+  -- every method under a selector takes the count that the test says
+  count-at : (c s m n : ℕ) → T (isKind o classKind c) → PairOf o (dictionaryWord o c) s m → T (takesCount o s n) → argumentCount o m ≡ n
+  unfolding takesCount
+  count-at c s m n t p q =
+      let h = named o classKind c t in
+      let all = implied (eqb (kind o (c / 2)) classKind) (counted (pointer (c / 2))) (upTo-at (o .n) (λ k. implies (eqb (kind o k) classKind) (counted (pointer k))) q (c / 2) (h .least) (h .most)) (true→T (eq-eqb (kind o (c / 2)) classKind (h .kinds))) in
+      let mine : T (counted c) = subst (λ (x : ℕ). T (counted x)) (pointer-of c (h .even)) all in
+      ap (argumentCount o) (sym (p .method))
+      ∙ eqb→eq (argumentCount o (pairMethod o (dictionaryWord o c) (p .place))) n
+      (implied (eqb (pairSelector o (dictionaryWord o c) (p .place)) s) (eqb (argumentCount o (pairMethod o (dictionaryWord o c) (p .place))) n) (below-at (pairCount o (dictionaryWord o c)) (pair-test c) mine (p .place) (p .inside)) (true→T (eq-eqb (pairSelector o (dictionaryWord o c) (p .place)) s (p .selector))))
+    where
+      pair-test : ℕ → ℕ → Bool
+      pair-test x i = implies (eqb (pairSelector o (dictionaryWord o x) i) s) (eqb (argumentCount o (pairMethod o (dictionaryWord o x) i)) n)
+
+      counted : ℕ → Bool
+      counted x = below (pairCount o (dictionaryWord o x)) (pair-test x)
+
+  -- a method found is one, its home is in the class chain, and it takes the selector's count
+  pub lookup-facts : (s c m : ℕ) → lookup o s c ≡ found m → FoundFacts o s c m
+  unfolding lookup inChain
+  lookup-facts s c m p =
+      let h = holder-of (o .n) s c m p in
+      let q = h .pair in
+      let home-is : home o m ≡ h .holder = ap (home o) (sym (q .method)) ∙ pair-home r (h .holder) (q .place) (h .classes) (q .inside) in
+      record {
+        method = subst (λ (x : ℕ). T (isKind o methodKind x)) (q .method) (pair-facts r (h .holder) (q .place) (h .classes) (q .inside) .method);
+        homes = subst (λ (x : ℕ). T (inChainWithin (o .n) o x c)) (sym home-is) (true→T (h .chain));
+        counts = λ n t. count-at (h .holder) s m n (h .classes) q t;
+      }
+
+  -- F is not below that of a class above
+  record Above (a c : ℕ) : Type 0 where
+    class-a : T (isKind o classKind a)
+    class-c : T (isKind o classKind c)
+    fewer : fieldCount o a ≤ fieldCount o c
+
+  above-within : (left a c : ℕ) → T (inChainWithin left o a c) → Above a c
+  unfolding inChainWithin
+  above-within zero a c t = absurd t
+  above-within (suc left) a c t = go (isKind o classKind c) refl (above-within left a (superclassWord o c))
+    where
+      go : (b : Bool) → isKind o classKind c ≡ b → (T (inChainWithin left o a (superclassWord o c)) → Above a (superclassWord o c)) → Above a c
+      go false q ih = absurd (subst T (chain-none o (suc left) a c q) t)
+      go true q ih = either (or-cases (eqb a c) (inChainWithin left o a (superclassWord o c)) (subst T (chain-class o left a c q) t))
+        where
+          either : T (eqb a c) ⊎ T (inChainWithin left o a (superclassWord o c)) → Above a c
+          either (inl s) =
+              let same = eqb→eq a c s in
+              record {
+                class-a = subst (λ (x : ℕ). T (isKind o classKind x)) (sym same) (true→T q);
+                class-c = true→T q;
+                fewer = subst (λ (x : ℕ). fieldCount o x ≤ fieldCount o c) (sym same) (omega arith);
+              }
+          either (inr s) =
+              let h = ih s in
+              let f = class-facts r c (true→T q) .rises (class-not-nil r (superclassWord o c) (T→true (isKind o classKind (superclassWord o c)) (h .class-c))) in
+              let g = h .fewer in
+              record { class-a = h .class-a; class-c = true→T q; fewer = omega arith }
+
+  pub chain-fields : (a c : ℕ) → T (inChain o a c) → fieldCount o a ≤ fieldCount o c
+  unfolding inChain
+  chain-fields a c t = above-within (o .n) a c t .fewer
+
+  pub chain-class-of : (a c : ℕ) → T (inChain o a c) → T (isKind o classKind a)
+  unfolding inChain
+  chain-class-of a c t = above-within (o .n) a c t .class-a
+
+  -- the fields of a home are fields of the receiver
+  pub receiver-fields : (w a i : ℕ) → T (isValid (o .n) w) → T (inChain o a (classOf o w)) → i < fieldCount o a → T (isKind o fieldsKind w) × (i < size o (w / 2))
+  unfolding classOf
+  receiver-fields w a i v t l = go (valid-cases (o .n) w v)
+    where
+      below-class : i < fieldCount o (classOf o w)
+      below-class = let f = chain-fields a (classOf o w) t in omega arith
+
+      go : Valid (o .n) w → T (isKind o fieldsKind w) × (i < size o (w / 2))
+      go (odd h) =
+          let c : classOf o w ≡ integerClass = if-yes _ _ (eq-eqb (w % 2) 1 h) in
+          let f : i < fieldCount o integerClass = subst (λ (x : ℕ). i < fieldCount o x) c below-class in
+          let k = known-facts r .integer-form in
+          let z = class-facts r integerClass (integer-class r) .none (omega arith) in
+          absurd (omega arith)
+      go (names b d g) =
+          let c : classOf o w ≡ classWord o (w / 2) = if-no _ _ (ne-eqb (w % 2) 1 (omega arith)) in
+          fitted (entry-fits r (w / 2) d g) (subst (λ (x : ℕ). i < fieldCount o x) c below-class)
+        where
+          is-fields : kind o (w / 2) ≡ fieldsKind → T (isKind o fieldsKind w)
+          is-fields k = naming o fieldsKind w (record { even = b; least = d; most = g; kinds = k })
+
+          none : 2 ≤ form o (classWord o (w / 2)) → fieldCount o (classWord o (w / 2)) ≡ 0
+          none h = class-facts r (classWord o (w / 2)) (entry-class r (w / 2) d g) .none h
+
+          fitted : Fits o (w / 2) (classWord o (w / 2)) → i < fieldCount o (classWord o (w / 2)) → T (isKind o fieldsKind w) × (i < size o (w / 2))
+          fitted (fixed x k z) f = (is-fields k, omega arith)
+          fitted (indexed x k z) f = (is-fields k, omega arith)
+          fitted (bytes x k) f = let z = none (omega arith) in absurd (omega arith)
+          fitted (other x k) f = let z = none (omega arith) in absurd (omega arith)
