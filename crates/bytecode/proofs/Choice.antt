@@ -52,6 +52,12 @@ unfolding if_then_else_
 if-same true x = refl
 if-same false x = refl
 
+-- what holds of both values, each where it is chosen
+pub if-cases : {A : Type 0} (P : A → Type 0) (t : Bool) (x y : A) → (t ≡ true → P x) → (t ≡ false → P y) → P (if t then x else y)
+unfolding if_then_else_
+if-cases P true x y f g = f refl
+if-cases P false x y f g = g refl
+
 pub if-either : {A : Type 0} (P : A → Type 0) (t : Bool) (x y : A) → P x → P y → P (if t then x else y)
 unfolding if_then_else_
 if-either P true x y p q = p

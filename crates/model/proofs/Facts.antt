@@ -10,7 +10,7 @@ use lib.Dec.{T, T-not, not-T, leb, ltb, eqb, leb→le, le→leb, ltb→lt, lt→
 use lib.ListN.{length}
 use Rattle.bytecode.specs.Test.{if_then_else_, upTo, every, implies, allOf}
 use Rattle.bytecode.specs.Constant.{nilWord}
-use Rattle.bytecode.proofs.Choice.{if-yes, if-no}
+use Rattle.bytecode.proofs.Choice.{if-yes, if-no, if-cases}
 use Rattle.bytecode.proofs.TestLaws.{true→T, T→true, and-left, and-right, and-both, or-cases, implied, rule, rules, upTo-at, below-at, every-at, at-every}
 use Rattle.model.specs.Limits.{leastObjects, mostObjects, mostBodyWords, entryWords, fieldsKind, bytesKind, classKind, listKind, methodKind, lastForm, fixedForm, indexedForm, bytesForm, otherForm, classWords, mostFields, nilObject, falseObject, trueObject, integerClassObject, selectorsObject, specialSelectors, fieldFlag, primitiveFlag}
 use Rattle.model.specs.Word.{isInteger, isPointer, isValid, pointer, objectNumber, integerClass}
@@ -20,7 +20,7 @@ use Rattle.model.specs.Lookup.{endsWithin}
 use Rattle.model.specs.Depth.{isSome}
 use Rattle.model.specs.Rules.{sizesFine, startFine, paddingFine, layoutRules, rule4, wordsFine, rule5, fits, entryFine, pairFine, dictionaryFine, classRules, knownObjectRules, objectFine, rule6, takesCount, methodTable, extensionFine, methodRules, dictionaryMethodsFine, rule7}
 use Rattle.model.proofs.ChainLaws.{Named, named}
-use Rattle.model.proofs.Parts.{_also_, implying, or-left, or-right, if-either, length-part, part-at}
+use Rattle.model.proofs.Parts.{_also_, implying, or-left, or-right, length-part, part-at}
 
 pub record Right (e : ℕ) (o : Objects) : Type 0 where
   pub contents : length (o .contents) ≡ entryWords * o .n
@@ -133,7 +133,7 @@ unfolding layoutRules startFine paddingFine
 layout-rules e o k h =
     rules (layoutRules e o k)
     (le→leb (kind o k) methodKind (h .kinds)
-    also if-either T (eqb k 1) (eqb (start o k) 0) (eqb (start o k) (bodyEnd o (k - 1))) (λ q. true→T (eq-eqb (start o k) 0 (h .first (eqb-true k 1 q)))) (λ q. true→T (eq-eqb (start o k) (bodyEnd o (k - 1)) (h .next (eqb-false k 1 q))))
+    also if-cases T (eqb k 1) (eqb (start o k) 0) (eqb (start o k) (bodyEnd o (k - 1))) (λ q. true→T (eq-eqb (start o k) 0 (h .first (eqb-true k 1 q)))) (λ q. true→T (eq-eqb (start o k) (bodyEnd o (k - 1)) (h .next (eqb-false k 1 q))))
     also implying (eqb (kind o k) classKind) (eqb (size o k) classWords) (λ q. true→T (eq-eqb (size o k) classWords (h .four (eqb→eq (kind o k) classKind q))))
     also implying (sizedInBytes (kind o k) && eqb (size o k % 2) 1) (eqb (bodyWord o k (bodyWords o k - 1) % 256) 0) padding
     also tt)

@@ -6,7 +6,6 @@ pub mod Parts
 pub mod Facts
 pub mod Extends
 pub mod Unchanged
-pub mod FoundLaws
 pub mod RightLaws
 pub mod StoreLaws
 pub mod AppendLaws

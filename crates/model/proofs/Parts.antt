@@ -36,12 +36,6 @@ pub or-right : (a b : Bool) → T b → T (a || b)
 or-right true b t = tt
 or-right false b t = t
 
--- what holds of both values of a choice, each under its outcome of the test
-pub if-either : {A : Type 0} (P : A → Type 0) (t : Bool) (x y : A) → (t ≡ true → P x) → (t ≡ false → P y) → P (if t then x else y)
-unfolding if_then_else_
-if-either P true x y f g = f refl
-if-either P false x y f g = g refl
-
 pub below-same : (n : ℕ) (f g : ℕ → Bool) → ((k : ℕ) → k < n → g k ≡ f k) → below n g ≡ below n f
 below-same zero f g h = refl
 below-same (suc n) f g h = ap₂ _&&_ (h n (omega arith)) (below-same n f g (λ k l. h k (omega arith)))

@@ -13,7 +13,7 @@ use lib.Signed.{ltZ, leZ}
 use lib.Bits.{bitAnd, bitOr, bitXor, differ, and-step, or-step, xor-step}
 use Rattle.bytecode.specs.Test.{if_then_else_, every}
 use Rattle.bytecode.specs.Constant.{nilWord, falseWord, trueWord}
-use Rattle.bytecode.proofs.Choice.{if-yes, if-no}
+use Rattle.bytecode.proofs.Choice.{if-yes, if-no, if-cases}
 use Rattle.bytecode.proofs.TestLaws.{true→T, and-left, and-right, or-cases, every-at}
 use Rattle.model.specs.declared.Computed.{Computed}
 use Rattle.model.specs.declared.Computed.the-variants.{Word, Failed}
@@ -24,7 +24,7 @@ use Rattle.model.specs.Image.{Room}
 use Rattle.model.specs.Arithmetic.{number, divided, exactQuotient, onIntegers, onBits, arithmetic}
 use Rattle.model.specs.Primitive.{Outcome, answers, fails, storeWord, objectByte, storeByte, isIndexable, holdsBytes, elementCount, isIndex, placeOfIndex, at, atPut, sizeAnswer, appended, hasRoom, make, new, newWith, computed, perform, primitiveCount, primitive}
 use Rattle.model.proofs.Marks.{blank}
-use Rattle.model.proofs.Parts.{if-either}
+use Rattle.model.proofs.Parts.{}
 use Rattle.model.proofs.Facts.{Right, Valid, odd, names, valid-cases, valid-odd, valid-name, valid-kind, Fits, fixed, indexed, bytes, other, in-words, least, word-valid, entry-class, entry-fits}
 use Rattle.model.proofs.Extends.{Extends, extends-refl, valid-grows}
 use Rattle.model.proofs.StoreLaws.{stored-extends, stored-right, byte-extends, byte-right}
@@ -69,40 +69,40 @@ module _ {e : ℕ} {o : Objects} (r : Right e o) where
 
   number-valid : (z : ℤ) → ValidWord o (number z)
   unfolding number
-  number-valid z = if-either (ValidWord o) (inRange z) (Word (wordOf z)) Failed (λ p. valid-odd (o .n) (wordOf z) (word-odd z (true→T p))) (λ p. tt)
+  number-valid z = if-cases (ValidWord o) (inRange z) (Word (wordOf z)) Failed (λ p. valid-odd (o .n) (wordOf z) (word-odd z (true→T p))) (λ p. tt)
 
   divided-valid : (b z : ℤ) → ValidWord o (divided b z)
   unfolding divided
-  divided-valid b z = if-either (ValidWord o) _ Failed (number z) (λ p. tt) (λ p. number-valid z)
+  divided-valid b z = if-cases (ValidWord o) _ Failed (number z) (λ p. tt) (λ p. number-valid z)
 
   exact-valid : (a b : ℤ) → ValidWord o (exactQuotient a b)
   unfolding exactQuotient
-  exact-valid a b = if-either (ValidWord o) _ _ Failed (λ p. divided-valid b _) (λ p. tt)
+  exact-valid a b = if-cases (ValidWord o) _ _ Failed (λ p. divided-valid b _) (λ p. tt)
 
   integers-valid : (k : ℕ) (a b : ℤ) → ValidWord o (onIntegers k a b)
   unfolding onIntegers
   integers-valid k a b =
-      if-either (ValidWord o) _ _ _ (λ p. number-valid _)
-      (λ p. if-either (ValidWord o) _ _ _ (λ p. number-valid _)
-      (λ p. if-either (ValidWord o) _ _ _ (λ p. boolean-valid (ltZ a b))
-      (λ p. if-either (ValidWord o) _ _ _ (λ p. boolean-valid (ltZ b a))
-      (λ p. if-either (ValidWord o) _ _ _ (λ p. boolean-valid (leZ a b))
-      (λ p. if-either (ValidWord o) _ _ _ (λ p. boolean-valid (leZ b a))
-      (λ p. if-either (ValidWord o) _ _ _ (λ p. boolean-valid (leZ a b && leZ b a))
-      (λ p. if-either (ValidWord o) _ _ _ (λ p. boolean-valid (not (leZ a b && leZ b a)))
-      (λ p. if-either (ValidWord o) _ _ _ (λ p. number-valid _)
-      (λ p. if-either (ValidWord o) _ _ _ (λ p. exact-valid a b)
-      (λ p. if-either (ValidWord o) _ _ _ (λ p. divided-valid b _)
-      (λ p. if-either (ValidWord o) _ _ _ (λ p. divided-valid b _)
-      (λ p. if-either (ValidWord o) _ _ _ (λ p. divided-valid b _)
-      (λ p. if-either (ValidWord o) _ _ _ (λ p. number-valid _) (λ p. tt))))))))))))))
+      if-cases (ValidWord o) _ _ _ (λ p. number-valid _)
+      (λ p. if-cases (ValidWord o) _ _ _ (λ p. number-valid _)
+      (λ p. if-cases (ValidWord o) _ _ _ (λ p. boolean-valid (ltZ a b))
+      (λ p. if-cases (ValidWord o) _ _ _ (λ p. boolean-valid (ltZ b a))
+      (λ p. if-cases (ValidWord o) _ _ _ (λ p. boolean-valid (leZ a b))
+      (λ p. if-cases (ValidWord o) _ _ _ (λ p. boolean-valid (leZ b a))
+      (λ p. if-cases (ValidWord o) _ _ _ (λ p. boolean-valid (leZ a b && leZ b a))
+      (λ p. if-cases (ValidWord o) _ _ _ (λ p. boolean-valid (not (leZ a b && leZ b a)))
+      (λ p. if-cases (ValidWord o) _ _ _ (λ p. number-valid _)
+      (λ p. if-cases (ValidWord o) _ _ _ (λ p. exact-valid a b)
+      (λ p. if-cases (ValidWord o) _ _ _ (λ p. divided-valid b _)
+      (λ p. if-cases (ValidWord o) _ _ _ (λ p. divided-valid b _)
+      (λ p. if-cases (ValidWord o) _ _ _ (λ p. divided-valid b _)
+      (λ p. if-cases (ValidWord o) _ _ _ (λ p. number-valid _) (λ p. tt))))))))))))))
 
   -- the tags of two integers are one
   bits-valid : (k v w : ℕ) → v % 2 ≡ 1 → w % 2 ≡ 1 → ValidWord o (onBits k v w)
   unfolding onBits
   bits-valid k v w p q =
-      if-either (ValidWord o) _ _ _ (λ h. valid-odd (o .n) (bitAnd v w) (and-odd (bitAnd (v / 2) (w / 2)) (and-step v w)))
-      (λ h. if-either (ValidWord o) _ _ _ (λ g. valid-odd (o .n) (bitOr v w) (or-odd (bitOr (v / 2) (w / 2)) (or-step v w)))
+      if-cases (ValidWord o) _ _ _ (λ h. valid-odd (o .n) (bitAnd v w) (and-odd (bitAnd (v / 2) (w / 2)) (and-step v w)))
+      (λ h. if-cases (ValidWord o) _ _ _ (λ g. valid-odd (o .n) (bitOr v w) (or-odd (bitOr (v / 2) (w / 2)) (or-step v w)))
       (λ g. valid-odd (o .n) (bitXor v w + 1) (xor-odd (bitXor (v / 2) (w / 2)) (xor-step v w ∙ ap₂ (λ (a b : ℕ). bitXor (v / 2) (w / 2) * 2 + differ a b) p q))))
     where
       and-odd : {x : ℕ} (y : ℕ) → x ≡ y * 2 + min (v % 2) (w % 2) → x % 2 ≡ 1
@@ -117,8 +117,8 @@ module _ {e : ℕ} {o : Objects} (r : Right e o) where
   pub arithmetic-valid : (k v w : ℕ) → ValidWord o (arithmetic k v w)
   unfolding arithmetic
   arithmetic-valid k v w =
-      if-either (ValidWord o) (isInteger v && isInteger w) _ Failed
-      (λ p. if-either (ValidWord o) _ _ _ (λ q. bits-valid k v w (eqb→eq (v % 2) 1 (and-left (isInteger v) (isInteger w) (true→T p))) (eqb→eq (w % 2) 1 (and-right (isInteger v) (isInteger w) (true→T p)))) (λ q. integers-valid k (valueOf v) (valueOf w)))
+      if-cases (ValidWord o) (isInteger v && isInteger w) _ Failed
+      (λ p. if-cases (ValidWord o) _ _ _ (λ q. bits-valid k v w (eqb→eq (v % 2) 1 (and-left (isInteger v) (isInteger w) (true→T p))) (eqb→eq (w % 2) 1 (and-right (isInteger v) (isInteger w) (true→T p)))) (λ q. integers-valid k (valueOf v) (valueOf w)))
       (λ p. tt)
 
   module _ (room : Room) where
@@ -202,8 +202,8 @@ module _ {e : ℕ} {o : Objects} (r : Right e o) where
       pub at-law : (x : ℕ) → Kept room e o (at o w x)
       unfolding at
       at-law x =
-          if-either (Kept room e o) (isIndexable o w && isIndex o w x) _ fails
-          (λ p. same-objects _ (if-either (λ (z : ℕ). T (isValid (o .n) z)) (holdsBytes o w) (2 * objectByte o (w / 2) (placeOfIndex o w x) + 1) (bodyWord o (w / 2) (placeOfIndex o w x))
+          if-cases (Kept room e o) (isIndexable o w && isIndex o w x) _ fails
+          (λ p. same-objects _ (if-cases (λ (z : ℕ). T (isValid (o .n) z)) (holdsBytes o w) (2 * objectByte o (w / 2) (placeOfIndex o w x) + 1) (bodyWord o (w / 2) (placeOfIndex o w x))
           (λ q. valid-odd (o .n) (2 * objectByte o (w / 2) (placeOfIndex o w x) + 1) (omega arith))
           (λ q. element-valid (placeOfIndex o w x) (element (and-left (isIndexable o w) (isIndex o w x) (true→T p))) q (place x (and-right (isIndexable o w) (isIndex o w x) (true→T p))))))
           (λ p. tt)
@@ -211,7 +211,7 @@ module _ {e : ℕ} {o : Objects} (r : Right e o) where
       pub size-law : Kept room e o (sizeAnswer o w)
       unfolding sizeAnswer
       size-law =
-          if-either (Kept room e o) (isIndexable o w) _ fails (λ p. same-objects (2 * elementCount o w + 1) (valid-odd (o .n) (2 * elementCount o w + 1) (omega arith))) (λ p. tt)
+          if-cases (Kept room e o) (isIndexable o w) _ fails (λ p. same-objects (2 * elementCount o w + 1) (valid-odd (o .n) (2 * elementCount o w + 1) (omega arith))) (λ p. tt)
 
       byte-stored : (i b y : ℕ) → T (isValid (o .n) y) → Element o w → holdsBytes o w ≡ true → i < size o (w / 2) → Performed room e o y (storeByte o (w / 2) i b)
       byte-stored i b y u h p l =
@@ -242,11 +242,11 @@ module _ {e : ℕ} {o : Objects} (r : Right e o) where
       pub atPut-law : (x y : ℕ) → T (isValid (o .n) y) → Kept room e o (atPut o w x y)
       unfolding atPut
       atPut-law x y u =
-          if-either (Kept room e o) (isIndexable o w && isIndex o w x) _ fails
+          if-cases (Kept room e o) (isIndexable o w && isIndex o w x) _ fails
           (λ p. let h = element (and-left (isIndexable o w) (isIndex o w x) (true→T p)) in
           let l = place x (and-right (isIndexable o w) (isIndex o w x) (true→T p)) in
-          if-either (Kept room e o) (holdsBytes o w) _ _
-          (λ q. if-either (Kept room e o) (isNatural 255 y) _ fails (λ s. byte-stored (placeOfIndex o w x) (y / 2) y u h q l) (λ s. tt))
+          if-cases (Kept room e o) (holdsBytes o w) _ _
+          (λ q. if-cases (Kept room e o) (isNatural 255 y) _ fails (λ s. byte-stored (placeOfIndex o w x) (y / 2) y u h q l) (λ s. tt))
           (λ q. word-stored (placeOfIndex o w x) y u h q l))
           (λ p. tt)
 
@@ -254,7 +254,7 @@ module _ {e : ℕ} {o : Objects} (r : Right e o) where
     pub make-law : (c kd sz count fill : ℕ) → T (isKind o classKind c) → Suits o c kd sz (replicate count fill) → Kept room e o (make room o c kd sz count fill)
     unfolding make
     make-law c kd sz count fill t s =
-        if-either (Kept room e o) (hasRoom room o count) _ fails (λ p. made (room-facts room o count (true→T p))) (λ p. tt)
+        if-cases (Kept room e o) (hasRoom room o count) _ fails (λ p. made (room-facts room o count (true→T p))) (λ p. tt)
       where
         long : length (replicate count fill) ≡ count
         long = length-replicate count fill
@@ -280,7 +280,7 @@ module _ {e : ℕ} {o : Objects} (r : Right e o) where
     pub new-law : (c : ℕ) → Kept room e o (new room o c)
     unfolding new
     new-law c =
-        if-either (Kept room e o) (isKind o classKind c && eqb (form o c) fixedForm) _ fails
+        if-cases (Kept room e o) (isKind o classKind c && eqb (form o c) fixedForm) _ fails
         (λ p. make-law c fieldsKind (fieldCount o c) (fieldCount o c) nilWord (and-left (isKind o classKind c) (eqb (form o c) fixedForm) (true→T p))
         (asMany refl (eqb→eq (form o c) fixedForm (and-right (isKind o classKind c) (eqb (form o c) fixedForm) (true→T p))) refl (length-replicate (fieldCount o c) nilWord) (fill-valid (fieldCount o c))))
         (λ p. tt)
@@ -288,12 +288,12 @@ module _ {e : ℕ} {o : Objects} (r : Right e o) where
     pub newWith-law : (c x : ℕ) → Kept room e o (newWith room o c x)
     unfolding newWith
     newWith-law c x =
-        if-either (Kept room e o) (isKind o classKind c && isNatural largestInteger x) _ fails
+        if-cases (Kept room e o) (isKind o classKind c && isNatural largestInteger x) _ fails
         (λ p. let t = and-left (isKind o classKind c) (isNatural largestInteger x) (true→T p) in
-        if-either (Kept room e o) (eqb (form o c) indexedForm) _ _
+        if-cases (Kept room e o) (eqb (form o c) indexedForm) _ _
         (λ q. make-law c fieldsKind (fieldCount o c + x / 2) (fieldCount o c + x / 2) nilWord t
         (atLeast refl (eqb-true (form o c) indexedForm q) (omega arith) (length-replicate (fieldCount o c + x / 2) nilWord) (fill-valid (fieldCount o c + x / 2))))
-        (λ q. if-either (Kept room e o) (eqb (form o c) bytesForm) _ fails
+        (λ q. if-cases (Kept room e o) (eqb (form o c) bytesForm) _ fails
         (λ s. make-law c bytesKind (x / 2) ((x / 2 + 1) / 2) 0 t
         (ofBytes refl (eqb-true (form o c) bytesForm s) (length-replicate ((x / 2 + 1) / 2) 0) (λ h. fill-zero ((x / 2 + 1) / 2) (length (replicate ((x / 2 + 1) / 2) 0) - 1))))
         (λ s. tt)))
@@ -303,20 +303,20 @@ module _ {e : ℕ} {o : Objects} (r : Right e o) where
     pub perform-law : (k w x y : ℕ) → T (isValid (o .n) w) → (k ≡ 61 → T (isValid (o .n) y)) → Kept room e o (perform room o k w x y)
     unfolding perform
     perform-law k w x y v u =
-        if-either (Kept room e o) _ _ _ (λ p. computed-law (arithmetic k w x) (arithmetic-valid k w x))
-        (λ p. if-either (Kept room e o) _ _ _ (λ p. at-law w v x)
-        (λ p. if-either (Kept room e o) (eqb k 61) _ _ (λ p. atPut-law w v x y (u (eqb-true k 61 p)))
-        (λ p. if-either (Kept room e o) _ _ _ (λ p. size-law w v)
-        (λ p. if-either (Kept room e o) _ _ _ (λ p. new-law w)
-        (λ p. if-either (Kept room e o) _ _ _ (λ p. newWith-law w x)
-        (λ p. if-either (Kept room e o) _ _ _ (λ p. same-objects (booleanWord (eqb w x)) (boolean-valid (eqb w x)))
-        (λ p. if-either (Kept room e o) _ _ fails (λ p. same-objects (classOf o w) (class-valid w v)) (λ p. tt))))))))
+        if-cases (Kept room e o) _ _ _ (λ p. computed-law (arithmetic k w x) (arithmetic-valid k w x))
+        (λ p. if-cases (Kept room e o) _ _ _ (λ p. at-law w v x)
+        (λ p. if-cases (Kept room e o) (eqb k 61) _ _ (λ p. atPut-law w v x y (u (eqb-true k 61 p)))
+        (λ p. if-cases (Kept room e o) _ _ _ (λ p. size-law w v)
+        (λ p. if-cases (Kept room e o) _ _ _ (λ p. new-law w)
+        (λ p. if-cases (Kept room e o) _ _ _ (λ p. newWith-law w x)
+        (λ p. if-cases (Kept room e o) _ _ _ (λ p. same-objects (booleanWord (eqb w x)) (boolean-valid (eqb w x)))
+        (λ p. if-cases (Kept room e o) _ _ fails (λ p. same-objects (classOf o w) (class-valid w v)) (λ p. tt))))))))
 
     pub answer-law : (k count w : ℕ) (arguments : List ℕ) → count ≡ length arguments → T (isValid (o .n) w) → T (every (isValid (o .n)) arguments)
         → Kept room e o (primitive room o k count w arguments)
     unfolding primitive primitiveCount
     answer-law k count w arguments l v a =
-        if-either (Kept room e o) (eqb count (primitiveCount k)) _ fails
+        if-cases (Kept room e o) (eqb count (primitiveCount k)) _ fails
         (λ p. perform-law k w (getD arguments 0 0) (getD arguments 1 0) v
         (λ q. let c : count ≡ 2 = eqb-true count (primitiveCount k) p ∙ if-yes _ _ (eq-eqb k 61 q) in every-at (isValid (o .n)) arguments a 1 (omega arith)))
         (λ p. tt)

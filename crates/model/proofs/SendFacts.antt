@@ -1,7 +1,7 @@
 -- What a lookup finds, and the fields of a receiver whose class chain holds a method's home.
 use Prim.Native.Nat.{ℕ, zero, suc, _+_, _/_, _%_, _≤_, _<_}
 use mathlib.Core.Path.{_≡_, refl, sym, ap, _∙_, subst}
-use mathlib.Core.Logic.{_⊎_, inl, inr}
+use mathlib.Core.Logic.{_⊎_, inl, inr, _≢_}
 use mathlib.Core.Bool.{Bool, true, false, _||_}
 use native.Mathlib.Omega.{arith}
 use borrow.Author.Tests.{eq-eqb, ne-eqb, eqb-true}
@@ -11,14 +11,14 @@ use Rattle.bytecode.proofs.Choice.{if-yes, if-no}
 use Rattle.bytecode.proofs.TestLaws.{true→T, T→true, or-cases, implied, upTo-at, below-at}
 use Rattle.model.specs.declared.Found.{Found}
 use Rattle.model.specs.declared.Found.the-variants.{Method, Nothing}
-use Rattle.model.specs.Limits.{fieldsKind, classKind, methodKind}
+use Rattle.model.specs.Limits.{fieldsKind, bytesKind, classKind, methodKind}
 use Rattle.model.specs.Word.{isValid, pointer, integerClass}
-use Rattle.model.specs.Objects.{Objects, classWord, kind, size, isKind, classOf, superclassWord, dictionaryWord, fieldCount, form, pairCount, pairSelector, pairMethod}
+use Rattle.model.specs.Objects.{Objects, classWord, kind, size, bodyWord, isKind, classOf, superclassWord, dictionaryWord, fieldCount, form, pairCount, pairSelector, pairMethod}
 use Rattle.model.specs.Method.{home, argumentCount}
 use Rattle.model.specs.Lookup.{found, findFrom, findIn, lookupWithin, lookup, inChainWithin, inChain}
 use Rattle.model.specs.Rules.{takesCount}
 use Rattle.model.proofs.ChainLaws.{named}
-use Rattle.model.proofs.Facts.{Right, Valid, odd, names, naming, valid-cases, pointer-of, Fits, fixed, indexed, bytes, other, entry-class, entry-fits, class-facts, known-facts, integer-class, pair-facts, pair-home}
+use Rattle.model.proofs.Facts.{Right, Valid, odd, names, naming, valid-cases, valid-kind, pointer-of, in-words, word-valid, Fits, fixed, indexed, bytes, other, entry-class, entry-fits, class-facts, known-facts, integer-class, pair-facts, pair-home}
 use Rattle.model.proofs.Unchanged.{find-hit, find-miss, class-hit, class-miss, no-class, chain-class, chain-none, class-not-nil}
 
 abbrev IsMethod : Found → Type 0
@@ -190,3 +190,23 @@ module _ {e : ℕ} {o : Objects} (r : Right e o) where
           fitted (indexed x k z) f = (is-fields k, omega arith)
           fitted (bytes x k) f = let z = none (omega arith) in absurd (omega arith)
           fitted (other x k) f = let z = none (omega arith) in absurd (omega arith)
+
+  -- a field holds a valid word, and so does the class of a valid word
+  pub field-valid : (w i : ℕ) → T (isKind o fieldsKind w) → i < size o (w / 2) → T (isValid (o .n) (bodyWord o (w / 2) i))
+  field-valid w i t l =
+      let h = named o fieldsKind w t in
+      let k = h .kinds in
+      let nb : kind o (w / 2) ≢ bytesKind = λ q. omega arith in
+      let nm : kind o (w / 2) ≢ methodKind = λ q. omega arith in
+      let b = in-words o (w / 2) nb nm in
+      word-valid r (w / 2) i (h .least) (h .most) nb nm (omega arith)
+
+  pub class-valid : (w : ℕ) → T (isValid (o .n) w) → T (isValid (o .n) (classOf o w))
+  unfolding classOf
+  class-valid w v = go (valid-cases (o .n) w v)
+    where
+      go : Valid (o .n) w → T (isValid (o .n) (classOf o w))
+      go (odd h) =
+          subst (λ (x : ℕ). T (isValid (o .n) x)) (sym (if-yes _ _ (eq-eqb (w % 2) 1 h))) (valid-kind o classKind integerClass (integer-class r))
+      go (names b d g) =
+          subst (λ (x : ℕ). T (isValid (o .n) x)) (sym (if-no _ _ (ne-eqb (w % 2) 1 (omega arith)))) (valid-kind o classKind (classWord o (w / 2)) (entry-class r (w / 2) d g))

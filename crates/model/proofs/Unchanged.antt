@@ -15,6 +15,7 @@ use Rattle.bytecode.specs.declared.Place.{Place}
 use Rattle.bytecode.specs.declared.Place.the-variants.{Field, Temporary, Literal, LiteralVariable}
 use Rattle.bytecode.specs.declared.Instruction.{Instruction}
 use Rattle.bytecode.specs.declared.Instruction.the-variants.{Push, Store, PopStore, PushSelf, PushConstant, ReturnSelf, ReturnConstant, ReturnTop, Pop, Duplicate, Jump, JumpOn, Send, SuperSend, SpecialSend, Unused}
+use Rattle.bytecode.proofs.Choice.{if-cases}
 use Rattle.bytecode.proofs.TestLaws.{true→T, and-left, and-right, and-both}
 use Rattle.model.specs.declared.Found.{Found}
 use Rattle.model.specs.declared.Found.the-variants.{Method, Nothing}
@@ -26,7 +27,7 @@ use Rattle.model.specs.Lookup.{found, findFrom, findIn, lookupWithin, lo
 use Rattle.model.specs.Depth.{walkFrom, successorsAt, depthAfterAt, rulesAt, fineAt, depthTable}
 use Rattle.model.specs.Rules.{takesCount, sendFine, variableFine, placeFine, isWritable, specialSelector, isSame, isClass, allowed, methodTable, rule8}
 use Rattle.model.proofs.ChainLaws.{named}
-use Rattle.model.proofs.Parts.{below-same, upTo-same, if-either, implying}
+use Rattle.model.proofs.Parts.{below-same, upTo-same, implying}
 use Rattle.model.proofs.Facts.{Right, naming, named-pointer, least, known-facts, inside-selectors, special-valid, class-facts, nil-no-class, pair-facts, method-facts}
 use Rattle.model.proofs.Extends.{Extends, valid-grows, kind-kept, kind-same, kind-valid, superclass-same, dictionary-same, pair-count-same, pair-selector-same, pair-method-same, home-fields-same, temporaries-same, literal-count-same, literal-same, frame-same, code-size-same, code-same, arguments-same}
 
@@ -245,7 +246,7 @@ Small (SpecialSend k) = k < specialSelectors
 Small Unused = Unit {0}
 
 small-if : (b : Bool) (i j : Instruction) → Small i → Small j → Small (if b then i else j)
-small-if b i j s t = if-either Small b i j (λ p. s) (λ p. t)
+small-if b i j s t = if-cases Small b i j (λ p. s) (λ p. t)
 
 small-short : (b : ℕ) → Small (shortOf b)
 unfolding shortOf
@@ -266,7 +267,7 @@ small-jump b y = small-if _ _ _ tt (small-if _ _ _ tt (small-if _ _ _ tt (small-
 
 small-send : (b : ℕ) → Small (sendOf b)
 unfolding sendOf
-small-send b = if-either Small (ltb b 208) (SpecialSend (b - 176)) (Send (b % 16) ((b - 208) / 16)) (λ p. let h = ltb-true b 208 p in omega arith) (λ p. tt)
+small-send b = if-cases Small (ltb b 208) (SpecialSend (b - 176)) (Send (b % 16) ((b - 208) / 16)) (λ p. let h = ltb-true b 208 p in omega arith) (λ p. tt)
 
 pub small-instruction : (b y z : ℕ) → Small (instructionOf b y z)
 unfolding instructionOf

@@ -8,6 +8,7 @@ use borrow.Author.Tests.{eqb-true}
 use lib.Dec.{T, eqb}
 use lib.ListN.{length}
 use Rattle.bytecode.specs.Test.{if_then_else_, every}
+use Rattle.bytecode.proofs.Choice.{if-cases}
 use Rattle.bytecode.proofs.TestLaws.{true→T, and-left, and-right}
 use Rattle.model.specs.declared.Found.{Found}
 use Rattle.model.specs.declared.Found.the-variants.{Method, Nothing}
@@ -25,7 +26,6 @@ use Rattle.plain.specs.State.{Frame, Plain, objects, withObjects, withFr
 use Rattle.plain.specs.Step.{Activation, answered, entered, unfit, activate}
 use Rattle.plain.specs.Calls.{Begun, begun, declined, beginActivated, beginFound, begin, dropped}
 use Rattle.plain.proofs.FrameLaws.{FramesRight, fits}
-use Rattle.plain.proofs.NowLaws.{if-cases}
 use Rattle.plain.proofs.StepLaws.{Valid}
 use Rattle.plain.proofs.Preserve.{World, Shape, runs, ends, Activates, activates, new-right}
 use Rattle.plain.proofs.StateLaws.{PlainRight, Stands, goes, rests, waits}

@@ -6,12 +6,13 @@ use mathlib.Core.List.{List, List·Memᴰ}
 use native.Mathlib.Omega.{arith}
 use borrow.Author.Tests.{ltb-true, ltb-false, eqb-false, lt-ltb}
 use lib.Dec.{T, leb, ltb, eqb, leb→le, lt→ltb}
-use Rattle.bytecode.specs.Test.{if_then_else_, below, implies}
+use Rattle.bytecode.specs.Test.{below, implies}
 use Rattle.bytecode.specs.Constant.{constantWord}
 use Rattle.bytecode.specs.Code.{byteAt, shortOf, constantOf, extendedOf, jumpOf, sendOf, instructionOf, nextAt, decodeAt}
 use Rattle.bytecode.specs.Effect.{need, depthAfter, usable, successors}
 use Rattle.bytecode.specs.declared.Instruction.{Instruction}
 use Rattle.bytecode.specs.declared.Instruction.the-variants.{Push, Store, PopStore, PushSelf, PushConstant, ReturnSelf, ReturnConstant, ReturnTop, Pop, Duplicate, Jump, JumpOn, Send, SuperSend, SpecialSend, Unused}
+use Rattle.bytecode.proofs.Choice.{if-cases}
 use Rattle.bytecode.proofs.TestLaws.{below-at, implied, rule}
 use Rattle.model.specs.Word.{isPointer, isValid}
 use Rattle.model.specs.Objects.{Objects}
@@ -40,12 +41,6 @@ constantFine (Send l n) = true
 constantFine (SuperSend l n) = true
 constantFine (SpecialSend k) = true
 constantFine Unused = true
-
--- what holds of both values of a choice, each where it is chosen
-pub if-cases : {A : Type 0} (P : A → Type 0) (t : Bool) (a b : A) → (t ≡ true → P a) → (t ≡ false → P b) → P (if t then a else b)
-unfolding if_then_else_
-if-cases P true a b f g = f refl
-if-cases P false a b f g = g refl
 
 constant-valid : (k : ℕ) → 0 < k → k < 8 → T (isValid 3 (constantWord k))
 unfolding isValid isPointer

@@ -16,7 +16,7 @@ use Rattle.bytecode.specs.declared.Place.{Place}
 use Rattle.bytecode.specs.declared.Place.the-variants.{Field, Temporary, Literal, LiteralVariable}
 use Rattle.bytecode.specs.declared.Instruction.{Instruction}
 use Rattle.bytecode.specs.declared.Instruction.the-variants.{Push, Store, PopStore, PushSelf, PushConstant, ReturnSelf, ReturnConstant, ReturnTop, Pop, Duplicate, Jump, JumpOn, Send, SuperSend, SpecialSend, Unused}
-use Rattle.bytecode.proofs.Choice.{if-yes, if-no, if-lt}
+use Rattle.bytecode.proofs.Choice.{if-yes, if-no, if-lt, if-cases}
 use Rattle.bytecode.proofs.TestLaws.{true→T, T→true, and-left, and-right, and-both, or-cases}
 use Rattle.model.specs.declared.Found.{Found}
 use Rattle.model.specs.declared.Found.the-variants.{Method, Nothing}
@@ -37,7 +37,7 @@ use Rattle.plain.specs.Registers.{running, finished}
 use Rattle.plain.specs.State.{Frame, Plain, objects, withObjects, withFrames, movedTo, withTemporaries, newFrame, fitsStack, noMark}
 use Rattle.plain.specs.Step.{Looked, noLookup, looked, Stepped, next, halts, missing, _>>=_, provided, operand, without, fieldOf, literalOf, onTop, hasWord, pushed, read, storedField, stored, returned, Activation, answered, entered, unfit, entering, fieldAnswered, primitiveAnswered, activate, framed, changed, activated, afterLookup, popped, sends, aboveHome, triedPrimitive, orSends, arithmeticSends, specialSends, jumps, execute}
 use Rattle.plain.proofs.FrameLaws.{FrameRight, Fits, fits, FramesRight, tableDepth, note-is, within}
-use Rattle.plain.proofs.NowLaws.{if-cases, Now}
+use Rattle.plain.proofs.NowLaws.{Now}
 use Rattle.plain.proofs.StepLaws.{Valid, valid-append, valid-one, valid-replicate, Finds, element, moved-right, stored-temporary, has-word, new-top, operand-finds, without-length, without-valid, arguments-length, arguments-valid}
 
 -- What a step needs of the objects, and of `After`, the relation to the objects after it. The model's laws give it (proofs/World.antt).

@@ -4,7 +4,7 @@ use mathlib.Core.Path.{_≡_, refl, sym, ap, _∙_, subst}
 use mathlib.Core.Bool.{Bool, true, false, _&&_}
 use mathlib.Core.List.{List, [], _∷_}
 use native.Mathlib.Omega.{arith}
-use lib.Dec.{T, ltb, ltb→lt}
+use lib.Dec.{T, ltb, ltb→lt, lt→ltb}
 use lib.ListN.{length}
 use Rattle.bytecode.specs.Test.{every}
 use Rattle.bytecode.proofs.TestLaws.{and-left, and-right, and-both}
@@ -23,7 +23,7 @@ use Rattle.model.proofs.ChainLaws.{named}
 use Rattle.model.proofs.Facts.{Right, least, method-facts}
 use Rattle.model.proofs.Extends.{Extends, extends-refl, valid-grows, kind-kept, class-same, home-same, temporaries-same, frame-same}
 use Rattle.model.proofs.Unchanged.{chain-same, table-same}
-use Rattle.model.proofs.FoundLaws.{held, held-count, lookup-method, receiver-fields, field-valid, class-valid}
+use Rattle.model.proofs.SendFacts.{lookup-facts, receiver-fields, field-valid, class-valid}
 use Rattle.model.proofs.StoreLaws.{stored-extends, stored-right}
 use Rattle.model.proofs.PrimitiveLaws.{ValidWord, arithmetic-valid, primitive-law}
 use Rattle.plain.specs.State.{Frame}
@@ -53,7 +53,7 @@ frame-kept o o′ r x b f g =
 pub worlds : (room : Room) → Worlds room
 unfolding storeWord
 worlds room o r c b =
-    record { least = let l = least r in omega arith; self = record { extends = extends-refl o; right = r; contents = c; bodies = b }; keeps = λ o′ a x f g. frame-kept o o′ r (a .extends) x f g; tables = λ o′ a m t. table-same (a .extends) r m t; sizes = λ o′ a m t. ap (λ (k : ℕ). 6 + k) (frame-same (a .extends) r m t); grows = λ o′ a w v. valid-grows (a .extends) w v; fieldValid = field-valid r; literalValid = λ m i t l. method-facts r m t .literals i l; classValid = class-valid r; fields = receiver-fields r; lookupMethod = lookup-method r; lookupCount = λ s k m n e t. held-count o s m n (held o s k m e) t; arguments = λ m t. method-facts r m t .arguments; runs = λ m t. method-facts r m t .sound; computes = λ k v w x e. subst (ValidWord o) e (arithmetic-valid r k v w); stores = store; performs = λ k n w arguments v o′ vw va e p. let q = primitive-law room k n w v arguments r e vw va p in (record { extends = q .extends; right = q .right; contents = q .contents c; bodies = q .bodies b }, q .valid) }
+    record { least = let l = least r in omega arith; self = record { extends = extends-refl o; right = r; contents = c; bodies = b }; keeps = λ o′ a x f g. frame-kept o o′ r (a .extends) x f g; tables = λ o′ a m t. table-same (a .extends) r m t; sizes = λ o′ a m t. ap (λ (k : ℕ). 6 + k) (frame-same (a .extends) r m t); grows = λ o′ a w v. valid-grows (a .extends) w v; fieldValid = λ w i t. field-valid r w i (and-left (isKind o fieldsKind w) (ltb i (size o (w / 2))) t) (ltb→lt i (size o (w / 2)) (and-right (isKind o fieldsKind w) (ltb i (size o (w / 2))) t)); literalValid = λ m i t l. method-facts r m t .literals i l; classValid = class-valid r; fields = λ w h i v t l. let q = receiver-fields r w h i v t l in and-both (isKind o fieldsKind w) (ltb i (size o (w / 2))) (q .0) (lt→ltb i (size o (w / 2)) (q .1)); lookupMethod = λ s k m e. lookup-facts r s k m e .method; lookupCount = λ s k m n e t. lookup-facts r s k m e .counts n t; arguments = λ m t. method-facts r m t .arguments; runs = λ m t. method-facts r m t .sound; computes = λ k v w x e. subst (ValidWord o) e (arithmetic-valid r k v w); stores = store; performs = λ k n w arguments v o′ vw va e p. let q = primitive-law room k n w v arguments r e vw va p in (record { extends = q .extends; right = q .right; contents = q .contents c; bodies = q .bodies b }, q .valid) }
   where
     store : (w i v : ℕ) → T (isKind o fieldsKind w && ltb i (size o (objectNumber w))) → T (isValid (o .n) v) → After room o (storeWord o (objectNumber w) i v)
     store w i v t u =
