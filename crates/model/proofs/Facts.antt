@@ -19,17 +19,9 @@ use Rattle.model.specs.Method.{header, home, literal, flag, temporaryCou
 use Rattle.model.specs.Lookup.{endsWithin}
 use Rattle.model.specs.Depth.{isSome}
 use Rattle.model.specs.Rules.{sizesFine, startFine, paddingFine, layoutRules, rule4, wordsFine, rule5, fits, entryFine, pairFine, dictionaryFine, classRules, knownObjectRules, objectFine, rule6, takesCount, methodTable, extensionFine, methodRules, dictionaryMethodsFine, rule7}
+pub use Rattle.model.specs.Rules.{Right}
 use Rattle.model.proofs.ChainLaws.{Named, named}
 use Rattle.model.proofs.Parts.{_also_, implying, or-left, or-right, length-part, part-at}
-
-pub record Right (e : ℕ) (o : Objects) : Type 0 where
-  pub contents : length (o .contents) ≡ entryWords * o .n
-  pub bodies : length (o .bodies) ≡ o .b
-  pub sizes : T (sizesFine e (o .n) (o .b))
-  pub rule-4 : T (rule4 e o)
-  pub rule-5 : T (rule5 e o)
-  pub rule-6 : T (rule6 e o)
-  pub rule-7 : T (rule7 e o)
 
 -- Words: the name of an object, a valid word
 pub naming : (o : Objects) (k w : ℕ) → Named o k w → T (isKind o k w)

@@ -17,6 +17,10 @@ pub record Objects : Type 0 where
   pub contents : List ℕ
   pub bodies : List ℕ
 
+-- The objects in buffers that may be longer
+abbrev pub objectsAt : ℕ → ℕ → List ℕ → List ℕ → Objects
+objectsAt n b contents bodies = record { n = n; b = b; contents = take (entryWords * n) contents; bodies = take b bodies }
+
 -- Word i of the entry of object k: class, kind, start, size. Objects are numbered from 1.
 abbrev pub entryWord : Objects → ℕ → ℕ → ℕ
 entryWord o k i = getD (o .contents) (entryWords * (k - 1) + i) 0

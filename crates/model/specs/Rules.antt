@@ -1,10 +1,12 @@
 -- The rules of an image, by the number that a breach of them gets (01, "Image", "Code" and "From the input"). Each is a test of the
 -- objects; `e` is the edition.
 use Prim.Native.Nat.{ℕ, _+_, _-_, _*_, _/_, _%_}
+use mathlib.Core.Path.{_≡_}
 use mathlib.Core.Bool.{Bool, true, false, _&&_, _||_, not}
 use mathlib.Core.List.{List, [], _∷_}
 use mathlib.Core.Option.{Option}
-use lib.Dec.{leb, ltb, eqb}
+use lib.Dec.{T, leb, ltb, eqb}
+use lib.ListN.{length}
 use Rattle.bytecode.specs.Test.{if_then_else_, upTo, below, every, implies, allOf}
 use Rattle.bytecode.specs.Constant.{nilWord}
 use Rattle.bytecode.specs.Effect.{specialCount}
@@ -12,7 +14,7 @@ use Rattle.bytecode.specs.declared.Place.{Place}
 use Rattle.bytecode.specs.declared.Place.the-variants.{Field, Temporary, Literal, LiteralVariable}
 use Rattle.bytecode.specs.declared.Instruction.{Instruction}
 use Rattle.bytecode.specs.declared.Instruction.the-variants.{Push, Store, PopStore, PushSelf, PushConstant, ReturnSelf, ReturnConstant, ReturnTop, Pop, Duplicate, Jump, JumpOn, Send, SuperSend, SpecialSend, Unused}
-use Rattle.model.specs.Limits.{isEdition, leastObjects, mostObjects, mostBodyWords, fieldsKind, bytesKind, classKind, listKind, methodKind, lastKind, fixedForm, indexedForm, bytesForm, otherForm, lastForm, classWords, mostFields, nilObject, falseObject, trueObject, integerClassObject, selectorsObject, specialSelectors, fieldFlag, primitiveFlag}
+use Rattle.model.specs.Limits.{isEdition, entryWords, leastObjects, mostObjects, mostBodyWords, fieldsKind, bytesKind, classKind, listKind, methodKind, lastKind, fixedForm, indexedForm, bytesForm, otherForm, lastForm, classWords, mostFields, nilObject, falseObject, trueObject, integerClassObject, selectorsObject, specialSelectors, fieldFlag, primitiveFlag}
 use Rattle.model.specs.Word.{isInteger, isNatural, isValid, pointer, objectNumber, integerClass}
 use Rattle.model.specs.Objects.{Objects, classWord, kind, start, size, sizedInBytes, bodyWords, bodyEnd, bodyWord, bodyOf, isKind, isNilOr, superclassWord, dictionaryWord, fieldsWord, formWord, fieldCount, form, pairCount, pairSelector, pairMethod}
 use Rattle.model.specs.Method.{header, home, literal, flag, temporaryCount, literalCount, codeWords, codeSize, frameWords, extension, argumentCount, runsCode}
@@ -211,3 +213,13 @@ rule7 e o =
 unfoldable pub rule8 : Objects → ℕ → ℕ → List ℕ → Bool
 rule8 o receiver selector arguments =
     isValid (o .n) receiver && (isKind o bytesKind selector && every (isValid (o .n)) arguments)
+
+-- Objects that meet the rules 2 and 4 to 7, in lists of their own lengths
+pub record Right (e : ℕ) (o : Objects) : Type 0 where
+  pub contents : length (o .contents) ≡ entryWords * o .n
+  pub bodies : length (o .bodies) ≡ o .b
+  pub sizes : T (sizesFine e (o .n) (o .b))
+  pub rule-4 : T (rule4 e o)
+  pub rule-5 : T (rule5 e o)
+  pub rule-6 : T (rule6 e o)
+  pub rule-7 : T (rule7 e o)

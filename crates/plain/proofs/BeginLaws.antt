@@ -69,10 +69,10 @@ module _ (room : Room) (worlds : Worlds room) (p : Plain) (r : PlainRight room p
     activated-begins m k c entered a =
         if-cases (BeginGoes room p) (fitsStack (room .stack) 0 (frameSize o m)) _ _
         (λ q.
-          let f = new-right (After room) room p world m receiver arguments k v va c (a .0) (a .1) 0 in
-          let g : FramesRight o (room .stack) true 0 (newFrame o 0 m receiver arguments ∷ []) = unfold newFrame in (f, fits (room .stack) 0 (frameSize o m) (true→T q), refl, refl) in
-          let e : Shape (room .stack) (withFrames p (newFrame o 0 m receiver arguments ∷ []) running 0 0) = runs refl refl g in
-          record { right = record { image = r .image; contents = r .contents; bodies = r .bodies; starts = r .starts; stands = goes e }; extends = extends-refl o; shape = e; bottom = refl })
+        let f = new-right (After room) room p world m receiver arguments k v va c (a .0) (a .1) 0 in
+        let g : FramesRight o (room .stack) true 0 (newFrame o 0 m receiver arguments ∷ []) = unfold newFrame in (f, fits (room .stack) 0 (frameSize o m) (true→T q), refl, refl) in
+        let e : Shape (room .stack) (withFrames p (newFrame o 0 m receiver arguments ∷ []) running 0 0) = runs refl refl g in
+        record { right = record { image = r .image; contents = r .contents; bodies = r .bodies; starts = r .starts; stands = goes e }; extends = extends-refl o; shape = e; bottom = refl })
         (λ q. record { not-3 = λ z. omega arith; not-11 = λ z. omega arith })
     activated-begins m k c unfit a = record { not-3 = λ z. omega arith; not-11 = λ z. omega arith }
 
@@ -81,8 +81,8 @@ module _ (room : Room) (worlds : Worlds room) (p : Plain) (r : PlainRight room p
     found-begins selector (Method m) e =
         if-cases (BeginGoes room p) (eqb (argumentCount o (m .0)) (length arguments)) _ _
         (λ q.
-          let c = eqb-true (argumentCount o (m .0)) (length arguments) q in
-          activated-begins (m .0) (world .lookupMethod selector (classOf o receiver) (m .0) e) c (activate room o (m .0) receiver arguments) (activates (After room) room p world (m .0) receiver arguments v va c))
+        let c = eqb-true (argumentCount o (m .0)) (length arguments) q in
+        activated-begins (m .0) (world .lookupMethod selector (classOf o receiver) (m .0) e) c (activate room o (m .0) receiver arguments) (activates (After room) room p world (m .0) receiver arguments v va c))
         (λ q. record { not-3 = λ z. omega arith; not-11 = λ z. omega arith })
 
   pub begins : (receiver selector : ℕ) (arguments : List ℕ) → BeginGoes room p (begin room p receiver selector arguments)
@@ -90,10 +90,11 @@ module _ (room : Room) (worlds : Worlds room) (p : Plain) (r : PlainRight room p
   begins receiver selector arguments =
       if-cases (BeginGoes room p) (eqb (p .registers .phase) running) _ _ (λ q. record { not-3 = λ z. omega arith; not-11 = λ z. omega arith })
       (λ q. if-cases (BeginGoes room p) (rule8 o receiver selector arguments) _ _
-        (λ e. let t = words (true→T e) in found-begins receiver arguments (t .0) (t .1) selector (lookup o selector (classOf o receiver)) refl)
-        (λ e. record { not-3 = λ z. omega arith; not-11 = λ z. omega arith }))
+      (λ e. let t = words (true→T e) in found-begins receiver arguments (t .0) (t .1) selector (lookup o selector (classOf o receiver)) refl)
+      (λ e. record { not-3 = λ z. omega arith; not-11 = λ z. omega arith }))
     where
       words : T (rule8 o receiver selector arguments) → T (isValid (o .n) receiver) × Valid (o .n) arguments
-      words t = unfold rule8 in
-          (and-left (isValid (o .n) receiver) (isKind o bytesKind selector && every (isValid (o .n)) arguments) t,
-          and-right (isKind o bytesKind selector) (every (isValid (o .n)) arguments) (and-right (isValid (o .n) receiver) (isKind o bytesKind selector && every (isValid (o .n)) arguments) t))
+      words t = unfold rule8 in (
+        and-left (isValid (o .n) receiver) (isKind o bytesKind selector && every (isValid (o .n)) arguments) t,
+        and-right (isKind o bytesKind selector) (every (isValid (o .n)) arguments) (and-right (isValid (o .n) receiver) (isKind o bytesKind selector && every (isValid (o .n)) arguments) t),
+      )

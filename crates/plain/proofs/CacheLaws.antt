@@ -125,7 +125,7 @@ unfolding cacheFine entryFine
 cache-kept o o′ same cache t =
     at-below cacheEntries (entryAt o′ cache)
     (λ i h. subst (λ (f : Found). T (emptyOr (eqb (getD cache (3 * i) 0) 0 && (eqb (getD cache (3 * i + 1) 0) 0 && eqb (getD cache (3 * i + 2) 0) 0)) (finds f (getD cache (3 * i + 2) 0))))
-      (sym (same (getD cache (3 * i) 0) (getD cache (3 * i + 1) 0))) (below-at cacheEntries (entryAt o cache) t i h))
+    (sym (same (getD cache (3 * i) 0) (getD cache (3 * i + 1) 0))) (below-at cacheEntries (entryAt o cache) t i h))
 
 pub length-filled : (cache : List ℕ) (l : Looked) → length (filled cache l) ≡ length cache
 unfolding filled

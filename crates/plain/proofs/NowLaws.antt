@@ -58,20 +58,20 @@ decoded-fine b x y =
     (λ p. if-cases Fine (ltb b 96) _ _ (λ p. tt) (λ p. if-cases Fine (ltb b 104) _ _ (λ p. tt) (λ p. tt))))))
     (λ e. let least = ltb-false b 112 e in if-cases Fine (ltb b 128) _ _
     (λ p. if-cases Fine (eqb b 112) _ _ (λ q. tt)
-      (λ q. if-cases Fine (ltb b 120) _ _
-        (λ r. let n = eqb-false b 112 q in let m = ltb-true b 120 r in constant-valid (b % 8) (omega arith) (omega arith))
-        (λ r. if-cases Fine (eqb b 120) _ _ (λ s. tt)
-          (λ s. if-cases Fine (ltb b 124) _ _
-            (λ u. let n = eqb-false b 120 s in let m = ltb-false b 120 r in let k = ltb-true b 124 u in constant-valid (b % 4) (omega arith) (omega arith))
-            (λ u. if-cases Fine (eqb b 124) _ _ (λ v. tt) (λ v. tt))))))
+    (λ q. if-cases Fine (ltb b 120) _ _
+    (λ r. let n = eqb-false b 112 q in let m = ltb-true b 120 r in constant-valid (b % 8) (omega arith) (omega arith))
+    (λ r. if-cases Fine (eqb b 120) _ _ (λ s. tt)
+    (λ s. if-cases Fine (ltb b 124) _ _
+    (λ u. let n = eqb-false b 120 s in let m = ltb-false b 120 r in let k = ltb-true b 124 u in constant-valid (b % 4) (omega arith) (omega arith))
+    (λ u. if-cases Fine (eqb b 124) _ _ (λ v. tt) (λ v. tt))))))
     (λ p. if-cases Fine (ltb b 144) _ _
-      (λ q. if-cases Fine (eqb b 128) _ _ (λ r. tt) (λ r. if-cases Fine (eqb b 129) _ _ (λ r. tt) (λ r. if-cases Fine (eqb b 130) _ _ (λ r. tt)
-        (λ r. if-cases Fine (eqb b 131) _ _ (λ r. tt) (λ r. if-cases Fine (eqb b 132) _ _ (λ r. tt) (λ r. if-cases Fine (eqb b 133) _ _ (λ r. tt)
-        (λ r. if-cases Fine (eqb b 134) _ _ (λ r. tt) (λ r. if-cases Fine (eqb b 135) _ _ (λ r. tt) (λ r. if-cases Fine (eqb b 136) _ _ (λ r. tt) (λ r. tt))))))))))
-      (λ q. if-cases Fine (ltb b 176) _ _
-        (λ r. if-cases Fine (ltb b 152) _ _ (λ u. tt) (λ u. if-cases Fine (ltb b 160) _ _ (λ u. tt) (λ u. if-cases Fine (ltb b 168) _ _ (λ u. tt)
-          (λ u. if-cases Fine (ltb b 172) _ _ (λ u. tt) (λ u. tt)))))
-        (λ r. if-cases Fine (ltb b 208) _ _ (λ u. tt) (λ u. tt)))))
+    (λ q. if-cases Fine (eqb b 128) _ _ (λ r. tt) (λ r. if-cases Fine (eqb b 129) _ _ (λ r. tt) (λ r. if-cases Fine (eqb b 130) _ _ (λ r. tt)
+    (λ r. if-cases Fine (eqb b 131) _ _ (λ r. tt) (λ r. if-cases Fine (eqb b 132) _ _ (λ r. tt) (λ r. if-cases Fine (eqb b 133) _ _ (λ r. tt)
+    (λ r. if-cases Fine (eqb b 134) _ _ (λ r. tt) (λ r. if-cases Fine (eqb b 135) _ _ (λ r. tt) (λ r. if-cases Fine (eqb b 136) _ _ (λ r. tt) (λ r. tt))))))))))
+    (λ q. if-cases Fine (ltb b 176) _ _
+    (λ r. if-cases Fine (ltb b 152) _ _ (λ u. tt) (λ u. if-cases Fine (ltb b 160) _ _ (λ u. tt) (λ u. if-cases Fine (ltb b 168) _ _ (λ u. tt)
+    (λ u. if-cases Fine (ltb b 172) _ _ (λ u. tt) (λ u. tt)))))
+    (λ r. if-cases Fine (ltb b 208) _ _ (λ u. tt) (λ u. tt)))))
 
 decode-fine : (words : List ℕ) (size p : ℕ) → Fine (decodeAt words size p)
 unfolding decodeAt

@@ -186,10 +186,10 @@ module _ (After : Objects → Objects → Type 0) (room : Room) (s : Plain) wher
         if-cases (Activates m receiver) (eqb (flag o m) receiverFlag) _ _ (λ e. (world .self, v))
         (λ n5. if-cases (Activates m receiver) (eqb (flag o m) fieldFlag) _ _ (λ e. field-answers m receiver (fieldOf o receiver (temporaryCount o m)) refl)
         (λ n6.
-          let code = runs-code 0 o m (borrow.Author.Tests.eqb-false (flag o m) receiverFlag n5) (borrow.Author.Tests.eqb-false (flag o m) fieldFlag n6) in
-          if-cases (Activates m receiver) (eqb (flag o m) primitiveFlag) _ _
-          (λ e. primitive-answers m receiver arguments v va c code (primitive room o (primitiveNumber o m) (argumentCount o m) receiver arguments) refl)
-          (λ e. enters m receiver code)))
+        let code = runs-code 0 o m (borrow.Author.Tests.eqb-false (flag o m) receiverFlag n5) (borrow.Author.Tests.eqb-false (flag o m) fieldFlag n6) in
+        if-cases (Activates m receiver) (eqb (flag o m) primitiveFlag) _ _
+        (λ e. primitive-answers m receiver arguments v va c code (primitive room o (primitiveNumber o m) (argumentCount o m) receiver arguments) refl)
+        (λ e. enters m receiver code)))
 
     -- the frame of a method that was found
     pub new-right : (m receiver : ℕ) (arguments : List ℕ) → T (isKind o methodKind m) → T (isValid (o .n) receiver) → Valid (o .n) arguments → argumentCount o m ≡ length arguments
@@ -382,7 +382,7 @@ module _ (After : Objects → Objects → Type 0) (room : Room) (s : Plain) wher
       framed-goes m receiver rn l k =
           if-cases Goes (fitsStack (room .stack) (s .registers .top + frameSize o (f .method)) (frameSize o m)) _ _
           (λ e.
-            (record { after = world .self; receiver = refl; selector = refl; shape = runs refl refl (rn, fits (room .stack) (s .registers .top + frameSize o (f .method)) (frameSize o m) (true→T e), refl, new-top o (room .stack) true false (s .registers .top) f f′ rest refl refl right′ fr) }, k))
+          (record { after = world .self; receiver = refl; selector = refl; shape = runs refl refl (rn, fits (room .stack) (s .registers .top + frameSize o (f .method)) (frameSize o m) (true→T e), refl, new-top o (room .stack) true false (s .registers .top) f f′ rest refl refl right′ fr) }, k))
           (λ e. tt)
 
       activated-goes : (selector class m receiver : ℕ) → lookup o selector class ≡ found m → argumentCount o m ≡ length arguments′ → T (isValid (o .n) receiver)
@@ -458,21 +458,21 @@ module _ (After : Objects → Objects → Type 0) (room : Room) (s : Plain) wher
     special-goes q k h e t =
         if-cases Goes (ltb k 16) _ _
         (λ a. let c = special-one k (ltb-true k 16 a) in
-          arithmetic-goes q k (omega arith) (e ∙ ap (λ (j : ℕ). suc (f .depth - suc j + 1)) c)
-          (subst (λ (j : ℕ). T (takesCount o (specialSelector o k) j)) c (send-count (specialSelector o k) (specialCount k) (sends-rule k (ltb-true k 16 a) t))))
+        arithmetic-goes q k (omega arith) (e ∙ ap (λ (j : ℕ). suc (f .depth - suc j + 1)) c)
+        (subst (λ (j : ℕ). T (takesCount o (specialSelector o k) j)) c (send-count (specialSelector o k) (specialCount k) (sends-rule k (ltb-true k 16 a) t))))
         (λ a. if-cases Goes (isSame k) _ _
-          (λ b. let c = same-count k (eqb-true k 22 b) in
-            let x = operand-finds o f r 1 (omega arith) in
-            let y = operand-finds o f r 0 (omega arith) in
-            goes-found (operand f 1) _ (x .0) (x .1) (goes-found (operand f 0) _ (y .0) (y .1)
-            (answer-goes q 2 (booleanWord (eqb (x .0) (y .0))) (omega arith) (e ∙ ap (λ (j : ℕ). suc (f .depth - suc j + 1)) c) (boolean-valid (eqb (x .0) (y .0))))))
-          (λ b. if-cases Goes (isClass k) _ _
-            (λ d. let c = class-count k (eqb-true k 23 d) in
-              let x = operand-finds o f r 0 (omega arith) in
-              goes-found (operand f 0) _ (x .0) (x .1)
-              (answer-goes q 1 (classOf o (x .0)) (omega arith) (e ∙ ap (λ (j : ℕ). suc (f .depth - suc j + 1)) c) (world .classValid (x .0) (x .2))))
-            (λ d. send-goes q (specialCount k) h e (classOf o) (specialSelector o k)
-              (send-count (specialSelector o k) (specialCount k) (neither (isSame k) (isClass k) (sendFine o (specialSelector o k) (specialCount k)) b d t)))))
+        (λ b. let c = same-count k (eqb-true k 22 b) in
+        let x = operand-finds o f r 1 (omega arith) in
+        let y = operand-finds o f r 0 (omega arith) in
+        goes-found (operand f 1) _ (x .0) (x .1) (goes-found (operand f 0) _ (y .0) (y .1)
+        (answer-goes q 2 (booleanWord (eqb (x .0) (y .0))) (omega arith) (e ∙ ap (λ (j : ℕ). suc (f .depth - suc j + 1)) c) (boolean-valid (eqb (x .0) (y .0))))))
+        (λ b. if-cases Goes (isClass k) _ _
+        (λ d. let c = class-count k (eqb-true k 23 d) in
+        let x = operand-finds o f r 0 (omega arith) in
+        goes-found (operand f 0) _ (x .0) (x .1)
+        (answer-goes q 1 (classOf o (x .0)) (omega arith) (e ∙ ap (λ (j : ℕ). suc (f .depth - suc j + 1)) c) (world .classValid (x .0) (x .2))))
+        (λ d. send-goes q (specialCount k) h e (classOf o) (specialSelector o k)
+        (send-count (specialSelector o k) (specialCount k) (neither (isSame k) (isClass k) (sendFine o (specialSelector o k) (specialCount k)) b d t)))))
       where
         same-count : (k : ℕ) → k ≡ 22 → specialCount k ≡ 1
         same-count k p = ap specialCount p ∙ special-same

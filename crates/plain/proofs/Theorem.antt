@@ -97,18 +97,20 @@ module _ (s : Flat) (right : FlatRight s) where
   -- a refused call
   refuses : (c : Call) (k : ℕ) → OwnNumber k → Ends c (refusedBy k) → Both c (gives (refusedBy k) s) (called (refusedBy k) p [])
   unfolding highestEnd number-of
-  refuses c k n e =
-      (record { answer = refl; state = refl; checks = right-check s right; lengths = refl; never3 = other-number (refusedBy k) 3 (n .not-3); never11 = other-number (refusedBy k) 11 (n .not-11); ends = e; reach = top-end room p (right .plain .stands); keeps = keeps (objects p) (objects p) (right .plain .image) (right .plain .image) (extends-refl (objects p)) },
-      (right, refl, refl))
+  refuses c k n e = (
+    record { answer = refl; state = refl; checks = right-check s right; lengths = refl; never3 = other-number (refusedBy k) 3 (n .not-3); never11 = other-number (refusedBy k) 11 (n .not-11); ends = e; reach = top-end room p (right .plain .stands); keeps = keeps (objects p) (objects p) (right .plain .image) (right .plain .image) (extends-refl (objects p)) },
+    (right, refl, refl),
+  )
 
   -- a call that leads to a right plain state, laid into the buffers
   leads : (c : Call) (a : Answer) (p′ : Plain) (ts : List Taken) (stack cache : List ℕ) → PlainRight room p′ → Extends (objects p) (objects p′) → Stood p′ stack
       → length stack ≡ length (s .stack) → length cache ≡ length (s .cache) → T (cacheFine (objects p′) cache) → a ≢ refusedBy 3 → a ≢ refusedBy 11 → Ends c a → highestEnd p ts ≤ room .stack
       → Both c (gives a (withPlain s p′ stack cache)) (called a p′ ts)
   leads c a p′ ts stack cache r x st ls lc t n3 n11 e h =
-      let f = flat-back s p′ stack cache r st ls lc (right .cacheLength) t in
-      (record { answer = refl; state = plain-back s p′ stack cache r st; checks = right-check (withPlain s p′ stack cache) f; lengths = room-back s p′ stack cache r st ls lc; never3 = n3; never11 = n11; ends = e; reach = h; keeps = keeps (objects p) (objects p′) (right .plain .image) (r .image) x },
-      (f, plain-back s p′ stack cache r st, room-back s p′ stack cache r st ls lc))
+      let f = flat-back s p′ stack cache r st ls lc (right .cacheLength) t in (
+        record { answer = refl; state = plain-back s p′ stack cache r st; checks = right-check (withPlain s p′ stack cache) f; lengths = room-back s p′ stack cache r st ls lc; never3 = n3; never11 = n11; ends = e; reach = h; keeps = keeps (objects p) (objects p′) (right .plain .image) (r .image) x },
+        (f, plain-back s p′ stack cache r st, room-back s p′ stack cache r st ls lc),
+      )
 
   -- begin
   begin-stood : (p′ : Plain) → BegunRight room p p′ → Stood p′ (laid (s .stack) 0 (p′ .frames))
@@ -148,9 +150,10 @@ module _ (s : Flat) (right : FlatRight s) where
   -- forget
   forget-agrees : Both forgetCall (gives done (record { registers = s .registers; contents = s .contents; bodies = s .bodies; stack = s .stack; cache = emptyCache })) (called done p [])
   unfolding plainOf highestEnd number-of
-  forget-agrees =
-      (record { answer = refl; state = refl; checks = right-check s₁ right₁; lengths = lengths₁; never3 = other-number done 3 (λ e. omega arith); never11 = other-number done 11 (λ e. omega arith); ends = refl; reach = top-end room p (right .plain .stands); keeps = keeps (objects p) (objects p) (right .plain .image) (right .plain .image) (extends-refl (objects p)) },
-      (right₁, refl, lengths₁))
+  forget-agrees = (
+    record { answer = refl; state = refl; checks = right-check s₁ right₁; lengths = lengths₁; never3 = other-number done 3 (λ e. omega arith); never11 = other-number done 11 (λ e. omega arith); ends = refl; reach = top-end room p (right .plain .stands); keeps = keeps (objects p) (objects p) (right .plain .image) (right .plain .image) (extends-refl (objects p)) },
+    (right₁, refl, lengths₁),
+  )
     where
       s₁ : Flat
       s₁ = record { registers = s .registers; contents = s .contents; bodies = s .bodies; stack = s .stack; cache = emptyCache }

@@ -5,7 +5,7 @@ use mathlib.Core.List.{List, [], _∷_}
 use lib.Dec.{eqb}
 use lib.ListN.{length, getD, take}
 use Rattle.model.specs.Limits.{entryWords, frameHeaderWords}
-use Rattle.model.specs.Objects.{Objects, part}
+use Rattle.model.specs.Objects.{Objects, objectsAt, part}
 use Rattle.model.specs.Method.{temporaryCount}
 use Rattle.model.specs.Image.{Room}
 use Rattle.plain.specs.Registers.{Registers, hasFrames}
@@ -22,11 +22,8 @@ abbrev pub roomOf : Flat → Room
 roomOf s = record { contents = length (s .contents); bodies = length (s .bodies); stack = length (s .stack); cache = length (s .cache) }
 
 -- The 4N and B words
-abbrev pub objectsOf : Registers → List ℕ → List ℕ → Objects
-objectsOf r contents bodies = record { n = r .n; b = r .b; contents = take (entryWords * r .n) contents; bodies = take (r .b) bodies }
-
 abbrev pub flatObjects : Flat → Objects
-flatObjects s = objectsOf (s .registers) (s .contents) (s .bodies)
+flatObjects s = objectsAt (s .registers .n) (s .registers .b) (s .contents) (s .bodies)
 
 -- The words of the frame at a base
 abbrev pub frameSender : List ℕ → ℕ → ℕ
