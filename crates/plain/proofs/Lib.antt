@@ -17,3 +17,4 @@ pub mod FlatLaws
 pub mod Worlds
 pub mod LoadLaws
 pub mod Theorem
+pub mod Consequences

@@ -14,7 +14,7 @@ use Rattle.model.specs.Image.{Room, accepted, loadVerdict}
 use Rattle.plain.specs.Registers.{running, finished, Cause, phaseOf}
 use Rattle.plain.specs.State.{Plain, objects}
 use Rattle.plain.specs.Calls.{loaded, Taken, Call, beginCall, runCall, dropCall, forgetCall, Answer, done, refusedBy, result, wrote, Called, called, impossible, call}
-use Rattle.plain.specs.Flat.{Flat, roomOf, plainOf}
+use Rattle.plain.specs.Flat.{Flat, roomOf, flatObjects, plainOf}
 use Rattle.plain.specs.Check.{check}
 use Rattle.plain.specs.FlatCalls.{Given, gives, noAnswer, highestEnd, flatLoad, flatCall}
 
@@ -80,3 +80,33 @@ pub record Loads (s : Flat) (image : List ℕ) (s₀ : Flat) : Type 0 where
 
 abbrev pub FromLoad : Type 0
 FromLoad = (s : Flat) (image : List ℕ) → loadVerdict (roomOf s) image ≡ accepted → (s₀ : Flat) × Loads s image s₀
+
+-- Consequences (proofs/Consequences.antt). Two flat machines: equal answers, and states that stand for the same plain state
+abbrev pub Alike : Given → Given → (Flat → Flat → Type 0) → Type 0
+Alike (gives a s) (gives a′ s′) rest = (a ≡ a′) × (plainOf s ≡ plainOf s′) × rest s s′
+Alike (gives a s) noAnswer rest = ⊥
+Alike noAnswer (gives a s) rest = ⊥
+Alike noAnswer noAnswer rest = ⊥
+
+unfoldable pub Same : List Call → Flat → Flat → Type 0
+Same [] s s′ = Unit {0}
+Same (c ∷ cs) s s′ = Alike (flatCall s c) (flatCall s′ c) (λ t t′. Same cs t t′)
+
+-- Machines that load the same image into buffers of the same lengths give the same answers and come to the same states on the same
+-- calls, whatever their buffers held before.
+abbrev pub Consoles : Type 0
+Consoles =
+    (s s′ : Flat) (image : List ℕ) → roomOf s ≡ roomOf s′ → loadVerdict (roomOf s) image ≡ accepted
+    → (t t′ : Flat) × (flatLoad s image ≡ gives done t) × (flatLoad s′ image ≡ gives done t′) × ((cs : List Call) → Same cs t t′)
+
+-- Over a whole list of calls no word of a class, list or method changes, and N and B never shrink.
+abbrev pub nextState : Flat → Given → Flat
+nextState s (gives a s′) = s′
+nextState s noAnswer = s
+
+unfoldable pub lastState : Flat → List Call → Flat
+lastState s [] = s
+lastState s (c ∷ cs) = lastState (nextState s (flatCall s c)) cs
+
+abbrev pub KeepsAll : Type 0
+KeepsAll = (s : Flat) → check s ≡ accepted → (cs : List Call) → Keeps (flatObjects s) (flatObjects (lastState s cs))

@@ -1,0 +1,81 @@
+-- What follows from the theorem: consoles agree, and handlers change no code.
+use Prim.Native.Nat.{ℕ, _+_, _/_, _≤_, _<_}
+use mathlib.Core.Path.{_≡_, refl, sym, ap, ap₂, _∙_, subst}
+use mathlib.Core.Bool.{Bool}
+use mathlib.Core.List.{List, [], _∷_}
+use native.Mathlib.Omega.{arith}
+use Rattle.bytecode.specs.Test.{if_then_else_}
+use Rattle.model.specs.Limits.{entryWords, classKind}
+use Rattle.model.specs.Objects.{Objects, kind, bodyWords, sizedInBytes}
+use Rattle.model.specs.Image.{Room, accepted, loadVerdict}
+use Rattle.plain.specs.State.{Plain, objects}
+use Rattle.plain.specs.Calls.{loaded, Call, Answer, Called, called, impossible, call}
+use Rattle.plain.specs.Flat.{Flat, roomOf, flatObjects, plainOf}
+use Rattle.plain.specs.Check.{check}
+use Rattle.plain.specs.FlatCalls.{Given, gives, noAnswer, flatCall}
+use Rattle.plain.specs.CallLists.{Keeps, Agreed, Together, Agrees, Alike, Same, Consoles, nextState, lastState, KeepsAll}
+use Rattle.plain.proofs.Theorem.{from-checked, from-load}
+
+-- two flat machines that agree with one plain machine are alike
+alike : (room : Room) (c : Call) (cs : List Call) (p : Plain) (g g′ : Given) (h : Called) → ((s s′ : Flat) (p′ : Plain) → Agrees room cs s p′ → Agrees room cs s′ p′ → Same cs s s′)
+    → Together room c p g h (Agrees room cs) → Together room c p g′ h (Agrees room cs) → Alike g g′ (Same cs)
+alike room c cs p (gives a s) (gives a′ s′) (called x q ts) again t t′ =
+    (t .0 .answer ∙ sym (t′ .0 .answer), t .0 .state ∙ sym (t′ .0 .state), again s s′ q (t .1) (t′ .1))
+alike room c cs p (gives a s) (gives a′ s′) impossible again t t′ = absurd t
+alike room c cs p (gives a s) noAnswer (called x q ts) again t t′ = absurd t′
+alike room c cs p (gives a s) noAnswer impossible again t t′ = absurd t
+alike room c cs p noAnswer (gives a′ s′) (called x q ts) again t t′ = absurd t
+alike room c cs p noAnswer (gives a′ s′) impossible again t t′ = absurd t
+alike room c cs p noAnswer noAnswer (called x q ts) again t t′ = absurd t
+alike room c cs p noAnswer noAnswer impossible again t t′ = absurd t
+
+same : (room : Room) (cs : List Call) (s s′ : Flat) (p : Plain) → Agrees room cs s p → Agrees room cs s′ p → Same cs s s′
+unfolding Agrees Same
+same room [] s s′ p a b = tt
+same room (c ∷ cs) s s′ p a b = alike room c cs p (flatCall s c) (flatCall s′ c) (call room p c) (λ t t′ q x y. same room cs t t′ q x y) a b
+
+pub consoles : Consoles
+consoles s s′ image e a =
+    let l = from-load s image a in
+    let l′ = from-load s′ image (subst (λ (r : Room). loadVerdict r image ≡ accepted) e a) in (
+      l .0,
+      l′ .0,
+      l .1 .gave,
+      l′ .1 .gave,
+      λ cs. same (roomOf s) cs (l .0) (l′ .0) (loaded image) (l .1 .agrees cs) (subst (λ (r : Room). Agrees r cs (l′ .0) (loaded image)) (sym e) (l′ .1 .agrees cs)),
+    )
+
+-- ---- what is kept
+
+keeps-refl : (o : Objects) → Keeps o o
+keeps-refl o = record { objects = omega arith; words = omega arith; entries = λ k i a b c. refl; bodies = λ k i a b c d. refl }
+
+body-words : (o o′ : Objects) → Keeps o o′ → (k : ℕ) → 1 ≤ k → k ≤ o .n → bodyWords o′ k ≡ bodyWords o k
+unfolding bodyWords
+body-words o o′ x k a b =
+    ap₂ (λ (kd sz : ℕ). if sizedInBytes kd then (sz + 1) / 2 else sz) (x .entries k 1 a b (omega arith)) (x .entries k 3 a b (omega arith))
+
+keeps-trans : (o o′ o″ : Objects) → Keeps o o′ → Keeps o′ o″ → Keeps o o″
+keeps-trans o o′ o″ x y =
+    record { objects = let a = x .objects in let b = y .objects in omega arith; words = let a = x .words in let b = y .words in omega arith; entries = λ k i a b c. y .entries k i a (let d = x .objects in omega arith) c ∙ x .entries k i a b c; bodies = λ k i a b c d. y .bodies k i a (let e = x .objects in omega arith) (subst (λ (z : ℕ). classKind ≤ z) (sym (x .entries k 1 a b (omega arith))) c) (subst (λ (z : ℕ). i < z) (sym (body-words o o′ x k a b)) d) ∙ x .bodies k i a b c d }
+
+kept-next : (room : Room) (c : Call) (cs : List Call) (s : Flat) (g : Given) (h : Called)
+    → ((s′ : Flat) (p′ : Plain) → plainOf s′ ≡ p′ → Agrees room cs s′ p′ → Keeps (flatObjects s′) (flatObjects (lastState s′ cs)))
+    → Together room c (plainOf s) g h (Agrees room cs) → Keeps (flatObjects s) (flatObjects (lastState (nextState s g) cs))
+unfolding plainOf
+kept-next room c cs s (gives a s′) (called x p′ ts) again t =
+    keeps-trans (flatObjects s) (flatObjects s′) (flatObjects (lastState s′ cs))
+    (subst (λ (q : Plain). Keeps (flatObjects s) (objects q)) (sym (t .0 .state)) (t .0 .keeps)) (again s′ p′ (t .0 .state) (t .1))
+kept-next room c cs s (gives a s′) impossible again t = absurd t
+kept-next room c cs s noAnswer (called x p′ ts) again t = absurd t
+kept-next room c cs s noAnswer impossible again t = absurd t
+
+keeps-list : (room : Room) (cs : List Call) (s : Flat) (p : Plain) → plainOf s ≡ p → Agrees room cs s p → Keeps (flatObjects s) (flatObjects (lastState s cs))
+unfolding Agrees lastState
+keeps-list room [] s p e a = keeps-refl (flatObjects s)
+keeps-list room (c ∷ cs) s p e a =
+    kept-next room c cs s (flatCall s c) (call room (plainOf s) c) (λ s′ p′ q x. keeps-list room cs s′ p′ q x)
+    (subst (λ (q : Plain). Together room c q (flatCall s c) (call room q c) (Agrees room cs)) (sym e) a)
+
+pub keeps-all : KeepsAll
+keeps-all s e cs = keeps-list (roomOf s) cs s (plainOf s) refl (from-checked s e cs)
