@@ -1,0 +1,1 @@
+// The image rules of methods (refusal 7).
