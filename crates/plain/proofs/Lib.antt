@@ -18,3 +18,4 @@ pub mod Worlds
 pub mod LoadLaws
 pub mod Theorem
 pub mod Consequences
+pub mod WriteLaws
