@@ -42,9 +42,9 @@ module _ (o : Objects) where
   at-takes s n f =
       at-upTo (o .n) (λ j. implies (eqb (kind o j) classKind) (below (pairCount o (dictionaryWord o (pointer j))) (inPair s n (pointer j))))
       (λ j a b. implying (eqb (kind o j) classKind) (below (pairCount o (dictionaryWord o (pointer j))) (inPair s n (pointer j)))
-        (λ q. at-below (pairCount o (dictionaryWord o (pointer j))) (inPair s n (pointer j))
-          (λ i l. implying (eqb (pairSelector o (dictionaryWord o (pointer j)) i) s) (eqb (argumentCount o (pairMethod o (dictionaryWord o (pointer j)) i)) n)
-            (λ p. true→T (eq-eqb (argumentCount o (pairMethod o (dictionaryWord o (pointer j)) i)) n (f (pointer j) i (is-class j a b q) l (eqb→eq (pairSelector o (dictionaryWord o (pointer j)) i) s p)))))))
+      (λ q. at-below (pairCount o (dictionaryWord o (pointer j))) (inPair s n (pointer j))
+      (λ i l. implying (eqb (pairSelector o (dictionaryWord o (pointer j)) i) s) (eqb (argumentCount o (pairMethod o (dictionaryWord o (pointer j)) i)) n)
+      (λ p. true→T (eq-eqb (argumentCount o (pairMethod o (dictionaryWord o (pointer j)) i)) n (f (pointer j) i (is-class j a b q) l (eqb→eq (pairSelector o (dictionaryWord o (pointer j)) i) s p)))))))
     where
       is-class : (j : ℕ) → 1 ≤ j → j ≤ o .n → T (eqb (kind o j) classKind) → T (isKind o classKind (pointer j))
       is-class j a b q = subst (λ (k : ℕ). T (isKind o k (pointer j))) (eqb→eq (kind o j) classKind q) (naming o (kind o j) (pointer j) (named-pointer o j a b))

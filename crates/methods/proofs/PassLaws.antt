@@ -56,10 +56,10 @@ module _ (e : ℕ) (o : Objects) where
       let c = and-right (upTo (o .n) (holderFine o)) (upTo (o .n) (codeFine o)) u in
       at-upTo (o .n) seven
       (λ k a b. and-both (implies (eqb (kind o k) methodKind) (allOf (methodRules e o (pointer k)))) (implies (eqb (kind o k) classKind) (dictionaryMethodsFine o (pointer k)))
-        (implying (eqb (kind o k) methodKind) (allOf (methodRules e o (pointer k)))
-          (λ q. shape-method (pointer k) (implied (eqb (kind o k) methodKind) (allOf (shapeRules o (pointer k))) (upTo-at (o .n) (shapeFine o) s k a b) q)
-            (implied (eqb (kind o k) methodKind) (implies (runsCode o (pointer k)) (isSome (methodTable o (pointer k)))) (upTo-at (o .n) (codeFine o) c k a b) q)))
-        (upTo-at (o .n) (holderFine o) h k a b))
+      (implying (eqb (kind o k) methodKind) (allOf (methodRules e o (pointer k)))
+      (λ q. shape-method (pointer k) (implied (eqb (kind o k) methodKind) (allOf (shapeRules o (pointer k))) (upTo-at (o .n) (shapeFine o) s k a b) q)
+      (implied (eqb (kind o k) methodKind) (implies (runsCode o (pointer k)) (isSome (methodTable o (pointer k)))) (upTo-at (o .n) (codeFine o) c k a b) q)))
+      (upTo-at (o .n) (holderFine o) h k a b))
 
   pub passes : rule7 e o ≡ (shapes o && (holders o && codes o))
   passes = same-test (rule7 e o) (shapes o && (holders o && codes o)) to-passes of-passes

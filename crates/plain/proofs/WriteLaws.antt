@@ -287,10 +287,10 @@ module _ (o : Objects) (stack : List ℕ) (t left : ℕ) (f : Frame) (rest : Lis
       (getD-set-same (set stack (t + 1) q) (t + 2) k 0 (subst (λ (n : ℕ). t + 2 < n) (sym (length-set stack (t + 1) q)) (omega arith)) ∙ sym lk)
       (λ j y. other-two stack (t + 1) (t + 2) (t + (6 + j)) q k (λ e. omega arith) (λ e. omega arith) ∙ temporary-here o stack t f true top-here r j (omega arith))
       (λ j y. other-two stack (t + 1) (t + 2) (t + (6 + (length (f .temporaries) + j))) q k (λ e. omega arith) (λ e. omega arith)
-        ∙ subst (λ (x : ℕ). getD stack (t + (6 + (x + j))) 0 ≡ getD (f .operands) j 0) (sym a) (operand-here o stack t f true top-here r j (omega arith))
-        ∙ sym (getD-take k (f .operands) j 0 (omega arith)))
+      ∙ subst (λ (x : ℕ). getD stack (t + (6 + (x + j))) 0 ≡ getD (f .operands) j 0) (sym a) (operand-here o stack t f true top-here r j (omega arith))
+      ∙ sym (getD-take k (f .operands) j 0 (omega arith)))
       (λ i y. other-two stack (t + 1) (t + 2) i q k (λ e. omega arith) (λ e. omega arith))
-    where
+
   -- One operand is written above the first k: three words.
   pub pushed-writes : (q k w : ℕ) → k ≤ f .depth → tc + k < Rattle.model.specs.Method.frameWords o (f .method)
       → laid stack t (movedTo f q (take k (f .operands) ++ (w ∷ [])) ∷ rest) ≡ set (set (set stack (t + (6 + (tc + k))) w) (t + 1) q) (t + 2) (suc k)
