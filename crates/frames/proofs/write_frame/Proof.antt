@@ -1,0 +1,92 @@
+use mathlib.Core.List.{List, [], _∷_, _++_}
+use Rattle.frames.proofs.SetsLaws.{sets-append}
+use Prim.Native.Nat.{ℕ, _≤_, _-_, _+_}
+use mathlib.Core.Path.{_≡_, refl, sym, ap, ap₂, _∙_}
+use native.Mathlib.Omega.{arith}
+use lib.ListN.{length, length-set, take, set, replicate}
+use lib.Seq.{sets, length-sets, length-take-le}
+use borrow.Author.Needs.{needs}
+use Rattle.frames.proofs.write_frame.Statement.{statement}
+use Rattle.frames.proofs.write_frame.Tie as tie
+use Rattle.frames.proofs.write_frame.Reads as reads
+use Rattle.frames.proofs.write_frame.Lts as lts
+use Rattle.frames.proofs.copy_arguments.Reads as copy-arguments-reads
+use Rattle.frames.proofs.fill_nil.Reads as fill-nil-reads
+
+long : (l l′ : List ℕ) (sender method receiver : ℕ) (ws : List ℕ) → l′ ≡ sets (sets l 0 (sender ∷ 0 ∷ 0 ∷ method ∷ 0 ∷ receiver ∷ [])) 6 ws → length l′ ≡ length l
+long l l′ sender method receiver ws e =
+    ap length e ∙ length-sets (sets l 0 (sender ∷ 0 ∷ 0 ∷ method ∷ 0 ∷ receiver ∷ [])) 6 ws ∙ length-sets l 0 (sender ∷ 0 ∷ 0 ∷ method ∷ 0 ∷ receiver ∷ [])
+
+finish : (l arguments : List ℕ) (count temporaries : ℕ) → count ≤ length arguments
+    → sets l 6 (take count arguments ++ replicate (temporaries - length (take count arguments)) 2) ≡ sets (sets l 6 (take count arguments)) (6 + count) (replicate (temporaries - count) 2)
+finish l arguments count temporaries h =
+    sets-append (take count arguments) (replicate (temporaries - length (take count arguments)) 2) l 6
+    ∙ ap (λ (k : ℕ). sets (sets l 6 (take count arguments)) (6 + k) (replicate (temporaries - k) 2)) (length-take-le count arguments h)
+
+-- src/lib.rt:42:16
+cast-words : tie.Need-cast-words
+cast-words c = search needs
+
+-- src/lib.rt:42:5
+slice-write-words : tie.Need-slice-write-words
+slice-write-words c = search needs
+
+-- src/lib.rt:43:5
+slice-write-words-2 : tie.Need-slice-write-words-2
+slice-write-words-2 c = simp length-set (omega arith)
+
+-- src/lib.rt:44:5
+slice-write-words-3 : tie.Need-slice-write-words-3
+slice-write-words-3 c = simp length-set (omega arith)
+
+-- src/lib.rt:45:5
+slice-write-words-4 : tie.Need-slice-write-words-4
+slice-write-words-4 c = simp length-set (omega arith)
+
+-- src/lib.rt:46:5
+slice-write-words-5 : tie.Need-slice-write-words-5
+slice-write-words-5 c = simp length-set (omega arith)
+
+-- src/lib.rt:47:5
+slice-write-words-6 : tie.Need-slice-write-words-6
+slice-write-words-6 c = simp length-set (omega arith)
+
+-- src/lib.rt:48:5
+copy-arguments-requires : tie.Need-copy-arguments-requires
+copy-arguments-requires c κs = (simp length-set (omega arith), omega arith)
+
+-- src/lib.rt:49:5
+fill-nil-requires : tie.Need-fill-nil-requires
+fill-nil-requires c κs = (
+  omega arith,
+  omega (arith, long (c .before .before .before .before .before .before .before .args .words .now) (c .before .before .before .copy-arguments .last .0) (c .before .before .before .before .before .before .before .args .sender .0) (c .before .before .before .before .before .before .before .args .method .0) (c .before .before .before .before .before .before .before .args .receiver) (take (c .before .before .before .before .before .before .before .args .count) (c .before .before .before .before .before .before .before .args .arguments .now)) (c .before .before .before .copy-arguments .ensures)),
+)
+
+-- src/lib.rt:36:1
+same-length : tie.Need-same-length
+same-length c =
+    ap length (c .before .before .fill-nil .ensures) ∙ length-sets (c .before .before .before .before .before .before .copy-arguments .last .0) (6 + c .before .before .before .before .before .before .before .before .before .before .args .count) (replicate {A = ℕ} (c .before .before .before .before .before .before .before .before .before .before .args .temporaries - c .before .before .before .before .before .before .before .before .before .before .args .count) 2)
+    ∙ long (c .before .before .before .before .before .before .before .before .before .before .args .words .now) (c .before .before .before .before .before .before .copy-arguments .last .0) (c .before .before .before .before .before .before .before .before .before .before .args .sender .0) (c .before .before .before .before .before .before .before .before .before .before .args .method .0) (c .before .before .before .before .before .before .before .before .before .before .args .receiver) (take (c .before .before .before .before .before .before .before .before .before .before .args .count) (c .before .before .before .before .before .before .before .before .before .before .args .arguments .now)) (c .before .before .before .before .before .before .copy-arguments .ensures)
+
+-- src/lib.rt:36:1
+returns : tie.Need-returns
+returns c =
+    c .before .before .fill-nil .ensures
+    ∙ ap (λ (l : List ℕ). sets l (6 + c .before .before .before .before .before .before .before .before .before .before .args .count) (replicate {A = ℕ} (c .before .before .before .before .before .before .before .before .before .before .args .temporaries - c .before .before .before .before .before .before .before .before .before .before .args .count) 2)) (c .before .before .before .before .before .before .copy-arguments .ensures)
+    ∙ sym (finish (set (set (set (set (set (set (c .before .before .before .before .before .before .before .before .before .before .args .words .now) 0 (c .before .before .before .before .before .before .before .before .before .before .args .sender .0)) 1 0) 2 0) 3 (c .before .before .before .before .before .before .before .before .before .before .args .method .0)) 4 0) 5 (c .before .before .before .before .before .before .before .before .before .before .args .receiver)) (c .before .before .before .before .before .before .before .before .before .before .args .arguments .now) (c .before .before .before .before .before .before .before .before .before .before .args .count) (c .before .before .before .before .before .before .before .before .before .before .args .temporaries) (omega arith))
+
+pub write-frame-spec : {M : Type 1} → statement M
+write-frame-spec =
+    tie.close
+    (tie.spec
+    cast-words
+    slice-write-words
+    slice-write-words-2
+    slice-write-words-3
+    slice-write-words-4
+    slice-write-words-5
+    slice-write-words-6
+    copy-arguments-requires
+    fill-nil-requires
+    same-length
+    returns)

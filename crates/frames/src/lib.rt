@@ -1,0 +1,58 @@
+// Frames in the stack: the words that sends, pushes, pops and returns write.
+ghost use mathlib.Core.Path.{_≡_};
+ghost use Prim.Native.Nat.{_+_, _-_, _≤_, _<_};
+ghost use lib.ListN.{length, set, take, replicate};
+ghost use lib.Seq.{sets};
+ghost use Rattle.bytecode.specs.Constant.{nilWord};
+ghost use Rattle.frames.specs.Words.{newWords};
+use model::Pointer;
+use model::StackPosition;
+
+// The arguments, as the first temporaries of the frame whose words are lent.
+fn copy_arguments(words: &mut [u16], count: usize, arguments: &[u16])
+    requires { ⌜ (6 + count ≤ length (now words)) × (count ≤ length (now arguments)) ⌝ }
+    ensures { λ r. ⌜ now (words .exit) ≡ sets (now (words .entry)) 6 (take count (now (arguments .entry))) ⌝ }
+{
+    let mut i = 0;
+    while i < count {
+        words[6 + i] = arguments[i];
+        i += 1;
+    }
+}
+
+// nil in the temporaries from one on.
+fn fill_nil(words: &mut [u16], from: usize, temporaries: usize)
+    requires { ⌜ (from ≤ temporaries) × (6 + temporaries ≤ length (now words)) ⌝ }
+    ensures { λ r. ⌜ now (words .exit) ≡ sets (now (words .entry)) (6 + from) (replicate (temporaries - from) nilWord) ⌝ }
+{
+    let mut i = from;
+    while i < temporaries {
+        words[6 + i] = 2;
+        i += 1;
+    }
+}
+
+// The words of a new frame, lent as the part of the stack from its base: six words, the arguments, nil in the other temporaries.
+pub fn write_frame(
+    words: &mut [u16],
+    sender: StackPosition,
+    method: Pointer,
+    receiver: u16,
+    temporaries: usize,
+    count: usize,
+    arguments: &[u16],
+)
+    requires { ⌜ (6 + temporaries ≤ length (now words)) × (count ≤ temporaries) × (count ≤ length (now arguments)) × (sender .0 < 65536) ⌝ }
+    ensures { λ r. ⌜ now (words .exit) ≡ sets (now (words .entry)) 0 (newWords (sender .0) (method .0) receiver temporaries (take count (now (arguments .entry)))) ⌝ }
+{
+    let base = sender.0;
+    let pointer = method.0;
+    words[0] = base as u16;
+    words[1] = 0;
+    words[2] = 0;
+    words[3] = pointer;
+    words[4] = 0;
+    words[5] = receiver;
+    copy_arguments(words, count, arguments);
+    fill_nil(words, count, temporaries);
+}
