@@ -1,0 +1,31 @@
+-- What is settled of the lent words before the image rules are asked (01, "From the input", 2 and 3), and names for parts of the rules.
+use Prim.Native.Nat.{ℕ, _-_, _*_, _≤_}
+use mathlib.Core.Bool.{Bool}
+use mathlib.Core.List.{List, []}
+use lib.Dec.{eqb}
+use lib.ListN.{length}
+use Rattle.bytecode.specs.Test.{if_then_else_}
+use Rattle.model.specs.Limits.{entryWords, leastObjects, mostObjects, mostBodyWords}
+use Rattle.model.specs.Objects.{Objects, objectsAt, bodyEnd}
+
+-- n objects and b body words, in range, and the buffers hold them
+pub record Lent (n b : ℕ) (contents bodies : List ℕ) : Type 0 where
+  pub entries : entryWords * n ≤ length contents
+  pub words : b ≤ length bodies
+  pub least : leastObjects 1 ≤ n
+  pub most : n ≤ mostObjects
+  pub most-words : b ≤ mostBodyWords
+
+-- object k of a lent table of contents
+pub record Entry (n k : ℕ) (contents : List ℕ) : Type 0 where
+  pub entries : entryWords * n ≤ length contents
+  pub least : 1 ≤ k
+  pub most : k ≤ n
+
+-- The entries alone: class, kind, start and size do not depend on the bodies.
+abbrev pub entriesAt : ℕ → List ℕ → Objects
+entriesAt n contents = objectsAt n 0 contents []
+
+-- where the body of object k has to start
+unfoldable pub startOf : Objects → ℕ → ℕ
+startOf o k = if eqb k 1 then 0 else bodyEnd o (k - 1)
