@@ -1,0 +1,124 @@
+-- Words of bytes and bytes of words: what stands where, and that each undoes the other.
+use Prim.Native.Nat.{ℕ, zero, suc, _+_, _*_, _/_, _%_, _≤_, _<_}
+use mathlib.Core.Path.{_≡_, refl, sym, ap, ap₂, _∙_}
+use mathlib.Core.List.{List, [], _∷_, _++_}
+use native.Mathlib.Omega.{arith}
+use native.Mathlib.Numerals.{add-one}
+use lib.ListN.{length, getD, take, drop, set, replicate, length-drop, List·getD-eq-default}
+use borrow.Author.Fill.{fill-more}
+use lib.Seq.{sets, take-suc, length-take-le, getD-drop}
+use Rattle.model.specs.Objects.{part}
+use Rattle.model.specs.Image.{wordsOf, bytesOf}
+
+two : (i : ℕ) → 2 * suc i ≡ suc (suc (2 * i))
+two i = omega arith
+
+two-one : (i : ℕ) → 2 * suc i + 1 ≡ suc (suc (2 * i + 1))
+two-one i = omega arith
+
+-- a last single byte makes no word
+pub length-words : (bs : List ℕ) → length (wordsOf bs) ≡ length bs / 2
+unfolding wordsOf
+length-words [] = refl
+length-words (x ∷ []) = refl
+length-words (x ∷ y ∷ bs) = let h = length-words bs in omega arith
+
+pub words-inside : (bs : List ℕ) (i : ℕ) → 2 * i + 1 < length bs → getD (wordsOf bs) i 0 ≡ getD bs (2 * i) 0 * 256 + getD bs (2 * i + 1) 0
+unfolding wordsOf
+words-inside [] i h = absurd (omega arith)
+words-inside (x ∷ []) i h = absurd (omega arith)
+words-inside (x ∷ y ∷ bs) zero h = refl
+words-inside (x ∷ y ∷ bs) (suc i) h =
+    words-inside bs i (omega arith) ∙ sym (ap₂ (λ (a b : ℕ). getD (x ∷ y ∷ bs) a 0 * 256 + getD (x ∷ y ∷ bs) b 0) (two i) (two-one i))
+
+pub words-outside : (bs : List ℕ) (i : ℕ) → length bs ≤ 2 * i + 1 → getD (wordsOf bs) i 0 ≡ 0
+words-outside bs i h = let l = length-words bs in List·getD-eq-default (wordsOf bs) 0 (omega arith)
+
+pub length-bytes : (ws : List ℕ) → length (bytesOf ws) ≡ 2 * length ws
+unfolding bytesOf
+length-bytes [] = refl
+length-bytes (w ∷ ws) = let h = length-bytes ws in omega arith
+
+pub bytes-append : (vs ws : List ℕ) → bytesOf (vs ++ ws) ≡ bytesOf vs ++ bytesOf ws
+unfolding bytesOf
+bytes-append [] ws = refl
+bytes-append (v ∷ vs) ws = ap (λ (l : List ℕ). (v / 256) ∷ (v % 256) ∷ l) (bytes-append vs ws)
+
+-- Each undoes the other: for every word, and for whole words of bytes.
+pub words-bytes : (ws : List ℕ) → wordsOf (bytesOf ws) ≡ ws
+unfolding wordsOf bytesOf
+words-bytes [] = refl
+words-bytes (w ∷ ws) = ap₂ _∷_ (whole w) (words-bytes ws)
+  where
+    whole : (w : ℕ) → w / 256 * 256 + w % 256 ≡ w
+    whole w = omega arith
+
+pub bytes-words : (bs : List ℕ) → length bs % 2 ≡ 0 → ((i : ℕ) → i < length bs → getD bs i 0 < 256) → bytesOf (wordsOf bs) ≡ bs
+unfolding wordsOf bytesOf
+bytes-words [] e h = refl
+bytes-words (x ∷ []) e h = absurd (omega arith)
+bytes-words (x ∷ y ∷ bs) e h =
+    let a : x < 256 = h 0 (omega arith) in
+    let b : y < 256 = h 1 (omega arith) in
+    ap₂ (λ (u v : ℕ). u ∷ v ∷ bytesOf (wordsOf bs)) (high x y b) (low x y b)
+    ∙ ap (λ (l : List ℕ). x ∷ y ∷ l) (bytes-words bs (omega arith) (λ i l. h (suc (suc i)) (omega arith)))
+  where
+    high : (x y : ℕ) → y < 256 → (x * 256 + y) / 256 ≡ x
+    high x y l = omega arith
+
+    low : (x y : ℕ) → y < 256 → (x * 256 + y) % 256 ≡ y
+    low x y l = omega arith
+
+-- Stores one after the other
+pub sets-append : (l : List ℕ) (i : ℕ) (vs ws : List ℕ) → sets l i (vs ++ ws) ≡ sets (sets l i vs) (i + length vs) ws
+sets-append l i [] ws = ap (λ (k : ℕ). sets l k ws) (there i)
+  where
+    there : (i : ℕ) → i ≡ i + 0
+    there i = omega arith
+sets-append l i (v ∷ vs) ws = sets-append (set l i v) (suc i) vs ws ∙ ap (λ (k : ℕ). sets (sets (set l i v) (suc i) vs) k ws) (there i (length vs))
+  where
+    there : (i k : ℕ) → suc i + k ≡ i + suc k
+    there i k = omega arith
+
+-- one more word behind those that stand
+pub put-next : (l : List ℕ) (at i : ℕ) (ws : List ℕ) → i < length ws
+    → sets (sets l (2 * at) (bytesOf (take i ws))) (2 * (at + i)) (bytesOf (getD ws i 0 ∷ [])) ≡ sets l (2 * at) (bytesOf (take (i + 1) ws))
+put-next l at i ws h =
+    ap (λ (k : ℕ). sets (sets l (2 * at) (bytesOf (take i ws))) k (bytesOf (getD ws i 0 ∷ []))) there
+    ∙ sym (sets-append l (2 * at) (bytesOf (take i ws)) (bytesOf (getD ws i 0 ∷ [])))
+    ∙ ap (sets l (2 * at)) (sym (bytes-append (take i ws) (getD ws i 0 ∷ [])) ∙ ap bytesOf (sym (take-suc ws i 0 h) ∙ ap (λ (k : ℕ). take k ws) (sym (add-one i))))
+  where
+    there : 2 * (at + i) ≡ 2 * at + length (bytesOf (take i ws))
+    there = let a = length-bytes (take i ws) in let b = length-take-le i ws (omega arith) in omega arith
+
+-- One more word of a copy at the front
+front-next : (s d : List ℕ) (i : ℕ) → i < length d → i < length s → set (take i s ++ drop i d) i (getD s i 0) ≡ take (suc i) s ++ drop (suc i) d
+front-next [] d i h g = absurd (omega arith)
+front-next (x ∷ s) [] i h g = absurd (omega arith)
+front-next (x ∷ s) (y ∷ d) zero h g = refl
+front-next (x ∷ s) (y ∷ d) (suc i) h g = ap (λ (l : List ℕ). x ∷ l) (front-next s d i (omega arith) (omega arith))
+
+pub copy-next : (bs old words : List ℕ) (from i w : ℕ) → 2 * (from + i) + 1 < length bs → i < length old → w ≡ getD (wordsOf bs) (from + i) 0
+    → words ≡ part (wordsOf bs) from i ++ drop i old → set words i w ≡ part (wordsOf bs) from (i + 1) ++ drop (i + 1) old
+copy-next bs old words from i w h g e p =
+    let a = length-words bs in
+    let b = length-drop from (wordsOf bs) in
+    ap₂ (λ (l : List ℕ) (v : ℕ). set l i v) p (e ∙ sym (getD-drop from (wordsOf bs) i 0))
+    ∙ front-next (drop from (wordsOf bs)) old i g (omega arith)
+    ∙ ap (λ (k : ℕ). part (wordsOf bs) from k ++ drop k old) (sym (add-one i))
+
+pub clear-next : (old words : List ℕ) (i : ℕ) → i < length old → words ≡ replicate i 0 ++ drop i old → set words i 0 ≡ replicate (i + 1) 0 ++ drop (i + 1) old
+clear-next old words i h p = ap (λ (l : List ℕ). set l i 0) p ∙ fill-more i 0 old h
+
+-- What a function that stores a word leaves, after those before it
+pub put-more : (l out next : List ℕ) (at i : ℕ) (ws : List ℕ) → i < length ws → out ≡ sets l (2 * at) (bytesOf (take i ws))
+    → next ≡ sets out (2 * (at + i)) (bytesOf (getD ws i 0 ∷ [])) → next ≡ sets l (2 * at) (bytesOf (take (i + 1) ws))
+put-more l out next at i ws h p q =
+    q ∙ ap (λ (o : List ℕ). sets o (2 * (at + i)) (bytesOf (getD ws i 0 ∷ []))) p ∙ put-next l at i ws h
+
+pub put-five : (l l1 l2 l3 l4 l5 : List ℕ) (a b c d e : ℕ) → l1 ≡ sets l 0 (bytesOf (a ∷ [])) → l2 ≡ sets l1 2 (bytesOf (b ∷ [])) → l3 ≡ sets l2 4 (bytesOf (c ∷ []))
+    → l4 ≡ sets l3 6 (bytesOf (d ∷ [])) → l5 ≡ sets l4 8 (bytesOf (e ∷ [])) → l5 ≡ sets l 0 (bytesOf (a ∷ b ∷ c ∷ d ∷ e ∷ []))
+unfolding bytesOf
+put-five l l1 l2 l3 l4 l5 a b c d e p q r s t =
+    t ∙ ap (λ (o : List ℕ). sets o 8 (bytesOf (e ∷ []))) (s ∙ ap (λ (o : List ℕ). sets o 6 (bytesOf (d ∷ [])))
+    (r ∙ ap (λ (o : List ℕ). sets o 4 (bytesOf (c ∷ []))) (q ∙ ap (λ (o : List ℕ). sets o 2 (bytesOf (b ∷ []))) p)))

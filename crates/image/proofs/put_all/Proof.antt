@@ -1,0 +1,64 @@
+-- The bytes of the first i words are stored.
+use Rattle.image.proofs.Words.{put-more}
+use Prim.Native.Nat.{_*_, _-_, _≤_}
+use mathlib.Core.Path.{_≡_, refl, _∙_}
+use native.Mathlib.Omega.{arith}
+use lib.ListN.{length, take}
+use lib.Seq.{sets}
+use Rattle.model.specs.Image.{bytesOf}
+use Rattle.image.proofs.put_all.Statement.{statement}
+use Rattle.image.proofs.put_all.Tie as tie
+
+abbrev Inv-loop : tie.InvT-loop
+Inv-loop words count at output₀ i₀ output i = (i ≤ count) × (output ≡ sets output₀ (2 * at) (bytesOf (take i words))) × (length output ≡ length output₀)
+
+abbrev μ-loop : tie.MeasureT-loop
+μ-loop words count at output₀ i₀ output i = count - i
+
+loop-holds : tie.Need-loop-holds Inv-loop μ-loop
+unfolding bytesOf
+loop-holds c = (omega arith, refl, refl)
+
+add-put : tie.Need-add-put Inv-loop μ-loop
+add-put c = omega arith
+
+mul-put : tie.Need-mul-put Inv-loop μ-loop
+mul-put c = omega arith
+
+shared-slice-read-put : tie.Need-shared-slice-read-put Inv-loop μ-loop
+shared-slice-read-put c = omega arith
+
+put-requires : tie.Need-put-requires Inv-loop μ-loop
+put-requires c κs = omega arith
+
+add-i : tie.Need-add-i Inv-loop μ-loop
+add-i c = omega arith
+
+loop-less : tie.Need-loop-less Inv-loop μ-loop
+loop-less c = omega arith
+
+loop-again : tie.Need-loop-again Inv-loop μ-loop
+loop-again c = (omega arith, put-more (c .before .before .before .before .before .before .before .before .before .args .output .now) (c .before .before .before .before .before .before .loop .output) _ (c .before .before .before .before .before .before .before .before .before .args .at) (c .before .before .before .before .before .before .loop .i) (c .before .before .before .before .before .before .before .before .before .args .words .now) (omega arith) (c .before .before .before .before .before .before .loop .inv .1) (c .before .before .put .ensures), c .before .before .put .kept .0 ∙ c .before .before .before .before .before .before .loop .inv .2)
+
+same-length : tie.Need-same-length Inv-loop μ-loop
+same-length c = c .before .loop .inv .2
+
+returns : tie.Need-returns Inv-loop μ-loop
+returns c = let e : c .before .loop .i ≡ c .before .before .before .before .args .count = omega arith in rw e at (c .before .loop .inv .1)
+
+pub put-all-spec : {M : Type 1} → statement M
+put-all-spec =
+    tie.close
+    (tie.spec
+    Inv-loop
+    μ-loop
+    loop-holds
+    add-put
+    mul-put
+    shared-slice-read-put
+    put-requires
+    add-i
+    loop-less
+    loop-again
+    same-length
+    returns)

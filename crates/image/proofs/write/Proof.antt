@@ -1,0 +1,50 @@
+-- Header, contents and bodies, one behind the other.
+use Rattle.image.proofs.RoundTrip.{put-image}
+use borrow.Author.Needs.{needs}
+use Rattle.image.proofs.write.Statement.{statement}
+use Rattle.image.proofs.write.Tie as tie
+
+cast-n : tie.Need-cast-n
+cast-n c = search needs
+
+cast-b : tie.Need-cast-b
+cast-b c = search needs
+
+put-header-requires : tie.Need-put-header-requires
+put-header-requires c κs = search needs
+
+mul-put-all : tie.Need-mul-put-all
+mul-put-all c = search needs
+
+put-all-requires : tie.Need-put-all-requires
+put-all-requires c κs = search needs
+
+mul-put-all-2 : tie.Need-mul-put-all-2
+mul-put-all-2 c = search needs
+
+add-put-all : tie.Need-add-put-all
+add-put-all c = search needs
+
+put-all-requires-2 : tie.Need-put-all-requires-2
+put-all-requires-2 c κs = search needs
+
+same-length : tie.Need-same-length
+same-length c = search needs
+
+returns : tie.Need-returns
+returns c = put-image _ _ _ _ _ _ _ (c .before .before .before .before .before .before .before .before .before .before .before .before .before .before .before .before .before .pre .0) (c .before .before .before .before .before .before .before .before .before .before .before .before .before .before .before .before .before .pre .1) (c .before .before .before .before .before .before .before .before .before .before .before .before .before .before .before .before .before .pre .2) (c .before .before .before .before .before .before .before .before .before .before .put-header .ensures) (c .before .before .before .before .before .before .put-all .ensures) (c .before .before .put-all2 .ensures)
+
+pub write-spec : {M : Type 1} → statement M
+write-spec =
+    tie.close
+    (tie.spec
+    cast-n
+    cast-b
+    put-header-requires
+    mul-put-all
+    put-all-requires
+    mul-put-all-2
+    add-put-all
+    put-all-requires-2
+    same-length
+    returns)
