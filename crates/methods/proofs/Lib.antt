@@ -1,3 +1,4 @@
 pub mod PassLaws
 pub mod CountLaws
 pub mod HeaderLaws
+pub mod HolderLaws
