@@ -2,3 +2,4 @@ pub mod PassLaws
 pub mod CountLaws
 pub mod HeaderLaws
 pub mod HolderLaws
+pub mod AskedLaws

@@ -1,10 +1,14 @@
 -- A word that names an object of the lent contents
-use Prim.Native.Nat.{ℕ, _/_, _≤_}
+use Prim.Native.Nat.{ℕ, _/_, _≤_, _<_}
 use mathlib.Core.List.{List}
 use lib.Dec.{T}
-use Rattle.model.specs.Objects.{objectsAt}
+use lib.ListN.{length}
+use Rattle.model.specs.Limits.{classKind}
+use Rattle.model.specs.Word.{objectNumber}
+use Rattle.model.specs.Objects.{objectsAt, isKind, dictionaryWord, pairCount}
 use Rattle.model.specs.Rules.{rule4, rule5, rule6}
 use Rattle.rules.specs.Lent.{Lent}
+use Rattle.methods.specs.Counts.{Counting}
 
 pub record Named (n b w : ℕ) (contents bodies : List ℕ) : Type 0 where
   pub lent : Lent n b contents bodies
@@ -17,3 +21,18 @@ pub record Ready (n b : ℕ) (contents bodies : List ℕ) : Type 0 where
   pub layout : T (rule4 1 (objectsAt n b contents bodies))
   pub words : T (rule5 1 (objectsAt n b contents bodies))
   pub classes : T (rule6 1 (objectsAt n b contents bodies))
+
+-- What the loops over dictionaries ask: counts so far, in a list over all object numbers
+pub record ClassAsked (n b : ℕ) (contents bodies : List ℕ) (class : ℕ) (counts : List ℕ) : Type 0 where
+  pub ready : Ready n b contents bodies
+  pub isClass : T (isKind (objectsAt n b contents bodies) classKind class)
+  pub long : n < length counts
+  pub so-far : Counting (objectsAt n b contents bodies) counts (objectNumber class) 0
+
+pub record PairAsked (n b : ℕ) (contents bodies : List ℕ) (class i : ℕ) (counts : List ℕ) : Type 0 where
+  pub ready : Ready n b contents bodies
+  pub isClass : T (isKind (objectsAt n b contents bodies) classKind class)
+  pub long : n < length counts
+  pub inside : i < pairCount (objectsAt n b contents bodies) (dictionaryWord (objectsAt n b contents bodies) class)
+  pub low : i < 32768
+  pub so-far : Counting (objectsAt n b contents bodies) counts (objectNumber class) i

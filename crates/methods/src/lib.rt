@@ -10,7 +10,8 @@ ghost use Rattle.model.specs.Word.{isValid};
 ghost use Rattle.model.specs.Objects.{Objects, objectsAt, bodyWord, fieldCount};
 ghost use Rattle.model.specs.Method.{header, home, literal, flag, temporaryCount, literalCount, extension, argumentCount};
 ghost use Rattle.model.specs.Rules.{extensionFine};
-ghost use Rattle.methods.specs.Named.{Named};
+ghost use Rattle.methods.specs.Named.{Named, ClassAsked, PairAsked};
+ghost use Rattle.methods.specs.Counts.{Noted, Turned};
 ghost use Rattle.methods.specs.Passes.{shapeRules};
 
 // Word i of the body of an object.
@@ -57,4 +58,54 @@ pub fn argument_count(contents: &[u16], bodies: &[u16], n: usize, b: usize, m: u
         return extension_of(contents, bodies, n, b, m, literals) / 512 % 32;
     }
     0
+}
+
+// The count under a selector: noted where there is none, else compared.
+fn note_count(counts: &mut [u8], j: usize, note: u8) -> bool
+    requires { ⌜ j < length (now counts) ⌝ }
+    ensures { λ r. ⌜ Noted (now (counts .entry)) j note (now (counts .exit)) r ⌝ }
+{
+    let old = counts[j];
+    if old == 0 {
+        counts[j] = note;
+        return true;
+    }
+    if old == note {
+        counts[j] = note;
+        return true;
+    }
+    false
+}
+
+// Pair i of a class's dictionary: its method names the class as home and takes the count of its selector.
+fn count_pair(contents: &[u16], bodies: &[u16], n: usize, b: usize, class: u16, i: usize, counts: &mut [u8]) -> bool
+    requires { ⌜ PairAsked n b (now contents) (now bodies) class i (now counts) ⌝ }
+    ensures { λ r. ⌜ Turned (objectsAt n b (now (contents .entry)) (now (bodies .entry))) (class / 2) (i + 1) (now (counts .exit)) r ⌝ }
+{
+    let d = body_word(contents, bodies, n, b, class, 1);
+    let s = body_word(contents, bodies, n, b, d, 2 * i);
+    let m = body_word(contents, bodies, n, b, d, 2 * i + 1);
+    let home = body_word(contents, bodies, n, b, m, 1);
+    if home != class {
+        return false;
+    }
+    let count = argument_count(contents, bodies, n, b, m);
+    note_count(counts, (s / 2) as usize, (count + 1) as u8)
+}
+
+// All pairs of a class's dictionary.
+fn count_class(contents: &[u16], bodies: &[u16], n: usize, b: usize, class: u16, counts: &mut [u8]) -> bool
+    requires { ⌜ ClassAsked n b (now contents) (now bodies) class (now counts) ⌝ }
+    ensures { λ r. ⌜ Turned (objectsAt n b (now (contents .entry)) (now (bodies .entry))) (class / 2 + 1) 0 (now (counts .exit)) r ⌝ }
+{
+    let d = body_word(contents, bodies, n, b, class, 1);
+    let pairs = (rules::size(contents, n, (d / 2) as usize) / 2) as usize;
+    let mut i = 0;
+    while i < pairs {
+        if !count_pair(contents, bodies, n, b, class, i, counts) {
+            return false;
+        }
+        i += 1;
+    }
+    true
 }

@@ -1,0 +1,95 @@
+-- The objects that counting reads are there.
+use Prim.Native.Nat.{ℕ, _+_, _*_, _/_, _%_, _≤_, _<_}
+use mathlib.Core.Path.{_≡_, refl, sym, ap, _∙_, subst}
+use mathlib.Core.Bool.{Bool, true, false}
+use mathlib.Core.List.{List}
+use native.Mathlib.Omega.{arith}
+use lib.Dec.{T}
+use lib.ListN.{length}
+use Rattle.model.specs.Limits.{bytesKind, classKind, listKind, methodKind}
+use Rattle.model.specs.Word.{objectNumber}
+use Rattle.model.specs.Objects.{Objects, objectsAt, bodyWord, size, isKind, dictionaryWord, pairCount, pairSelector, pairMethod}
+use Rattle.model.specs.Method.{home, argumentCount}
+use Rattle.model.proofs.ChainLaws as C
+use Rattle.methods.specs.Named.{Named, Ready, ClassAsked, PairAsked}
+use Rattle.methods.specs.Counts.{Counting, Turned, Noted}
+use Rattle.methods.proofs.HolderLaws.{class-at, pair-at, wrong-home, wrong-count, right-count, next-class}
+
+module _ (n b : ℕ) (contents bodies : List ℕ) (ready : Ready n b contents bodies) where
+  abbrev o : Objects
+  o = objectsAt n b contents bodies
+
+  pub kind-named : (k w : ℕ) → T (isKind o k w) → Named n b w contents bodies
+  kind-named k w t = let h = C.named o k w t in record { lent = ready .lent; least = h .least; most = h .most }
+
+  module _ (class : ℕ) (isC : T (isKind o classKind class)) where
+    pub dictionary-named : (d : ℕ) → d ≡ dictionaryWord o class → Named n b d contents bodies
+    dictionary-named d e = subst (λ (x : ℕ). Named n b x contents bodies) (sym e) (kind-named listKind (dictionaryWord o class) (class-at o (ready .classes) class isC .dictionary))
+
+    module _ (i : ℕ) (l : i < pairCount o (dictionaryWord o class)) where
+      pub method-named : (m : ℕ) → m ≡ pairMethod o (dictionaryWord o class) i → Named n b m contents bodies
+      method-named m e = subst (λ (x : ℕ). Named n b x contents bodies) (sym e) (kind-named methodKind (pairMethod o (dictionaryWord o class) i) (pair-at o (ready .classes) class i isC l .method))
+
+      pub selector-most : (s : ℕ) → s ≡ pairSelector o (dictionaryWord o class) i → s / 2 ≤ n
+      selector-most s e =
+          subst (λ (x : ℕ). x / 2 ≤ n) (sym e) (C.named o bytesKind (pairSelector o (dictionaryWord o class) i) (pair-at o (ready .classes) class i isC l .selector) .most)
+
+-- One pair, from the words that were read: d the dictionary, s the selector, m the method, h its home
+module _ (n b : ℕ) (contents bodies : List ℕ) (class i : ℕ) (counts : List ℕ) (p : PairAsked n b contents bodies class i counts) (d m h : ℕ)
+    (ed : d ≡ dictionaryWord (objectsAt n b contents bodies) class) (em : m ≡ bodyWord (objectsAt n b contents bodies) (d / 2) (2 * i + 1)) (eh : h ≡ bodyWord (objectsAt n b contents bodies) (m / 2) 1) where
+  abbrev o′ : Objects
+  o′ = objectsAt n b contents bodies
+
+  method-is : m ≡ pairMethod o′ (dictionaryWord o′ class) i
+  method-is = em ∙ ap (λ (x : ℕ). bodyWord o′ (x / 2) (2 * i + 1)) ed
+
+  home-is : h ≡ home o′ (pairMethod o′ (dictionaryWord o′ class) i)
+  home-is = eh ∙ ap (λ (x : ℕ). bodyWord o′ (x / 2) 1) method-is
+
+  pub pair-no : (counts′ : List ℕ) → (h ≡ class → ⊥) → Turned o′ (class / 2) (i + 1) counts′ false
+  unfolding Turned
+  pair-no counts′ f = wrong-home o′ (p .ready .classes) counts (class / 2) i (p .so-far) class (p .isClass) refl (p .inside) (p .long) (λ e. f (home-is ∙ e))
+
+  pub pair-turned : (s count : ℕ) → s ≡ bodyWord o′ (d / 2) (2 * i) → h ≡ class → count ≡ argumentCount o′ m → (counts′ : List ℕ) (r : Bool) → Noted counts (s / 2) (count + 1) counts′ r
+      → Turned o′ (class / 2) (i + 1) counts′ r
+  pair-turned s count es f ec counts′ r t = go r (subst (λ (x : ℕ). Noted counts x (argumentCount o′ (pairMethod o′ (dictionaryWord o′ class) i) + 1) counts′ r) (ap (λ (x : ℕ). x / 2) selector-is) (subst (λ (x : ℕ). Noted counts (s / 2) (x + 1) counts′ r) (ec ∙ ap (argumentCount o′) method-is) t))
+    where
+      selector-is : s ≡ pairSelector o′ (dictionaryWord o′ class) i
+      selector-is = es ∙ ap (λ (x : ℕ). bodyWord o′ (x / 2) (2 * i)) ed
+
+      go : (r : Bool) → Noted counts (pairSelector o′ (dictionaryWord o′ class) i / 2) (argumentCount o′ (pairMethod o′ (dictionaryWord o′ class) i) + 1) counts′ r → Turned o′ (class / 2) (i + 1) counts′ r
+      go true x = right-count o′ (p .ready .classes) counts (class / 2) i (p .so-far) class (p .isClass) refl (p .inside) (p .long) (sym home-is ∙ f) counts′ x
+      go false x = wrong-count o′ (p .ready .classes) counts (class / 2) i (p .so-far) class (p .isClass) refl (p .inside) (p .long) counts′ x
+
+-- the loop over the pairs of a class
+pub pair-asked : (n b : ℕ) (contents bodies : List ℕ) (class : ℕ) (counts₀ : List ℕ) → ClassAsked n b contents bodies class counts₀ → (d z : ℕ) → d ≡ dictionaryWord (objectsAt n b contents bodies) class
+    → z ≡ size (objectsAt n b contents bodies) (d / 2) → z < 65536 → (counts : List ℕ) (i : ℕ) → length counts ≡ length counts₀ → Counting (objectsAt n b contents bodies) counts (class / 2) i → i < z / 2
+    → PairAsked n b contents bodies class i counts
+pair-asked n b contents bodies class counts₀ p d z ed ez hz counts i l w h =
+    record { ready = p .ready; isClass = p .isClass; long = let x = p .long in omega arith; inside = subst (λ (x : ℕ). i < size (objectsAt n b contents bodies) (x / 2) / 2) ed (subst (λ (x : ℕ). i < x / 2) ez h); low = omega arith; so-far = w }
+
+pub class-no : (o : Objects) (k i k′ i′ : ℕ) (counts counts′ : List ℕ) → Turned o k i counts false → Turned o k′ i′ counts′ false
+unfolding Turned
+class-no o k i k′ i′ counts counts′ t = t
+
+pub turned-on : (o : Objects) (k i : ℕ) (counts : List ℕ) (r : Bool) → r ≡ true → Turned o k i counts r → Counting o counts k i
+unfolding Turned
+turned-on o k i counts r e t = go r e t
+  where
+    go : (x : Bool) → x ≡ true → Turned o k i counts x → Counting o counts k i
+    go true q y = y
+    go false q y = absurd (subst T (sym q) tt)
+
+pub class-done : (n b : ℕ) (contents bodies : List ℕ) (class : ℕ) (counts₀ : List ℕ) → ClassAsked n b contents bodies class counts₀ → (d z : ℕ) → d ≡ dictionaryWord (objectsAt n b contents bodies) class
+    → z ≡ size (objectsAt n b contents bodies) (d / 2) → (counts : List ℕ) (i : ℕ) → Counting (objectsAt n b contents bodies) counts (class / 2) i → z / 2 ≤ i
+    → Turned (objectsAt n b contents bodies) (class / 2 + 1) 0 counts true
+unfolding Turned
+class-done n b contents bodies class counts₀ p d z ed ez counts i w h =
+    next-class (objectsAt n b contents bodies) counts (class / 2) i w
+    (λ c j a e l.
+      let x = C.named (objectsAt n b contents bodies) classKind c a .even in
+      let y = C.named (objectsAt n b contents bodies) classKind class (p .isClass) .even in
+      let q : c ≡ class = omega arith in
+      let u : j < size (objectsAt n b contents bodies) (dictionaryWord (objectsAt n b contents bodies) class / 2) / 2 = subst (λ (v : ℕ). j < pairCount (objectsAt n b contents bodies) (dictionaryWord (objectsAt n b contents bodies) v)) q l in
+      let v : j < z / 2 = subst (λ (t : ℕ). j < t / 2) (sym ez) (subst (λ (t : ℕ). j < size (objectsAt n b contents bodies) (t / 2) / 2) (sym ed) u) in
+      omega arith)
