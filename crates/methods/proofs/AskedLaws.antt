@@ -8,11 +8,12 @@ use lib.Dec.{T}
 use lib.ListN.{length}
 use Rattle.model.specs.Limits.{bytesKind, classKind, listKind, methodKind}
 use Rattle.model.specs.Word.{objectNumber}
-use Rattle.model.specs.Objects.{Objects, objectsAt, bodyWord, size, isKind, dictionaryWord, pairCount, pairSelector, pairMethod}
+use Rattle.model.specs.Objects.{Objects, objectsAt, bodyWord, kind, size, isKind, dictionaryWord, pairCount, pairSelector, pairMethod}
 use Rattle.model.specs.Method.{home, argumentCount}
 use Rattle.model.proofs.ChainLaws as C
-use Rattle.methods.specs.Named.{Named, Ready, ClassAsked, PairAsked}
-use Rattle.methods.specs.Counts.{Counting, Turned, Noted}
+use Rattle.model.proofs.Facts.{naming, named-pointer}
+use Rattle.methods.specs.Named.{Named, Ready, ClassAsked, PairAsked, ObjectAsked}
+use Rattle.methods.specs.Counts.{Counting, Turned, Noted, Held}
 use Rattle.methods.proofs.HolderLaws.{class-at, pair-at, wrong-home, wrong-count, right-count, next-class}
 
 module _ (n b : ℕ) (contents bodies : List ℕ) (ready : Ready n b contents bodies) where
@@ -93,3 +94,23 @@ class-done n b contents bodies class counts₀ p d z ed ez counts i w h =
       let u : j < size (objectsAt n b contents bodies) (dictionaryWord (objectsAt n b contents bodies) class / 2) / 2 = subst (λ (v : ℕ). j < pairCount (objectsAt n b contents bodies) (dictionaryWord (objectsAt n b contents bodies) v)) q l in
       let v : j < z / 2 = subst (λ (t : ℕ). j < t / 2) (sym ez) (subst (λ (t : ℕ). j < size (objectsAt n b contents bodies) (t / 2) / 2) (sym ed) u) in
       omega arith)
+
+-- the loop over the objects
+module _ (n b : ℕ) (contents bodies : List ℕ) (k : ℕ) (counts : List ℕ) (p : ObjectAsked n b contents bodies k counts) where
+  pub no-class-here : (kind (objectsAt n b contents bodies) k ≡ classKind → ⊥) → Turned (objectsAt n b contents bodies) (k + 1) 0 counts true
+  unfolding Turned
+  no-class-here h =
+      next-class (objectsAt n b contents bodies) counts k 0 (p .so-far)
+      (λ c j a e l. absurd (h (ap (kind (objectsAt n b contents bodies)) (sym e) ∙ C.named (objectsAt n b contents bodies) classKind c a .kinds)))
+
+  pub class-here : kind (objectsAt n b contents bodies) k ≡ classKind → (w : ℕ) → w ≡ 2 * k → ClassAsked n b contents bodies w counts
+  class-here h w e =
+      let half : w / 2 ≡ k = omega arith in
+      record { ready = p .ready; isClass = subst (λ (x : ℕ). T (isKind (objectsAt n b contents bodies) classKind x)) (sym e) (subst (λ (x : ℕ). T (isKind (objectsAt n b contents bodies) x (2 * k))) h (naming (objectsAt n b contents bodies) (kind (objectsAt n b contents bodies) k) (2 * k) (named-pointer (objectsAt n b contents bodies) k (p .least) (p .most)))); long = p .long; so-far = subst (λ (x : ℕ). Counting (objectsAt n b contents bodies) counts x 0) (sym half) (p .so-far) }
+
+  pub turned-here : (w : ℕ) → w ≡ 2 * k → (counts′ : List ℕ) (r : Bool) → Turned (objectsAt n b contents bodies) (w / 2 + 1) 0 counts′ r → Turned (objectsAt n b contents bodies) (k + 1) 0 counts′ r
+  turned-here w e counts′ r t = let half : w / 2 ≡ k = omega arith in subst (λ (x : ℕ). Turned (objectsAt n b contents bodies) (x + 1) 0 counts′ r) half t
+
+pub held-no : (o : Objects) (k i : ℕ) (counts counts′ : List ℕ) → Turned o k i counts false → Held o counts′ false
+unfolding Turned Held
+held-no o k i counts counts′ t = t

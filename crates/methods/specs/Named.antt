@@ -36,3 +36,10 @@ pub record PairAsked (n b : ℕ) (contents bodies : List ℕ) (class i : ℕ) (c
   pub inside : i < pairCount (objectsAt n b contents bodies) (dictionaryWord (objectsAt n b contents bodies) class)
   pub low : i < 32768
   pub so-far : Counting (objectsAt n b contents bodies) counts (objectNumber class) i
+
+pub record ObjectAsked (n b : ℕ) (contents bodies : List ℕ) (k : ℕ) (counts : List ℕ) : Type 0 where
+  pub ready : Ready n b contents bodies
+  pub least : 1 ≤ k
+  pub most : k ≤ n
+  pub long : n < length counts
+  pub so-far : Counting (objectsAt n b contents bodies) counts k 0

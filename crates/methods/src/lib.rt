@@ -10,8 +10,8 @@ ghost use Rattle.model.specs.Word.{isValid};
 ghost use Rattle.model.specs.Objects.{Objects, objectsAt, bodyWord, fieldCount};
 ghost use Rattle.model.specs.Method.{header, home, literal, flag, temporaryCount, literalCount, extension, argumentCount};
 ghost use Rattle.model.specs.Rules.{extensionFine};
-ghost use Rattle.methods.specs.Named.{Named, ClassAsked, PairAsked};
-ghost use Rattle.methods.specs.Counts.{Noted, Turned};
+ghost use Rattle.methods.specs.Named.{Named, Ready, ClassAsked, PairAsked, ObjectAsked};
+ghost use Rattle.methods.specs.Counts.{Noted, Turned, Held};
 ghost use Rattle.methods.specs.Passes.{shapeRules};
 
 // Word i of the body of an object.
@@ -106,6 +106,33 @@ fn count_class(contents: &[u16], bodies: &[u16], n: usize, b: usize, class: u16,
             return false;
         }
         i += 1;
+    }
+    true
+}
+
+// Object k, where it is a class.
+fn count_object(contents: &[u16], bodies: &[u16], n: usize, b: usize, k: usize, counts: &mut [u8]) -> bool
+    requires { ⌜ ObjectAsked n b (now contents) (now bodies) k (now counts) ⌝ }
+    ensures { λ r. ⌜ Turned (objectsAt n b (now (contents .entry)) (now (bodies .entry))) (k + 1) 0 (now (counts .exit)) r ⌝ }
+{
+    if rules::kind(contents, n, k) != 2 {
+        return true;
+    }
+    count_class(contents, bodies, n, b, (2 * k) as u16, counts)
+}
+
+// The second pass: dictionaries hold methods of their own class, and methods under one selector take equally many arguments. The counts,
+// over object numbers, are left for the sends.
+pub fn count_methods(contents: &[u16], bodies: &[u16], n: usize, b: usize, counts: &mut [u8]) -> bool
+    requires { ⌜ Ready n b (now contents) (now bodies) × (n < length (now counts)) × ((j : ℕ) → getD (now counts) j 0 ≡ 0) ⌝ }
+    ensures { λ r. ⌜ Held (objectsAt n b (now (contents .entry)) (now (bodies .entry))) (now (counts .exit)) r ⌝ }
+{
+    let mut k = 1;
+    while k <= n {
+        if !count_object(contents, bodies, n, b, k, counts) {
+            return false;
+        }
+        k += 1;
     }
     true
 }
