@@ -12,7 +12,7 @@ use Rattle.model.specs.Objects.{Objects, objectsAt, bodyWord, kind, size, isKin
 use Rattle.model.specs.Method.{home, argumentCount}
 use Rattle.model.proofs.ChainLaws as C
 use Rattle.model.proofs.Facts.{naming, named-pointer}
-use Rattle.methods.specs.Named.{Named, Ready, ClassAsked, PairAsked, ObjectAsked}
+use Rattle.methods.specs.Named.{Named, Ready, ClassAsked, PairAsked, ObjectAsked, FlagAsked}
 use Rattle.methods.specs.Counts.{Counting, Turned, Noted, Held}
 use Rattle.methods.proofs.HolderLaws.{class-at, pair-at, wrong-home, wrong-count, right-count, next-class}
 
@@ -114,3 +114,8 @@ module _ (n b : ℕ) (contents bodies : List ℕ) (k : ℕ) (counts : List ℕ) 
 pub held-no : (o : Objects) (k i : ℕ) (counts counts′ : List ℕ) → Turned o k i counts false → Held o counts′ false
 unfolding Turned Held
 held-no o k i counts counts′ t = t
+
+pub home-named : (n b : ℕ) (contents bodies : List ℕ) (m h c : ℕ) → FlagAsked n b contents bodies m h c → Named n b c contents bodies
+home-named n b contents bodies m h c p =
+    let x = C.named (objectsAt n b contents bodies) classKind c (p .isClass) in
+    record { lent = p .method .lent; least = x .least; most = x .most }

@@ -3,3 +3,4 @@ pub mod CountLaws
 pub mod HeaderLaws
 pub mod HolderLaws
 pub mod AskedLaws
+pub mod ShapeLaws

@@ -1,5 +1,6 @@
 -- A word that names an object of the lent contents
 use Prim.Native.Nat.{ℕ, _/_, _≤_, _<_}
+use mathlib.Core.Path.{_≡_}
 use mathlib.Core.List.{List}
 use lib.Dec.{T}
 use lib.ListN.{length}
@@ -43,3 +44,10 @@ pub record ObjectAsked (n b : ℕ) (contents bodies : List ℕ) (k : ℕ) (count
   pub most : k ≤ n
   pub long : n < length counts
   pub so-far : Counting (objectsAt n b contents bodies) counts k 0
+
+-- a method with its header and home
+pub record FlagAsked (n b : ℕ) (contents bodies : List ℕ) (m h c : ℕ) : Type 0 where
+  pub method : Named n b m contents bodies
+  pub header : h ≡ Rattle.model.specs.Method.header (objectsAt n b contents bodies) m
+  pub home : c ≡ Rattle.model.specs.Method.home (objectsAt n b contents bodies) m
+  pub isClass : T (isKind (objectsAt n b contents bodies) classKind c)

@@ -41,3 +41,13 @@ holders o = upTo (o .n) (holderFine o)
 
 unfoldable pub codes : Objects → Bool
 codes o = upTo (o .n) (codeFine o)
+
+-- the last three of a method's shape
+unfoldable pub fieldRule : Objects → ℕ → Bool
+fieldRule o m = implies (eqb (flag o m) fieldFlag) (ltb (temporaryCount o m) (fieldCount o (home o m)))
+
+unfoldable pub primitiveRule : Objects → ℕ → Bool
+primitiveRule o m = implies (eqb (flag o m) primitiveFlag) (extensionFine o m)
+
+unfoldable pub flagRules : Objects → ℕ → Bool
+flagRules o m = fieldRule o m && (primitiveRule o m && leb (argumentCount o m) (temporaryCount o m))

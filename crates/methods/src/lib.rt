@@ -10,9 +10,9 @@ ghost use Rattle.model.specs.Word.{isValid};
 ghost use Rattle.model.specs.Objects.{Objects, objectsAt, bodyWord, fieldCount};
 ghost use Rattle.model.specs.Method.{header, home, literal, flag, temporaryCount, literalCount, extension, argumentCount};
 ghost use Rattle.model.specs.Rules.{extensionFine};
-ghost use Rattle.methods.specs.Named.{Named, Ready, ClassAsked, PairAsked, ObjectAsked};
+ghost use Rattle.methods.specs.Named.{Named, Ready, ClassAsked, PairAsked, ObjectAsked, FlagAsked};
 ghost use Rattle.methods.specs.Counts.{Noted, Turned, Held};
-ghost use Rattle.methods.specs.Passes.{shapeRules};
+ghost use Rattle.methods.specs.Passes.{shapeRules, fieldRule, primitiveRule, flagRules};
 
 // Word i of the body of an object.
 pub fn body_word(contents: &[u16], bodies: &[u16], n: usize, b: usize, w: u16, i: usize) -> u16
@@ -135,4 +135,98 @@ pub fn count_methods(contents: &[u16], bodies: &[u16], n: usize, b: usize, count
         k += 1;
     }
     true
+}
+
+// The literals are valid words.
+fn literals_valid(contents: &[u16], bodies: &[u16], n: usize, b: usize, m: u16, literals: usize) -> bool
+    requires { ⌜ Named n b m (now contents) (now bodies) × (literals < 64) ⌝ }
+    ensures { λ r. ⌜ r ≡ below literals (λ i. isValid n (literal (objectsAt n b (now (contents .entry)) (now (bodies .entry))) m i)) ⌝ }
+{
+    let mut i = 0;
+    while i < literals {
+        let w = body_word(contents, bodies, n, b, m, 2 + i);
+        if !rules::is_valid(n, w) {
+            return false;
+        }
+        i += 1;
+    }
+    true
+}
+
+// The extension of flag 7: 2 literals at least, an integer word, its two high bits zero.
+fn extension_fine(contents: &[u16], bodies: &[u16], n: usize, b: usize, m: u16, literals: usize) -> bool
+    requires { ⌜ Named n b m (now contents) (now bodies) × (literals ≡ literalCount (objectsAt n b (now contents) (now bodies)) m) ⌝ }
+    ensures { λ r. ⌜ r ≡ extensionFine (objectsAt n b (now (contents .entry)) (now (bodies .entry))) m ⌝ }
+{
+    if literals < 2 {
+        return false;
+    }
+    let w = extension_of(contents, bodies, n, b, m, literals);
+    if w % 2 != 1 {
+        return false;
+    }
+    w < 16384
+}
+
+// Flag 6 answers a field that its home has.
+fn field_fine(contents: &[u16], bodies: &[u16], n: usize, b: usize, m: u16, h: u16, home: u16) -> bool
+    requires { ⌜ FlagAsked n b (now contents) (now bodies) m h home ⌝ }
+    ensures { λ r. ⌜ r ≡ fieldRule (objectsAt n b (now (contents .entry)) (now (bodies .entry))) m ⌝ }
+{
+    if h / 8192 % 8 != 6 {
+        return true;
+    }
+    h / 256 % 32 < body_word(contents, bodies, n, b, home, 2) / 2
+}
+
+// Flag 7 has its extension.
+fn primitive_fine(contents: &[u16], bodies: &[u16], n: usize, b: usize, m: u16, h: u16, home: u16) -> bool
+    requires { ⌜ FlagAsked n b (now contents) (now bodies) m h home ⌝ }
+    ensures { λ r. ⌜ r ≡ primitiveRule (objectsAt n b (now (contents .entry)) (now (bodies .entry))) m ⌝ }
+{
+    if h / 8192 % 8 != 7 {
+        return true;
+    }
+    extension_fine(contents, bodies, n, b, m, (h / 2 % 64) as usize)
+}
+
+// What the flag asks of a method whose home is a class; and arguments are temporaries.
+fn flag_fine(contents: &[u16], bodies: &[u16], n: usize, b: usize, m: u16, h: u16, home: u16) -> bool
+    requires { ⌜ FlagAsked n b (now contents) (now bodies) m h home ⌝ }
+    ensures { λ r. ⌜ r ≡ flagRules (objectsAt n b (now (contents .entry)) (now (bodies .entry))) m ⌝ }
+{
+    if !field_fine(contents, bodies, n, b, m, h, home) {
+        return false;
+    }
+    if !primitive_fine(contents, bodies, n, b, m, h, home) {
+        return false;
+    }
+    argument_count(contents, bodies, n, b, m) <= h / 256 % 32
+}
+
+// Every rule of a method but that of its code.
+fn shape(contents: &[u16], bodies: &[u16], n: usize, b: usize, m: u16) -> bool
+    requires { ⌜ Named n b m (now contents) (now bodies) ⌝ }
+    ensures { λ r. ⌜ r ≡ allOf (shapeRules (objectsAt n b (now (contents .entry)) (now (bodies .entry))) m) ⌝ }
+{
+    let size = rules::size(contents, n, (m / 2) as usize) as usize;
+    if size < 4 {
+        return false;
+    }
+    let h = header_of(contents, bodies, n, b, m);
+    if h % 2 != 1 {
+        return false;
+    }
+    let literals = (h / 2 % 64) as usize;
+    if size < 4 + 2 * literals {
+        return false;
+    }
+    let home = body_word(contents, bodies, n, b, m, 1);
+    if !rules::is_kind(contents, n, 2, home) {
+        return false;
+    }
+    if !literals_valid(contents, bodies, n, b, m, literals) {
+        return false;
+    }
+    flag_fine(contents, bodies, n, b, m, h, home)
 }
