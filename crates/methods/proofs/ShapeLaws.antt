@@ -6,13 +6,13 @@ use native.Mathlib.Omega.{arith}
 use borrow.Author.Tests.{eq-eqb, ne-eqb}
 use lib.Dec.{leb, ltb, eqb}
 use Rattle.bytecode.specs.Test.{below, implies, allOf}
-use Rattle.model.specs.Limits.{classKind, fieldFlag, primitiveFlag}
-use Rattle.model.specs.Word.{isValid}
-use Rattle.model.specs.Objects.{Objects, size, isKind, fieldCount}
+use Rattle.model.specs.Limits.{classKind, methodKind, fieldFlag, primitiveFlag}
+use Rattle.model.specs.Word.{isValid, pointer}
+use Rattle.model.specs.Objects.{Objects, kind, size, isKind, fieldCount}
 use Rattle.model.specs.Method.{header, home, literal, flag, temporaryCount, literalCount, argumentCount}
 use Rattle.model.specs.Rules.{extensionFine}
 use Rattle.rules.proofs.Loops.{and-true}
-use Rattle.methods.specs.Passes.{shapeRules, fieldRule, primitiveRule, flagRules}
+use Rattle.methods.specs.Passes.{shapeRules, shapeFine, fieldRule, primitiveRule, flagRules}
 
 module _ (o : Objects) (m h : ℕ) (e : h ≡ header o m) where
   pub no-field-flag : (h / 8192 % 8 ≡ fieldFlag → ⊥) → true ≡ fieldRule o m
@@ -49,3 +49,11 @@ pub passed-five : (a b c d e x : Bool) → a ≡ true → b ≡ true → c ≡ t
 passed-five a b c d e x p q r s t =
     ap (λ (y : Bool). y && (b && (c && (d && (e && x))))) p ∙ ap (λ (y : Bool). y && (c && (d && (e && x)))) q ∙ ap (λ (y : Bool). y && (d && (e && x))) r
     ∙ ap (λ (y : Bool). y && (e && x)) s ∙ ap (λ (y : Bool). y && x) t
+
+pub no-method-here : (o : Objects) (k : ℕ) → (kind o k ≡ methodKind → ⊥) → true ≡ shapeFine o k
+unfolding shapeFine
+no-method-here o k f = sym (ap (λ (x : Bool). implies x (allOf (shapeRules o (pointer k)))) (ne-eqb (kind o k) methodKind f))
+
+pub method-here : (o : Objects) (k : ℕ) (r : Bool) → kind o k ≡ methodKind → r ≡ allOf (shapeRules o (2 * k)) → r ≡ shapeFine o k
+unfolding shapeFine
+method-here o k r e q = q ∙ sym (ap (λ (x : Bool). implies x (allOf (shapeRules o (pointer k)))) (eq-eqb (kind o k) methodKind e))

@@ -12,7 +12,8 @@ ghost use Rattle.model.specs.Method.{header, home, literal, flag, temporaryCoun
 ghost use Rattle.model.specs.Rules.{extensionFine};
 ghost use Rattle.methods.specs.Named.{Named, Ready, ClassAsked, PairAsked, ObjectAsked, FlagAsked};
 ghost use Rattle.methods.specs.Counts.{Noted, Turned, Held};
-ghost use Rattle.methods.specs.Passes.{shapeRules, fieldRule, primitiveRule, flagRules};
+ghost use Rattle.methods.specs.Passes.{shapeRules, fieldRule, primitiveRule, flagRules, shapeFine, shapes};
+ghost use Rattle.rules.specs.Lent.{Lent};
 
 // Word i of the body of an object.
 pub fn body_word(contents: &[u16], bodies: &[u16], n: usize, b: usize, w: u16, i: usize) -> u16
@@ -229,4 +230,30 @@ fn shape(contents: &[u16], bodies: &[u16], n: usize, b: usize, m: u16) -> bool
         return false;
     }
     flag_fine(contents, bodies, n, b, m, h, home)
+}
+
+// Object k, where it is a method.
+fn shape_object(contents: &[u16], bodies: &[u16], n: usize, b: usize, k: usize) -> bool
+    requires { ⌜ Lent n b (now contents) (now bodies) × (1 ≤ k) × (k ≤ n) ⌝ }
+    ensures { λ r. ⌜ r ≡ shapeFine (objectsAt n b (now (contents .entry)) (now (bodies .entry))) k ⌝ }
+{
+    if rules::kind(contents, n, k) != 4 {
+        return true;
+    }
+    shape(contents, bodies, n, b, (2 * k) as u16)
+}
+
+// The first pass: the words of all methods.
+pub fn shapes_fine(contents: &[u16], bodies: &[u16], n: usize, b: usize) -> bool
+    requires { ⌜ Lent n b (now contents) (now bodies) ⌝ }
+    ensures { λ r. ⌜ r ≡ shapes (objectsAt n b (now (contents .entry)) (now (bodies .entry))) ⌝ }
+{
+    let mut k = 1;
+    while k <= n {
+        if !shape_object(contents, bodies, n, b, k) {
+            return false;
+        }
+        k += 1;
+    }
+    true
 }
