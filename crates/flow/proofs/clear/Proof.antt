@@ -1,0 +1,52 @@
+use Rattle.flow.proofs.clear.Statement.{statement}
+use Rattle.flow.proofs.clear.Tie as tie
+use Rattle.flow.proofs.clear.Reads as reads
+use Rattle.flow.proofs.clear.Lts as lts
+
+abbrev Inv-loop : tie.InvT-loop
+Inv-loop notes₀ i₀ notes i = ?
+
+abbrev μ-loop : tie.MeasureT-loop
+μ-loop notes₀ i₀ notes i = ?
+
+-- src/lib.rt:279:5
+loop-holds : tie.Need-loop-holds Inv-loop μ-loop
+loop-holds c = ?
+
+-- src/lib.rt:280:9
+slice-write-notes : tie.Need-slice-write-notes Inv-loop μ-loop
+slice-write-notes c = ?
+
+-- src/lib.rt:281:9
+add-i : tie.Need-add-i Inv-loop μ-loop
+add-i c = ?
+
+-- src/lib.rt:279:5
+loop-less : tie.Need-loop-less Inv-loop μ-loop
+loop-less c = ?
+
+-- src/lib.rt:279:5
+loop-again : tie.Need-loop-again Inv-loop μ-loop
+loop-again c = ?
+
+-- src/lib.rt:275:1
+same-length : tie.Need-same-length Inv-loop μ-loop
+same-length c = ?
+
+-- src/lib.rt:275:1
+returns : tie.Need-returns Inv-loop μ-loop
+returns c = ?
+
+pub clear-spec : {M : Type 1} → statement M
+clear-spec =
+    tie.close
+    (tie.spec
+    Inv-loop
+    μ-loop
+    loop-holds
+    slice-write-notes
+    add-i
+    loop-less
+    loop-again
+    same-length
+    returns)

@@ -1,0 +1,45 @@
+use borrow.Author.Needs.{needs}
+use Rattle.flow.proofs.store_fits.Statement.{statement}
+use Rattle.flow.proofs.store_fits.Tie as tie
+use Rattle.flow.proofs.store_fits.Reads as reads
+use Rattle.flow.proofs.store_fits.Lts as lts
+
+-- src/lib.rt:122:20
+element-copy-out-result : tie.Need-element-copy-out-result
+element-copy-out-result c = search needs
+
+-- src/lib.rt:122:9
+returns : tie.Need-returns
+returns c = ?
+
+-- src/lib.rt:125:20
+element-copy-out-result-2 : tie.Need-element-copy-out-result-2
+element-copy-out-result-2 c = search needs
+
+-- src/lib.rt:125:9
+returns-2 : tie.Need-returns-2
+returns-2 c = ?
+
+-- src/lib.rt:128:9
+returns-3 : tie.Need-returns-3
+returns-3 c = ?
+
+-- src/lib.rt:130:9
+element-copy-out-result-3 : tie.Need-element-copy-out-result-3
+element-copy-out-result-3 c = search needs
+
+-- src/lib.rt:117:1
+returns-4 : tie.Need-returns-4
+returns-4 c = ?
+
+pub store-fits-spec : {M : Type 1} → statement M
+store-fits-spec =
+    tie.close
+    (tie.spec
+    element-copy-out-result
+    returns
+    element-copy-out-result-2
+    returns-2
+    returns-3
+    element-copy-out-result-3
+    returns-4)

@@ -1,0 +1,95 @@
+use borrow.Author.Needs.{needs}
+use Rattle.flow.proofs.visit.Statement.{statement}
+use Rattle.flow.proofs.visit.Tie as tie
+use Rattle.flow.proofs.visit.Reads as reads
+use Rattle.flow.proofs.visit.Lts as lts
+
+-- src/lib.rt:29:9
+returns : tie.Need-returns
+returns c = ?
+
+-- src/lib.rt:32:9
+returns-2 : tie.Need-returns-2
+returns-2 c = ?
+
+-- src/lib.rt:34:15
+slice-read-old : tie.Need-slice-read-old
+slice-read-old c = search needs
+
+-- src/lib.rt:34:15
+cast-old : tie.Need-cast-old
+cast-old c = ?
+
+-- src/lib.rt:36:22
+add-notes : tie.Need-add-notes
+add-notes c = search needs
+
+-- src/lib.rt:36:21
+cast-notes : tie.Need-cast-notes
+cast-notes c = search needs
+
+-- src/lib.rt:36:9
+slice-write-notes : tie.Need-slice-write-notes
+slice-write-notes c = search needs
+
+-- src/lib.rt:37:22
+cast-pending : tie.Need-cast-pending
+cast-pending c = search needs
+
+-- src/lib.rt:37:9
+mul-pending : tie.Need-mul-pending
+mul-pending c = search needs
+
+-- src/lib.rt:37:9
+slice-write-pending : tie.Need-slice-write-pending
+slice-write-pending c = ?
+
+-- src/lib.rt:38:25
+add-t12 : tie.Need-add-t12
+add-t12 c = search needs
+
+-- src/lib.rt:38:9
+same-length : tie.Need-same-length
+same-length c = search needs
+
+-- src/lib.rt:38:9
+same-length-2 : tie.Need-same-length-2
+same-length-2 c = search needs
+
+-- src/lib.rt:38:9
+returns-3 : tie.Need-returns-3
+returns-3 c = ?
+
+-- src/lib.rt:40:15
+add-if4 : tie.Need-add-if4
+add-if4 c = search needs
+
+-- src/lib.rt:41:9
+returns-4 : tie.Need-returns-4
+returns-4 c = ?
+
+-- src/lib.rt:22:1
+returns-5 : tie.Need-returns-5
+returns-5 c = ?
+
+pub visit-spec : {M : Type 1} → statement M
+visit-spec =
+    tie.close
+    (tie.spec
+    returns
+    returns-2
+    slice-read-old
+    cast-old
+    add-notes
+    cast-notes
+    slice-write-notes
+    cast-pending
+    mul-pending
+    slice-write-pending
+    add-t12
+    same-length
+    same-length-2
+    returns-3
+    add-if4
+    returns-4
+    returns-5)
