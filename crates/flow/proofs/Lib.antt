@@ -1,0 +1,5 @@
+pub mod VisitLaws
+pub mod StepLaws
+pub mod InvariantLaws
+pub mod UniqueLaws
+pub mod RuleLaws
