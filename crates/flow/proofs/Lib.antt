@@ -3,3 +3,5 @@ pub mod StepLaws
 pub mod InvariantLaws
 pub mod UniqueLaws
 pub mod RuleLaws
+pub mod InstructionLaws
+pub mod HereLaws
