@@ -1,12 +1,12 @@
 -- What the byte at a position and its entry say of the instruction there: its rules at a depth, its successors and the depth after it.
-use Prim.Native.Nat.{ℕ, zero, suc, _+_, _-_, _*_, _%_, _<_, _≤_}
+use Prim.Native.Nat.{ℕ, zero, suc, _+_, _-_, _*_, _/_, _%_, _<_, _≤_}
 use mathlib.Core.Path.{_≡_, refl, sym, ap, _∙_, subst}
 use mathlib.Core.Bool.{Bool, true, false, _&&_}
 use mathlib.Core.List.{List, [], _∷_}
 use native.Mathlib.Omega.{arith}
 use borrow.Author.Tests.{le-leb, lt-leb}
 use lib.Dec.{T, ltb, leb}
-use lib.ListN.{getD}
+use lib.ListN.{length, getD}
 use Rattle.bytecode.specs.Test.{if_then_else_}
 use Rattle.bytecode.specs.Code.{byteAt, instructionOf, lengthOf, nextAt, decodeAt}
 use Rattle.bytecode.specs.Effect.{need, leaves, usable, successors}
@@ -39,6 +39,13 @@ module _ (counts words : List ℕ) (size room p d b e : ℕ) (small : b < 256) (
 
   abbrev y : ℕ
   y = byteAt words (p + 2)
+
+  -- a long jump's second byte stands in the words
+  pub second-inside : 160 ≤ b → b < 176 → p + lengthPart e ≤ size → (p + 1) / 2 < length words
+  second-inside l u whole =
+      let k : lengthPart e ≡ 2 = h .entry .length ∙ length-jump b (omega arith) l u in
+      let c = h .covered in
+      omega arith
 
   fine-of : usable (nextAt words p) here ≡ true → fineIn counts words size room p d ≡ indexedBy counts here && leb (need here) d
   unfolding fineAt rulesAt

@@ -10,15 +10,16 @@ use lib.Dec.{T, ltb, leb, eqb, leb→le, ltb→lt}
 use lib.ListN.{getD}
 use Rattle.bytecode.specs.Test.{if_then_else_, implies}
 use Rattle.bytecode.specs.Code.{placeOf, shortOf, constantOf, extendedOf, jumpOf, sendOf, instructionOf, lengthOf}
-use Rattle.bytecode.specs.Table.{placeBound, placeIndex, bound, index, pushGroup, storeGroup, group, groupOf}
+use Rattle.bytecode.specs.Table.{placeBound, placeIndex, bound, index, pushGroup, storeGroup, group, groupOf, extraOf}
 use Rattle.bytecode.specs.declared.Place.{Place}
 use Rattle.bytecode.specs.declared.Place.the-variants.{Field, Temporary, Literal, LiteralVariable}
 use Rattle.bytecode.specs.declared.Instruction.{Instruction}
 use Rattle.bytecode.specs.declared.Instruction.the-variants.{Push, Store, PopStore, PushSelf, PushConstant, ReturnSelf, ReturnConstant, ReturnTop, Pop, Duplicate, Jump, JumpOn, Send, SuperSend, SpecialSend, Unused}
-use Rattle.bytecode.proofs.Choice.{ranges, if-lt, if-ge}
+use Rattle.bytecode.proofs.Choice.{ranges, if-lt, if-ge, if-either}
 use Rattle.bytecode.proofs.CodeLaws.{is-jump}
 use Rattle.bytecode.proofs.TestLaws.{T→true, true→T, and-left, and-right, implied, below-at}
-use Rattle.flow.specs.Index.{placeIndexed, indexed, indexedBy}
+use Rattle.model.specs.Rules.{isWritable}
+use Rattle.flow.specs.Index.{placeIndexed, indexed, placeIndexedBy, indexedBy}
 
 -- The rule is that on the index: no store to a literal, and used
 direct : Instruction → Bool
@@ -135,6 +136,14 @@ module _ (counts : List ℕ) where
   pub return-indexed : (i : Instruction) → group i ≡ 2 → indexedBy counts i ≡ true
   return-indexed i e = subst (ReturnSays i) e (return-says i)
 
+-- from 128 on a place is a literal or a literal variable
+pub place-literal : (fields temporaries literals x : ℕ) → 128 ≤ x → placeIndexed fields temporaries literals (placeOf x) ≡ ltb (x % 64) literals
+unfolding placeOf placeIndexed
+place-literal fields temporaries literals x h =
+    let k : 64 ≤ x = omega arith in
+    ap (placeIndexed fields temporaries literals) (if-ge x 64 _ _ k ∙ if-ge x 128 _ _ h)
+    ∙ if-either (λ p. placeIndexed fields temporaries literals p ≡ ltb (x % 64) literals) (ltb x 192) (Literal (x % 64)) (LiteralVariable (x % 64)) refl refl
+
 -- 128 to 134 go on
 push-goes-on : (p : Place) → pushGroup p < 2
 unfolding pushGroup
@@ -163,6 +172,44 @@ extended-from x y (suc (suc (suc (suc (suc (suc (suc k))))))) h = absurd (omega 
 
 pub extended-goes-on : (b x y : ℕ) → 128 ≤ b → b < 135 → group (instructionOf b x y) < 2
 extended-goes-on b x y l h = subst (λ (n : ℕ). group (instructionOf n x y) < 2) (omega arith) (extended-from x y (b - 128) (omega arith))
+
+-- the rule on each of 128 to 134
+module _ (counts : List ℕ) (b x y : ℕ) where
+  pub extended-128 : b ≡ 128 → indexedBy counts (instructionOf b x y) ≡ placeIndexedBy counts (placeOf x)
+  unfolding if_then_else_ extendedOf instructionOf indexed
+  extended-128 e = rw e refl
+
+  pub extended-129 : b ≡ 129 → indexedBy counts (instructionOf b x y) ≡ isWritable (placeOf x) && placeIndexedBy counts (placeOf x)
+  unfolding if_then_else_ extendedOf instructionOf indexed
+  extended-129 e = rw e refl
+
+  pub extended-130 : b ≡ 130 → indexedBy counts (instructionOf b x y) ≡ isWritable (placeOf x) && placeIndexedBy counts (placeOf x)
+  unfolding if_then_else_ extendedOf instructionOf indexed
+  extended-130 e = rw e refl
+
+  pub extended-131 : b ≡ 131 → indexedBy counts (instructionOf b x y) ≡ ltb (x % 32) (getD counts 3 0)
+  unfolding if_then_else_ extendedOf instructionOf indexed
+  extended-131 e = rw e refl
+
+  pub extended-132 : b ≡ 132 → indexedBy counts (instructionOf b x y) ≡ ltb y (getD counts 3 0)
+  unfolding if_then_else_ extendedOf instructionOf indexed
+  extended-132 e = rw e refl
+
+  pub extended-133 : b ≡ 133 → indexedBy counts (instructionOf b x y) ≡ ltb (x % 32) (getD counts 3 0)
+  unfolding if_then_else_ extendedOf instructionOf indexed
+  extended-133 e = rw e refl
+
+  pub extended-134 : b ≡ 134 → indexedBy counts (instructionOf b x y) ≡ ltb y (getD counts 3 0)
+  unfolding if_then_else_ extendedOf instructionOf indexed
+  extended-134 e = rw e refl
+
+-- at most 255 arguments
+pub extra-small : (b x : ℕ) → extraOf b x ≤ x
+unfolding extraOf
+extra-small b x =
+    if-either (λ k. k ≤ x) (eqb b 131) _ _ (omega arith)
+    (if-either (λ k. k ≤ x) (eqb b 132) _ _ (omega arith)
+    (if-either (λ k. k ≤ x) (eqb b 133) _ _ (omega arith) (if-either (λ k. k ≤ x) (eqb b 134) _ _ (omega arith) (omega arith))))
 
 -- The group 3 has 128 to 134 and 144 to 175.
 farTest : ℕ → Bool

@@ -7,6 +7,9 @@ use Rattle.flow.specs.Walk.{Visits, Step}
 use Rattle.flow.specs.declared.Went.{Went}
 use Rattle.flow.specs.declared.Went.the-variants.{On, Stuck}
 
+pub and-no : (a b : Bool) → a ≡ false → a && b ≡ false
+and-no a b e = rw e
+
 module _ (room : ℕ) (ok : Bool) (qs : List ℕ) (d : ℕ) (t s : List ℕ) (n : ℕ) (t′ s′ : List ℕ) (r : Went) where
   pub step-yes : ok ≡ true → Visits room qs d t s n t′ s′ r → Step room ok qs d t s n t′ s′ r
   unfolding Step

@@ -92,8 +92,8 @@ fn plain(limits: &[u8; 4], room: usize, notes: &mut [u8], pending: &mut [u16], n
     }
 {
     let bound = e / 32 % 4;
-    let count = limits[bound] as usize;
-    if count <= e % 32 {
+    let index = (e % 32) as u8;
+    if limits[bound] <= index {
         return Went::Stuck;
     }
     onward(notes, pending, n, at + 1, depth, e / 512 % 4, e / 128 % 4, room)

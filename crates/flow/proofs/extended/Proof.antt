@@ -1,3 +1,9 @@
+use mathlib.Core.Path.{sym, _∙_}
+use native.Mathlib.Omega.{arith}
+use borrow.Author.Tests.{not-true, not-false}
+use Rattle.flow.proofs.StepLaws.{and-no, step-no, step-and}
+use Rattle.flow.proofs.InstructionLaws.{extra-small}
+use Rattle.flow.proofs.HereLaws.{expand-extended}
 use borrow.Author.Needs.{needs}
 use Rattle.flow.proofs.extended.Statement.{statement}
 use Rattle.flow.proofs.extended.Tie as tie
@@ -30,7 +36,7 @@ extended-fits-requires c κs = search needs
 
 -- src/lib.rt:162:9
 returns : tie.Need-returns
-returns c = ?
+returns c = expand-extended _ _ _ _ _ _ _ _ (omega arith) (c .before .before .before .before .before .before .before .pre .1 .0) _ _ _ _ _ _ (c .before .before .before .before .before .before .before .pre .1 .1 .0) (c .before .before .before .before .before .before .before .pre .1 .1 .1) (c .before .before .before .before .before .before .before .pre .1 .1 .2) (step-no _ _ _ _ _ _ _ _ _ (and-no _ _ (sym (rw (c .before .before .before .byte .ensures, c .before .before .byte2 .ensures) at (c .before .extended-fits .ensures)) ∙ not-true _ (c .if1 .taken))))
 
 -- src/lib.rt:164:31
 add-onward : tie.Need-add-onward
@@ -42,7 +48,7 @@ extra-requires c κs = search needs
 
 -- src/lib.rt:164:57
 add-onward-2 : tie.Need-add-onward-2
-add-onward-2 c = ?
+add-onward-2 c = omega (arith, c .extra .ensures, extra-small (c .before .before .before .before .before .before .before .before .before .before .args .b) (c .before .before .before .before .before .before .byte .result))
 
 -- src/lib.rt:164:5
 onward-requires : tie.Need-onward-requires
@@ -58,7 +64,7 @@ same-length-2 c = search needs
 
 -- src/lib.rt:151:1
 returns-2 : tie.Need-returns-2
-returns-2 c = ?
+returns-2 c = expand-extended _ _ _ _ _ _ _ _ (omega arith) (c .before .before .before .before .before .before .before .before .before .before .before .before .before .before .before .pre .1 .0) _ _ _ _ _ _ (c .before .before .before .before .before .before .before .before .before .before .before .before .before .before .before .pre .1 .1 .0) (c .before .before .before .before .before .before .before .before .before .before .before .before .before .before .before .pre .1 .1 .1) (c .before .before .before .before .before .before .before .before .before .before .before .before .before .before .before .pre .1 .1 .2) (step-and _ _ _ _ _ _ _ _ _ _ _ (sym (rw (c .before .before .before .before .before .before .before .before .before .before .before .byte .ensures, c .before .before .before .before .before .before .before .before .before .before .byte2 .ensures) at (c .before .before .before .before .before .before .before .before .before .extended-fits .ensures)) ∙ not-false _ (c .before .before .before .before .before .before .before .before .if1 .left)) (rw (c .before .before .before .before .before .extra .ensures, c .before .before .before .before .before .before .before .before .before .before .before .byte .ensures) at (c .before .before .before .before .onward .ensures)))
 
 pub extended-spec : {M : Type 1} → statement M
 extended-spec =

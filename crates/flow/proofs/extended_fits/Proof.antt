@@ -1,3 +1,8 @@
+use native.Mathlib.Omega.{arith}
+use mathlib.Core.Path.{_≡_, sym, _∙_, ap}
+use Prim.Native.Nat.{ℕ}
+use lib.ListN.{getD}
+use Rattle.flow.proofs.InstructionLaws.{extended-128, extended-129, extended-130, extended-131, extended-132, extended-133, extended-134}
 use borrow.Author.Needs.{needs}
 use Rattle.flow.proofs.extended_fits.Statement.{statement}
 use Rattle.flow.proofs.extended_fits.Tie as tie
@@ -24,31 +29,31 @@ store-fits-requires-2 c κs = search needs
 
 -- src/lib.rt:134:1
 returns : tie.Need-returns
-returns c = ?
+returns c = c .push-fits .ensures ∙ sym (extended-128 (c .before .before .before .args .limits .now) (c .before .before .before .args .b) (c .before .before .before .args .x) (c .before .before .before .args .y) (c .before .match .keys1))
 
 -- src/lib.rt:134:1
 returns-2 : tie.Need-returns-2
-returns-2 c = ?
+returns-2 c = c .store-fits .ensures ∙ sym (extended-129 (c .before .before .before .args .limits .now) (c .before .before .before .args .b) (c .before .before .before .args .x) (c .before .before .before .args .y) (c .before .match .keys2))
 
 -- src/lib.rt:134:1
 returns-3 : tie.Need-returns-3
-returns-3 c = ?
+returns-3 c = c .store-fits2 .ensures ∙ sym (extended-130 (c .before .before .before .args .limits .now) (c .before .before .before .args .b) (c .before .before .before .args .x) (c .before .before .before .args .y) (c .before .match .keys3))
 
 -- src/lib.rt:134:1
 returns-4 : tie.Need-returns-4
-returns-4 c = ?
+returns-4 c = sym (extended-131 (c .before .before .args .limits .now) (c .before .before .args .b) (c .before .before .args .x) (c .before .before .args .y) (c .match .keys4))
 
 -- src/lib.rt:134:1
 returns-5 : tie.Need-returns-5
-returns-5 c = ?
+returns-5 c = sym (extended-132 (c .before .before .args .limits .now) (c .before .before .args .b) (c .before .before .args .x) (c .before .before .args .y) (c .match .keys5))
 
 -- src/lib.rt:134:1
 returns-6 : tie.Need-returns-6
-returns-6 c = ?
+returns-6 c = sym (extended-133 (c .before .before .args .limits .now) (c .before .before .args .b) (c .before .before .args .x) (c .before .before .args .y) (c .match .keys6))
 
 -- src/lib.rt:134:1
 returns-7 : tie.Need-returns-7
-returns-7 c = ?
+returns-7 c = sym (extended-134 (c .before .before .args .limits .now) (c .before .before .args .b) (c .before .before .args .x) (c .before .before .args .y) (omega arith))
 
 pub extended-fits-spec : {M : Type 1} → statement M
 extended-fits-spec =

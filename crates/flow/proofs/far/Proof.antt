@@ -1,3 +1,7 @@
+use mathlib.Core.Path.{sym, _∙_}
+use native.Mathlib.Omega.{arith}
+use Rattle.flow.proofs.InstructionLaws.{far-low, far-high}
+use Rattle.flow.proofs.HereLaws.{expand-short}
 use borrow.Author.Needs.{needs}
 use Rattle.flow.proofs.far.Statement.{statement}
 use Rattle.flow.proofs.far.Tie as tie
@@ -12,11 +16,11 @@ add-if1 c = search needs
 
 -- src/lib.rt:203:9
 returns : tie.Need-returns
-returns c = ?
+returns c = expand-short _ _ _ _ _ _ _ _ (omega arith) (c .before .before .before .before .pre .1 .0) _ _ _ _ _ (c .if1 .taken)
 
 -- src/lib.rt:206:9
 extended-requires : tie.Need-extended-requires
-extended-requires c κs = ?
+extended-requires c κs = let x = far-low _ (omega arith) (sym (c .before .before .before .before .before .before .before .pre .1 .0 .entry .group) ∙ c .before .before .before .before .before .before .before .pre .1 .1) (c .before .before .if2 .taken) in (c .before .before .before .before .before .before .before .pre .0, (c .before .before .before .before .before .before .before .pre .1 .0, (x .0, x .1, c .before .before .before .if1 .left)))
 
 -- src/lib.rt:206:9
 same-length : tie.Need-same-length
@@ -32,7 +36,7 @@ returns-2 c = search needs
 
 -- src/lib.rt:208:5
 jump-requires : tie.Need-jump-requires
-jump-requires c κs = ?
+jump-requires c κs = (c .before .before .before .before .before .before .before .pre .0, (c .before .before .before .before .before .before .before .pre .1 .0, (c .before .before .if2 .left, far-high _ (omega arith) (sym (c .before .before .before .before .before .before .before .pre .1 .0 .entry .group) ∙ c .before .before .before .before .before .before .before .pre .1 .1) (c .before .before .if2 .left), c .before .before .before .if1 .left)))
 
 -- src/lib.rt:194:1
 same-length-3 : tie.Need-same-length-3

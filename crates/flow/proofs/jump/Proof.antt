@@ -1,3 +1,8 @@
+use native.Mathlib.Omega.{arith}
+use mathlib.Core.Path.{refl}
+use Rattle.flow.proofs.StepLaws.{step-yes}
+use Rattle.flow.proofs.VisitLaws.{visits-one}
+use Rattle.flow.proofs.HereLaws.{expand-jump, expand-fork, expand-long, expand-fork-long, expand-before, second-inside}
 use borrow.Author.Needs.{needs}
 use Rattle.flow.proofs.jump.Statement.{statement}
 use Rattle.flow.proofs.jump.Tie as tie
@@ -33,7 +38,7 @@ same-length-2 c = search needs
 
 -- src/lib.rt:177:9
 returns : tie.Need-returns
-returns c = ?
+returns c = expand-jump _ _ _ _ _ _ _ _ (omega arith) (c .before .before .before .before .before .before .before .before .before .before .before .pre .1 .0) _ _ _ _ _ _ (c .before .before .before .before .before .before .before .before .before .before .before .pre .1 .1 .2) (c .before .before .before .before .before .before .before .before .before .before .before .pre .1 .1 .0) (c .before .before .before .before .before .before .before .if1 .taken) (step-yes _ _ _ _ _ _ _ _ _ _ refl (visits-one _ _ _ _ _ _ _ _ _ (c .before .before .before .before .visit .ensures)))
 
 -- src/lib.rt:180:40
 add-fork : tie.Need-add-fork
@@ -65,7 +70,7 @@ same-length-4 c = search needs
 
 -- src/lib.rt:180:9
 returns-2 : tie.Need-returns-2
-returns-2 c = ?
+returns-2 c = expand-fork _ _ _ _ _ _ _ _ (omega arith) (c .before .before .before .before .before .before .before .before .before .before .before .before .pre .1 .0) _ _ _ _ _ _ (c .before .before .before .before .before .before .before .before .before .before .before .before .pre .1 .1 .2) (c .before .before .before .before .before .before .before .before .if1 .left) (c .before .before .before .before .before .before .before .if2 .taken) (c .before .before .before .before .fork .ensures)
 
 -- src/lib.rt:182:36
 add-fetch : tie.Need-add-fetch
@@ -73,7 +78,7 @@ add-fetch c = search needs
 
 -- src/lib.rt:182:13
 fetch-requires : tie.Need-fetch-requires
-fetch-requires c κs = ?
+fetch-requires c κs = second-inside _ _ _ _ _ _ _ _ (omega arith) (c .before .before .before .before .before .pre .1 .0) (c .if2 .left) (c .before .before .before .before .before .pre .1 .1 .1) (c .before .before .before .before .before .pre .1 .1 .2)
 
 -- src/lib.rt:182:13
 cast-x : tie.Need-cast-x
@@ -101,7 +106,7 @@ add-to-3 c = search needs
 
 -- src/lib.rt:186:13
 returns-3 : tie.Need-returns-3
-returns-3 c = ?
+returns-3 c = expand-before _ _ _ _ _ _ _ _ (omega arith) (c .before .before .before .before .before .before .before .before .pre .1 .0) _ _ _ _ _ (c .before .before .before .before .before .before .before .before .pre .1 .1 .2) (c .before .before .before .if2 .left) (c .before .if3 .taken) (omega (arith, c .before .before .fetch .ensures, c .if4 .taken))
 
 -- src/lib.rt:188:9
 visit-requires-2 : tie.Need-visit-requires-2
@@ -117,7 +122,7 @@ same-length-6 c = search needs
 
 -- src/lib.rt:188:9
 returns-4 : tie.Need-returns-4
-returns-4 c = ?
+returns-4 c = expand-long _ _ _ _ _ _ _ _ (omega arith) (c .before .before .before .before .before .before .before .before .before .before .before .before .before .before .before .pre .1 .0) _ _ _ _ _ _ (c .before .before .before .before .before .before .before .before .before .before .before .before .before .before .before .pre .1 .1 .2) (c .before .before .before .before .before .before .before .before .before .before .if2 .left) (c .before .before .before .before .before .before .before .before .if3 .taken) _ (omega (arith, c .before .before .before .before .before .before .before .before .before .fetch .ensures, c .before .before .before .before .before .before .before .if4 .left)) (step-yes _ _ _ _ _ _ _ _ _ _ refl (visits-one _ _ _ _ _ _ _ _ _ (c .before .before .before .before .visit2 .ensures)))
 
 -- src/lib.rt:190:29
 add-fork-4 : tie.Need-add-fork-4
@@ -157,7 +162,7 @@ same-length-8 c = search needs
 
 -- src/lib.rt:168:1
 returns-5 : tie.Need-returns-5
-returns-5 c = ?
+returns-5 c = expand-fork-long _ _ _ _ _ _ _ _ (omega arith) (c .before .before .before .before .before .before .before .before .before .before .before .before .before .before .pre .1 .0) _ _ _ _ _ _ (c .before .before .before .before .before .before .before .before .before .before .before .before .before .before .pre .1 .1 .2) (c .before .before .before .before .before .before .before .if3 .left) (c .before .before .before .before .before .before .before .before .before .before .before .before .before .before .pre .1 .1 .1) (rw (c .before .before .before .before .before .before .before .before .fetch .ensures) at (c .before .before .before .before .fork2 .ensures))
 
 pub jump-spec : {M : Type 1} → statement M
 jump-spec =

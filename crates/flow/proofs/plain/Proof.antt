@@ -1,3 +1,7 @@
+use mathlib.Core.Path.{ap}
+use native.Mathlib.Omega.{arith}
+use borrow.Author.Tests.{lt-ltb, le-ltb}
+use Rattle.flow.proofs.StepLaws.{step-no, step-and, and-no}
 use borrow.Author.Needs.{needs}
 use Rattle.flow.proofs.plain.Statement.{statement}
 use Rattle.flow.proofs.plain.Tie as tie
@@ -6,16 +10,16 @@ use Rattle.flow.proofs.plain.Lts as lts
 use Rattle.flow.proofs.onward.Reads as onward-reads
 
 -- src/lib.rt:95:17
-element-copy-out-count : tie.Need-element-copy-out-count
-element-copy-out-count c = search needs
+cast-index : tie.Need-cast-index
+cast-index c = search needs
 
--- src/lib.rt:95:17
-cast-count : tie.Need-cast-count
-cast-count c = ?
+-- src/lib.rt:96:8
+element-copy-out-if1 : tie.Need-element-copy-out-if1
+element-copy-out-if1 c = search needs
 
 -- src/lib.rt:97:9
 returns : tie.Need-returns
-returns c = ?
+returns c = step-no _ _ _ _ _ _ _ _ _ (and-no _ _ (le-ltb _ _ (c .if1 .taken)))
 
 -- src/lib.rt:99:31
 add-onward : tie.Need-add-onward
@@ -35,14 +39,14 @@ same-length-2 c = search needs
 
 -- src/lib.rt:87:1
 returns-2 : tie.Need-returns-2
-returns-2 c = ?
+returns-2 c = step-and _ _ _ _ _ _ _ _ _ _ _ (lt-ltb _ _ (c .before .before .before .before .before .before .before .if1 .left)) (c .before .before .before .before .onward .ensures)
 
 pub plain-spec : {M : Type 1} → statement M
 plain-spec =
     tie.close
     (tie.spec
-    element-copy-out-count
-    cast-count
+    cast-index
+    element-copy-out-if1
     returns
     add-onward
     onward-requires

@@ -1,3 +1,9 @@
+use mathlib.Core.Path.{sym}
+use borrow.Author.Tests.{lt-ltb, le-ltb}
+use Rattle.bytecode.specs.Test.{if_then_else_}
+use Rattle.bytecode.specs.Code.{placeOf}
+use Rattle.flow.specs.Index.{placeIndexed}
+use Rattle.flow.proofs.InstructionLaws.{place-literal}
 use borrow.Author.Needs.{needs}
 use Rattle.flow.proofs.push_fits.Statement.{statement}
 use Rattle.flow.proofs.push_fits.Tie as tie
@@ -10,7 +16,8 @@ element-copy-out-result c = search needs
 
 -- src/lib.rt:108:9
 returns : tie.Need-returns
-returns c = ?
+unfolding placeOf placeIndexed if_then_else_
+returns c = rw (lt-ltb _ _ (c .before .if1 .taken))
 
 -- src/lib.rt:111:20
 element-copy-out-result-2 : tie.Need-element-copy-out-result-2
@@ -18,7 +25,8 @@ element-copy-out-result-2 c = search needs
 
 -- src/lib.rt:111:9
 returns-2 : tie.Need-returns-2
-returns-2 c = ?
+unfolding placeOf placeIndexed if_then_else_
+returns-2 c = rw (le-ltb _ _ (c .before .before .if1 .left), lt-ltb _ _ (c .before .if2 .taken))
 
 -- src/lib.rt:113:9
 element-copy-out-result-3 : tie.Need-element-copy-out-result-3
@@ -26,7 +34,8 @@ element-copy-out-result-3 c = search needs
 
 -- src/lib.rt:103:1
 returns-3 : tie.Need-returns-3
-returns-3 c = ?
+unfolding placeOf placeIndexed if_then_else_
+returns-3 c = sym (place-literal _ _ _ _ (c .before .if2 .left))
 
 pub push-fits-spec : {M : Type 1} → statement M
 push-fits-spec =
