@@ -5,3 +5,4 @@ pub mod UniqueLaws
 pub mod RuleLaws
 pub mod InstructionLaws
 pub mod HereLaws
+pub mod CodeWalk
