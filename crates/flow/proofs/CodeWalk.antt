@@ -14,8 +14,8 @@ use Rattle.bytecode.proofs.TestLaws.{rule}
 use Rattle.model.specs.Depth.{Reached, first, HasTable, successorsAt, depthAfterAt, rulesAt, fineAt, depthTable, isSome}
 use Rattle.model.proofs.Marks.{zeros}
 use Rattle.model.proofs.DepthLaws.{fine-inside}
-use Rattle.flow.specs.Index.{indexedBy}
-use Rattle.flow.specs.Walk.{Noted, Asks, Walk, Turn, Nobody, fineIn, tableBy, Here, Expand, WalkingAt, TurnAt, Static, Answer, notesOf, Walked, mostCode, mostDepth}
+use Rattle.flow.specs.Index.{indexed, indexedBy}
+use Rattle.flow.specs.Walk.{Noted, Asks, Walk, Turn, Nobody, fineIn, tableBy, Here, Expand, WalkingAt, TurnAt, Static, Answer, Lent, notesOf, Walked, mostCode, mostDepth}
 use Rattle.flow.specs.declared.Went.{Went}
 use Rattle.flow.specs.declared.Went.the-variants.{On, Stuck}
 use Rattle.flow.proofs.InvariantLaws.{turn-law, ended, begun}
@@ -135,6 +135,24 @@ unfolding Answer
 answered-none o t r e a = rw e at a
 
 -- the limit is the temporaries and the room
-pub same-limit : (words : List ℕ) (size temporaries limit : ℕ) (r : Instruction → Bool) → temporaries ≤ limit
-    → depthTable words size temporaries limit r ≡ depthTable words size temporaries (temporaries + (limit - temporaries)) r
-same-limit words size temporaries limit r h = ap (λ (k : ℕ). depthTable words size temporaries k r) (omega arith)
+pub table-as : (words : List ℕ) (size fields temporaries literals limit : ℕ) (t : List ℕ) → temporaries ≤ limit → length t ≡ size
+    → depthTable words size temporaries limit (indexed fields temporaries literals) ≡ tableBy (1 ∷ fields ∷ temporaries ∷ literals ∷ []) words (length (set t 0 1)) (limit - temporaries)
+table-as words size fields temporaries literals limit t h e =
+    let p : size ≡ length (set t 0 1) = sym (length-set t 0 1 ∙ e) in
+    let q : limit ≡ temporaries + (limit - temporaries) = omega arith in
+    λ i. depthTable words (p i) temporaries (q i) (indexed fields temporaries literals)
+
+pub cleared-as : (t z y : List ℕ) (size : ℕ) → length t ≡ size → length z ≡ length (set t 0 1) → y ≡ replicate (length z) 0 → y ≡ replicate size 0
+cleared-as t z y size e f g = g ∙ ap (λ (k : ℕ). replicate k 0) (f ∙ length-set t 0 1 ∙ e)
+
+pub static-start : (table words : List ℕ) (fields temporaries literals limit : ℕ) (notes pending t : List ℕ) → Lent table words limit notes pending → length t ≡ length notes
+    → Static table (1 ∷ fields ∷ temporaries ∷ literals ∷ []) words (limit - temporaries) (set t 0 1) (set pending 0 0)
+static-start table words fields temporaries literals limit notes pending t a e =
+    record {
+      entries = a .entries;
+      one = refl;
+      covered = let x = a .covered in omega (arith, length-set t 0 1);
+      long = let x = a .long in omega (arith, length-set t 0 1, length-set pending 0 0);
+      small = let x = a .small in omega (arith, length-set t 0 1);
+      shallow = let x = a .shallow in omega arith;
+    }
