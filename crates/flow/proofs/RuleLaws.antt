@@ -1,0 +1,103 @@
+-- The rules of a single instruction in two parts, with no objects and with them.
+use Prim.Native.Nat.{ℕ, zero, suc, _<_, _≤_}
+use mathlib.Core.Path.{_≡_, refl, sym, ap, _∙_}
+use mathlib.Core.Bool.{Bool, true, false, _&&_, _||_}
+use mathlib.Core.Logic.{_⊎_, inl, inr}
+use mathlib.Core.List.{List}
+use mathlib.Core.Option.{Option}
+use native.Mathlib.Omega.{arith}
+use lib.Dec.{ltb}
+use lib.ListN.{getD}
+use Rattle.bytecode.specs.Table.{pushGroup, storeGroup, group}
+use Rattle.bytecode.specs.declared.Place.{Place}
+use Rattle.bytecode.specs.declared.Place.the-variants.{Field, Temporary, Literal, LiteralVariable}
+use Rattle.bytecode.specs.declared.Instruction.{Instruction}
+use Rattle.bytecode.specs.declared.Instruction.the-variants.{Push, Store, PopStore, PushSelf, PushConstant, ReturnSelf, ReturnConstant, ReturnTop, Pop, Duplicate, Jump, JumpOn, Send, SuperSend, SpecialSend, Unused}
+use Rattle.model.specs.Objects.{Objects, fieldCount}
+use Rattle.model.specs.Method.{home, literal, temporaryCount, literalCount, codeWords, codeSize, frameWords}
+use Rattle.model.specs.Depth.{depthTable}
+use Rattle.model.specs.Rules.{placeFine, isWritable, allowed, methodTable, variableFine, sendFine}
+use Rattle.flow.specs.Index.{placeIndexed, indexed}
+use Rattle.flow.specs.Linked.{placeLinked, linked}
+
+-- the group 1 is in neither part
+none : (_≡_ {A = ℕ} 1 0) ⊎ (2 ≤ 1) → ⊥
+none (inl e) = omega arith
+none (inr e) = omega arith
+
+and-true : (a : Bool) → a ≡ a && true
+and-true true = refl
+and-true false = refl
+
+and-assoc : (a b c : Bool) → a && (b && c) ≡ (a && b) && c
+and-assoc true b c = refl
+and-assoc false b c = refl
+
+module _ (o : Objects) (m : ℕ) where
+  abbrev pub indexedIn : Instruction → Bool
+  indexedIn = indexed (fieldCount o (home o m)) (temporaryCount o m) (literalCount o m)
+
+  place-split : (p : Place) → placeFine o m p ≡ placeIndexed (fieldCount o (home o m)) (temporaryCount o m) (literalCount o m) p && placeLinked o m p
+  unfolding placeFine placeIndexed placeLinked
+  place-split (Field i) = and-true (ltb i (fieldCount o (home o m)))
+  place-split (Temporary i) = and-true (ltb i (temporaryCount o m))
+  place-split (Literal i) = and-true (ltb i (literalCount o m))
+  place-split (LiteralVariable i) = refl
+
+  store-split : (p : Place) → isWritable p && placeFine o m p ≡ (isWritable p && placeIndexed (fieldCount o (home o m)) (temporaryCount o m) (literalCount o m) p) && placeLinked o m p
+  store-split p =
+      ap (λ (x : Bool). isWritable p && x) (place-split p)
+      ∙ and-assoc (isWritable p) (placeIndexed (fieldCount o (home o m)) (temporaryCount o m) (literalCount o m) p) (placeLinked o m p)
+
+  pub split : (i : Instruction) → allowed o m i ≡ indexedIn i && linked o m i
+  unfolding allowed indexed linked
+  split (Push p) = place-split p
+  split (Store p) = store-split p
+  split (PopStore p) = store-split p
+  split PushSelf = refl
+  split (PushConstant w) = refl
+  split ReturnSelf = refl
+  split (ReturnConstant w) = refl
+  split ReturnTop = refl
+  split Pop = refl
+  split Duplicate = refl
+  split (Jump a b) = refl
+  split (JumpOn x a) = refl
+  split (Send l n) = refl
+  split (SuperSend l n) = refl
+  split (SpecialSend k) = refl
+  split Unused = refl
+
+  -- so a method's table is that of both parts together
+  pub table-split : methodTable o m ≡ depthTable (codeWords o m) (codeSize o m) (temporaryCount o m) (frameWords o m) (λ i. indexedIn i && linked o m i)
+  unfolding methodTable
+  table-split = λ k. depthTable (codeWords o m) (codeSize o m) (temporaryCount o m) (frameWords o m) (λ i. split i k)
+
+  -- an instruction that is in no group with further rules is linked
+  pub plainly-linked : (i : Instruction) → (group i ≡ 0) ⊎ (2 ≤ group i) → linked o m i ≡ true
+  unfolding group pushGroup storeGroup linked placeLinked
+  plainly-linked (Push (Field i)) g = refl
+  plainly-linked (Push (Temporary i)) g = refl
+  plainly-linked (Push (Literal i)) g = refl
+  plainly-linked (Push (LiteralVariable i)) g = absurd (none g)
+  plainly-linked (Store (Field i)) g = refl
+  plainly-linked (Store (Temporary i)) g = refl
+  plainly-linked (Store (Literal i)) g = refl
+  plainly-linked (Store (LiteralVariable i)) g = absurd (none g)
+  plainly-linked (PopStore (Field i)) g = refl
+  plainly-linked (PopStore (Temporary i)) g = refl
+  plainly-linked (PopStore (Literal i)) g = refl
+  plainly-linked (PopStore (LiteralVariable i)) g = absurd (none g)
+  plainly-linked PushSelf g = refl
+  plainly-linked (PushConstant w) g = refl
+  plainly-linked ReturnSelf g = refl
+  plainly-linked (ReturnConstant w) g = refl
+  plainly-linked ReturnTop g = refl
+  plainly-linked Pop g = refl
+  plainly-linked Duplicate g = refl
+  plainly-linked (Jump a b) g = refl
+  plainly-linked (JumpOn x a) g = refl
+  plainly-linked (Send l n) g = absurd (none g)
+  plainly-linked (SuperSend l n) g = absurd (none g)
+  plainly-linked (SpecialSend k) g = absurd (none g)
+  plainly-linked Unused g = refl

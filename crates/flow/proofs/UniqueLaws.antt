@@ -1,0 +1,135 @@
+-- There is at most one table of notes, whatever the rules; so a walk with some of the rules and a second pass with the others come to the
+-- walk with all.
+use Prim.Native.Nat.{ℕ, zero, suc, pred, _<_}
+use mathlib.Core.Path.{_≡_, refl, sym, ap, _∙_, subst}
+use mathlib.Core.Bool.{Bool, true, false, _&&_}
+use mathlib.Core.List.{List}
+use mathlib.Core.Option.{Option, none, some, Option·some-injective, Option·none-ne-some}
+use native.Mathlib.Omega.{arith}
+use lib.Dec.{T}
+use lib.ListN.{length, getD}
+use lib.Seq.{ext-getD}
+use Rattle.bytecode.specs.Test.{allOf}
+use Rattle.bytecode.specs.Code.{nextAt, decodeAt}
+use Rattle.bytecode.specs.Effect.{need, usable}
+use Rattle.bytecode.specs.declared.Instruction.{Instruction}
+use Rattle.bytecode.proofs.TestLaws.{true→T, T→true, and-left, and-right, rule, rules}
+use Rattle.model.specs.Depth.{Reached, DepthTable, HasTable, successorsAt, depthAfterAt, rulesAt, fineAt, depthTable, isSome}
+use Rattle.model.proofs.WalkLaws.{at-reached, at-depth, Notes}
+use Rattle.model.proofs.DepthLaws.{decides, table-notes}
+
+module _ (next : ℕ → List ℕ) (after : ℕ → ℕ → ℕ) (size : ℕ) where
+  -- a note of one table is in the other
+  carried : (fine fine′ : ℕ → ℕ → Bool) (t t′ : List ℕ) → Notes fine next after size t → Notes fine′ next after size t′ → (p d : ℕ) → getD t p 0 ≡ suc d → getD t′ p 0 ≡ suc d
+  carried fine fine′ t t′ a b p d e =
+      let path = a .path p d e in
+      b .reached p (at-reached path) ∙ ap suc (at-depth fine′ next after (λ q. pred (getD t′ q 0)) (b .table) path)
+
+  same-note : (fine fine′ : ℕ → ℕ → Bool) (t t′ : List ℕ) → Notes fine next after size t → Notes fine′ next after size t′ → (p v v′ : ℕ) → getD t p 0 ≡ v → getD t′ p 0 ≡ v′ → v ≡ v′
+  same-note fine fine′ t t′ a b p zero zero e e′ = refl
+  same-note fine fine′ t t′ a b p (suc d) v′ e e′ = sym (carried fine fine′ t t′ a b p d e) ∙ e′
+  same-note fine fine′ t t′ a b p zero (suc d) e e′ = sym e ∙ carried fine′ fine t′ t b a p d e′
+
+  pub unique : (fine fine′ : ℕ → ℕ → Bool) (t t′ : List ℕ) → Notes fine next after size t → Notes fine′ next after size t′ → t ≡ t′
+  unique fine fine′ t t′ a b =
+      ext-getD 0 t t′ (a .long ∙ sym (b .long)) (λ p h. same-note fine fine′ t t′ a b p (getD t p 0) (getD t′ p 0) refl refl)
+
+module _ (words : List ℕ) (size temporaries limit : ℕ) where
+  abbrev Table : (Instruction → Bool) → Option (List ℕ)
+  Table r = depthTable words size temporaries limit r
+
+  abbrev NotesBy : (Instruction → Bool) → List ℕ → Type 0
+  NotesBy r t = Notes (fineAt words size temporaries limit r) (successorsAt words size) (depthAfterAt words size) size t
+
+  abbrev Has : (Instruction → Bool) → Type 0
+  Has r = HasTable (fineAt words size temporaries limit r) (successorsAt words size) (depthAfterAt words size)
+
+  -- what a walk over the code ends with is the table
+  pub table-is : (r : Instruction → Bool) (t : List ℕ) → NotesBy r t → Table r ≡ some t
+  table-is r t a = go (Table r) refl (decides words size temporaries limit r .0 ((λ p. pred (getD t p 0)), a .table))
+    where
+      go : (x : Option (List ℕ)) → Table r ≡ x → T (isSome x) → x ≡ some t
+      go none e s = absurd s
+      go (some t′) e s =
+          ap some (unique (successorsAt words size) (depthAfterAt words size) size (fineAt words size temporaries limit r) (fineAt words size temporaries limit r) t′ t (table-notes words size temporaries limit r t′ e) a)
+
+  pub table-none : (r : Instruction → Bool) → (Has r → ⊥) → Table r ≡ none
+  table-none r n = go (Table r) refl
+    where
+      go : (x : Option (List ℕ)) → Table r ≡ x → x ≡ none
+      go none e = refl
+      go (some t) e = absurd (n ((λ p. pred (getD t p 0)), table-notes words size temporaries limit r t e .table))
+
+  -- rules in two parts
+  module _ (r₁ r₂ : Instruction → Bool) where
+    abbrev Both : Instruction → Bool
+    Both i = r₁ i && r₂ i
+
+    fine-first : (p d : ℕ) → T (fineAt words size temporaries limit Both p d) → T (fineAt words size temporaries limit r₁ p d)
+    unfolding fineAt rulesAt
+    fine-first p d f =
+        let i = decodeAt words size p in
+        let a = rule (rulesAt words size temporaries limit Both p d) f in
+        rules (rulesAt words size temporaries limit r₁ p d) (a 0, (and-left (r₁ i) (r₂ i) (a 1), (a 2, (a 3, tt))))
+
+    fine-second : (p d : ℕ) → T (fineAt words size temporaries limit Both p d) → T (r₂ (decodeAt words size p))
+    unfolding fineAt rulesAt
+    fine-second p d f =
+        let i = decodeAt words size p in
+        and-right (r₁ i) (r₂ i) (rule (rulesAt words size temporaries limit Both p d) f 1)
+
+    fine-both : (p d : ℕ) → T (fineAt words size temporaries limit r₁ p d) → T (r₂ (decodeAt words size p)) → T (fineAt words size temporaries limit Both p d)
+    unfolding fineAt rulesAt
+    fine-both p d f g =
+        let i = decodeAt words size p in
+        let a = rule (rulesAt words size temporaries limit r₁ p d) f in
+        rules (rulesAt words size temporaries limit Both p d) (a 0, (joined (r₁ i) (r₂ i) (a 1) g, (a 2, (a 3, tt))))
+      where
+        joined : (x y : Bool) → T x → T y → T (x && y)
+        joined true y s u = u
+        joined false y s u = absurd s
+
+    weaker : (t : List ℕ) → NotesBy Both t → NotesBy r₁ t
+    weaker t a =
+        record {
+          long = a .long;
+          kept = λ p d h. fine-first p d (a .kept p d h);
+          path = a .path;
+          reached = a .reached;
+          table = record { start = a .table .start; kept = λ p h. fine-first p (pred (getD t p 0)) (a .table .kept p h); along = a .table .along };
+        }
+
+    stronger : (t : List ℕ) → NotesBy r₁ t → ((p d : ℕ) → getD t p 0 ≡ suc d → T (r₂ (decodeAt words size p))) → NotesBy Both t
+    stronger t a h =
+        record {
+          long = a .long;
+          kept = λ p d e. fine-both p d (a .kept p d e) (h p d e);
+          path = a .path;
+          reached = a .reached;
+          table = record { start = a .table .start; kept = λ p x. fine-both p (pred (getD t p 0)) (a .table .kept p x) (h p (pred (getD t p 0)) (a .reached p x)); along = a .table .along };
+        }
+
+    -- the second part holds at every noted position: the same table
+    pub combined-some : (t : List ℕ) → Table r₁ ≡ some t → ((p d : ℕ) → getD t p 0 ≡ suc d → r₂ (decodeAt words size p) ≡ true) → Table Both ≡ some t
+    combined-some t e h = table-is Both t (stronger t (table-notes words size temporaries limit r₁ t e) (λ p d n. true→T (h p d n)))
+
+    -- it fails at one: none
+    pub combined-fails : (t : List ℕ) → Table r₁ ≡ some t → (p d : ℕ) → getD t p 0 ≡ suc d → r₂ (decodeAt words size p) ≡ false → Table Both ≡ none
+    combined-fails t e p d n f =
+        table-none Both (λ s. subst T f (fine-second p d (go (Table Both) refl (decides words size temporaries limit Both .0 s))))
+      where
+        go : (x : Option (List ℕ)) → Table Both ≡ x → T (isSome x) → T (fineAt words size temporaries limit Both p d)
+        go none y z = absurd z
+        go (some t′) y z =
+            let a = table-notes words size temporaries limit Both t′ y in
+            let same : t ≡ t′ = Option·some-injective t t′ (sym e ∙ table-is r₁ t′ (weaker t′ a)) in
+            a .kept p d (ap (λ (l : List ℕ). getD l p 0) (sym same) ∙ n)
+
+    -- and the first part has none: none
+    pub combined-none : Table r₁ ≡ none → Table Both ≡ none
+    combined-none e = go (Table Both) refl
+      where
+        go : (x : Option (List ℕ)) → Table Both ≡ x → x ≡ none
+        go none y = refl
+        go (some t) y =
+            absurd (Option·none-ne-some t (sym e ∙ table-is r₁ t (weaker t (table-notes words size temporaries limit Both t y))))

@@ -1,0 +1,151 @@
+-- What the functions of the walk ask of and promise each other. `t` are the notes, `s` the pending positions, of which the first n count.
+use Prim.Native.Nat.{ℕ, suc, _+_, _-_, _*_, _<_, _≤_}
+use mathlib.Core.Path.{_≡_}
+use mathlib.Core.Logic.{_⊎_}
+use mathlib.Core.Bool.{Bool, true, false}
+use mathlib.Core.List.{List, [], _∷_, List·Memᴰ}
+use mathlib.Core.Option.{Option, none, some}
+use lib.Dec.{T}
+use lib.ListN.{length, getD, replicate}
+use Rattle.bytecode.specs.Code.{byteAt}
+use Rattle.bytecode.specs.Table.{Entry, IsTable}
+use Rattle.model.specs.Depth.{HasTable, successorsAt, depthAfterAt, fineAt, depthTable, isSome}
+use Rattle.model.proofs.Marks.{zeros}
+use Rattle.model.proofs.WalkLaws.{At}
+use Rattle.flow.specs.Index.{indexedBy}
+use Rattle.flow.specs.declared.Went.{Went}
+use Rattle.flow.specs.declared.Went.the-variants.{On, Stuck}
+
+-- the most code bytes that an image has room for, and the most words of a frame for temporaries and operands
+abbrev pub mostCode : ℕ
+mostCode = 48000
+
+abbrev pub mostDepth : ℕ
+mostDepth = 32
+
+abbrev pub Noted : List ℕ → ℕ → ℕ → Type 0
+Noted t p d = getD t p 0 ≡ suc d
+
+-- The sum has two uses: each position is pushed once, so that there is room for it; and it falls with each turn.
+pub record Asks (t s : List ℕ) (n room : ℕ) : Type 0 where
+  pub count : n + zeros t ≤ length t
+  pub long : length t ≤ length s
+  pub small : length t ≤ mostCode
+  pub shallow : room ≤ mostDepth
+
+-- Position p has the depth d now: it had it before, or is new and pending.
+pub record Visited (room : ℕ) (t s : List ℕ) (n p d : ℕ) (t′ s′ : List ℕ) (n′ : ℕ) : Type 0 where
+  pub within : d ≤ room
+  pub lengths : (length t′ ≡ length t) × (length s′ ≡ length s)
+  pub count : n′ + zeros t′ ≡ n + zeros t
+  pub more : n ≤ n′
+  pub here : Noted t′ p d
+  pub kept : (q k : ℕ) → Noted t q k → Noted t′ q k
+  pub grown : (q k : ℕ) → Noted t′ q k → Noted t q k ⊎ ((q ≡ p) × (k ≡ d) × (n < n′))
+  pub stack : (k : ℕ) → k < n → getD s′ k 0 ≡ getD s k 0
+  pub pushed : (k : ℕ) → n ≤ k → k < n′ → getD s′ k 0 ≡ p
+
+-- too deep, outside, or noted with another depth
+abbrev pub Refused : ℕ → List ℕ → ℕ → ℕ → Type 0
+Refused room t p d = (room < d) ⊎ ((length t ≤ p) ⊎ ((e : ℕ) × Noted t p e × (e ≡ d → ⊥)))
+
+unfoldable pub Visit : ℕ → List ℕ → List ℕ → ℕ → ℕ → ℕ → List ℕ → List ℕ → Went → Type 0
+Visit room t s n p d t′ s′ (On n′) = Visited room t s n p d t′ s′ n′
+Visit room t s n p d t′ s′ Stuck = Refused room t p d
+
+-- all positions of a list, in turn, with one depth
+unfoldable pub Visits : ℕ → List ℕ → ℕ → List ℕ → List ℕ → ℕ → List ℕ → List ℕ → Went → Type 0
+Visits room [] d t s n t′ s′ r = (t′ ≡ t) × (s′ ≡ s) × (r ≡ On n)
+Visits room (q ∷ qs) d t s n t′ s′ r =
+    (Refused room t q d × (r ≡ Stuck))
+    ⊎ ((t₁ : List ℕ) × (s₁ : List ℕ) × (n₁ : ℕ) × Visited room t s n q d t₁ s₁ n₁ × Visits room qs d t₁ s₁ n₁ t′ s′ r)
+
+-- the same where the instruction keeps its rules
+unfoldable pub Step : ℕ → Bool → List ℕ → ℕ → List ℕ → List ℕ → ℕ → List ℕ → List ℕ → Went → Type 0
+Step room false qs d t s n t′ s′ r = r ≡ Stuck
+Step room true qs d t s n t′ s′ r = Visits room qs d t s n t′ s′ r
+
+-- nobody
+abbrev pub Nobody : ℕ → Type 0
+Nobody p = ⊥
+
+-- p is among the pending
+abbrev pub Pending : List ℕ → ℕ → ℕ → Type 0
+Pending s n p = (k : ℕ) × (k < n) × (getD s k 0 ≡ p)
+
+module _ (fine : ℕ → ℕ → Bool) (next : ℕ → List ℕ) (after : ℕ → ℕ → ℕ) (room : ℕ) where
+  -- a position is dealt with: it keeps its rules, and what follows is noted
+  pub record Done (t : List ℕ) (p d : ℕ) : Type 0 where
+    pub holds : T (fine p d)
+    pub along : (q : ℕ) → List·Memᴰ q (next p) → Noted t q (after p d)
+
+  -- The invariant: each noted position is reached with its depth, and is busy, pending or dealt with.
+  pub record Walk (t s : List ℕ) (n : ℕ) (Busy : ℕ → Type 0) : Type 0 where
+    pub count : n + zeros t ≤ length t
+    pub first : Noted t 0 0
+    pub path : (p d : ℕ) → Noted t p d → At next after p d
+    pub within : (p d : ℕ) → Noted t p d → d ≤ room
+    pub queued : (k : ℕ) → k < n → (d : ℕ) × Noted t (getD s k 0) d
+    pub done : (p d : ℕ) → Noted t p d → Busy p ⊎ (Pending s n p ⊎ Done t p d)
+
+  -- a turn keeps it and uses something up, or shows that there is no table
+  unfoldable pub Turn : List ℕ → List ℕ → ℕ → List ℕ → List ℕ → Went → Type 0
+  Turn t s n t′ s′ (On n′) = Walk t′ s′ n′ Nobody × (n′ + zeros t′ < n + zeros t)
+  Turn t s n t′ s′ Stuck = HasTable fine next after → ⊥
+
+-- The walk over code of `size` bytes, by counts of which number 2 is the temporaries; with room for so many operands beside them
+module _ (counts words : List ℕ) (size room : ℕ) where
+  abbrev pub fineIn : ℕ → ℕ → Bool
+  fineIn = fineAt words size (getD counts 2 0) (getD counts 2 0 + room) (indexedBy counts)
+
+  abbrev pub tableBy : Option (List ℕ)
+  tableBy = depthTable words size (getD counts 2 0) (getD counts 2 0 + room) (indexedBy counts)
+
+  -- b is the byte at p, and e its entry
+  pub record Here (p d b e : ℕ) : Type 0 where
+    pub one : getD counts 0 0 ≡ 1
+    pub inside : p < size
+    pub covered : size ≤ 2 * length words
+    pub byte : b ≡ byteAt words p
+    pub entry : Entry b e
+    pub shallow : d ≤ room
+
+  unfoldable pub Expand : ℕ → ℕ → List ℕ → List ℕ → ℕ → List ℕ → List ℕ → Went → Type 0
+  Expand p d t s n t′ s′ r = Step room (fineIn p d) (successorsAt words size p) (depthAfterAt words size p d) t s n t′ s′ r
+
+  unfoldable pub WalkingAt : List ℕ → List ℕ → ℕ → Type 0
+  WalkingAt t s n = Walk fineIn (successorsAt words size) (depthAfterAt words size) room t s n Nobody
+
+  unfoldable pub TurnAt : List ℕ → List ℕ → ℕ → List ℕ → List ℕ → Went → Type 0
+  TurnAt t s n t′ s′ r = Turn fineIn (successorsAt words size) (depthAfterAt words size) room t s n t′ s′ r
+
+-- what does not change on the way
+pub record Static (table counts words : List ℕ) (room : ℕ) (t s : List ℕ) : Type 0 where
+  pub entries : IsTable table
+  pub one : getD counts 0 0 ≡ 1
+  pub covered : length t ≤ 2 * length words
+  pub long : length t ≤ length s
+  pub small : length t ≤ mostCode
+  pub shallow : room ≤ mostDepth
+
+-- r says whether there is a table, and t is it
+unfoldable pub Answer : Option (List ℕ) → List ℕ → Bool → Type 0
+Answer o t true = o ≡ some t
+Answer o t false = o ≡ none
+
+-- The walk's contract. What it is lent: the table of entries, words that hold the code, room to keep pending positions
+pub record Lent (table words : List ℕ) (limit : ℕ) (notes pending : List ℕ) : Type 0 where
+  pub entries : IsTable table
+  pub covered : length notes ≤ 2 * length words
+  pub long : length notes ≤ length pending
+  pub small : length notes ≤ mostCode
+  pub shallow : limit ≤ mostDepth
+
+-- the notes of a depth table, all 0 where there is none
+abbrev pub notesOf : ℕ → Option (List ℕ) → List ℕ
+notesOf size none = replicate size 0
+notesOf size (some t) = t
+
+pub record Walked (found : Option (List ℕ)) (size : ℕ) (notes : List ℕ) (r : Bool) : Type 0 where
+  pub answer : r ≡ isSome found
+  pub noted : notes ≡ notesOf size found

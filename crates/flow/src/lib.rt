@@ -1,0 +1,309 @@
+// The depth walk over a method's code: which positions are reached, and how many operands stand there.
+ghost use mathlib.Core.Path.{_≡_};
+ghost use mathlib.Core.Bool.{_&&_};
+ghost use mathlib.Core.List.{[], _∷_};
+ghost use Prim.Native.Nat.{_+_, _-_, _*_, _<_, _≤_};
+ghost use lib.Dec.{ltb, leb};
+ghost use lib.ListN.{length, getD, replicate};
+ghost use Rattle.bytecode.specs.Code.{placeOf, instructionOf};
+ghost use Rattle.bytecode.specs.Table.{groupPart, lengthPart, needPart, leavesPart, boundPart, indexPart};
+ghost use Rattle.model.specs.Depth.{depthTable, isSome};
+ghost use Rattle.model.specs.Rules.{isWritable};
+ghost use Rattle.flow.specs.Index.{placeIndexed, indexed, placeIndexedBy, indexedBy};
+ghost use Rattle.flow.specs.Walk.{Asks, Visit, Visits, Step, Here, Expand, Static, WalkingAt, TurnAt, Answer, Lent, Walked, tableBy};
+
+// How many positions are pending after a step; or that there is no depth table.
+pub enum Went {
+    On(usize),
+    Stuck,
+}
+
+// Notes a position's depth and makes it pending, if nothing is noted there. It is stuck where another depth is noted, too deep, or outside.
+fn visit(notes: &mut [u8], pending: &mut [u16], n: usize, at: usize, depth: usize, room: usize) -> Went
+    requires { ⌜ Asks (now notes) (now pending) n room ⌝ }
+    ensures {
+        λ r. ⌜ Visit room (now (notes .entry)) (now (pending .entry)) n at depth (now (notes .exit)) (now (pending .exit)) r ⌝
+    }
+{
+    if room < depth {
+        return Went::Stuck;
+    }
+    if notes.len() <= at {
+        return Went::Stuck;
+    }
+    let old = notes[at] as usize;
+    if old == 0 {
+        notes[at] = (depth + 1) as u8;
+        pending[n] = at as u16;
+        return Went::On(n + 1);
+    }
+    if old == depth + 1 {
+        return Went::On(n);
+    }
+    Went::Stuck
+}
+
+// Two positions, with one depth.
+fn both(notes: &mut [u8], pending: &mut [u16], n: usize, a: usize, b: usize, depth: usize, room: usize) -> Went
+    requires { ⌜ Asks (now notes) (now pending) n room ⌝ }
+    ensures {
+        λ r. ⌜ Visits room (a ∷ b ∷ []) depth (now (notes .entry)) (now (pending .entry)) n (now (notes .exit)) (now (pending .exit)) r ⌝
+    }
+{
+    match visit(notes, pending, n, a, depth, room) {
+        Went::On(k) => visit(notes, pending, k, b, depth, room),
+        Went::Stuck => Went::Stuck,
+    }
+}
+
+// After a jump on a boolean, which takes one operand.
+fn fork(notes: &mut [u8], pending: &mut [u16], n: usize, next: usize, target: usize, depth: usize, room: usize) -> Went
+    requires { ⌜ Asks (now notes) (now pending) n room ⌝ }
+    ensures {
+        λ r. ⌜ Step room (leb 1 depth) (next ∷ target ∷ []) (depth - 1) (now (notes .entry)) (now (pending .entry)) n (now (notes .exit)) (now (pending .exit)) r ⌝
+    }
+{
+    if depth < 1 {
+        return Went::Stuck;
+    }
+    both(notes, pending, n, next, target, depth - 1, room)
+}
+
+// After an instruction that needs and leaves so many operands.
+fn onward(notes: &mut [u8], pending: &mut [u16], n: usize, next: usize, depth: usize, need: usize, leaves: usize, room: usize) -> Went
+    requires { ⌜ Asks (now notes) (now pending) n room ⌝ }
+    requires { ⌜ (depth ≤ room) × (leaves ≤ 3) ⌝ }
+    ensures {
+        λ r. ⌜ Step room (leb need depth) (next ∷ []) (depth - need + leaves) (now (notes .entry)) (now (pending .entry)) n (now (notes .exit)) (now (pending .exit)) r ⌝
+    }
+{
+    if depth < need {
+        return Went::Stuck;
+    }
+    visit(notes, pending, n, next, depth - need + leaves, room)
+}
+
+// An instruction of one byte that goes on to the next: its entry says all of it.
+fn plain(limits: &[u8; 4], room: usize, notes: &mut [u8], pending: &mut [u16], n: usize, at: usize, depth: usize, e: usize) -> Went
+    requires { ⌜ Asks (now notes) (now pending) n room ⌝ }
+    requires { ⌜ (depth ≤ room) × (at ≤ 48000) ⌝ }
+    ensures {
+        λ r. ⌜ Step room (ltb (indexPart e) (getD (now (limits .entry)) (boundPart e) 0) && leb (needPart e) depth) ((at + 1) ∷ []) (depth - needPart e + leavesPart e) (now (notes .entry)) (now (pending .entry)) n (now (notes .exit)) (now (pending .exit)) r ⌝
+    }
+{
+    let bound = e / 32 % 4;
+    let index = (e % 32) as u8;
+    if limits[bound] <= index {
+        return Went::Stuck;
+    }
+    onward(notes, pending, n, at + 1, depth, e / 512 % 4, e / 128 % 4, room)
+}
+
+// The byte of an extended push.
+fn push_fits(limits: &[u8; 4], x: u8) -> bool
+    ensures { λ r. ⌜ r ≡ placeIndexedBy (now (limits .entry)) (placeOf x) ⌝ }
+{
+    let k = x % 64;
+    if x < 64 {
+        return k < limits[1];
+    }
+    if x < 128 {
+        return k < limits[2];
+    }
+    k < limits[3]
+}
+
+// The same of an extended store, which goes to no literal.
+fn store_fits(limits: &[u8; 4], x: u8) -> bool
+    ensures { λ r. ⌜ r ≡ isWritable (placeOf x) && placeIndexedBy (now (limits .entry)) (placeOf x) ⌝ }
+{
+    let k = x % 64;
+    if x < 64 {
+        return k < limits[1];
+    }
+    if x < 128 {
+        return k < limits[2];
+    }
+    if x < 192 {
+        return false;
+    }
+    k < limits[3]
+}
+
+// 128 to 134, by the bytes that follow.
+fn extended_fits(limits: &[u8; 4], b: u8, x: u8, y: u8) -> bool
+    requires { ⌜ (128 ≤ b) × (b < 135) ⌝ }
+    ensures { λ r. ⌜ r ≡ indexedBy (now (limits .entry)) (instructionOf b x y) ⌝ }
+{
+    let literals = limits[3];
+    match b {
+        128 => push_fits(limits, x),
+        129 => store_fits(limits, x),
+        130 => store_fits(limits, x),
+        131 => x % 32 < literals,
+        132 => y < literals,
+        133 => x % 32 < literals,
+        _ => y < literals,
+    }
+}
+
+// An instruction with further bytes that goes on to the next.
+fn extended(limits: &[u8; 4], words: &[u16], room: usize, notes: &mut [u8], pending: &mut [u16], n: usize, at: usize, depth: usize, b: u8, e: usize) -> Went
+    requires { ⌜ Asks (now notes) (now pending) n room ⌝ }
+    requires { ⌜ Here (now limits) (now words) (length (now notes)) room at depth b e ⌝ }
+    requires { ⌜ (128 ≤ b) × (b < 135) × (at + lengthPart e ≤ length (now notes)) ⌝ }
+    ensures {
+        λ r. ⌜ Expand (now (limits .entry)) (now (words .entry)) (length (now (notes .entry))) room at depth (now (notes .entry)) (now (pending .entry)) n (now (notes .exit)) (now (pending .exit)) r ⌝
+    }
+{
+    let x = bytecode::byte(words, at + 1);
+    let y = bytecode::byte(words, at + 2);
+    if !extended_fits(limits, b, x, y) {
+        return Went::Stuck;
+    }
+    onward(notes, pending, n, at + e / 2048 % 4, depth, e / 512 % 4 + bytecode::extra(b, x), e / 128 % 4, room)
+}
+
+// 144 to 175.
+fn jump(limits: &[u8; 4], words: &[u16], room: usize, notes: &mut [u8], pending: &mut [u16], n: usize, at: usize, depth: usize, b: u8, e: usize) -> Went
+    requires { ⌜ Asks (now notes) (now pending) n room ⌝ }
+    requires { ⌜ Here (now limits) (now words) (length (now notes)) room at depth b e ⌝ }
+    requires { ⌜ (144 ≤ b) × (b < 176) × (at + lengthPart e ≤ length (now notes)) ⌝ }
+    ensures {
+        λ r. ⌜ Expand (now (limits .entry)) (now (words .entry)) (length (now (notes .entry))) room at depth (now (notes .entry)) (now (pending .entry)) n (now (notes .exit)) (now (pending .exit)) r ⌝
+    }
+{
+    if b < 152 {
+        return visit(notes, pending, n, at + 2 + (b % 8) as usize, depth, room);
+    }
+    if b < 160 {
+        return fork(notes, pending, n, at + 1, at + 2 + (b % 8) as usize, depth, room);
+    }
+    let x = bytecode::fetch(words, at + 1) as usize;
+    if b < 168 {
+        let to = at + 2 + (b % 8) as usize * 256 + x;
+        if to < 1024 {
+            return Went::Stuck;
+        }
+        return visit(notes, pending, n, to - 1024, depth, room);
+    }
+    fork(notes, pending, n, at + 2, at + 2 + (b % 4) as usize * 256 + x, depth, room)
+}
+
+// A jump, or an instruction with further bytes.
+fn far(limits: &[u8; 4], words: &[u16], room: usize, notes: &mut [u8], pending: &mut [u16], n: usize, at: usize, depth: usize, b: u8, e: usize) -> Went
+    requires { ⌜ Asks (now notes) (now pending) n room ⌝ }
+    requires { ⌜ Here (now limits) (now words) (length (now notes)) room at depth b e ⌝ }
+    requires { ⌜ groupPart e ≡ 3 ⌝ }
+    ensures {
+        λ r. ⌜ Expand (now (limits .entry)) (now (words .entry)) (length (now (notes .entry))) room at depth (now (notes .entry)) (now (pending .entry)) n (now (notes .exit)) (now (pending .exit)) r ⌝
+    }
+{
+    if notes.len() < at + e / 2048 % 4 {
+        return Went::Stuck;
+    }
+    if b < 144 {
+        return extended(limits, words, room, notes, pending, n, at, depth, b, e);
+    }
+    jump(limits, words, room, notes, pending, n, at, depth, b, e)
+}
+
+// Examines the instruction at a position, and visits what follows it.
+fn expand(limits: &[u8; 4], words: &[u16], room: usize, notes: &mut [u8], pending: &mut [u16], n: usize, at: usize, depth: usize, b: u8, e: usize) -> Went
+    requires { ⌜ Asks (now notes) (now pending) n room ⌝ }
+    requires { ⌜ Here (now limits) (now words) (length (now notes)) room at depth b e ⌝ }
+    ensures {
+        λ r. ⌜ Expand (now (limits .entry)) (now (words .entry)) (length (now (notes .entry))) room at depth (now (notes .entry)) (now (pending .entry)) n (now (notes .exit)) (now (pending .exit)) r ⌝
+    }
+{
+    let group = e / 8192;
+    if group < 2 {
+        return plain(limits, room, notes, pending, n, at, depth, e);
+    }
+    if group == 2 {
+        if depth < e / 512 % 4 {
+            return Went::Stuck;
+        }
+        return Went::On(n);
+    }
+    if 3 < group {
+        return Went::Stuck;
+    }
+    far(limits, words, room, notes, pending, n, at, depth, b, e)
+}
+
+// Deals with the last pending position.
+fn turn(table: &[u16; 256], limits: &[u8; 4], words: &[u16], room: usize, notes: &mut [u8], pending: &mut [u16], n: usize) -> Went
+    requires { ⌜ Static (now table) (now limits) (now words) room (now notes) (now pending) ⌝ }
+    requires { ⌜ 0 < n ⌝ }
+    requires { ⌜ WalkingAt (now limits) (now words) (length (now notes)) room (now notes) (now pending) n ⌝ }
+    ensures {
+        λ r. ⌜ TurnAt (now (limits .entry)) (now (words .entry)) (length (now (notes .entry))) room (now (notes .entry)) (now (pending .entry)) n (now (notes .exit)) (now (pending .exit)) r ⌝
+    }
+{
+    let m = n - 1;
+    let at = pending[m] as usize;
+    let depth = notes[at] as usize - 1;
+    let b = bytecode::fetch(words, at);
+    let e = bytecode::entry(table, b);
+    expand(limits, words, room, notes, pending, m, at, depth, b, e)
+}
+
+// Deals with pending positions until none is left.
+fn drain(table: &[u16; 256], limits: &[u8; 4], words: &[u16], room: usize, notes: &mut [u8], pending: &mut [u16]) -> bool
+    requires { ⌜ Static (now table) (now limits) (now words) room (now notes) (now pending) ⌝ }
+    requires { ⌜ WalkingAt (now limits) (now words) (length (now notes)) room (now notes) (now pending) 1 ⌝ }
+    ensures {
+        λ r. ⌜ Answer (tableBy (now (limits .entry)) (now (words .entry)) (length (now (notes .entry))) room) (now (notes .exit)) r ⌝
+    }
+{
+    let mut n: usize = 1;
+    while 0 < n {
+        match turn(table, limits, words, room, notes, pending, n) {
+            Went::On(k) => {
+                n = k;
+            }
+            Went::Stuck => {
+                return false;
+            }
+        }
+    }
+    true
+}
+
+// No note.
+fn clear(notes: &mut [u8])
+    ensures { λ _. ⌜ now (notes .exit) ≡ replicate (length (now (notes .entry))) 0 ⌝ }
+{
+    let mut i = 0;
+    while i < notes.len() {
+        notes[i] = 0;
+        i += 1;
+    }
+}
+
+// Whether the code has a depth table, by the rules that need no objects. The code has as many bytes as there are notes. They end as the
+// table, 0 for a position that is not reached and one more than the depth for any other; or all as 0, where there is none.
+pub fn walk(table: &[u16; 256], words: &[u16], fields: u8, temporaries: u8, literals: u8, limit: usize, notes: &mut [u8], pending: &mut [u16]) -> bool
+    requires { ⌜ Lent (now table) (now words) limit (now notes) (now pending) ⌝ }
+    ensures {
+        λ r. ⌜ Walked (depthTable (now (words .entry)) (length (now (notes .entry))) temporaries limit (indexed fields temporaries literals)) (length (now (notes .entry))) (now (notes .exit)) r ⌝
+    }
+{
+    clear(notes);
+    if notes.len() == 0 {
+        return false;
+    }
+    let t = temporaries as usize;
+    if limit < t {
+        return false;
+    }
+    notes[0] = 1;
+    pending[0] = 0;
+    let limits = [1, fields, temporaries, literals];
+    if drain(table, &limits, words, limit - t, notes, pending) {
+        return true;
+    }
+    clear(notes);
+    false
+}
