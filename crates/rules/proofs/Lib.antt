@@ -1,3 +1,3 @@
 pub mod Loops
-pub mod Names
 pub mod Laid
+pub mod Names

@@ -1,6 +1,5 @@
 // The image rules 4, 5 and 6 of 01 over the lent words. The definitions are model's specs/Rules.antt.
 ghost use mathlib.Core.Path.{_≡_};
-ghost use mathlib.Core.Bool.{true};
 ghost use mathlib.Core.List.{List};
 ghost use Prim.Native.Nat.{ℕ, _+_, _*_, _<_, _≤_};
 ghost use lib.Dec.{eqb};
@@ -10,7 +9,10 @@ ghost use Rattle.model.specs.Limits.{entryWords, classKind, classWords};
 ghost use Rattle.model.specs.Word.{isPointer, isValid};
 ghost use Rattle.model.specs.Objects.{objectsAt, entryWord, classWord, kind, start, size, sizedInBytes, bodyWords, bodyEnd, isKind, isNilOr};
 ghost use Rattle.model.specs.Rules.{paddingFine, layoutRules, wordsFine, rule4, rule5};
-ghost use Rattle.rules.specs.Lent.{Lent, Entry, entriesAt, startOf};
+ghost use Rattle.rules.specs.Lent.{Lent, Laid, Entry, entriesAt, startOf};
+
+pub mod class_body;
+mod class_rules;
 
 // An even word that names one of the objects 1 to n.
 pub fn is_pointer(n: usize, w: u16) -> bool
@@ -212,7 +214,7 @@ fn valid_words(n: usize, words: &[u16]) -> bool
 
 // The class of object k, and the words of its body unless they are bytes.
 fn object_words(contents: &[u16], bodies: &[u16], n: usize, b: usize, k: usize) -> bool
-    requires { ⌜ Lent n b (now contents) (now bodies) × ((rule4 1 (objectsAt n b (now contents) (now bodies)) ≡ true) × ((1 ≤ k) × (k ≤ n))) ⌝ }
+    requires { ⌜ Laid n b (now contents) (now bodies) × ((1 ≤ k) × (k ≤ n)) ⌝ }
     ensures { λ r. ⌜ r ≡ wordsFine (objectsAt n b (now (contents .entry)) (now (bodies .entry))) k ⌝ }
 {
     if !is_valid(n, class_word(contents, n, k)) {
@@ -228,7 +230,7 @@ fn object_words(contents: &[u16], bodies: &[u16], n: usize, b: usize, k: usize) 
 
 // Rule 5: the words that have to be valid.
 pub fn words(contents: &[u16], bodies: &[u16], n: usize, b: usize) -> bool
-    requires { ⌜ Lent n b (now contents) (now bodies) × (rule4 1 (objectsAt n b (now contents) (now bodies)) ≡ true) ⌝ }
+    requires { ⌜ Laid n b (now contents) (now bodies) ⌝ }
     ensures { λ r. ⌜ r ≡ rule5 1 (objectsAt n b (now (contents .entry)) (now (bodies .entry))) ⌝ }
 {
     let mut k = 1;

@@ -80,9 +80,9 @@ part-valid-words-start c = search needs
 -- src/lib.rt:226:20
 part-valid-words-end : tie.Need-part-valid-words-end
 part-valid-words-end c = let a = c .before .before .before .before .before .before .before .before .before .before .args in let p = c .before .before .before .before .before .before .before .before .before .before .pre in let o = objectsAt (a .n) (a .b) (a .contents .now) (a .bodies .now) in
-    let h = inside-at o (p .1 .0) (a .k) (p .1 .1 .0) (p .1 .1 .1) in
+    let h = inside-at o (p .0 .layout) (a .k) (p .1 .0) (p .1 .1) in
     let w = body-plain o (a .k) (ap sizedInBytes (sym (c .before .before .before .before .kind .ensures)) ∙ sym (c .before .before .before .in-bytes .ensures) ∙ c .before .before .if2 .left) in
-    let s = c .before .start .ensures in let z = c .size .ensures in let l = p .0 .words in omega arith
+    let s = c .before .start .ensures in let z = c .size .ensures in let l = p .0 .lent .words in omega arith
 
 -- src/lib.rt:226:5
 valid-words-requires : tie.Need-valid-words-requires
@@ -91,12 +91,12 @@ valid-words-requires c κs = search needs
 -- src/lib.rt:214:1
 returns-3 : tie.Need-returns-3
 returns-3 c = let a = c .before .before .before .before .before .before .before .before .before .before .before .before .args in let p = c .before .before .before .before .before .before .before .before .before .before .before .before .pre in let o = objectsAt (a .n) (a .b) (a .contents .now) (a .bodies .now) in
-    let g = inside-at o (p .1 .0) (a .k) (p .1 .1 .0) (p .1 .1 .1) in
+    let g = inside-at o (p .0 .layout) (a .k) (p .1 .0) (p .1 .1) in
     let t = ap sizedInBytes (sym (c .before .before .before .before .before .before .kind .ensures)) ∙ sym (c .before .before .before .before .before .in-bytes .ensures) ∙ c .before .before .before .before .if2 .left in
     let w = body-plain o (a .k) t in
     let s = c .before .before .before .start .ensures in let z = c .before .before .size .ensures in
     let count : c .before .before .before .start .result + c .before .before .size .result - c .before .before .before .start .result ≡ bodyWords o (a .k) = omega arith in
-    c .valid-words .ensures ∙ ap (every (isValid (a .n))) (ap₂ (part (a .bodies .now)) s count ∙ sym (body-part (a .n) (a .b) (a .contents .now) (a .bodies .now) (a .k) (p .0 .words) g))
+    c .valid-words .ensures ∙ ap (every (isValid (a .n))) (ap₂ (part (a .bodies .now)) s count ∙ sym (body-part (a .n) (a .b) (a .contents .now) (a .bodies .now) (a .k) (p .0 .lent .words) g))
     ∙ words-all o (a .k) (ap (isValid (a .n)) (sym (c .before .before .before .before .before .before .before .before .before .class-word .ensures)) ∙ sym (c .before .before .before .before .before .before .before .before .is-valid .ensures) ∙ not-false _ (c .before .before .before .before .before .before .before .if1 .left)) t
 
 pub object-words-spec : {M : Type 1} → statement M

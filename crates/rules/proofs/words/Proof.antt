@@ -29,7 +29,7 @@ loop-holds c = let a = c .before .before .args in let o = objectsAt (a .n) (a .b
 
 -- src/lib.rt:236:13
 object-words-requires : tie.Need-object-words-requires Inv-loop μ-loop
-object-words-requires c κs = let i = c .before .loop .inv in let p = c .before .before .before .before .pre in (p .0, (p .1, (i .least, c .loop-test .taken)))
+object-words-requires c κs = let i = c .before .loop .inv in let p = c .before .before .before .before .pre in (p, (i .least, c .loop-test .taken))
 
 -- src/lib.rt:237:13
 returns : tie.Need-returns Inv-loop μ-loop
