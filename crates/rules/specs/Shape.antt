@@ -4,11 +4,11 @@ use Prim.Native.Nat.{ℕ, _/_}
 use mathlib.Core.Bool.{Bool, _&&_, not}
 use mathlib.Core.List.{List, [], _∷_}
 use lib.Dec.{leb, eqb}
-use Rattle.bytecode.specs.Test.{if_then_else_, implies, allOf}
+use Rattle.bytecode.specs.Test.{if_then_else_, implies, every, allOf}
 use Rattle.bytecode.specs.Constant.{nilWord}
-use Rattle.model.specs.Limits.{fieldsKind, bytesKind, classKind, listKind, methodKind, fixedForm, indexedForm, bytesForm, lastForm, mostFields}
+use Rattle.model.specs.Limits.{fieldsKind, bytesKind, classKind, listKind, methodKind, fixedForm, indexedForm, bytesForm, lastForm, mostFields, nilObject, falseObject, trueObject, integerClassObject, selectorsObject, specialSelectors}
 use Rattle.model.specs.Word.{isNatural, pointer}
-use Rattle.model.specs.Objects.{Objects, kind, isKind, isNilOr, superclassWord, dictionaryWord, fieldsWord, formWord, fieldCount}
+use Rattle.model.specs.Objects.{Objects, kind, size, bodyOf, isKind, isNilOr, superclassWord, dictionaryWord, fieldsWord, formWord, fieldCount}
 use Rattle.model.specs.Lookup.{endsWithin}
 use Rattle.model.specs.Rules.{entryFine, dictionaryFine}
 
@@ -43,3 +43,14 @@ shapeFine o k = entryFine 1 o k && implies (eqb (kind o k) classKind) (allOf (sh
 
 unfoldable pub chainFine : Objects → ℕ → Bool
 chainFine o k = implies (eqb (kind o k) classKind) (endsWithin (o .n) o (pointer k))
+
+-- the kinds of the objects 1 to 4, and the special selectors
+abbrev pub kindsFine : Objects → Bool
+kindsFine o =
+    eqb (kind o nilObject) fieldsKind
+    && (eqb (kind o falseObject) fieldsKind && (eqb (kind o trueObject) fieldsKind && eqb (kind o integerClassObject) classKind))
+
+unfoldable pub selectorsFine : Objects → Bool
+selectorsFine o =
+    eqb (kind o selectorsObject) listKind
+    && (eqb (size o selectorsObject) specialSelectors && every (isNilOr o bytesKind) (bodyOf o selectorsObject))

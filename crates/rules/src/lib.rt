@@ -8,7 +8,7 @@ ghost use Rattle.bytecode.specs.Test.{every, implies, allOf};
 ghost use Rattle.model.specs.Limits.{entryWords, classKind, classWords};
 ghost use Rattle.model.specs.Word.{isPointer, isValid};
 ghost use Rattle.model.specs.Objects.{objectsAt, entryWord, classWord, kind, start, size, sizedInBytes, bodyWords, bodyEnd, isKind, isNilOr};
-ghost use Rattle.model.specs.Rules.{paddingFine, layoutRules, wordsFine, rule4, rule5};
+ghost use Rattle.model.specs.Rules.{paddingFine, layoutRules, wordsFine, rule4, rule5, rule6};
 ghost use Rattle.rules.specs.Lent.{Lent, Laid, Entry, entriesAt, startOf};
 
 pub mod class_body;
@@ -241,4 +241,18 @@ pub fn words(contents: &[u16], bodies: &[u16], n: usize, b: usize) -> bool
         k += 1;
     }
     true
+}
+
+// Rule 6: classes, dictionaries, the objects 1 to 5.
+pub fn classes(contents: &[u16], bodies: &[u16], n: usize, b: usize) -> bool
+    requires { ⌜ Laid n b (now contents) (now bodies) ⌝ }
+    ensures { λ r. ⌜ r ≡ rule6 1 (objectsAt n b (now (contents .entry)) (now (bodies .entry))) ⌝ }
+{
+    if !class_rules::known_fine(contents, bodies, n, b) {
+        return false;
+    }
+    if !class_rules::shapes(contents, bodies, n, b) {
+        return false;
+    }
+    class_rules::chains(contents, bodies, n, b)
 }
