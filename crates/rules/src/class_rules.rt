@@ -12,44 +12,76 @@ ghost use Rattle.model.specs.Lookup.{endsWithin};
 ghost use Rattle.model.specs.Rules.{entryFine, pairFine, dictionaryFine, knownObjectRules};
 ghost use Rattle.rules.specs.Lent.{Laid, entriesAt};
 ghost use Rattle.rules.specs.Shape.{fitsForm, numbersFine, kindsFine, selectorsFine, risesFine, shapeRules, shapeFine, chainFine};
+use super::BYTES;
+use super::CLASS;
+use super::FIELDS;
+use super::LIST;
+use super::METHOD;
+use super::NIL;
+use super::class_body::dictionary;
+use super::class_body::field_count;
+use super::class_body::fields_word;
+use super::class_body::form;
+use super::class_body::form_word;
+use super::class_body::pair_method;
+use super::class_body::pair_selector;
+use super::class_body::superclass;
 use super::class_word;
-use super::kind;
-use super::start;
-use super::size;
 use super::is_kind;
 use super::is_nil_or;
-use super::class_body::superclass;
-use super::class_body::dictionary;
-use super::class_body::fields_word;
-use super::class_body::form_word;
-use super::class_body::field_count;
-use super::class_body::form;
-use super::class_body::pair_selector;
-use super::class_body::pair_method;
+use super::kind;
+use super::size;
+use super::start;
 
-// Form 0: F fields. 1: at least F. 2: bytes. 3: a class, a list or a method.
+// Forms of a class's objects: F fields, at least F, bytes, and last the other kinds and integers.
+const FIXED: u16 = 0;
+
+const INDEXED: u16 = 1;
+
+const OF_BYTES: u16 = 2;
+
+const OTHER: u16 = 3;
+
+const MOST_FIELDS: u16 = 255;
+
+// Objects with a fixed number.
+const NIL_OBJECT: usize = 1;
+
+const FALSE_OBJECT: usize = 2;
+
+const TRUE_OBJECT: usize = 3;
+
+const INTEGER_CLASS_OBJECT: usize = 4;
+
+const SELECTORS_OBJECT: usize = 5;
+
+const INTEGER_CLASS: u16 = 8;
+
+const SPECIAL_SELECTORS: u16 = 32;
+
+// Whether an object of this kind and size fits a class of this form and F.
 fn fits_form(form: u16, fields: u16, of: u16, words: u16) -> bool
     ensures { λ r. ⌜ r ≡ fitsForm form fields of words ⌝ }
 {
-    if form == 0 {
-        if of != 0 {
+    if form == FIXED {
+        if of != FIELDS {
             return false;
         }
         return words == fields;
     }
-    if form == 1 {
-        if of != 0 {
+    if form == INDEXED {
+        if of != FIELDS {
             return false;
         }
         return fields <= words;
     }
-    if form == 2 {
-        return of == 1;
+    if form == OF_BYTES {
+        return of == BYTES;
     }
-    if of < 2 {
+    if of < CLASS {
         return false;
     }
-    of <= 4
+    of <= METHOD
 }
 
 // The class of object k is one, and the object fits its form.
@@ -58,7 +90,7 @@ fn entry_fine(contents: &[u16], bodies: &[u16], n: usize, b: usize, k: usize) ->
     ensures { λ r. ⌜ r ≡ entryFine 1 (objectsAt n b (now (contents .entry)) (now (bodies .entry))) k ⌝ }
 {
     let c = class_word(contents, n, k);
-    if !is_kind(contents, n, 2, c) {
+    if !is_kind(contents, n, CLASS, c) {
         return false;
     }
     let shape = form(contents, bodies, n, b, c);
@@ -80,13 +112,13 @@ fn is_natural(most: u16, w: u16) -> bool
 fn numbers_fine(fields: u16, form: u16) -> bool
     ensures { λ r. ⌜ r ≡ numbersFine fields form ⌝ }
 {
-    if !is_natural(255, fields) {
+    if !is_natural(MOST_FIELDS, fields) {
         return false;
     }
-    if !is_natural(3, form) {
+    if !is_natural(OTHER, form) {
         return false;
     }
-    if form / 2 < 2 {
+    if form / 2 < OF_BYTES {
         return true;
     }
     fields / 2 == 0
@@ -97,7 +129,7 @@ fn rises_fine(contents: &[u16], bodies: &[u16], n: usize, b: usize, c: u16, s: u
     requires { ⌜ Laid n b (now contents) (now bodies) × ((isKind (objectsAt n b (now contents) (now bodies)) classKind c ≡ true) × ((s ≡ superclassWord (objectsAt n b (now contents) (now bodies)) c) × (isNilOr (objectsAt n b (now contents) (now bodies)) classKind s ≡ true))) ⌝ }
     ensures { λ r. ⌜ r ≡ risesFine (objectsAt n b (now (contents .entry)) (now (bodies .entry))) c ⌝ }
 {
-    if s == 2 {
+    if s == NIL {
         return true;
     }
     field_count(contents, bodies, n, b, s) <= field_count(contents, bodies, n, b, c)
@@ -119,10 +151,20 @@ fn pair_fine(contents: &[u16], bodies: &[u16], n: usize, b: usize, d: u16, i: us
     requires { ⌜ Laid n b (now contents) (now bodies) × ((isKind (objectsAt n b (now contents) (now bodies)) listKind d ≡ true) × (i < pairCount (objectsAt n b (now contents) (now bodies)) d)) ⌝ }
     ensures { λ r. ⌜ r ≡ pairFine (objectsAt n b (now (contents .entry)) (now (bodies .entry))) d i ⌝ }
 {
-    if !is_kind(contents, n, 1, pair_selector(contents, bodies, n, b, d, i)) {
+    if !is_kind(
+        contents,
+        n,
+        BYTES,
+        pair_selector(contents, bodies, n, b, d, i),
+    ) {
         return false;
     }
-    if !is_kind(contents, n, 4, pair_method(contents, bodies, n, b, d, i)) {
+    if !is_kind(
+        contents,
+        n,
+        METHOD,
+        pair_method(contents, bodies, n, b, d, i),
+    ) {
         return false;
     }
     selector_rises(contents, bodies, n, b, d, i)
@@ -160,14 +202,17 @@ fn class_fine(contents: &[u16], bodies: &[u16], n: usize, b: usize, c: u16) -> b
     ensures { λ r. ⌜ r ≡ allOf (shapeRules (objectsAt n b (now (contents .entry)) (now (bodies .entry))) c) ⌝ }
 {
     let s = superclass(contents, bodies, n, b, c);
-    if !is_nil_or(contents, n, 2, s) {
+    if !is_nil_or(contents, n, CLASS, s) {
         return false;
     }
     let d = dictionary(contents, bodies, n, b, c);
-    if !is_kind(contents, n, 3, d) {
+    if !is_kind(contents, n, LIST, d) {
         return false;
     }
-    if !numbers_fine(fields_word(contents, bodies, n, b, c), form_word(contents, bodies, n, b, c)) {
+    if !numbers_fine(
+        fields_word(contents, bodies, n, b, c),
+        form_word(contents, bodies, n, b, c),
+    ) {
         return false;
     }
     if !rises_fine(contents, bodies, n, b, c, s) {
@@ -183,7 +228,7 @@ fn shape_fine(contents: &[u16], bodies: &[u16], n: usize, b: usize, k: usize) ->
     if !entry_fine(contents, bodies, n, b, k) {
         return false;
     }
-    if kind(contents, n, k) != 2 {
+    if kind(contents, n, k) != CLASS {
         return true;
     }
     class_fine(contents, bodies, n, b, (2 * k) as u16)
@@ -212,20 +257,20 @@ fn ends(contents: &[u16], bodies: &[u16], n: usize, b: usize, c: u16) -> bool
     let mut at = c;
     let mut left = n;
     while 0 < left {
-        if at == 2 {
+        if at == NIL {
             return true;
         }
         at = superclass(contents, bodies, n, b, at);
         left -= 1;
     }
-    at == 2
+    at == NIL
 }
 
 fn chain_fine(contents: &[u16], bodies: &[u16], n: usize, b: usize, k: usize) -> bool
     requires { ⌜ Laid n b (now contents) (now bodies) × ((upTo n (shapeFine (objectsAt n b (now contents) (now bodies))) ≡ true) × ((1 ≤ k) × (k ≤ n))) ⌝ }
     ensures { λ r. ⌜ r ≡ chainFine (objectsAt n b (now (contents .entry)) (now (bodies .entry))) k ⌝ }
 {
-    if kind(contents, n, k) != 2 {
+    if kind(contents, n, k) != CLASS {
         return true;
     }
     ends(contents, bodies, n, b, (2 * k) as u16)
@@ -251,16 +296,16 @@ fn known_kinds(contents: &[u16], n: usize) -> bool
     requires { ⌜ (entryWords * n ≤ length (now contents)) × (5 ≤ n) ⌝ }
     ensures { λ r. ⌜ r ≡ kindsFine (entriesAt n (now (contents .entry))) ⌝ }
 {
-    if kind(contents, n, 1) != 0 {
+    if kind(contents, n, NIL_OBJECT) != FIELDS {
         return false;
     }
-    if kind(contents, n, 2) != 0 {
+    if kind(contents, n, FALSE_OBJECT) != FIELDS {
         return false;
     }
-    if kind(contents, n, 3) != 0 {
+    if kind(contents, n, TRUE_OBJECT) != FIELDS {
         return false;
     }
-    kind(contents, n, 4) == 2
+    kind(contents, n, INTEGER_CLASS_OBJECT) == CLASS
 }
 
 // Every word is nil or names an object of this kind.
@@ -283,15 +328,15 @@ fn selectors_fine(contents: &[u16], bodies: &[u16], n: usize, b: usize) -> bool
     requires { ⌜ Laid n b (now contents) (now bodies) ⌝ }
     ensures { λ r. ⌜ r ≡ selectorsFine (objectsAt n b (now (contents .entry)) (now (bodies .entry))) ⌝ }
 {
-    if kind(contents, n, 5) != 3 {
+    if kind(contents, n, SELECTORS_OBJECT) != LIST {
         return false;
     }
-    if size(contents, n, 5) != 32 {
+    if size(contents, n, SELECTORS_OBJECT) != SPECIAL_SELECTORS {
         return false;
     }
-    let from = start(contents, n, 5) as usize;
-    let end = from + 32;
-    nil_or_words(contents, n, 1, &bodies[from..end])
+    let from = start(contents, n, SELECTORS_OBJECT) as usize;
+    let end = from + SPECIAL_SELECTORS as usize;
+    nil_or_words(contents, n, BYTES, &bodies[from..end])
 }
 
 // The objects 1 to 5.
@@ -302,7 +347,7 @@ pub fn known_fine(contents: &[u16], bodies: &[u16], n: usize, b: usize) -> bool
     if !known_kinds(contents, n) {
         return false;
     }
-    if form(contents, bodies, n, b, 8) != 3 {
+    if form(contents, bodies, n, b, INTEGER_CLASS) != OTHER {
         return false;
     }
     selectors_fine(contents, bodies, n, b)

@@ -40,6 +40,9 @@ start-requires c κs = search needs
 cast-from : tie.Need-cast-from
 cast-from c = search needs
 
+cast-end : tie.Need-cast-end
+cast-end c = search needs
+
 -- src/class_rules.rt:293:15
 add-end : tie.Need-add-end
 add-end c = search needs
@@ -88,6 +91,7 @@ selectors-fine-spec =
     returns-2
     start-requires
     cast-from
+    cast-end
     add-end
     mul-nil-or-words
     sub-nil-or-words
