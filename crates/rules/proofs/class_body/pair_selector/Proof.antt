@@ -1,23 +1,24 @@
+-- A pair's selector is inside its list.
 use native.Mathlib.Omega.{arith}
 use Rattle.model.specs.Objects.{objectsAt}
 use Rattle.rules.proofs.Names.{list-small}
 use borrow.Author.Needs.{needs}
 use Rattle.rules.proofs.class_body.pair_selector.Statement.{statement}
 use Rattle.rules.proofs.class_body.pair_selector.Tie as tie
-use Rattle.rules.proofs.class_body.pair_selector.Reads as reads
-use Rattle.rules.proofs.class_body.pair_selector.Lts as lts
-use Rattle.rules.proofs.class_body.list_word.Reads as list-word-reads
 
--- src/class_body.rt:86:42
 mul-list-word : tie.Need-mul-list-word
-mul-list-word c = let a = c .before .before .args in let p = c .before .before .pre in let o = objectsAt (a .n) (a .b) (a .contents .now) (a .bodies .now) in
-    let h = list-small o (p .0 .layout) (a .d) (p .1 .0) in let l = p .0 .lent in let i = p .1 .1 in omega arith
+mul-list-word c =
+    let a = c .before .before .args in
+    let p = c .before .before .pre in
+    let o = objectsAt (a .n) (a .b) (a .contents .now) (a .bodies .now) in
+    let h = list-small o (p .0 .layout) (a .d) (p .1 .0) in
+    let l = p .0 .lent in
+    let i = p .1 .1 in
+    omega arith
 
--- src/class_body.rt:86:5
 list-word-requires : tie.Need-list-word-requires
 list-word-requires c κs = search needs
 
--- src/class_body.rt:82:1
 returns : tie.Need-returns
 returns c = search needs
 

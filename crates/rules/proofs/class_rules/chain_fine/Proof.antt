@@ -1,3 +1,4 @@
+-- `chain_fine` is `chainFine`.
 use mathlib.Core.Path.{sym, _∙_}
 use native.Mathlib.Omega.{arith}
 use Rattle.model.specs.Objects.{objectsAt}
@@ -6,34 +7,42 @@ use Rattle.rules.proofs.Names.{names-kind}
 use borrow.Author.Needs.{needs}
 use Rattle.rules.proofs.class_rules.chain_fine.Statement.{statement}
 use Rattle.rules.proofs.class_rules.chain_fine.Tie as tie
-use Rattle.rules.proofs.class_rules.chain_fine.Reads as reads
-use Rattle.rules.proofs.class_rules.chain_fine.Lts as lts
-use Rattle.rules.proofs.class_rules.ends.Reads as ends-reads
-use Rattle.rules.proofs.kind.Reads as kind-reads
 
--- src/class_rules.rt:228:8
 kind-requires : tie.Need-kind-requires
 kind-requires c κs = search needs
 
--- src/class_rules.rt:229:9
 returns : tie.Need-returns
-returns c = let a = c .before .before .before .before .args in let o = objectsAt (a .n) (a .b) (a .contents .now) (a .bodies .now) in sym (chain-other o (a .k) (λ e. c .if1 .taken (c .before .kind .ensures ∙ e)))
+returns c =
+    let a = c .before .before .before .before .args in
+    let o = objectsAt (a .n) (a .b) (a .contents .now) (a .bodies .now) in
+    sym (chain-other o (a .k) (λ e. c .if1 .taken (c .before .kind .ensures ∙ e)))
 
--- src/class_rules.rt:231:35
 mul-ends : tie.Need-mul-ends
-mul-ends c = let p = c .before .before .before .before .pre in let l = p .0 .lent in let h = p .1 .1 in omega arith
+mul-ends c =
+    let p = c .before .before .before .before .pre in
+    let l = p .0 .lent in
+    let h = p .1 .1 in
+    omega arith
 
--- src/class_rules.rt:231:34
 cast-ends : tie.Need-cast-ends
-cast-ends c = let p = c .before .before .before .before .pre in let l = p .0 .lent in let h = p .1 .1 in omega arith
+cast-ends c =
+    let p = c .before .before .before .before .pre in
+    let l = p .0 .lent in
+    let h = p .1 .1 in
+    omega arith
 
--- src/class_rules.rt:231:5
 ends-requires : tie.Need-ends-requires
-ends-requires c κs = let a = c .before .before .before .before .args in let p = c .before .before .before .before .pre in let o = objectsAt (a .n) (a .b) (a .contents .now) (a .bodies .now) in (p .0, (p .1 .0, names-kind o (a .k) 2 (p .1 .1 .0) (p .1 .1 .1) (sym (c .before .kind .ensures) ∙ c .if1 .left)))
+ends-requires c κs =
+    let a = c .before .before .before .before .args in
+    let p = c .before .before .before .before .pre in
+    let o = objectsAt (a .n) (a .b) (a .contents .now) (a .bodies .now) in
+    (p .0, (p .1 .0, names-kind o (a .k) 2 (p .1 .1 .0) (p .1 .1 .1) (sym (c .before .kind .ensures) ∙ c .if1 .left)))
 
--- src/class_rules.rt:224:1
 returns-2 : tie.Need-returns-2
-returns-2 c = let a = c .before .before .before .before .before .args in let o = objectsAt (a .n) (a .b) (a .contents .now) (a .bodies .now) in c .ends .ensures ∙ sym (chain-of-class o (a .k) (sym (c .before .before .kind .ensures) ∙ c .before .if1 .left))
+returns-2 c =
+    let a = c .before .before .before .before .before .args in
+    let o = objectsAt (a .n) (a .b) (a .contents .now) (a .bodies .now) in
+    c .ends .ensures ∙ sym (chain-of-class o (a .k) (sym (c .before .before .kind .ensures) ∙ c .before .if1 .left))
 
 pub chain-fine-spec : {M : Type 1} → statement M
 chain-fine-spec =

@@ -1,3 +1,4 @@
+-- `class_fine` is `shapeRules` of a class.
 use Prim.Native.Nat.{ℕ}
 use mathlib.Core.Path.{sym, ap, ap₂, _∙_}
 use borrow.Author.Tests.{not-true, not-false}
@@ -8,82 +9,74 @@ use Rattle.rules.proofs.ClassLaws.{no-superclass, no-dictionary, no-num
 use borrow.Author.Needs.{needs}
 use Rattle.rules.proofs.class_rules.class_fine.Statement.{statement}
 use Rattle.rules.proofs.class_rules.class_fine.Tie as tie
-use Rattle.rules.proofs.class_rules.class_fine.Reads as reads
-use Rattle.rules.proofs.class_rules.class_fine.Lts as lts
-use Rattle.rules.proofs.class_body.dictionary.Reads as dictionary-reads
-use Rattle.rules.proofs.class_body.fields_word.Reads as fields-word-reads
-use Rattle.rules.proofs.class_body.form_word.Reads as form-word-reads
-use Rattle.rules.proofs.class_body.superclass.Reads as superclass-reads
-use Rattle.rules.proofs.class_rules.dictionary_fine.Reads as dictionary-fine-reads
-use Rattle.rules.proofs.class_rules.numbers_fine.Reads as numbers-fine-reads
-use Rattle.rules.proofs.class_rules.rises_fine.Reads as rises-fine-reads
-use Rattle.rules.proofs.is_kind.Reads as is-kind-reads
-use Rattle.rules.proofs.is_nil_or.Reads as is-nil-or-reads
 
--- src/class_rules.rt:162:9
 superclass-requires : tie.Need-superclass-requires
 superclass-requires c κs = search needs
 
--- src/class_rules.rt:163:9
 is-nil-or-requires : tie.Need-is-nil-or-requires
 is-nil-or-requires c κs = search needs
 
--- src/class_rules.rt:164:9
 returns : tie.Need-returns
-returns c = let a = c .before .before .before .before .before .args in let o = objectsAt (a .n) (a .b) (a .contents .now) (a .bodies .now) in sym (no-superclass o (a .c) (ap (λ (x : ℕ). isNilOr o 2 x) (sym (c .before .before .superclass .ensures)) ∙ sym (c .before .is-nil-or .ensures (a .b) (a .bodies .now)) ∙ not-true _ (c .if1 .taken)))
+returns c =
+    let a = c .before .before .before .before .before .args in
+    let o = objectsAt (a .n) (a .b) (a .contents .now) (a .bodies .now) in
+    sym (no-superclass o (a .c) (ap (λ (x : ℕ). isNilOr o 2 x) (sym (c .before .before .superclass .ensures)) ∙ sym (c .before .is-nil-or .ensures (a .b) (a .bodies .now)) ∙ not-true _ (c .if1 .taken)))
 
--- src/class_rules.rt:166:9
 dictionary-requires : tie.Need-dictionary-requires
 dictionary-requires c κs = search needs
 
--- src/class_rules.rt:167:9
 is-kind-requires : tie.Need-is-kind-requires
 is-kind-requires c κs = search needs
 
--- src/class_rules.rt:168:9
 returns-2 : tie.Need-returns-2
-returns-2 c = let a = c .before .before .before .before .before .before .before .before .args in let o = objectsAt (a .n) (a .b) (a .contents .now) (a .bodies .now) in
+returns-2 c =
+    let a = c .before .before .before .before .before .before .before .before .args in
+    let o = objectsAt (a .n) (a .b) (a .contents .now) (a .bodies .now) in
     let s = ap (λ (x : ℕ). isNilOr o 2 x) (sym (c .before .before .before .before .before .superclass .ensures)) ∙ sym (c .before .before .before .before .is-nil-or .ensures (a .b) (a .bodies .now)) ∙ not-false _ (c .before .before .before .if1 .left) in
     sym (no-dictionary o (a .c) s (ap (isKind o 3) (sym (c .before .before .dictionary .ensures)) ∙ sym (c .before .is-kind .ensures (a .b) (a .bodies .now)) ∙ not-true _ (c .if2 .taken)))
 
--- src/class_rules.rt:170:22
 fields-word-requires : tie.Need-fields-word-requires
 fields-word-requires c κs = search needs
 
--- src/class_rules.rt:170:62
 form-word-requires : tie.Need-form-word-requires
 form-word-requires c κs = search needs
 
--- src/class_rules.rt:170:9
 numbers-fine-requires : tie.Need-numbers-fine-requires
 numbers-fine-requires c κs = search needs
 
--- src/class_rules.rt:171:9
 returns-3 : tie.Need-returns-3
-returns-3 c = let a = c .before .before .before .before .before .before .before .before .before .before .before .before .args in let o = objectsAt (a .n) (a .b) (a .contents .now) (a .bodies .now) in
+returns-3 c =
+    let a = c .before .before .before .before .before .before .before .before .before .before .before .before .args in
+    let o = objectsAt (a .n) (a .b) (a .contents .now) (a .bodies .now) in
     let s = ap (λ (x : ℕ). isNilOr o 2 x) (sym (c .before .before .before .before .before .before .before .before .before .superclass .ensures)) ∙ sym (c .before .before .before .before .before .before .before .before .is-nil-or .ensures (a .b) (a .bodies .now)) ∙ not-false _ (c .before .before .before .before .before .before .before .if1 .left) in
     let d = ap (isKind o 3) (sym (c .before .before .before .before .before .before .dictionary .ensures)) ∙ sym (c .before .before .before .before .before .is-kind .ensures (a .b) (a .bodies .now)) ∙ not-false _ (c .before .before .before .before .if2 .left) in
     sym (no-numbers o (a .c) s d (ap₂ numbersFine (sym (c .before .before .before .fields-word .ensures)) (sym (c .before .before .form-word .ensures)) ∙ sym (c .before .numbers-fine .ensures) ∙ not-true _ (c .if3 .taken)))
 
--- src/class_rules.rt:173:9
 rises-fine-requires : tie.Need-rises-fine-requires
-rises-fine-requires c κs = let a = c .before .before .before .before .before .before .before .before .before .before .before .before .args in let p = c .before .before .before .before .before .before .before .before .before .before .before .before .pre in (p .0, (p .1, (c .before .before .before .before .before .before .before .before .before .superclass .ensures, sym (c .before .before .before .before .before .before .before .before .is-nil-or .ensures (a .b) (a .bodies .now)) ∙ not-false _ (c .before .before .before .before .before .before .before .if1 .left))))
+rises-fine-requires c κs =
+    let a = c .before .before .before .before .before .before .before .before .before .before .before .before .args in
+    let p = c .before .before .before .before .before .before .before .before .before .before .before .before .pre in
+    (p .0, (p .1, (c .before .before .before .before .before .before .before .before .before .superclass .ensures, sym (c .before .before .before .before .before .before .before .before .is-nil-or .ensures (a .b) (a .bodies .now)) ∙ not-false _ (c .before .before .before .before .before .before .before .if1 .left))))
 
--- src/class_rules.rt:174:9
 returns-4 : tie.Need-returns-4
-returns-4 c = let a = c .before .before .before .before .before .before .before .before .before .before .before .before .before .before .args in let o = objectsAt (a .n) (a .b) (a .contents .now) (a .bodies .now) in
+returns-4 c =
+    let a = c .before .before .before .before .before .before .before .before .before .before .before .before .before .before .args in
+    let o = objectsAt (a .n) (a .b) (a .contents .now) (a .bodies .now) in
     let s = ap (λ (x : ℕ). isNilOr o 2 x) (sym (c .before .before .before .before .before .before .before .before .before .before .before .superclass .ensures)) ∙ sym (c .before .before .before .before .before .before .before .before .before .before .is-nil-or .ensures (a .b) (a .bodies .now)) ∙ not-false _ (c .before .before .before .before .before .before .before .before .before .if1 .left) in
     let d = ap (isKind o 3) (sym (c .before .before .before .before .before .before .before .before .dictionary .ensures)) ∙ sym (c .before .before .before .before .before .before .before .is-kind .ensures (a .b) (a .bodies .now)) ∙ not-false _ (c .before .before .before .before .before .before .if2 .left) in
     let f = ap₂ numbersFine (sym (c .before .before .before .before .before .fields-word .ensures)) (sym (c .before .before .before .before .form-word .ensures)) ∙ sym (c .before .before .before .numbers-fine .ensures) ∙ not-false _ (c .before .before .if3 .left) in
     sym (no-rise o (a .c) s d f (sym (c .before .rises-fine .ensures) ∙ not-true _ (c .if4 .taken)))
 
--- src/class_rules.rt:176:5
 dictionary-fine-requires : tie.Need-dictionary-fine-requires
-dictionary-fine-requires c κs = let a = c .before .before .before .before .before .before .before .before .before .before .before .before .before .before .args in let p = c .before .before .before .before .before .before .before .before .before .before .before .before .before .before .pre in (p .0, sym (c .before .before .before .before .before .before .before .is-kind .ensures (a .b) (a .bodies .now)) ∙ not-false _ (c .before .before .before .before .before .before .if2 .left))
+dictionary-fine-requires c κs =
+    let a = c .before .before .before .before .before .before .before .before .before .before .before .before .before .before .args in
+    let p = c .before .before .before .before .before .before .before .before .before .before .before .before .before .before .pre in
+    (p .0, sym (c .before .before .before .before .before .before .before .is-kind .ensures (a .b) (a .bodies .now)) ∙ not-false _ (c .before .before .before .before .before .before .if2 .left))
 
--- src/class_rules.rt:158:1
 returns-5 : tie.Need-returns-5
-returns-5 c = let a = c .before .before .before .before .before .before .before .before .before .before .before .before .before .before .before .args in let o = objectsAt (a .n) (a .b) (a .contents .now) (a .bodies .now) in
+returns-5 c =
+    let a = c .before .before .before .before .before .before .before .before .before .before .before .before .before .before .before .args in
+    let o = objectsAt (a .n) (a .b) (a .contents .now) (a .bodies .now) in
     let s = ap (λ (x : ℕ). isNilOr o 2 x) (sym (c .before .before .before .before .before .before .before .before .before .before .before .before .superclass .ensures)) ∙ sym (c .before .before .before .before .before .before .before .before .before .before .before .is-nil-or .ensures (a .b) (a .bodies .now)) ∙ not-false _ (c .before .before .before .before .before .before .before .before .before .before .if1 .left) in
     let d = ap (isKind o 3) (sym (c .before .before .before .before .before .before .before .before .before .dictionary .ensures)) ∙ sym (c .before .before .before .before .before .before .before .before .is-kind .ensures (a .b) (a .bodies .now)) ∙ not-false _ (c .before .before .before .before .before .before .before .if2 .left) in
     let f = ap₂ numbersFine (sym (c .before .before .before .before .before .before .fields-word .ensures)) (sym (c .before .before .before .before .before .form-word .ensures)) ∙ sym (c .before .before .before .before .numbers-fine .ensures) ∙ not-false _ (c .before .before .before .if3 .left) in

@@ -1,42 +1,34 @@
+-- `fits_form` is `fitsForm`, form by form.
 use borrow.Author.Tests.{eq-eqb, ne-eqb, lt-leb, le-leb}
 use Rattle.bytecode.specs.Test.{if_then_else_}
 use Rattle.rules.specs.Shape.{fitsForm}
 use Rattle.rules.proofs.class_rules.fits_form.Statement.{statement}
 use Rattle.rules.proofs.class_rules.fits_form.Tie as tie
-use Rattle.rules.proofs.class_rules.fits_form.Reads as reads
-use Rattle.rules.proofs.class_rules.fits_form.Lts as lts
 
--- src/class_rules.rt:36:13
 returns : tie.Need-returns
 unfolding fitsForm if_then_else_
 returns c = simp (eq-eqb _ _ (c .before .if1 .taken), ne-eqb _ _ (c .if2 .taken))
 
--- src/class_rules.rt:38:9
 returns-2 : tie.Need-returns-2
 unfolding fitsForm if_then_else_
 returns-2 c = simp (eq-eqb _ _ (c .before .if1 .taken), eq-eqb _ _ (c .if2 .left))
 
--- src/class_rules.rt:42:13
 returns-3 : tie.Need-returns-3
 unfolding fitsForm if_then_else_
 returns-3 c = simp (ne-eqb _ _ (c .before .before .if1 .left), eq-eqb _ _ (c .before .if3 .taken), ne-eqb _ _ (c .if4 .taken))
 
--- src/class_rules.rt:44:9
 returns-4 : tie.Need-returns-4
 unfolding fitsForm if_then_else_
 returns-4 c = simp (ne-eqb _ _ (c .before .before .if1 .left), eq-eqb _ _ (c .before .if3 .taken), eq-eqb _ _ (c .if4 .left))
 
--- src/class_rules.rt:47:9
 returns-5 : tie.Need-returns-5
 unfolding fitsForm if_then_else_
 returns-5 c = simp (ne-eqb _ _ (c .before .before .if1 .left), ne-eqb _ _ (c .before .if3 .left), eq-eqb _ _ (c .if5 .taken))
 
--- src/class_rules.rt:50:9
 returns-6 : tie.Need-returns-6
 unfolding fitsForm if_then_else_
 returns-6 c = simp (ne-eqb _ _ (c .before .before .before .if1 .left), ne-eqb _ _ (c .before .before .if3 .left), ne-eqb _ _ (c .before .if5 .left), lt-leb _ _ (c .if6 .taken))
 
--- src/class_rules.rt:31:1
 returns-7 : tie.Need-returns-7
 unfolding fitsForm if_then_else_
 returns-7 c = simp (ne-eqb _ _ (c .before .before .before .if1 .left), ne-eqb _ _ (c .before .before .if3 .left), ne-eqb _ _ (c .before .if5 .left), le-leb _ _ (c .if6 .left))

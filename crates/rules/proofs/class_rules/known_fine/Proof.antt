@@ -1,3 +1,4 @@
+-- `known_fine` is `knownObjectRules`.
 use mathlib.Core.Path.{sym, _∙_}
 use borrow.Author.Tests.{not-true, not-false}
 use Rattle.model.specs.Objects.{objectsAt}
@@ -5,35 +6,37 @@ use Rattle.rules.proofs.ClassLaws.{no-kinds, no-form, by-selectors, int
 use borrow.Author.Needs.{needs}
 use Rattle.rules.proofs.class_rules.known_fine.Statement.{statement}
 use Rattle.rules.proofs.class_rules.known_fine.Tie as tie
-use Rattle.rules.proofs.class_rules.known_fine.Reads as reads
-use Rattle.rules.proofs.class_rules.known_fine.Lts as lts
-use Rattle.rules.proofs.class_body.form.Reads as form-reads
-use Rattle.rules.proofs.class_rules.known_kinds.Reads as known-kinds-reads
-use Rattle.rules.proofs.class_rules.selectors_fine.Reads as selectors-fine-reads
 
--- src/class_rules.rt:302:9
 known-kinds-requires : tie.Need-known-kinds-requires
 known-kinds-requires c κs = search needs
 
--- src/class_rules.rt:303:9
 returns : tie.Need-returns
-returns c = let a = c .before .before .before .before .args in let o = objectsAt (a .n) (a .b) (a .contents .now) (a .bodies .now) in sym (no-kinds o (sym (c .before .known-kinds .ensures) ∙ not-true _ (c .if1 .taken)))
+returns c =
+    let a = c .before .before .before .before .args in
+    let o = objectsAt (a .n) (a .b) (a .contents .now) (a .bodies .now) in
+    sym (no-kinds o (sym (c .before .known-kinds .ensures) ∙ not-true _ (c .if1 .taken)))
 
--- src/class_rules.rt:305:8
 form-requires : tie.Need-form-requires
-form-requires c κs = let a = c .before .before .before .before .args in let p = c .before .before .before .before .pre in let o = objectsAt (a .n) (a .b) (a .contents .now) (a .bodies .now) in (p, integer-class-kind o (p .lent .least) (sym (c .before .known-kinds .ensures) ∙ not-false _ (c .if1 .left)))
+form-requires c κs =
+    let a = c .before .before .before .before .args in
+    let p = c .before .before .before .before .pre in
+    let o = objectsAt (a .n) (a .b) (a .contents .now) (a .bodies .now) in
+    (p, integer-class-kind o (p .lent .least) (sym (c .before .known-kinds .ensures) ∙ not-false _ (c .if1 .left)))
 
--- src/class_rules.rt:306:9
 returns-2 : tie.Need-returns-2
-returns-2 c = let a = c .before .before .before .before .before .before .args in let o = objectsAt (a .n) (a .b) (a .contents .now) (a .bodies .now) in sym (no-form o (sym (c .before .before .before .known-kinds .ensures) ∙ not-false _ (c .before .before .if1 .left)) (λ e. c .if2 .taken (c .before .form .ensures ∙ e)))
+returns-2 c =
+    let a = c .before .before .before .before .before .before .args in
+    let o = objectsAt (a .n) (a .b) (a .contents .now) (a .bodies .now) in
+    sym (no-form o (sym (c .before .before .before .known-kinds .ensures) ∙ not-false _ (c .before .before .if1 .left)) (λ e. c .if2 .taken (c .before .form .ensures ∙ e)))
 
--- src/class_rules.rt:308:5
 selectors-fine-requires : tie.Need-selectors-fine-requires
 selectors-fine-requires c κs = search needs
 
--- src/class_rules.rt:298:1
 returns-3 : tie.Need-returns-3
-returns-3 c = let a = c .before .before .before .before .before .before .before .args in let o = objectsAt (a .n) (a .b) (a .contents .now) (a .bodies .now) in c .selectors-fine .ensures ∙ sym (by-selectors o (sym (c .before .before .before .before .known-kinds .ensures) ∙ not-false _ (c .before .before .before .if1 .left)) (sym (c .before .before .form .ensures) ∙ c .before .if2 .left))
+returns-3 c =
+    let a = c .before .before .before .before .before .before .before .args in
+    let o = objectsAt (a .n) (a .b) (a .contents .now) (a .bodies .now) in
+    c .selectors-fine .ensures ∙ sym (by-selectors o (sym (c .before .before .before .before .known-kinds .ensures) ∙ not-false _ (c .before .before .before .if1 .left)) (sym (c .before .before .form .ensures) ∙ c .before .if2 .left))
 
 pub known-fine-spec : {M : Type 1} → statement M
 known-fine-spec =

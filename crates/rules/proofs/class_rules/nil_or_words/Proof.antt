@@ -1,8 +1,8 @@
-use Prim.Native.Nat.{ℕ, _+_, _-_, _≤_}
+-- `nil_or_words` tests every word.
+use Prim.Native.Nat.{_-_, _≤_}
 use mathlib.Core.List.{[]}
 use mathlib.Core.Path.{sym, _∙_}
 use native.Mathlib.Omega.{arith}
-use borrow.Author.Needs.{needs}
 use borrow.Author.Tests.{not-true, not-false}
 use lib.ListN.{length, getD}
 use Rattle.model.specs.Objects.{isNilOr}
@@ -10,9 +10,6 @@ use Rattle.rules.specs.Lent.{entriesAt}
 use Rattle.rules.proofs.Loops.{Before, before-none, before-more, every-all, every-no}
 use Rattle.rules.proofs.class_rules.nil_or_words.Statement.{statement}
 use Rattle.rules.proofs.class_rules.nil_or_words.Tie as tie
-use Rattle.rules.proofs.class_rules.nil_or_words.Reads as reads
-use Rattle.rules.proofs.class_rules.nil_or_words.Lts as lts
-use Rattle.rules.proofs.is_nil_or.Reads as is-nil-or-reads
 
 abbrev Inv-loop : tie.InvT-loop
 Inv-loop contents n of words i₀ i = (i ≤ length words) × Before (λ j. isNilOr (entriesAt n contents) of (getD words j 0)) i
@@ -20,41 +17,40 @@ Inv-loop contents n of words i₀ i = (i ≤ length words) × Before (λ j. isNi
 abbrev μ-loop : tie.MeasureT-loop
 μ-loop contents n of words i₀ i = length words - i
 
--- src/class_rules.rt:272:5
 loop-holds : tie.Need-loop-holds Inv-loop μ-loop
-loop-holds c = let a = c .before .before .args in (omega arith, before-none (λ j. isNilOr (entriesAt (a .n) (a .contents .now)) (a .of) (getD (a .words .now) j 0)))
+loop-holds c =
+    let a = c .before .before .args in
+    (omega arith, before-none (λ j. isNilOr (entriesAt (a .n) (a .contents .now)) (a .of) (getD (a .words .now) j 0)))
 
--- src/class_rules.rt:273:40
 mul-is-nil-or : tie.Need-mul-is-nil-or Inv-loop μ-loop
 mul-is-nil-or c = omega arith
 
--- src/class_rules.rt:273:40
 shared-slice-read-is-nil-or : tie.Need-shared-slice-read-is-nil-or Inv-loop μ-loop
 shared-slice-read-is-nil-or c = omega arith
 
--- src/class_rules.rt:273:13
 is-nil-or-requires : tie.Need-is-nil-or-requires Inv-loop μ-loop
 is-nil-or-requires c κs = c .before .before .before .before .before .pre
 
--- src/class_rules.rt:274:13
 returns : tie.Need-returns Inv-loop μ-loop
-returns c = let a = c .before .before .before .before .before .before .before .args in sym (every-no (λ w. isNilOr (entriesAt (a .n) (a .contents .now)) (a .of) w) (a .words .now) (c .before .before .before .before .loop .i) (c .before .before .before .loop-test .taken) (sym (c .before .is-nil-or .ensures 0 []) ∙ not-true _ (c .if1 .taken)))
+returns c =
+    let a = c .before .before .before .before .before .before .before .args in
+    sym (every-no (λ w. isNilOr (entriesAt (a .n) (a .contents .now)) (a .of) w) (a .words .now) (c .before .before .before .before .loop .i) (c .before .before .before .loop-test .taken) (sym (c .before .is-nil-or .ensures 0 []) ∙ not-true _ (c .if1 .taken)))
 
--- src/class_rules.rt:276:9
 add-i : tie.Need-add-i Inv-loop μ-loop
 add-i c = omega arith
 
--- src/class_rules.rt:272:5
 loop-less : tie.Need-loop-less Inv-loop μ-loop
 loop-less c = omega arith
 
--- src/class_rules.rt:272:5
 loop-again : tie.Need-loop-again Inv-loop μ-loop
-loop-again c = let a = c .before .before .before .before .before .before .before .args in (omega arith, before-more (λ j. isNilOr (entriesAt (a .n) (a .contents .now)) (a .of) (getD (a .words .now) j 0)) (c .before .before .before .before .loop .i) (c .before .before .before .before .loop .inv .1) (sym (c .before .is-nil-or .ensures 0 []) ∙ not-false _ (c .if1 .left)))
+loop-again c =
+    let a = c .before .before .before .before .before .before .before .args in
+    (omega arith, before-more (λ j. isNilOr (entriesAt (a .n) (a .contents .now)) (a .of) (getD (a .words .now) j 0)) (c .before .before .before .before .loop .i) (c .before .before .before .before .loop .inv .1) (sym (c .before .is-nil-or .ensures 0 []) ∙ not-false _ (c .if1 .left)))
 
--- src/class_rules.rt:267:1
 returns-2 : tie.Need-returns-2 Inv-loop μ-loop
-returns-2 c = let a = c .before .before .before .before .args in sym (every-all (λ w. isNilOr (entriesAt (a .n) (a .contents .now)) (a .of) w) (a .words .now) (c .before .loop .i) (c .loop-test .left) (c .before .loop .inv .1))
+returns-2 c =
+    let a = c .before .before .before .before .args in
+    sym (every-all (λ w. isNilOr (entriesAt (a .n) (a .contents .now)) (a .of) w) (a .words .now) (c .before .loop .i) (c .loop-test .left) (c .before .loop .inv .1))
 
 pub nil-or-words-spec : {M : Type 1} → statement M
 nil-or-words-spec =

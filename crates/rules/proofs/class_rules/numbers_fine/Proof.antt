@@ -1,36 +1,36 @@
+-- `numbers_fine` is `numbersFine`.
 use mathlib.Core.Path.{sym, _∙_}
 use borrow.Author.Tests.{not-true, not-false}
 use Rattle.rules.proofs.ClassLaws.{no-fields-number, no-form-number, with-fields, without-fields}
 use borrow.Author.Needs.{needs}
 use Rattle.rules.proofs.class_rules.numbers_fine.Statement.{statement}
 use Rattle.rules.proofs.class_rules.numbers_fine.Tie as tie
-use Rattle.rules.proofs.class_rules.numbers_fine.Reads as reads
-use Rattle.rules.proofs.class_rules.numbers_fine.Lts as lts
-use Rattle.rules.proofs.class_rules.is_natural.Reads as is-natural-reads
 
--- src/class_rules.rt:83:9
 is-natural-requires : tie.Need-is-natural-requires
 is-natural-requires c κs = search needs
 
--- src/class_rules.rt:84:9
 returns : tie.Need-returns
-returns c = let a = c .before .before .args in sym (no-fields-number (a .fields) (a .form) (sym (c .before .is-natural .ensures) ∙ not-true _ (c .if1 .taken)))
+returns c =
+    let a = c .before .before .args in
+    sym (no-fields-number (a .fields) (a .form) (sym (c .before .is-natural .ensures) ∙ not-true _ (c .if1 .taken)))
 
--- src/class_rules.rt:86:9
 is-natural-requires-2 : tie.Need-is-natural-requires-2
 is-natural-requires-2 c κs = search needs
 
--- src/class_rules.rt:87:9
 returns-2 : tie.Need-returns-2
-returns-2 c = let a = c .before .before .before .before .args in sym (no-form-number (a .fields) (a .form) (sym (c .before .before .before .is-natural .ensures) ∙ not-false _ (c .before .before .if1 .left)) (sym (c .before .is-natural2 .ensures) ∙ not-true _ (c .if2 .taken)))
+returns-2 c =
+    let a = c .before .before .before .before .args in
+    sym (no-form-number (a .fields) (a .form) (sym (c .before .before .before .is-natural .ensures) ∙ not-false _ (c .before .before .if1 .left)) (sym (c .before .is-natural2 .ensures) ∙ not-true _ (c .if2 .taken)))
 
--- src/class_rules.rt:90:9
 returns-3 : tie.Need-returns-3
-returns-3 c = let a = c .before .before .before .before .before .args in sym (with-fields (a .fields) (a .form) (sym (c .before .before .before .before .is-natural .ensures) ∙ not-false _ (c .before .before .before .if1 .left)) (sym (c .before .before .is-natural2 .ensures) ∙ not-false _ (c .before .if2 .left)) (c .if3 .taken))
+returns-3 c =
+    let a = c .before .before .before .before .before .args in
+    sym (with-fields (a .fields) (a .form) (sym (c .before .before .before .before .is-natural .ensures) ∙ not-false _ (c .before .before .before .if1 .left)) (sym (c .before .before .is-natural2 .ensures) ∙ not-false _ (c .before .if2 .left)) (c .if3 .taken))
 
--- src/class_rules.rt:80:1
 returns-4 : tie.Need-returns-4
-returns-4 c = let a = c .before .before .before .before .before .args in sym (without-fields (a .fields) (a .form) (sym (c .before .before .before .before .is-natural .ensures) ∙ not-false _ (c .before .before .before .if1 .left)) (sym (c .before .before .is-natural2 .ensures) ∙ not-false _ (c .before .if2 .left)) (c .if3 .left))
+returns-4 c =
+    let a = c .before .before .before .before .before .args in
+    sym (without-fields (a .fields) (a .form) (sym (c .before .before .before .before .is-natural .ensures) ∙ not-false _ (c .before .before .before .if1 .left)) (sym (c .before .before .is-natural2 .ensures) ∙ not-false _ (c .before .if2 .left)) (c .if3 .left))
 
 pub numbers-fine-spec : {M : Type 1} → statement M
 numbers-fine-spec =

@@ -1,16 +1,13 @@
-use Prim.Native.Nat.{ℕ, _+_, _-_, _≤_}
+-- `pairs_fine` tests every pair.
+use Prim.Native.Nat.{_-_, _≤_}
 use mathlib.Core.Path.{sym, _∙_}
 use native.Mathlib.Omega.{arith}
-use borrow.Author.Needs.{needs}
 use borrow.Author.Tests.{not-true, not-false}
 use Rattle.model.specs.Objects.{objectsAt}
 use Rattle.model.specs.Rules.{pairFine}
 use Rattle.rules.proofs.Loops.{Before, before-none, before-more, below-all, below-no}
 use Rattle.rules.proofs.class_rules.pairs_fine.Statement.{statement}
 use Rattle.rules.proofs.class_rules.pairs_fine.Tie as tie
-use Rattle.rules.proofs.class_rules.pairs_fine.Reads as reads
-use Rattle.rules.proofs.class_rules.pairs_fine.Lts as lts
-use Rattle.rules.proofs.class_rules.pair_fine.Reads as pair-fine-reads
 
 abbrev Inv-loop : tie.InvT-loop
 Inv-loop contents bodies n b d count i₀ i = (i ≤ count) × Before (pairFine (objectsAt n b contents bodies) d) i
@@ -18,33 +15,47 @@ Inv-loop contents bodies n b d count i₀ i = (i ≤ count) × Before (pairFine 
 abbrev μ-loop : tie.MeasureT-loop
 μ-loop contents bodies n b d count i₀ i = count - i
 
--- src/class_rules.rt:137:5
 loop-holds : tie.Need-loop-holds Inv-loop μ-loop
-loop-holds c = let a = c .before .before .args in let o = objectsAt (a .n) (a .b) (a .contents .now) (a .bodies .now) in (omega arith, before-none (pairFine o (a .d)))
+loop-holds c =
+    let a = c .before .before .args in
+    let o = objectsAt (a .n) (a .b) (a .contents .now) (a .bodies .now) in
+    (omega arith, before-none (pairFine o (a .d)))
 
--- src/class_rules.rt:138:13
 pair-fine-requires : tie.Need-pair-fine-requires Inv-loop μ-loop
-pair-fine-requires c κs = let p = c .before .before .before .before .pre in let t = c .loop-test .taken in let e = p .1 .1 in (p .0, (p .1 .0, omega arith))
+pair-fine-requires c κs =
+    let p = c .before .before .before .before .pre in
+    let t = c .loop-test .taken in
+    let e = p .1 .1 in
+    (p .0, (p .1 .0, omega arith))
 
--- src/class_rules.rt:139:13
 returns : tie.Need-returns Inv-loop μ-loop
-returns c = let a = c .before .before .before .before .before .before .args in let o = objectsAt (a .n) (a .b) (a .contents .now) (a .bodies .now) in sym (below-no (a .count) (pairFine o (a .d)) (c .before .before .before .loop .i) (c .before .before .loop-test .taken) (sym (c .before .pair-fine .ensures) ∙ not-true _ (c .if1 .taken)))
+returns c =
+    let a = c .before .before .before .before .before .before .args in
+    let o = objectsAt (a .n) (a .b) (a .contents .now) (a .bodies .now) in
+    sym (below-no (a .count) (pairFine o (a .d)) (c .before .before .before .loop .i) (c .before .before .loop-test .taken) (sym (c .before .pair-fine .ensures) ∙ not-true _ (c .if1 .taken)))
 
--- src/class_rules.rt:141:9
 add-i : tie.Need-add-i Inv-loop μ-loop
-add-i c = let t = c .before .before .loop-test .taken in omega arith
+add-i c =
+    let t = c .before .before .loop-test .taken in
+    omega arith
 
--- src/class_rules.rt:137:5
 loop-less : tie.Need-loop-less Inv-loop μ-loop
-loop-less c = let t = c .before .before .loop-test .taken in omega arith
+loop-less c =
+    let t = c .before .before .loop-test .taken in
+    omega arith
 
--- src/class_rules.rt:137:5
 loop-again : tie.Need-loop-again Inv-loop μ-loop
-loop-again c = let a = c .before .before .before .before .before .before .args in let o = objectsAt (a .n) (a .b) (a .contents .now) (a .bodies .now) in let t = c .before .before .loop-test .taken in (omega arith, before-more (pairFine o (a .d)) (c .before .before .before .loop .i) (c .before .before .before .loop .inv .1) (sym (c .before .pair-fine .ensures) ∙ not-false _ (c .if1 .left)))
+loop-again c =
+    let a = c .before .before .before .before .before .before .args in
+    let o = objectsAt (a .n) (a .b) (a .contents .now) (a .bodies .now) in
+    let t = c .before .before .loop-test .taken in
+    (omega arith, before-more (pairFine o (a .d)) (c .before .before .before .loop .i) (c .before .before .before .loop .inv .1) (sym (c .before .pair-fine .ensures) ∙ not-false _ (c .if1 .left)))
 
--- src/class_rules.rt:132:1
 returns-2 : tie.Need-returns-2 Inv-loop μ-loop
-returns-2 c = let a = c .before .before .before .before .args in let o = objectsAt (a .n) (a .b) (a .contents .now) (a .bodies .now) in sym (below-all (a .count) (c .before .loop .i) (pairFine o (a .d)) (c .loop-test .left) (c .before .loop .inv .1))
+returns-2 c =
+    let a = c .before .before .before .before .args in
+    let o = objectsAt (a .n) (a .b) (a .contents .now) (a .bodies .now) in
+    sym (below-all (a .count) (c .before .loop .i) (pairFine o (a .d)) (c .loop-test .left) (c .before .loop .inv .1))
 
 pub pairs-fine-spec : {M : Type 1} → statement M
 pairs-fine-spec =

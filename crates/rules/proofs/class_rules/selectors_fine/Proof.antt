@@ -1,3 +1,4 @@
+-- `selectors_fine` is `selectorsFine`: the list is a part of the lent words.
 use Prim.Native.Nat.{ℕ, _+_, _-_}
 use mathlib.Core.Path.{_≡_, sym, ap, ap₂, _∙_}
 use native.Mathlib.Omega.{arith}
@@ -9,70 +10,67 @@ use Rattle.rules.proofs.ClassLaws.{selectors-kind, selectors-size, sele
 use borrow.Author.Needs.{needs}
 use Rattle.rules.proofs.class_rules.selectors_fine.Statement.{statement}
 use Rattle.rules.proofs.class_rules.selectors_fine.Tie as tie
-use Rattle.rules.proofs.class_rules.selectors_fine.Reads as reads
-use Rattle.rules.proofs.class_rules.selectors_fine.Lts as lts
-use Rattle.rules.proofs.class_rules.nil_or_words.Reads as nil-or-words-reads
-use Rattle.rules.proofs.kind.Reads as kind-reads
-use Rattle.rules.proofs.size.Reads as size-reads
-use Rattle.rules.proofs.start.Reads as start-reads
 
--- src/class_rules.rt:286:8
 kind-requires : tie.Need-kind-requires
 kind-requires c κs = search needs
 
--- src/class_rules.rt:287:9
 returns : tie.Need-returns
-returns c = let a = c .before .before .before .before .args in let o = objectsAt (a .n) (a .b) (a .contents .now) (a .bodies .now) in selectors-kind o (λ e. c .if1 .taken (c .before .kind .ensures ∙ e))
+returns c =
+    let a = c .before .before .before .before .args in
+    let o = objectsAt (a .n) (a .b) (a .contents .now) (a .bodies .now) in
+    selectors-kind o (λ e. c .if1 .taken (c .before .kind .ensures ∙ e))
 
--- src/class_rules.rt:289:8
 size-requires : tie.Need-size-requires
 size-requires c κs = search needs
 
--- src/class_rules.rt:290:9
 returns-2 : tie.Need-returns-2
-returns-2 c = let a = c .before .before .before .before .before .before .args in let o = objectsAt (a .n) (a .b) (a .contents .now) (a .bodies .now) in selectors-size o (sym (c .before .before .before .kind .ensures) ∙ c .before .before .if1 .left) (λ e. c .if2 .taken (c .before .size .ensures ∙ e))
+returns-2 c =
+    let a = c .before .before .before .before .before .before .args in
+    let o = objectsAt (a .n) (a .b) (a .contents .now) (a .bodies .now) in
+    selectors-size o (sym (c .before .before .before .kind .ensures) ∙ c .before .before .if1 .left) (λ e. c .if2 .taken (c .before .size .ensures ∙ e))
 
--- src/class_rules.rt:292:16
 start-requires : tie.Need-start-requires
 start-requires c κs = search needs
 
--- src/class_rules.rt:292:16
 cast-from : tie.Need-cast-from
 cast-from c = search needs
 
 cast-end : tie.Need-cast-end
 cast-end c = search needs
 
--- src/class_rules.rt:293:15
 add-end : tie.Need-add-end
 add-end c = search needs
 
--- src/class_rules.rt:294:34
 mul-nil-or-words : tie.Need-mul-nil-or-words
 mul-nil-or-words c = search needs
 
--- src/class_rules.rt:294:34
 sub-nil-or-words : tie.Need-sub-nil-or-words
 sub-nil-or-words c = search needs
 
--- src/class_rules.rt:294:34
 part-nil-or-words-start : tie.Need-part-nil-or-words-start
 part-nil-or-words-start c = search needs
 
--- src/class_rules.rt:294:34
 part-nil-or-words-end : tie.Need-part-nil-or-words-end
-part-nil-or-words-end c = let a = c .before .before .before .before .before .before .before .args in let p = c .before .before .before .before .before .before .before .pre in let o = objectsAt (a .n) (a .b) (a .contents .now) (a .bodies .now) in let l = p .lent in
+part-nil-or-words-end c =
+    let a = c .before .before .before .before .before .before .before .args in
+    let p = c .before .before .before .before .before .before .before .pre in
+    let o = objectsAt (a .n) (a .b) (a .contents .now) (a .bodies .now) in
+    let l = p .lent in
     let h = inside-at o (p .layout) 5 (omega arith) (omega arith) in
     let w = list-holds o (p .layout) 10 (names-kind o 5 3 (omega arith) (omega arith) (sym (c .before .before .before .before .kind .ensures) ∙ c .before .before .before .if1 .left)) in
-    let s = c .start .ensures in let z = sym (c .before .before .size .ensures) ∙ c .before .if2 .left in omega arith
+    let s = c .start .ensures in
+    let z = sym (c .before .before .size .ensures) ∙ c .before .if2 .left in
+    omega arith
 
--- src/class_rules.rt:294:5
 nil-or-words-requires : tie.Need-nil-or-words-requires
 nil-or-words-requires c κs = search needs
 
--- src/class_rules.rt:282:1
 returns-3 : tie.Need-returns-3
-returns-3 c = let a = c .before .before .before .before .before .before .before .before .before .args in let p = c .before .before .before .before .before .before .before .before .before .pre in let o = objectsAt (a .n) (a .b) (a .contents .now) (a .bodies .now) in let l = p .lent in
+returns-3 c =
+    let a = c .before .before .before .before .before .before .before .before .before .args in
+    let p = c .before .before .before .before .before .before .before .before .before .pre in
+    let o = objectsAt (a .n) (a .b) (a .contents .now) (a .bodies .now) in
+    let l = p .lent in
     let h = inside-at o (p .layout) 5 (omega arith) (omega arith) in
     let w = list-holds o (p .layout) 10 (names-kind o 5 3 (omega arith) (omega arith) (sym (c .before .before .before .before .before .before .kind .ensures) ∙ c .before .before .before .before .before .if1 .left)) in
     let z = sym (c .before .before .before .before .size .ensures) ∙ c .before .before .before .if2 .left in

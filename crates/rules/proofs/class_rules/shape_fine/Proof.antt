@@ -1,3 +1,4 @@
+-- `shape_fine` is `shapeFine`.
 use mathlib.Core.Path.{sym, _∙_}
 use native.Mathlib.Omega.{arith}
 use borrow.Author.Tests.{not-true, not-false}
@@ -7,43 +8,51 @@ use Rattle.rules.proofs.Names.{names-kind}
 use borrow.Author.Needs.{needs}
 use Rattle.rules.proofs.class_rules.shape_fine.Statement.{statement}
 use Rattle.rules.proofs.class_rules.shape_fine.Tie as tie
-use Rattle.rules.proofs.class_rules.shape_fine.Reads as reads
-use Rattle.rules.proofs.class_rules.shape_fine.Lts as lts
-use Rattle.rules.proofs.class_rules.class_fine.Reads as class-fine-reads
-use Rattle.rules.proofs.class_rules.entry_fine.Reads as entry-fine-reads
-use Rattle.rules.proofs.kind.Reads as kind-reads
 
--- src/class_rules.rt:183:9
 entry-fine-requires : tie.Need-entry-fine-requires
 entry-fine-requires c κs = search needs
 
--- src/class_rules.rt:184:9
 returns : tie.Need-returns
-returns c = let a = c .before .before .before .before .args in let o = objectsAt (a .n) (a .b) (a .contents .now) (a .bodies .now) in sym (shape-no o (a .k) (sym (c .before .entry-fine .ensures) ∙ not-true _ (c .if1 .taken)))
+returns c =
+    let a = c .before .before .before .before .args in
+    let o = objectsAt (a .n) (a .b) (a .contents .now) (a .bodies .now) in
+    sym (shape-no o (a .k) (sym (c .before .entry-fine .ensures) ∙ not-true _ (c .if1 .taken)))
 
--- src/class_rules.rt:186:8
 kind-requires : tie.Need-kind-requires
 kind-requires c κs = search needs
 
--- src/class_rules.rt:187:9
 returns-2 : tie.Need-returns-2
-returns-2 c = let a = c .before .before .before .before .before .before .args in let o = objectsAt (a .n) (a .b) (a .contents .now) (a .bodies .now) in sym (shape-other o (a .k) (sym (c .before .before .before .entry-fine .ensures) ∙ not-false _ (c .before .before .if1 .left)) (λ e. c .if2 .taken (c .before .kind .ensures ∙ e)))
+returns-2 c =
+    let a = c .before .before .before .before .before .before .args in
+    let o = objectsAt (a .n) (a .b) (a .contents .now) (a .bodies .now) in
+    sym (shape-other o (a .k) (sym (c .before .before .before .entry-fine .ensures) ∙ not-false _ (c .before .before .if1 .left)) (λ e. c .if2 .taken (c .before .kind .ensures ∙ e)))
 
--- src/class_rules.rt:189:41
 mul-class-fine : tie.Need-mul-class-fine
-mul-class-fine c = let p = c .before .before .before .before .before .before .pre in let l = p .0 .lent in let h = p .1 in omega arith
+mul-class-fine c =
+    let p = c .before .before .before .before .before .before .pre in
+    let l = p .0 .lent in
+    let h = p .1 in
+    omega arith
 
--- src/class_rules.rt:189:40
 cast-class-fine : tie.Need-cast-class-fine
-cast-class-fine c = let p = c .before .before .before .before .before .before .pre in let l = p .0 .lent in let h = p .1 in omega arith
+cast-class-fine c =
+    let p = c .before .before .before .before .before .before .pre in
+    let l = p .0 .lent in
+    let h = p .1 in
+    omega arith
 
--- src/class_rules.rt:189:5
 class-fine-requires : tie.Need-class-fine-requires
-class-fine-requires c κs = let a = c .before .before .before .before .before .before .args in let p = c .before .before .before .before .before .before .pre in let o = objectsAt (a .n) (a .b) (a .contents .now) (a .bodies .now) in (p .0, names-kind o (a .k) 2 (p .1 .0) (p .1 .1) (sym (c .before .kind .ensures) ∙ c .if2 .left))
+class-fine-requires c κs =
+    let a = c .before .before .before .before .before .before .args in
+    let p = c .before .before .before .before .before .before .pre in
+    let o = objectsAt (a .n) (a .b) (a .contents .now) (a .bodies .now) in
+    (p .0, names-kind o (a .k) 2 (p .1 .0) (p .1 .1) (sym (c .before .kind .ensures) ∙ c .if2 .left))
 
--- src/class_rules.rt:179:1
 returns-3 : tie.Need-returns-3
-returns-3 c = let a = c .before .before .before .before .before .before .before .args in let o = objectsAt (a .n) (a .b) (a .contents .now) (a .bodies .now) in c .class-fine .ensures ∙ sym (shape-class o (a .k) (sym (c .before .before .before .before .entry-fine .ensures) ∙ not-false _ (c .before .before .before .if1 .left)) (sym (c .before .before .kind .ensures) ∙ c .before .if2 .left))
+returns-3 c =
+    let a = c .before .before .before .before .before .before .before .args in
+    let o = objectsAt (a .n) (a .b) (a .contents .now) (a .bodies .now) in
+    c .class-fine .ensures ∙ sym (shape-class o (a .k) (sym (c .before .before .before .before .entry-fine .ensures) ∙ not-false _ (c .before .before .before .if1 .left)) (sym (c .before .before .kind .ensures) ∙ c .before .if2 .left))
 
 pub shape-fine-spec : {M : Type 1} → statement M
 shape-fine-spec =
