@@ -1,6 +1,6 @@
 -- Loops over numbered tests: what a turn adds, where all passed, where one fails.
 use Prim.Native.Nat.{ℕ, zero, suc, _+_, _≤_, _<_}
-use mathlib.Core.Path.{_≡_, refl, sym, subst}
+use mathlib.Core.Path.{_≡_, refl, sym, ap, subst}
 use mathlib.Core.Bool.{Bool, true, false, _&&_}
 use mathlib.Core.List.{List}
 use native.Mathlib.Omega.{arith}
@@ -8,7 +8,8 @@ use native.Mathlib.Decide.{ℕ-discrete}
 use lib.Dec.{T}
 use lib.ListN.{getD, length}
 use Rattle.bytecode.specs.Test.{upTo, below, every}
-use Rattle.bytecode.proofs.TestLaws.{true→T, T→true, upTo-at, at-upTo, below-at, at-below, every-at, at-every}
+use Rattle.bytecode.proofs.TestLaws.{true→T, T→true, and-left, and-right, and-both, upTo-at, at-upTo, below-at, at-below, every-at, at-every}
+use Rattle.model.proofs.Parts.{same-test}
 
 -- a test that cannot pass
 pub never : (b : Bool) → (T b → ⊥) → b ≡ false
@@ -64,3 +65,29 @@ every-no f l k h e = never (every f l) (λ t. failed e (every-at f l t k h))
 pub and-true : (b : Bool) → (b && true) ≡ b
 and-true true = refl
 and-true false = refl
+
+pub stop : (a b : Bool) → a ≡ false → (a && b) ≡ false
+stop a b e = ap (λ (x : Bool). x && b) e
+
+pub pass : (a b : Bool) → a ≡ true → (a && b) ≡ b
+pass a b e = ap (λ (x : Bool). x && b) e
+
+-- before turn k of a loop over the objects 1 to n
+pub record Turn (n : ℕ) (f : ℕ → Bool) (k : ℕ) : Type 0 where
+  pub least : 1 ≤ k
+  pub most : k ≤ n + 1
+  pub passed : UpBefore f k
+
+pub turn-first : (n : ℕ) (f : ℕ → Bool) → Turn n f 1
+turn-first n f = record { least = omega arith; most = omega arith; passed = up-none f }
+
+pub turn-next : (n : ℕ) (f : ℕ → Bool) (k : ℕ) → k ≤ n → Turn n f k → f k ≡ true → Turn n f (k + 1)
+turn-next n f k h t e = record { least = omega arith; most = omega arith; passed = up-more f k (t .passed) e }
+
+-- two tests at each number
+pub up-both : (n : ℕ) (f g : ℕ → Bool) → upTo n (λ k. f k && g k) ≡ (upTo n f && upTo n g)
+up-both n f g =
+    same-test (upTo n (λ k. f k && g k)) (upTo n f && upTo n g)
+    (λ t. and-both (upTo n f) (upTo n g) (at-upTo n f (λ k a b. and-left (f k) (g k) (upTo-at n (λ k. f k && g k) t k a b)))
+    (at-upTo n g (λ k a b. and-right (f k) (g k) (upTo-at n (λ k. f k && g k) t k a b))))
+    (λ t. at-upTo n (λ k. f k && g k) (λ k a b. and-both (f k) (g k) (upTo-at n f (and-left (upTo n f) (upTo n g) t) k a b) (upTo-at n g (and-right (upTo n f) (upTo n g) t) k a b)))

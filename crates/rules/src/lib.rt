@@ -1,6 +1,5 @@
 // The image rules 4, 5 and 6 of 01 over the lent words. The definitions are model's specs/Rules.antt.
 ghost use mathlib.Core.Path.{_≡_};
-ghost use mathlib.Core.Bool.{true};
 ghost use mathlib.Core.List.{List};
 ghost use Prim.Native.Nat.{ℕ, _+_, _*_, _<_, _≤_};
 ghost use lib.Dec.{eqb};
@@ -9,8 +8,31 @@ ghost use Rattle.bytecode.specs.Test.{every, implies, allOf};
 ghost use Rattle.model.specs.Limits.{entryWords, classKind, classWords};
 ghost use Rattle.model.specs.Word.{isPointer, isValid};
 ghost use Rattle.model.specs.Objects.{objectsAt, entryWord, classWord, kind, start, size, sizedInBytes, bodyWords, bodyEnd, isKind, isNilOr};
-ghost use Rattle.model.specs.Rules.{paddingFine, layoutRules, wordsFine, rule4, rule5};
-ghost use Rattle.rules.specs.Lent.{Lent, Entry, entriesAt, startOf};
+ghost use Rattle.model.specs.Rules.{paddingFine, layoutRules, wordsFine, rule4, rule5, rule6};
+ghost use Rattle.rules.specs.Lent.{Lent, Laid, Entry, entriesAt, startOf};
+
+pub mod class_body;
+mod class_rules;
+
+// Words of an entry.
+const ENTRY_WORDS: usize = 4;
+
+// Kinds of objects.
+pub const FIELDS: u16 = 0;
+
+pub const BYTES: u16 = 1;
+
+pub const CLASS: u16 = 2;
+
+pub const LIST: u16 = 3;
+
+pub const METHOD: u16 = 4;
+
+// Words of a class body.
+const CLASS_WORDS: u16 = 4;
+
+// The word of nil.
+pub const NIL: u16 = 2;
 
 // An even word that names one of the objects 1 to n.
 pub fn is_pointer(n: usize, w: u16) -> bool
@@ -41,10 +63,11 @@ fn entry_word(contents: &[u16], n: usize, k: usize, i: usize) -> u16
     requires { ⌜ Entry n k (now contents) × (i < entryWords) ⌝ }
     ensures { λ r. ⌜ r ≡ entryWord (entriesAt n (now (contents .entry))) k i ⌝ }
 {
-    let at = 4 * (k - 1) + i;
+    let at = ENTRY_WORDS * (k - 1) + i;
     contents[at]
 }
 
+// The entry of object k: class, kind, start, size.
 pub fn class_word(contents: &[u16], n: usize, k: usize) -> u16
     requires { ⌜ Entry n k (now contents) ⌝ }
     ensures { λ r. ⌜ r ≡ classWord (entriesAt n (now (contents .entry))) k ⌝ }
@@ -85,11 +108,12 @@ pub fn is_kind(contents: &[u16], n: usize, of: u16, w: u16) -> bool
     kind(contents, n, k) == of
 }
 
+// nil, or the name of an object of this kind.
 pub fn is_nil_or(contents: &[u16], n: usize, of: u16, w: u16) -> bool
     requires { ⌜ entryWords * n ≤ length (now contents) ⌝ }
     ensures { λ r. ⌜ ((b : ℕ) (bodies : List ℕ) → r ≡ isNilOr (objectsAt n b (now (contents .entry)) bodies) of w) ⌝ }
 {
-    if w == 2 {
+    if w == NIL {
         return true;
     }
     is_kind(contents, n, of, w)
@@ -99,10 +123,10 @@ pub fn is_nil_or(contents: &[u16], n: usize, of: u16, w: u16) -> bool
 pub fn in_bytes(of: u16) -> bool
     ensures { λ r. ⌜ r ≡ sizedInBytes of ⌝ }
 {
-    if of == 1 {
+    if of == BYTES {
         return true;
     }
-    of == 4
+    of == METHOD
 }
 
 // How many words the body of object k has. (Half of size + 1, which might not fit.)
@@ -117,6 +141,7 @@ pub fn body_words(contents: &[u16], n: usize, k: usize) -> u16
     words
 }
 
+// Where the body of object k ends.
 pub fn body_end(contents: &[u16], n: usize, k: usize) -> usize
     requires { ⌜ Entry n k (now contents) ⌝ }
     ensures { λ r. ⌜ ((b : ℕ) (bodies : List ℕ) → r ≡ bodyEnd (objectsAt n b (now (contents .entry)) bodies) k) ⌝ }
@@ -155,19 +180,26 @@ fn padding(contents: &[u16], bodies: &[u16], n: usize, b: usize, k: usize) -> bo
 fn class_size(of: u16, words: u16) -> bool
     ensures { λ r. ⌜ r ≡ implies (eqb of classKind) (eqb words classWords) ⌝ }
 {
-    if of != 2 {
+    if of != CLASS {
         return true;
     }
-    words == 4
+    words == CLASS_WORDS
 }
 
 // The layout of one object: `from` is where the body before it ends.
-fn object_layout(contents: &[u16], bodies: &[u16], n: usize, b: usize, k: usize, from: usize) -> bool
+fn object_layout(
+    contents: &[u16],
+    bodies: &[u16],
+    n: usize,
+    b: usize,
+    k: usize,
+    from: usize,
+) -> bool
     requires { ⌜ Entry n k (now contents) × ((b ≤ length (now bodies)) × (from ≡ startOf (objectsAt n b (now contents) (now bodies)) k)) ⌝ }
     ensures { λ r. ⌜ r ≡ allOf (layoutRules 1 (objectsAt n b (now (contents .entry)) (now (bodies .entry))) k) ⌝ }
 {
     let of = kind(contents, n, k);
-    if 4 < of {
+    if METHOD < of {
         return false;
     }
     if start(contents, n, k) as usize != from {
@@ -212,7 +244,7 @@ fn valid_words(n: usize, words: &[u16]) -> bool
 
 // The class of object k, and the words of its body unless they are bytes.
 fn object_words(contents: &[u16], bodies: &[u16], n: usize, b: usize, k: usize) -> bool
-    requires { ⌜ Lent n b (now contents) (now bodies) × ((rule4 1 (objectsAt n b (now contents) (now bodies)) ≡ true) × ((1 ≤ k) × (k ≤ n))) ⌝ }
+    requires { ⌜ Laid n b (now contents) (now bodies) × ((1 ≤ k) × (k ≤ n)) ⌝ }
     ensures { λ r. ⌜ r ≡ wordsFine (objectsAt n b (now (contents .entry)) (now (bodies .entry))) k ⌝ }
 {
     if !is_valid(n, class_word(contents, n, k)) {
@@ -228,7 +260,7 @@ fn object_words(contents: &[u16], bodies: &[u16], n: usize, b: usize, k: usize) 
 
 // Rule 5: the words that have to be valid.
 pub fn words(contents: &[u16], bodies: &[u16], n: usize, b: usize) -> bool
-    requires { ⌜ Lent n b (now contents) (now bodies) × (rule4 1 (objectsAt n b (now contents) (now bodies)) ≡ true) ⌝ }
+    requires { ⌜ Laid n b (now contents) (now bodies) ⌝ }
     ensures { λ r. ⌜ r ≡ rule5 1 (objectsAt n b (now (contents .entry)) (now (bodies .entry))) ⌝ }
 {
     let mut k = 1;
@@ -239,4 +271,18 @@ pub fn words(contents: &[u16], bodies: &[u16], n: usize, b: usize) -> bool
         k += 1;
     }
     true
+}
+
+// Rule 6: classes, dictionaries, the objects 1 to 5.
+pub fn classes(contents: &[u16], bodies: &[u16], n: usize, b: usize) -> bool
+    requires { ⌜ Laid n b (now contents) (now bodies) ⌝ }
+    ensures { λ r. ⌜ r ≡ rule6 1 (objectsAt n b (now (contents .entry)) (now (bodies .entry))) ⌝ }
+{
+    if !class_rules::known_fine(contents, bodies, n, b) {
+        return false;
+    }
+    if !class_rules::shapes(contents, bodies, n, b) {
+        return false;
+    }
+    class_rules::chains(contents, bodies, n, b)
 }

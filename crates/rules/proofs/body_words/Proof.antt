@@ -1,36 +1,26 @@
+-- `body_words` is `bodyWords`: half of an odd size is rounded up.
 use mathlib.Core.Path.{sym, ap, _∙_}
 use Rattle.model.specs.Objects.{objectsAt, sizedInBytes}
 use Rattle.rules.proofs.Laid.{body-bytes, body-plain}
 use borrow.Author.Needs.{needs}
 use Rattle.rules.proofs.body_words.Statement.{statement}
 use Rattle.rules.proofs.body_words.Tie as tie
-use Rattle.rules.proofs.body_words.Reads as reads
-use Rattle.rules.proofs.body_words.Lts as lts
-use Rattle.rules.proofs.in_bytes.Reads as in-bytes-reads
-use Rattle.rules.proofs.kind.Reads as kind-reads
-use Rattle.rules.proofs.size.Reads as size-reads
 
--- src/lib.rt:113:9
 size-requires : tie.Need-size-requires
 size-requires c κs = search needs
 
--- src/lib.rt:114:17
 kind-requires : tie.Need-kind-requires
 kind-requires c κs = search needs
 
--- src/lib.rt:114:8
 in-bytes-requires : tie.Need-in-bytes-requires
 in-bytes-requires c κs = search needs
 
--- src/lib.rt:115:16
 add-result : tie.Need-add-result
 add-result c = search needs
 
--- src/lib.rt:115:9
 returns : tie.Need-returns
 returns c = λ b bodies. let a = c .before .before .before .before .before .args in body-bytes (objectsAt (a .n) b (a .contents .now) bodies) (a .k) _ (c .before .before .before .size .ensures) (ap sizedInBytes (sym (c .before .before .kind .ensures)) ∙ sym (c .before .in-bytes .ensures) ∙ c .if1 .taken)
 
--- src/lib.rt:109:1
 returns-2 : tie.Need-returns-2
 returns-2 c = λ b bodies. let a = c .before .before .before .before .before .args in c .before .before .before .size .ensures ∙ sym (body-plain (objectsAt (a .n) b (a .contents .now) bodies) (a .k) (ap sizedInBytes (sym (c .before .before .kind .ensures)) ∙ sym (c .before .in-bytes .ensures) ∙ c .if1 .left))
 

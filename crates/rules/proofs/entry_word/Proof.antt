@@ -1,3 +1,4 @@
+-- `entry_word` reads inside the table of contents.
 use mathlib.Core.Path.{sym}
 use native.Mathlib.Omega.{arith}
 use Prim.Native.Nat.{_+_, _-_, _*_}
@@ -5,32 +6,26 @@ use lib.Seq.{getD-take}
 use borrow.Author.Needs.{needs}
 use Rattle.rules.proofs.entry_word.Statement.{statement}
 use Rattle.rules.proofs.entry_word.Tie as tie
-use Rattle.rules.proofs.entry_word.Reads as reads
-use Rattle.rules.proofs.entry_word.Lts as lts
 
--- src/lib.rt:42:19
 sub-at : tie.Need-sub-at
 sub-at c = search needs
 
--- src/lib.rt:42:14
 mul-at : tie.Need-mul-at
 mul-at c = search needs
 
--- src/lib.rt:42:14
 add-at : tie.Need-add-at
 add-at c = search needs
 
--- src/lib.rt:43:5
 mul-result : tie.Need-mul-result
 mul-result c = search needs
 
--- src/lib.rt:43:5
 shared-slice-read-result : tie.Need-shared-slice-read-result
 shared-slice-read-result c = search needs
 
--- src/lib.rt:38:1
 returns : tie.Need-returns
-returns c = let a = c .before .args in sym (getD-take (4 * a .n) (a .contents .now) (4 * (a .k - 1) + a .i) 0 (omega (arith, c .before .pre)))
+returns c =
+    let a = c .before .args in
+    sym (getD-take (4 * a .n) (a .contents .now) (4 * (a .k - 1) + a .i) 0 (omega (arith, c .before .pre)))
 
 pub entry-word-spec : {M : Type 1} → statement M
 entry-word-spec =

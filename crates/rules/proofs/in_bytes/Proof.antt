@@ -1,14 +1,11 @@
+-- `in_bytes` is `sizedInBytes`.
 use borrow.Author.Tests.{eq-eqb, ne-eqb}
 use Rattle.rules.proofs.in_bytes.Statement.{statement}
 use Rattle.rules.proofs.in_bytes.Tie as tie
-use Rattle.rules.proofs.in_bytes.Reads as reads
-use Rattle.rules.proofs.in_bytes.Lts as lts
 
--- src/lib.rt:103:9
 returns : tie.Need-returns
 returns c = simp (eq-eqb _ _ (c .if1 .taken))
 
--- src/lib.rt:99:1
 returns-2 : tie.Need-returns-2
 returns-2 c = simp (ne-eqb _ _ (c .if1 .left))
 

@@ -1,3 +1,4 @@
+-- `is_kind` is `isKind`, whatever the bodies are.
 use mathlib.Core.Path.{sym, _∙_}
 use borrow.Author.Tests.{not-true, not-false}
 use Rattle.model.specs.Objects.{isKind}
@@ -5,30 +6,23 @@ use Rattle.rules.proofs.Names.{points}
 use borrow.Author.Needs.{needs}
 use Rattle.rules.proofs.is_kind.Statement.{statement}
 use Rattle.rules.proofs.is_kind.Tie as tie
-use Rattle.rules.proofs.is_kind.Reads as reads
-use Rattle.rules.proofs.is_kind.Lts as lts
-use Rattle.rules.proofs.is_pointer.Reads as is-pointer-reads
-use Rattle.rules.proofs.kind.Reads as kind-reads
 
--- src/lib.rt:79:9
 is-pointer-requires : tie.Need-is-pointer-requires
 is-pointer-requires c κs = search needs
 
--- src/lib.rt:80:9
 returns : tie.Need-returns
 unfolding isKind
 returns c = λ b bodies. simp (sym (c .before .is-pointer .ensures) ∙ not-true _ (c .if1 .taken))
 
--- src/lib.rt:82:13
 cast-k : tie.Need-cast-k
 cast-k c = search needs
 
--- src/lib.rt:83:5
 kind-requires : tie.Need-kind-requires
 unfolding isKind
-kind-requires c κs = let p = points _ _ (sym (c .before .is-pointer .ensures) ∙ not-false _ (c .if1 .left)) in search needs
+kind-requires c κs =
+    let p = points _ _ (sym (c .before .is-pointer .ensures) ∙ not-false _ (c .if1 .left)) in
+    search needs
 
--- src/lib.rt:75:1
 returns-2 : tie.Need-returns-2
 unfolding isKind
 returns-2 c = λ b bodies. simp (sym (c .before .before .is-pointer .ensures) ∙ not-false _ (c .before .if1 .left), c .kind .ensures)

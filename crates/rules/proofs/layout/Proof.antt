@@ -1,8 +1,7 @@
+-- `layout` is rule 4. Before each turn `from` is where the next body has to start.
 use Prim.Native.Nat.{ℕ, _+_, _-_, _≤_}
-use mathlib.Core.Path.{_≡_, sym, ap, _∙_}
-use mathlib.Core.List.{List}
+use mathlib.Core.Path.{_≡_, sym, _∙_}
 use native.Mathlib.Omega.{arith}
-use borrow.Author.Needs.{needs}
 use borrow.Author.Tests.{not-true, not-false}
 use Rattle.bytecode.specs.Test.{allOf}
 use Rattle.model.specs.Objects.{Objects, objectsAt}
@@ -12,10 +11,6 @@ use Rattle.rules.proofs.Loops.{UpBefore, up-none, up-more}
 use Rattle.rules.proofs.Laid.{start-first, start-next, laid-no, laid-all}
 use Rattle.rules.proofs.layout.Statement.{statement}
 use Rattle.rules.proofs.layout.Tie as tie
-use Rattle.rules.proofs.layout.Reads as reads
-use Rattle.rules.proofs.layout.Lts as lts
-use Rattle.rules.proofs.body_end.Reads as body-end-reads
-use Rattle.rules.proofs.object_layout.Reads as object-layout-reads
 
 record Inv (o : Objects) (k from : ℕ) : Type 0 where
   least : 1 ≤ k
@@ -29,40 +24,58 @@ Inv-loop contents bodies n b k₀ from₀ k from = Inv (objectsAt n b contents b
 abbrev μ-loop : tie.MeasureT-loop
 μ-loop contents bodies n b k₀ from₀ k from = n + 1 - k
 
--- src/lib.rt:189:5
 loop-holds : tie.Need-loop-holds Inv-loop μ-loop
-loop-holds c = let a = c .before .before .args in let o = objectsAt (a .n) (a .b) (a .contents .now) (a .bodies .now) in
+loop-holds c =
+    let a = c .before .before .args in
+    let o = objectsAt (a .n) (a .b) (a .contents .now) (a .bodies .now) in
     record { least = omega arith; most = omega (arith, c .before .before .pre); starts = sym (start-first o); passed = up-none (λ j. allOf (layoutRules 1 o j)) }
 
--- src/lib.rt:190:13
 object-layout-requires : tie.Need-object-layout-requires Inv-loop μ-loop
-object-layout-requires c κs = let i = c .before .loop .inv in let p = c .before .before .before .before .pre in (record { entries = p .entries; least = i .least; most = c .loop-test .taken }, (p .words, i .starts))
+object-layout-requires c κs =
+    let i = c .before .loop .inv in
+    let p = c .before .before .before .before .pre in
+    (record { entries = p .entries; least = i .least; most = c .loop-test .taken }, (p .words, i .starts))
 
--- src/lib.rt:191:13
 returns : tie.Need-returns Inv-loop μ-loop
-returns c = let a = c .before .before .before .before .before .before .args in let o = objectsAt (a .n) (a .b) (a .contents .now) (a .bodies .now) in let i = c .before .before .before .loop .inv in
+returns c =
+    let a = c .before .before .before .before .before .before .args in
+    let o = objectsAt (a .n) (a .b) (a .contents .now) (a .bodies .now) in
+    let i = c .before .before .before .loop .inv in
     sym (laid-no o (c .before .before .before .loop .k) (i .least) (c .before .before .loop-test .taken) (sym (c .before .object-layout .ensures) ∙ not-true _ (c .if1 .taken)))
 
--- src/lib.rt:193:9
 body-end-requires : tie.Need-body-end-requires Inv-loop μ-loop
-body-end-requires c κs = let i = c .before .before .before .loop .inv in let p = c .before .before .before .before .before .before .pre in record { entries = p .entries; least = i .least; most = c .before .before .loop-test .taken }
+body-end-requires c κs =
+    let i = c .before .before .before .loop .inv in
+    let p = c .before .before .before .before .before .before .pre in
+    record { entries = p .entries; least = i .least; most = c .before .before .loop-test .taken }
 
--- src/lib.rt:194:9
 add-k : tie.Need-add-k Inv-loop μ-loop
-add-k c = let i = c .before .before .before .before .loop .inv in let p = c .before .before .before .before .before .before .before .pre in omega arith
+add-k c =
+    let i = c .before .before .before .before .loop .inv in
+    let p = c .before .before .before .before .before .before .before .pre in
+    omega arith
 
--- src/lib.rt:189:5
 loop-less : tie.Need-loop-less Inv-loop μ-loop
-loop-less c = let i = c .before .before .before .before .loop .inv in let p = c .before .before .before .loop-test in omega arith
+loop-less c =
+    let i = c .before .before .before .before .loop .inv in
+    let p = c .before .before .before .loop-test in
+    omega arith
 
--- src/lib.rt:189:5
 loop-again : tie.Need-loop-again Inv-loop μ-loop
-loop-again c = let a = c .before .before .before .before .before .before .before .args in let o = objectsAt (a .n) (a .b) (a .contents .now) (a .bodies .now) in let i = c .before .before .before .before .loop .inv in let t = c .before .before .before .loop-test in
+loop-again c =
+    let a = c .before .before .before .before .before .before .before .args in
+    let o = objectsAt (a .n) (a .b) (a .contents .now) (a .bodies .now) in
+    let i = c .before .before .before .before .loop .inv in
+    let t = c .before .before .before .loop-test in
     record { least = omega arith; most = omega arith; starts = c .body-end .ensures (a .b) (a .bodies .now) ∙ sym (start-next o (c .before .before .before .before .loop .k) (i .least)); passed = up-more (λ j. allOf (layoutRules 1 o j)) (c .before .before .before .before .loop .k) (i .passed) (sym (c .before .before .object-layout .ensures) ∙ not-false _ (c .before .if1 .left)) }
 
--- src/lib.rt:183:1
 returns-2 : tie.Need-returns-2 Inv-loop μ-loop
-returns-2 c = let a = c .before .before .before .before .args in let o = objectsAt (a .n) (a .b) (a .contents .now) (a .bodies .now) in let i = c .before .loop .inv in let t = c .loop-test in let p = c .before .before .before .before .pre in
+returns-2 c =
+    let a = c .before .before .before .before .args in
+    let o = objectsAt (a .n) (a .b) (a .contents .now) (a .bodies .now) in
+    let i = c .before .loop .inv in
+    let t = c .loop-test in
+    let p = c .before .before .before .before .pre in
     laid-all o (c .before .loop .k) (c .before .loop .from) (omega arith) (omega arith) (i .starts) (i .passed)
 
 pub layout-spec : {M : Type 1} → statement M

@@ -1,7 +1,6 @@
-use Prim.Native.Nat.{ℕ, _+_, _-_, _≤_}
+-- `object_words` is `wordsFine`: by rule 4 the body lies inside the lent words.
+use Prim.Native.Nat.{_+_, _-_}
 use mathlib.Core.Path.{_≡_, sym, ap, ap₂, _∙_}
-use mathlib.Core.Bool.{Bool, _&&_}
-use mathlib.Core.List.{List}
 use native.Mathlib.Omega.{arith}
 use borrow.Author.Tests.{not-true, not-false}
 use Rattle.bytecode.specs.Test.{every}
@@ -11,92 +10,80 @@ use Rattle.rules.proofs.Laid.{inside-at, body-plain, body-part, words-n
 use borrow.Author.Needs.{needs}
 use Rattle.rules.proofs.object_words.Statement.{statement}
 use Rattle.rules.proofs.object_words.Tie as tie
-use Rattle.rules.proofs.object_words.Reads as reads
-use Rattle.rules.proofs.object_words.Lts as lts
-use Rattle.rules.proofs.class_word.Reads as class-word-reads
-use Rattle.rules.proofs.in_bytes.Reads as in-bytes-reads
-use Rattle.rules.proofs.is_valid.Reads as is-valid-reads
-use Rattle.rules.proofs.kind.Reads as kind-reads
-use Rattle.rules.proofs.size.Reads as size-reads
-use Rattle.rules.proofs.start.Reads as start-reads
-use Rattle.rules.proofs.valid_words.Reads as valid-words-reads
 
--- src/lib.rt:218:21
 class-word-requires : tie.Need-class-word-requires
 class-word-requires c κs = search needs
 
--- src/lib.rt:218:9
 is-valid-requires : tie.Need-is-valid-requires
 is-valid-requires c κs = search needs
 
--- src/lib.rt:219:9
 returns : tie.Need-returns
-returns c = let a = c .before .before .before .before .before .args in words-no (objectsAt (a .n) (a .b) (a .contents .now) (a .bodies .now)) (a .k) (ap (isValid (a .n)) (sym (c .before .before .class-word .ensures)) ∙ sym (c .before .is-valid .ensures) ∙ not-true _ (c .if1 .taken))
+returns c =
+    let a = c .before .before .before .before .before .args in
+    words-no (objectsAt (a .n) (a .b) (a .contents .now) (a .bodies .now)) (a .k) (ap (isValid (a .n)) (sym (c .before .before .class-word .ensures)) ∙ sym (c .before .is-valid .ensures) ∙ not-true _ (c .if1 .taken))
 
--- src/lib.rt:221:17
 kind-requires : tie.Need-kind-requires
 kind-requires c κs = search needs
 
--- src/lib.rt:221:8
 in-bytes-requires : tie.Need-in-bytes-requires
 in-bytes-requires c κs = search needs
 
--- src/lib.rt:222:9
 returns-2 : tie.Need-returns-2
-returns-2 c = let a = c .before .before .before .before .before .before .before .before .args in words-bytes (objectsAt (a .n) (a .b) (a .contents .now) (a .bodies .now)) (a .k) (ap (isValid (a .n)) (sym (c .before .before .before .before .before .class-word .ensures)) ∙ sym (c .before .before .before .before .is-valid .ensures) ∙ not-false _ (c .before .before .before .if1 .left)) (ap sizedInBytes (sym (c .before .before .kind .ensures)) ∙ sym (c .before .in-bytes .ensures) ∙ c .if2 .taken)
+returns-2 c =
+    let a = c .before .before .before .before .before .before .before .before .args in
+    words-bytes (objectsAt (a .n) (a .b) (a .contents .now) (a .bodies .now)) (a .k) (ap (isValid (a .n)) (sym (c .before .before .before .before .before .class-word .ensures)) ∙ sym (c .before .before .before .before .is-valid .ensures) ∙ not-false _ (c .before .before .before .if1 .left)) (ap sizedInBytes (sym (c .before .before .kind .ensures)) ∙ sym (c .before .in-bytes .ensures) ∙ c .if2 .taken)
 
--- src/lib.rt:224:16
 start-requires : tie.Need-start-requires
 start-requires c κs = search needs
 
--- src/lib.rt:224:16
 cast-from : tie.Need-cast-from
 cast-from c = search needs
 
--- src/lib.rt:225:22
 size-requires : tie.Need-size-requires
 size-requires c κs = search needs
 
--- src/lib.rt:225:22
 cast-end : tie.Need-cast-end
 cast-end c = search needs
 
--- src/lib.rt:225:15
 add-end : tie.Need-add-end
 add-end c = search needs
 
--- src/lib.rt:226:20
 mul-valid-words : tie.Need-mul-valid-words
 mul-valid-words c = search needs
 
--- src/lib.rt:226:20
 sub-valid-words : tie.Need-sub-valid-words
 sub-valid-words c = search needs
 
--- src/lib.rt:226:20
 part-valid-words-start : tie.Need-part-valid-words-start
 part-valid-words-start c = search needs
 
--- src/lib.rt:226:20
 part-valid-words-end : tie.Need-part-valid-words-end
-part-valid-words-end c = let a = c .before .before .before .before .before .before .before .before .before .before .args in let p = c .before .before .before .before .before .before .before .before .before .before .pre in let o = objectsAt (a .n) (a .b) (a .contents .now) (a .bodies .now) in
-    let h = inside-at o (p .1 .0) (a .k) (p .1 .1 .0) (p .1 .1 .1) in
+part-valid-words-end c =
+    let a = c .before .before .before .before .before .before .before .before .before .before .args in
+    let p = c .before .before .before .before .before .before .before .before .before .before .pre in
+    let o = objectsAt (a .n) (a .b) (a .contents .now) (a .bodies .now) in
+    let h = inside-at o (p .0 .layout) (a .k) (p .1 .0) (p .1 .1) in
     let w = body-plain o (a .k) (ap sizedInBytes (sym (c .before .before .before .before .kind .ensures)) ∙ sym (c .before .before .before .in-bytes .ensures) ∙ c .before .before .if2 .left) in
-    let s = c .before .start .ensures in let z = c .size .ensures in let l = p .0 .words in omega arith
+    let s = c .before .start .ensures in
+    let z = c .size .ensures in
+    let l = p .0 .lent .words in
+    omega arith
 
--- src/lib.rt:226:5
 valid-words-requires : tie.Need-valid-words-requires
 valid-words-requires c κs = search needs
 
--- src/lib.rt:214:1
 returns-3 : tie.Need-returns-3
-returns-3 c = let a = c .before .before .before .before .before .before .before .before .before .before .before .before .args in let p = c .before .before .before .before .before .before .before .before .before .before .before .before .pre in let o = objectsAt (a .n) (a .b) (a .contents .now) (a .bodies .now) in
-    let g = inside-at o (p .1 .0) (a .k) (p .1 .1 .0) (p .1 .1 .1) in
+returns-3 c =
+    let a = c .before .before .before .before .before .before .before .before .before .before .before .before .args in
+    let p = c .before .before .before .before .before .before .before .before .before .before .before .before .pre in
+    let o = objectsAt (a .n) (a .b) (a .contents .now) (a .bodies .now) in
+    let g = inside-at o (p .0 .layout) (a .k) (p .1 .0) (p .1 .1) in
     let t = ap sizedInBytes (sym (c .before .before .before .before .before .before .kind .ensures)) ∙ sym (c .before .before .before .before .before .in-bytes .ensures) ∙ c .before .before .before .before .if2 .left in
     let w = body-plain o (a .k) t in
-    let s = c .before .before .before .start .ensures in let z = c .before .before .size .ensures in
+    let s = c .before .before .before .start .ensures in
+    let z = c .before .before .size .ensures in
     let count : c .before .before .before .start .result + c .before .before .size .result - c .before .before .before .start .result ≡ bodyWords o (a .k) = omega arith in
-    c .valid-words .ensures ∙ ap (every (isValid (a .n))) (ap₂ (part (a .bodies .now)) s count ∙ sym (body-part (a .n) (a .b) (a .contents .now) (a .bodies .now) (a .k) (p .0 .words) g))
+    c .valid-words .ensures ∙ ap (every (isValid (a .n))) (ap₂ (part (a .bodies .now)) s count ∙ sym (body-part (a .n) (a .b) (a .contents .now) (a .bodies .now) (a .k) (p .0 .lent .words) g))
     ∙ words-all o (a .k) (ap (isValid (a .n)) (sym (c .before .before .before .before .before .before .before .before .before .class-word .ensures)) ∙ sym (c .before .before .before .before .before .before .before .before .is-valid .ensures) ∙ not-false _ (c .before .before .before .before .before .before .before .if1 .left)) t
 
 pub object-words-spec : {M : Type 1} → statement M

@@ -1,3 +1,4 @@
+-- `padding` is `paddingFine`: where a half-word is left, it is in the last word.
 use Prim.Native.Nat.{ℕ, _+_, _/_, _%_}
 use mathlib.Core.Path.{sym, ap, ap₂, _∙_}
 use borrow.Author.Tests.{not-true, not-false}
@@ -8,57 +9,44 @@ use Rattle.rules.proofs.Laid.{padding-none, padding-even, padding-odd}
 use borrow.Author.Needs.{needs}
 use Rattle.rules.proofs.padding.Statement.{statement}
 use Rattle.rules.proofs.padding.Tie as tie
-use Rattle.rules.proofs.padding.Reads as reads
-use Rattle.rules.proofs.padding.Lts as lts
-use Rattle.rules.proofs.in_bytes.Reads as in-bytes-reads
-use Rattle.rules.proofs.kind.Reads as kind-reads
-use Rattle.rules.proofs.size.Reads as size-reads
-use Rattle.rules.proofs.start.Reads as start-reads
-use Rattle.rules.proofs.word_at.Reads as word-at-reads
 
--- src/lib.rt:143:18
 kind-requires : tie.Need-kind-requires
 kind-requires c κs = search needs
 
--- src/lib.rt:143:9
 in-bytes-requires : tie.Need-in-bytes-requires
 in-bytes-requires c κs = search needs
 
--- src/lib.rt:144:9
 returns : tie.Need-returns
-returns c = let a = c .before .before .before .before .before .args in sym (padding-none (objectsAt (a .n) (a .b) (a .contents .now) (a .bodies .now)) (a .k) (ap sizedInBytes (sym (c .before .before .kind .ensures)) ∙ sym (c .before .in-bytes .ensures) ∙ not-true _ (c .if1 .taken)))
+returns c =
+    let a = c .before .before .before .before .before .args in
+    sym (padding-none (objectsAt (a .n) (a .b) (a .contents .now) (a .bodies .now)) (a .k) (ap sizedInBytes (sym (c .before .before .kind .ensures)) ∙ sym (c .before .in-bytes .ensures) ∙ not-true _ (c .if1 .taken)))
 
--- src/lib.rt:146:9
 size-requires : tie.Need-size-requires
 size-requires c κs = search needs
 
--- src/lib.rt:148:9
 returns-2 : tie.Need-returns-2
-returns-2 c = let a = c .before .before .before .before .before .before .before .args in sym (padding-even (objectsAt (a .n) (a .b) (a .contents .now) (a .bodies .now)) (a .k) (ap sizedInBytes (sym (c .before .before .before .before .kind .ensures)) ∙ sym (c .before .before .before .in-bytes .ensures) ∙ not-false _ (c .before .before .if1 .left)) (λ e. c .if2 .taken (ap (λ (x : ℕ). x % 2) (c .before .size .ensures) ∙ e)))
+returns-2 c =
+    let a = c .before .before .before .before .before .before .before .args in
+    sym (padding-even (objectsAt (a .n) (a .b) (a .contents .now) (a .bodies .now)) (a .k) (ap sizedInBytes (sym (c .before .before .before .before .kind .ensures)) ∙ sym (c .before .before .before .in-bytes .ensures) ∙ not-false _ (c .before .before .if1 .left)) (λ e. c .if2 .taken (ap (λ (x : ℕ). x % 2) (c .before .size .ensures) ∙ e)))
 
--- src/lib.rt:150:16
 start-requires : tie.Need-start-requires
 start-requires c κs = search needs
 
--- src/lib.rt:150:16
 cast-last : tie.Need-cast-last
 cast-last c = search needs
 
--- src/lib.rt:150:49
 cast-last-2 : tie.Need-cast-last-2
 cast-last-2 c = search needs
 
--- src/lib.rt:150:16
 add-last : tie.Need-add-last
 add-last c = search needs
 
--- src/lib.rt:151:5
 word-at-requires : tie.Need-word-at-requires
 word-at-requires c κs = search needs
 
--- src/lib.rt:139:1
 returns-3 : tie.Need-returns-3
-returns-3 c = let a = c .before .before .before .before .before .before .before .before .before .args in
+returns-3 c =
+    let a = c .before .before .before .before .before .before .before .before .before .args in
     ap (λ (x : ℕ). eqb (x % 256) 0) (c .word-at .ensures ∙ ap (λ (i : ℕ). getD (take (a .b) (a .bodies .now)) i 0) (ap₂ (λ (x y : ℕ). x + y / 2) (c .before .start .ensures) (c .before .before .before .size .ensures)))
     ∙ sym (padding-odd (objectsAt (a .n) (a .b) (a .contents .now) (a .bodies .now)) (a .k) (ap sizedInBytes (sym (c .before .before .before .before .before .before .kind .ensures)) ∙ sym (c .before .before .before .before .before .in-bytes .ensures) ∙ not-false _ (c .before .before .before .before .if1 .left)) (ap (λ (x : ℕ). x % 2) (sym (c .before .before .before .size .ensures)) ∙ c .before .before .if2 .left))
 

@@ -1,4 +1,5 @@
-use Prim.Native.Nat.{ℕ, _+_, _-_, _≤_}
+-- `valid_words` tests every word.
+use Prim.Native.Nat.{_-_, _≤_}
 use mathlib.Core.Path.{sym, _∙_}
 use native.Mathlib.Omega.{arith}
 use borrow.Author.Needs.{needs}
@@ -8,9 +9,6 @@ use Rattle.model.specs.Word.{isValid}
 use Rattle.rules.proofs.Loops.{Before, before-none, before-more, every-all, every-no}
 use Rattle.rules.proofs.valid_words.Statement.{statement}
 use Rattle.rules.proofs.valid_words.Tie as tie
-use Rattle.rules.proofs.valid_words.Reads as reads
-use Rattle.rules.proofs.valid_words.Lts as lts
-use Rattle.rules.proofs.is_valid.Reads as is-valid-reads
 
 abbrev Inv-loop : tie.InvT-loop
 Inv-loop n words i₀ i = (i ≤ length words) × Before (λ j. isValid n (getD words j 0)) i
@@ -18,41 +16,38 @@ Inv-loop n words i₀ i = (i ≤ length words) × Before (λ j. isValid n (getD 
 abbrev μ-loop : tie.MeasureT-loop
 μ-loop n words i₀ i = length words - i
 
--- src/lib.rt:204:5
 loop-holds : tie.Need-loop-holds Inv-loop μ-loop
 loop-holds c = (omega arith, before-none (λ j. isValid (c .before .args .n) (getD (c .before .args .words .now) j 0)))
 
--- src/lib.rt:205:25
 mul-is-valid : tie.Need-mul-is-valid Inv-loop μ-loop
 mul-is-valid c = omega arith
 
--- src/lib.rt:205:25
 shared-slice-read-is-valid : tie.Need-shared-slice-read-is-valid Inv-loop μ-loop
 shared-slice-read-is-valid c = omega arith
 
--- src/lib.rt:205:13
 is-valid-requires : tie.Need-is-valid-requires Inv-loop μ-loop
 is-valid-requires c κs = search needs
 
--- src/lib.rt:206:13
 returns : tie.Need-returns Inv-loop μ-loop
-returns c = let a = c .before .before .before .before .before .before .args in sym (every-no (isValid (a .n)) (a .words .now) (c .before .before .before .before .loop .i) (c .before .before .before .loop-test .taken) (sym (c .before .is-valid .ensures) ∙ not-true _ (c .if1 .taken)))
+returns c =
+    let a = c .before .before .before .before .before .before .args in
+    sym (every-no (isValid (a .n)) (a .words .now) (c .before .before .before .before .loop .i) (c .before .before .before .loop-test .taken) (sym (c .before .is-valid .ensures) ∙ not-true _ (c .if1 .taken)))
 
--- src/lib.rt:208:9
 add-i : tie.Need-add-i Inv-loop μ-loop
 add-i c = omega arith
 
--- src/lib.rt:204:5
 loop-less : tie.Need-loop-less Inv-loop μ-loop
 loop-less c = omega arith
 
--- src/lib.rt:204:5
 loop-again : tie.Need-loop-again Inv-loop μ-loop
-loop-again c = let a = c .before .before .before .before .before .before .args in (omega arith, before-more (λ j. isValid (a .n) (getD (a .words .now) j 0)) (c .before .before .before .before .loop .i) (c .before .before .before .before .loop .inv .1) (sym (c .before .is-valid .ensures) ∙ not-false _ (c .if1 .left)))
+loop-again c =
+    let a = c .before .before .before .before .before .before .args in
+    (omega arith, before-more (λ j. isValid (a .n) (getD (a .words .now) j 0)) (c .before .before .before .before .loop .i) (c .before .before .before .before .loop .inv .1) (sym (c .before .is-valid .ensures) ∙ not-false _ (c .if1 .left)))
 
--- src/lib.rt:200:1
 returns-2 : tie.Need-returns-2 Inv-loop μ-loop
-returns-2 c = let a = c .before .before .before .args in sym (every-all (isValid (a .n)) (a .words .now) (c .before .loop .i) (c .loop-test .left) (c .before .loop .inv .1))
+returns-2 c =
+    let a = c .before .before .before .args in
+    sym (every-all (isValid (a .n)) (a .words .now) (c .before .loop .i) (c .loop-test .left) (c .before .loop .inv .1))
 
 pub valid-words-spec : {M : Type 1} → statement M
 valid-words-spec =

@@ -1,0 +1,279 @@
+-- Rule 6 in the order of specs/Shape.antt is rule 6, and each of its tests by the tests that it is made of.
+use Prim.Native.Nat.{ℕ, zero, suc, _+_, _-_, _*_, _/_, _%_, _≤_, _<_}
+use mathlib.Core.Path.{_≡_, refl, sym, ap, ap₂, _∙_, subst, fun-ext}
+use mathlib.Core.Logic.{_≢_}
+use mathlib.Core.Bool.{Bool, true, false, _&&_, _||_, not}
+use mathlib.Core.List.{List, [], _∷_}
+use native.Mathlib.Omega.{arith}
+use borrow.Author.Tests.{eq-eqb, ne-eqb, lt-leb, le-leb, eqb-true}
+use lib.Dec.{T, eqb, leb, ltb}
+use Rattle.bytecode.specs.Test.{upTo, below, every, implies, allOf}
+use Rattle.bytecode.specs.Constant.{nilWord}
+use Rattle.bytecode.proofs.TestLaws.{true→T, T→true, and-left, and-right, implied, rule, upTo-at}
+use Rattle.model.specs.Limits.{bytesKind, classKind, listKind, methodKind, otherForm, integerClassObject, selectorsObject, specialSelectors, mostFields, lastForm, bytesForm}
+use Rattle.model.specs.Word.{isNatural, pointer, integerClass}
+use Rattle.model.specs.Objects.{Objects, objectsAt, classWord, kind, size, bodyOf, isKind, isNilOr, superclassWord, dictionaryWord, fieldsWord, formWord, fieldCount, form, pairCount, pairSelector, pairMethod}
+use Rattle.model.specs.Lookup.{endsWithin}
+use Rattle.model.specs.Rules.{fits, entryFine, pairFine, dictionaryFine, classRules, knownObjectRules, objectFine, rule6}
+use Rattle.model.proofs.Facts.{pointer-of}
+use Rattle.model.proofs.Parts.{or-right}
+use Rattle.model.proofs.Unchanged.{ends-above, ends-nil}
+use Rattle.rules.specs.Lent.{entriesAt}
+use Rattle.rules.specs.Shape.{fitsForm, numbersFine, kindsFine, selectorsFine, risesFine, shapeRules, shapeFine, chainFine}
+use Rattle.rules.proofs.Loops.{stop, pass, and-true, up-both}
+use Rattle.rules.proofs.Names.{is-named, names-kind}
+
+and-false : (b : Bool) → false ≡ (b && false)
+and-false true = refl
+and-false false = refl
+
+-- the rules of an object, with the chain put last
+chain-last : (x c r₀ r₁ r₂ r₃ r₄ e r₆ r₇ : Bool)
+    → (x && implies c (r₀ && (r₁ && (r₂ && (r₃ && (r₄ && (e && (r₆ && (r₇ && true)))))))))
+    ≡ ((x && implies c (r₀ && (r₁ && ((r₂ && (r₃ && r₄)) && (r₆ && (r₇ && true)))))) && implies c e)
+chain-last false c r₀ r₁ r₂ r₃ r₄ e r₆ r₇ = refl
+chain-last true false r₀ r₁ r₂ r₃ r₄ e r₆ r₇ = refl
+chain-last true true false r₁ r₂ r₃ r₄ e r₆ r₇ = refl
+chain-last true true true false r₂ r₃ r₄ e r₆ r₇ = refl
+chain-last true true true true false r₃ r₄ e r₆ r₇ = refl
+chain-last true true true true true false r₄ e r₆ r₇ = refl
+chain-last true true true true true true false e r₆ r₇ = refl
+chain-last true true true true true true true true r₆ r₇ = sym (and-true (r₆ && (r₇ && true)))
+chain-last true true true true true true true false r₆ r₇ = and-false (r₆ && (r₇ && true))
+
+split-at : (o : Objects) (k : ℕ) → objectFine 1 o k ≡ (shapeFine o k && chainFine o k)
+unfolding objectFine classRules shapeFine shapeRules chainFine numbersFine risesFine
+split-at o k =
+    let c : ℕ = pointer k in
+    chain-last (entryFine 1 o k) (eqb (kind o k) classKind) (isNilOr o classKind (superclassWord o c)) (isKind o listKind (dictionaryWord o c))
+    (isNatural mostFields (fieldsWord o c)) (isNatural (lastForm 1) (formWord o c)) (implies (leb bytesForm (form o c)) (eqb (fieldCount o c) 0))
+    (endsWithin (o .n) o c) (implies (not (eqb (superclassWord o c) nilWord)) (leb (fieldCount o (superclassWord o c)) (fieldCount o c)))
+    (dictionaryFine o (dictionaryWord o c))
+
+pub split : (o : Objects) → rule6 1 o ≡ (allOf (knownObjectRules 1 o) && (upTo (o .n) (shapeFine o) && upTo (o .n) (chainFine o)))
+unfolding rule6
+split o =
+    ap (λ (x : Bool). allOf (knownObjectRules 1 o) && x)
+    (ap (upTo (o .n)) (fun-ext (split-at o)) ∙ up-both (o .n) (shapeFine o) (chainFine o))
+
+pub no-known : (o : Objects) → allOf (knownObjectRules 1 o) ≡ false → rule6 1 o ≡ false
+no-known o e = split o ∙ stop (allOf (knownObjectRules 1 o)) (upTo (o .n) (shapeFine o) && upTo (o .n) (chainFine o)) e
+
+pub no-shape : (o : Objects) → allOf (knownObjectRules 1 o) ≡ true → upTo (o .n) (shapeFine o) ≡ false → rule6 1 o ≡ false
+no-shape o e f = split o ∙ pass (allOf (knownObjectRules 1 o)) (upTo (o .n) (shapeFine o) && upTo (o .n) (chainFine o)) e ∙ stop (upTo (o .n) (shapeFine o)) (upTo (o .n) (chainFine o)) f
+
+pub by-chains : (o : Objects) → allOf (knownObjectRules 1 o) ≡ true → upTo (o .n) (shapeFine o) ≡ true → rule6 1 o ≡ upTo (o .n) (chainFine o)
+by-chains o e f = split o ∙ pass (allOf (knownObjectRules 1 o)) (upTo (o .n) (shapeFine o) && upTo (o .n) (chainFine o)) e ∙ pass (upTo (o .n) (shapeFine o)) (upTo (o .n) (chainFine o)) f
+
+-- the known objects
+known-order : (a b c d f k s e : Bool)
+    → (a && (b && (c && (d && (f && (k && (s && (e && true)))))))) ≡ ((a && (b && (c && d))) && (f && (k && (s && e))))
+known-order false b c d f k s e = refl
+known-order true false c d f k s e = refl
+known-order true true false d f k s e = refl
+known-order true true true false f k s e = refl
+known-order true true true true false k s e = refl
+known-order true true true true true false s e = refl
+known-order true true true true true true false e = refl
+known-order true true true true true true true e = and-true e
+
+known-split : (o : Objects) → allOf (knownObjectRules 1 o) ≡ (kindsFine o && (eqb (form o integerClass) otherForm && selectorsFine o))
+unfolding knownObjectRules selectorsFine
+known-split o =
+    known-order (eqb (kind o 1) 0) (eqb (kind o 2) 0) (eqb (kind o 3) 0) (eqb (kind o 4) 2) (eqb (form o integerClass) otherForm)
+    (eqb (kind o selectorsObject) listKind) (eqb (size o selectorsObject) specialSelectors) (every (isNilOr o bytesKind) (bodyOf o selectorsObject))
+
+pub no-kinds : (o : Objects) → kindsFine o ≡ false → allOf (knownObjectRules 1 o) ≡ false
+no-kinds o e = known-split o ∙ stop (kindsFine o) (eqb (form o integerClass) otherForm && selectorsFine o) e
+
+pub no-form : (o : Objects) → kindsFine o ≡ true → form o integerClass ≢ otherForm → allOf (knownObjectRules 1 o) ≡ false
+no-form o e f =
+    known-split o ∙ pass (kindsFine o) (eqb (form o integerClass) otherForm && selectorsFine o) e
+    ∙ stop (eqb (form o integerClass) otherForm) (selectorsFine o) (ne-eqb (form o integerClass) otherForm f)
+
+pub by-selectors : (o : Objects) → kindsFine o ≡ true → form o integerClass ≡ otherForm → allOf (knownObjectRules 1 o) ≡ selectorsFine o
+by-selectors o e f =
+    known-split o ∙ pass (kindsFine o) (eqb (form o integerClass) otherForm && selectorsFine o) e
+    ∙ pass (eqb (form o integerClass) otherForm) (selectorsFine o) (eq-eqb (form o integerClass) otherForm f)
+
+pub integer-class-kind : (o : Objects) → 5 ≤ o .n → kindsFine o ≡ true → isKind o classKind integerClass ≡ true
+integer-class-kind o h e = names-kind o integerClassObject classKind (omega arith) (omega arith) (last (eqb (kind o 1) 0) (eqb (kind o 2) 0) (eqb (kind o 3) 0) e)
+  where
+    last : (a b c : Bool) → (a && (b && (c && eqb (kind o 4) 2))) ≡ true → kind o integerClassObject ≡ classKind
+    last a b c q =
+        eqb-true (kind o 4) 2 (T→true (eqb (kind o 4) 2)
+        (and-right c (eqb (kind o 4) 2) (and-right b (c && eqb (kind o 4) 2) (and-right a (b && (c && eqb (kind o 4) 2)) (true→T q)))))
+
+pub selectors-kind : (o : Objects) → kind o selectorsObject ≢ listKind → false ≡ selectorsFine o
+unfolding selectorsFine
+selectors-kind o h = rw (ne-eqb (kind o selectorsObject) listKind h)
+
+pub selectors-size : (o : Objects) → kind o selectorsObject ≡ listKind → size o selectorsObject ≢ specialSelectors → false ≡ selectorsFine o
+unfolding selectorsFine
+selectors-size o h g = rw (eq-eqb (kind o selectorsObject) listKind h, ne-eqb (size o selectorsObject) specialSelectors g)
+
+pub selectors-words : (o : Objects) → kind o selectorsObject ≡ listKind → size o selectorsObject ≡ specialSelectors
+    → every (isNilOr o bytesKind) (bodyOf o selectorsObject) ≡ selectorsFine o
+unfolding selectorsFine
+selectors-words o h g = rw (eq-eqb (kind o selectorsObject) listKind h, eq-eqb (size o selectorsObject) specialSelectors g)
+
+-- kinds do not depend on the bodies
+pub nil-or-entries : (n b : ℕ) (contents bodies : List ℕ) (k : ℕ) (ws : List ℕ) → every (isNilOr (entriesAt n contents) k) ws ≡ every (isNilOr (objectsAt n b contents bodies) k) ws
+unfolding isKind
+nil-or-entries n b contents bodies k ws = refl
+
+-- an entry
+pub entry-no : (o : Objects) (k : ℕ) → isKind o classKind (classWord o k) ≡ false → entryFine 1 o k ≡ false
+unfolding entryFine
+entry-no o k e = rw e
+
+pub entry-yes : (o : Objects) (k : ℕ) → isKind o classKind (classWord o k) ≡ true
+    → entryFine 1 o k ≡ fitsForm (form o (classWord o k)) (fieldCount o (classWord o k)) (kind o k) (size o k)
+unfolding entryFine fits fitsForm
+entry-yes o k e = rw e
+
+-- F and form
+module _ (f g : ℕ) where
+  pub no-fields-number : isNatural 255 f ≡ false → numbersFine f g ≡ false
+  unfolding numbersFine
+  no-fields-number e = stop (isNatural 255 f) (isNatural 3 g && implies (leb 2 (g / 2)) (eqb (f / 2) 0)) e
+
+  numbers : isNatural 255 f ≡ true → numbersFine f g ≡ (isNatural 3 g && implies (leb 2 (g / 2)) (eqb (f / 2) 0))
+  unfolding numbersFine
+  numbers e = pass (isNatural 255 f) (isNatural 3 g && implies (leb 2 (g / 2)) (eqb (f / 2) 0)) e
+
+  pub no-form-number : isNatural 255 f ≡ true → isNatural 3 g ≡ false → numbersFine f g ≡ false
+  no-form-number e h = numbers e ∙ stop (isNatural 3 g) (implies (leb 2 (g / 2)) (eqb (f / 2) 0)) h
+
+  both-numbers : isNatural 255 f ≡ true → isNatural 3 g ≡ true → numbersFine f g ≡ implies (leb 2 (g / 2)) (eqb (f / 2) 0)
+  both-numbers e h = numbers e ∙ pass (isNatural 3 g) (implies (leb 2 (g / 2)) (eqb (f / 2) 0)) h
+
+  pub with-fields : isNatural 255 f ≡ true → isNatural 3 g ≡ true → g / 2 < 2 → numbersFine f g ≡ true
+  with-fields e h l = both-numbers e h ∙ ap (λ (x : Bool). implies x (eqb (f / 2) 0)) (lt-leb 2 (g / 2) l)
+
+  pub without-fields : isNatural 255 f ≡ true → isNatural 3 g ≡ true → 2 ≤ g / 2 → numbersFine f g ≡ eqb (f / 2) 0
+  without-fields e h l = both-numbers e h ∙ ap (λ (x : Bool). implies x (eqb (f / 2) 0)) (le-leb 2 (g / 2) l)
+
+-- the superclass
+pub nil-or-class : (o : Objects) (w : ℕ) → isNilOr o classKind w ≡ true → w ≢ nilWord → isKind o classKind w ≡ true
+nil-or-class o w e h = ap (λ (x : Bool). x || isKind o classKind w) (sym (ne-eqb w nilWord h)) ∙ e
+
+pub class-or-nil : (o : Objects) (w : ℕ) → isKind o classKind w ≡ true → isNilOr o classKind w ≡ true
+class-or-nil o w e = T→true (isNilOr o classKind w) (or-right (eqb w nilWord) (isKind o classKind w) (true→T e))
+
+pub rises-nil : (o : Objects) (c : ℕ) → superclassWord o c ≡ nilWord → risesFine o c ≡ true
+unfolding risesFine
+rises-nil o c h = rw (eq-eqb (superclassWord o c) nilWord h)
+
+pub rises-class : (o : Objects) (c : ℕ) → superclassWord o c ≢ nilWord → risesFine o c ≡ leb (fieldCount o (superclassWord o c)) (fieldCount o c)
+unfolding risesFine
+rises-class o c h = rw (ne-eqb (superclassWord o c) nilWord h)
+
+-- a pair, a dictionary
+module _ (o : Objects) (d i : ℕ) where
+  abbrev pub Rises : Bool
+  Rises = implies (ltb 0 i) (ltb (pairSelector o d (i - 1)) (pairSelector o d i))
+
+  pub no-selector : isKind o bytesKind (pairSelector o d i) ≡ false → pairFine o d i ≡ false
+  unfolding pairFine
+  no-selector e = rw e
+
+  pub no-method : isKind o bytesKind (pairSelector o d i) ≡ true → isKind o methodKind (pairMethod o d i) ≡ false → pairFine o d i ≡ false
+  unfolding pairFine
+  no-method e f = rw (e, f)
+
+  pub by-rising : isKind o bytesKind (pairSelector o d i) ≡ true → isKind o methodKind (pairMethod o d i) ≡ true → pairFine o d i ≡ Rises
+  unfolding pairFine
+  by-rising e f = rw (e, f)
+
+pub odd-dictionary : (o : Objects) (d : ℕ) → size o (d / 2) % 2 ≢ 0 → dictionaryFine o d ≡ false
+unfolding dictionaryFine
+odd-dictionary o d h = rw (ne-eqb (size o (d / 2) % 2) 0 h)
+
+pub by-pairs : (o : Objects) (d : ℕ) → size o (d / 2) % 2 ≡ 0 → dictionaryFine o d ≡ below (pairCount o d) (pairFine o d)
+unfolding dictionaryFine
+by-pairs o d h = rw (eq-eqb (size o (d / 2) % 2) 0 h)
+
+-- a class
+module _ (o : Objects) (c : ℕ) where
+  abbrev S : Bool
+  S = isNilOr o classKind (superclassWord o c)
+
+  abbrev D : Bool
+  D = isKind o listKind (dictionaryWord o c)
+
+  abbrev N : Bool
+  N = numbersFine (fieldsWord o c) (formWord o c)
+
+  abbrev R : Bool
+  R = risesFine o c
+
+  abbrev L : Bool
+  L = dictionaryFine o (dictionaryWord o c)
+
+  pub no-superclass : S ≡ false → allOf (shapeRules o c) ≡ false
+  unfolding shapeRules
+  no-superclass e = stop S (D && (N && (R && (L && true)))) e
+
+  after-superclass : S ≡ true → allOf (shapeRules o c) ≡ (D && (N && (R && (L && true))))
+  unfolding shapeRules
+  after-superclass e = pass S (D && (N && (R && (L && true)))) e
+
+  pub no-dictionary : S ≡ true → D ≡ false → allOf (shapeRules o c) ≡ false
+  no-dictionary e f = after-superclass e ∙ stop D (N && (R && (L && true))) f
+
+  after-dictionary : S ≡ true → D ≡ true → allOf (shapeRules o c) ≡ (N && (R && (L && true)))
+  after-dictionary e f = after-superclass e ∙ pass D (N && (R && (L && true))) f
+
+  pub no-numbers : S ≡ true → D ≡ true → N ≡ false → allOf (shapeRules o c) ≡ false
+  no-numbers e f g = after-dictionary e f ∙ stop N (R && (L && true)) g
+
+  after-numbers : S ≡ true → D ≡ true → N ≡ true → allOf (shapeRules o c) ≡ (R && (L && true))
+  after-numbers e f g = after-dictionary e f ∙ pass N (R && (L && true)) g
+
+  pub no-rise : S ≡ true → D ≡ true → N ≡ true → R ≡ false → allOf (shapeRules o c) ≡ false
+  no-rise e f g h = after-numbers e f g ∙ stop R (L && true) h
+
+  pub by-dictionary : S ≡ true → D ≡ true → N ≡ true → R ≡ true → allOf (shapeRules o c) ≡ L
+  by-dictionary e f g h = after-numbers e f g ∙ pass R (L && true) h ∙ and-true L
+
+-- an object
+pub shape-no : (o : Objects) (k : ℕ) → entryFine 1 o k ≡ false → shapeFine o k ≡ false
+unfolding shapeFine
+shape-no o k e = rw e
+
+pub shape-other : (o : Objects) (k : ℕ) → entryFine 1 o k ≡ true → kind o k ≢ classKind → shapeFine o k ≡ true
+unfolding shapeFine
+shape-other o k e h = rw (e, ne-eqb (kind o k) classKind h)
+
+pub shape-class : (o : Objects) (k : ℕ) → entryFine 1 o k ≡ true → kind o k ≡ classKind → shapeFine o k ≡ allOf (shapeRules o (pointer k))
+unfolding shapeFine
+shape-class o k e h = rw (e, eq-eqb (kind o k) classKind h)
+
+pub chain-other : (o : Objects) (k : ℕ) → kind o k ≢ classKind → chainFine o k ≡ true
+unfolding chainFine
+chain-other o k h = rw (ne-eqb (kind o k) classKind h)
+
+pub chain-of-class : (o : Objects) (k : ℕ) → kind o k ≡ classKind → chainFine o k ≡ endsWithin (o .n) o (pointer k)
+unfolding chainFine
+chain-of-class o k h = rw (eq-eqb (kind o k) classKind h)
+
+-- Once the shapes are right, a chain leads from class to class.
+pub above-class : (o : Objects) → upTo (o .n) (shapeFine o) ≡ true → (c : ℕ) → isKind o classKind c ≡ true → isNilOr o classKind (superclassWord o c) ≡ true
+unfolding shapeFine shapeRules
+above-class o e c q =
+    let h = is-named o classKind c q in
+    let t = and-right (entryFine 1 o (c / 2)) (implies (eqb (kind o (c / 2)) classKind) (allOf (shapeRules o (pointer (c / 2))))) (upTo-at (o .n) (shapeFine o) (true→T e) (c / 2) (h .least) (h .most)) in
+    let s = implied (eqb (kind o (c / 2)) classKind) (allOf (shapeRules o (pointer (c / 2)))) t (true→T (eq-eqb (kind o (c / 2)) classKind (h .kinds))) in
+    T→true (isNilOr o classKind (superclassWord o c)) (subst (λ (x : ℕ). T (isNilOr o classKind (superclassWord o x))) (pointer-of c (h .even)) (rule (shapeRules o (pointer (c / 2))) s 0))
+
+-- a turn along a chain
+pub chain-ends : (o : Objects) (left c : ℕ) → c ≡ nilWord → endsWithin left o c ≡ true
+chain-ends o left c e = ap (endsWithin left o) e ∙ T→true (endsWithin left o nilWord) (ends-nil o left)
+
+pub chain-turn : (o : Objects) (left rest c : ℕ) → left ≡ suc rest → c ≢ nilWord → endsWithin left o c ≡ endsWithin rest o (superclassWord o c)
+chain-turn o left rest c e h = ap (λ (k : ℕ). endsWithin k o c) e ∙ ends-above o rest c h
+
+pub chain-last-turn : (o : Objects) (left c : ℕ) → left ≡ 0 → endsWithin left o c ≡ eqb c nilWord
+unfolding endsWithin
+chain-last-turn o left c e = ap (λ (k : ℕ). endsWithin k o c) e

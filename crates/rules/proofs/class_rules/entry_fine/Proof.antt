@@ -1,0 +1,66 @@
+-- `entry_fine` is `entryFine`.
+use Prim.Native.Nat.{ℕ}
+use mathlib.Core.Path.{sym, ap, ap₂, _∙_}
+use borrow.Author.Tests.{not-true, not-false}
+use Rattle.model.specs.Objects.{objectsAt, isKind, classWord, form, fieldCount}
+use Rattle.rules.specs.Shape.{fitsForm}
+use Rattle.rules.proofs.ClassLaws.{entry-no, entry-yes}
+use borrow.Author.Needs.{needs}
+use Rattle.rules.proofs.class_rules.entry_fine.Statement.{statement}
+use Rattle.rules.proofs.class_rules.entry_fine.Tie as tie
+
+class-word-requires : tie.Need-class-word-requires
+class-word-requires c κs = search needs
+
+is-kind-requires : tie.Need-is-kind-requires
+is-kind-requires c κs = search needs
+
+returns : tie.Need-returns
+returns c =
+    let a = c .before .before .before .before .before .args in
+    let o = objectsAt (a .n) (a .b) (a .contents .now) (a .bodies .now) in
+    sym (entry-no o (a .k) (ap (isKind o 2) (sym (c .before .before .class-word .ensures)) ∙ sym (c .before .is-kind .ensures (a .b) (a .bodies .now)) ∙ not-true _ (c .if1 .taken)))
+
+form-requires : tie.Need-form-requires
+form-requires c κs =
+    let a = c .before .before .before .before .before .args in
+    let p = c .before .before .before .before .before .pre in
+    (p .0, sym (c .before .is-kind .ensures (a .b) (a .bodies .now)) ∙ not-false _ (c .if1 .left))
+
+field-count-requires : tie.Need-field-count-requires
+field-count-requires c κs =
+    let a = c .before .before .before .before .before .before .args in
+    let p = c .before .before .before .before .before .before .pre in
+    (p .0, sym (c .before .before .is-kind .ensures (a .b) (a .bodies .now)) ∙ not-false _ (c .before .if1 .left))
+
+kind-requires : tie.Need-kind-requires
+kind-requires c κs = search needs
+
+size-requires : tie.Need-size-requires
+size-requires c κs = search needs
+
+fits-form-requires : tie.Need-fits-form-requires
+fits-form-requires c κs = search needs
+
+returns-2 : tie.Need-returns-2
+returns-2 c =
+    let a = c .before .before .before .before .before .before .before .before .before .before .args in
+    let o = objectsAt (a .n) (a .b) (a .contents .now) (a .bodies .now) in
+    c .fits-form .ensures
+    ∙ ap₂ (λ (x y : ℕ). fitsForm x y (c .before .before .kind .result) (c .before .size .result)) (c .before .before .before .before .form .ensures ∙ ap (form o) (c .before .before .before .before .before .before .before .class-word .ensures)) (c .before .before .before .field-count .ensures ∙ ap (fieldCount o) (c .before .before .before .before .before .before .before .class-word .ensures))
+    ∙ ap₂ (fitsForm (form o (classWord o (a .k))) (fieldCount o (classWord o (a .k)))) (c .before .before .kind .ensures) (c .before .size .ensures)
+    ∙ sym (entry-yes o (a .k) (ap (isKind o 2) (sym (c .before .before .before .before .before .before .before .class-word .ensures)) ∙ sym (c .before .before .before .before .before .before .is-kind .ensures (a .b) (a .bodies .now)) ∙ not-false _ (c .before .before .before .before .before .if1 .left)))
+
+pub entry-fine-spec : {M : Type 1} → statement M
+entry-fine-spec =
+    tie.close
+    (tie.spec
+    class-word-requires
+    is-kind-requires
+    returns
+    form-requires
+    field-count-requires
+    kind-requires
+    size-requires
+    fits-form-requires
+    returns-2)

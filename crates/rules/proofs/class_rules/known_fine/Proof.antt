@@ -1,0 +1,50 @@
+-- `known_fine` is `knownObjectRules`.
+use mathlib.Core.Path.{sym, _∙_}
+use borrow.Author.Tests.{not-true, not-false}
+use Rattle.model.specs.Objects.{objectsAt}
+use Rattle.rules.proofs.ClassLaws.{no-kinds, no-form, by-selectors, integer-class-kind}
+use borrow.Author.Needs.{needs}
+use Rattle.rules.proofs.class_rules.known_fine.Statement.{statement}
+use Rattle.rules.proofs.class_rules.known_fine.Tie as tie
+
+known-kinds-requires : tie.Need-known-kinds-requires
+known-kinds-requires c κs = search needs
+
+returns : tie.Need-returns
+returns c =
+    let a = c .before .before .before .before .args in
+    let o = objectsAt (a .n) (a .b) (a .contents .now) (a .bodies .now) in
+    sym (no-kinds o (sym (c .before .known-kinds .ensures) ∙ not-true _ (c .if1 .taken)))
+
+form-requires : tie.Need-form-requires
+form-requires c κs =
+    let a = c .before .before .before .before .args in
+    let p = c .before .before .before .before .pre in
+    let o = objectsAt (a .n) (a .b) (a .contents .now) (a .bodies .now) in
+    (p, integer-class-kind o (p .lent .least) (sym (c .before .known-kinds .ensures) ∙ not-false _ (c .if1 .left)))
+
+returns-2 : tie.Need-returns-2
+returns-2 c =
+    let a = c .before .before .before .before .before .before .args in
+    let o = objectsAt (a .n) (a .b) (a .contents .now) (a .bodies .now) in
+    sym (no-form o (sym (c .before .before .before .known-kinds .ensures) ∙ not-false _ (c .before .before .if1 .left)) (λ e. c .if2 .taken (c .before .form .ensures ∙ e)))
+
+selectors-fine-requires : tie.Need-selectors-fine-requires
+selectors-fine-requires c κs = search needs
+
+returns-3 : tie.Need-returns-3
+returns-3 c =
+    let a = c .before .before .before .before .before .before .before .args in
+    let o = objectsAt (a .n) (a .b) (a .contents .now) (a .bodies .now) in
+    c .selectors-fine .ensures ∙ sym (by-selectors o (sym (c .before .before .before .before .known-kinds .ensures) ∙ not-false _ (c .before .before .before .if1 .left)) (sym (c .before .before .form .ensures) ∙ c .before .if2 .left))
+
+pub known-fine-spec : {M : Type 1} → statement M
+known-fine-spec =
+    tie.close
+    (tie.spec
+    known-kinds-requires
+    returns
+    form-requires
+    returns-2
+    selectors-fine-requires
+    returns-3)

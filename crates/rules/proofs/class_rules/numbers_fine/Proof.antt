@@ -1,0 +1,38 @@
+-- `numbers_fine` is `numbersFine`.
+use mathlib.Core.Path.{sym, _∙_}
+use borrow.Author.Tests.{not-true, not-false}
+use Rattle.rules.proofs.ClassLaws.{no-fields-number, no-form-number, with-fields, without-fields}
+use borrow.Author.Needs.{needs}
+use Rattle.rules.proofs.class_rules.numbers_fine.Statement.{statement}
+use Rattle.rules.proofs.class_rules.numbers_fine.Tie as tie
+
+is-natural-requires : tie.Need-is-natural-requires
+is-natural-requires c κs = search needs
+
+returns : tie.Need-returns
+returns c =
+    let a = c .before .before .args in
+    sym (no-fields-number (a .fields) (a .form) (sym (c .before .is-natural .ensures) ∙ not-true _ (c .if1 .taken)))
+
+is-natural-requires-2 : tie.Need-is-natural-requires-2
+is-natural-requires-2 c κs = search needs
+
+returns-2 : tie.Need-returns-2
+returns-2 c =
+    let a = c .before .before .before .before .args in
+    sym (no-form-number (a .fields) (a .form) (sym (c .before .before .before .is-natural .ensures) ∙ not-false _ (c .before .before .if1 .left)) (sym (c .before .is-natural2 .ensures) ∙ not-true _ (c .if2 .taken)))
+
+returns-3 : tie.Need-returns-3
+returns-3 c =
+    let a = c .before .before .before .before .before .args in
+    sym (with-fields (a .fields) (a .form) (sym (c .before .before .before .before .is-natural .ensures) ∙ not-false _ (c .before .before .before .if1 .left)) (sym (c .before .before .is-natural2 .ensures) ∙ not-false _ (c .before .if2 .left)) (c .if3 .taken))
+
+returns-4 : tie.Need-returns-4
+returns-4 c =
+    let a = c .before .before .before .before .before .args in
+    sym (without-fields (a .fields) (a .form) (sym (c .before .before .before .before .is-natural .ensures) ∙ not-false _ (c .before .before .before .if1 .left)) (sym (c .before .before .is-natural2 .ensures) ∙ not-false _ (c .before .if2 .left)) (c .if3 .left))
+
+pub numbers-fine-spec : {M : Type 1} → statement M
+numbers-fine-spec =
+    tie.close
+    (tie.spec is-natural-requires returns is-natural-requires-2 returns-2 returns-3 returns-4)

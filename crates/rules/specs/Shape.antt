@@ -1,0 +1,56 @@
+-- Rule 6 in the order in which it is tested: first all of it but that superclass chains end, object by object; then the chains, which by
+-- then lead from class to class.
+use Prim.Native.Nat.{ℕ, _/_}
+use mathlib.Core.Bool.{Bool, _&&_, not}
+use mathlib.Core.List.{List, [], _∷_}
+use lib.Dec.{leb, eqb}
+use Rattle.bytecode.specs.Test.{if_then_else_, implies, every, allOf}
+use Rattle.bytecode.specs.Constant.{nilWord}
+use Rattle.model.specs.Limits.{fieldsKind, bytesKind, classKind, listKind, methodKind, fixedForm, indexedForm, bytesForm, lastForm, mostFields, nilObject, falseObject, trueObject, integerClassObject, selectorsObject, specialSelectors}
+use Rattle.model.specs.Word.{isNatural, pointer}
+use Rattle.model.specs.Objects.{Objects, kind, size, bodyOf, isKind, isNilOr, superclassWord, dictionaryWord, fieldsWord, formWord, fieldCount}
+use Rattle.model.specs.Lookup.{endsWithin}
+use Rattle.model.specs.Rules.{entryFine, dictionaryFine}
+
+-- whether an object of this kind and size fits a class of this form and F
+unfoldable pub fitsForm : ℕ → ℕ → ℕ → ℕ → Bool
+fitsForm form fields kind size =
+    if eqb form fixedForm then eqb kind fieldsKind && eqb size fields else
+    if eqb form indexedForm then eqb kind fieldsKind && leb fields size else
+    if eqb form bytesForm then eqb kind bytesKind else
+    leb classKind kind && leb kind methodKind
+
+-- F and form of a class, given by their words
+unfoldable pub numbersFine : ℕ → ℕ → Bool
+numbersFine fields form =
+    isNatural mostFields fields && (isNatural (lastForm 1) form && implies (leb bytesForm (form / 2)) (eqb (fields / 2) 0))
+
+-- F is not below the superclass's
+unfoldable pub risesFine : Objects → ℕ → Bool
+risesFine o c = implies (not (eqb (superclassWord o c) nilWord)) (leb (fieldCount o (superclassWord o c)) (fieldCount o c))
+
+unfoldable pub shapeRules : Objects → ℕ → List Bool
+shapeRules o c =
+    isNilOr o classKind (superclassWord o c) ∷
+    isKind o listKind (dictionaryWord o c) ∷
+    numbersFine (fieldsWord o c) (formWord o c) ∷
+    risesFine o c ∷
+    dictionaryFine o (dictionaryWord o c) ∷
+    []
+
+unfoldable pub shapeFine : Objects → ℕ → Bool
+shapeFine o k = entryFine 1 o k && implies (eqb (kind o k) classKind) (allOf (shapeRules o (pointer k)))
+
+unfoldable pub chainFine : Objects → ℕ → Bool
+chainFine o k = implies (eqb (kind o k) classKind) (endsWithin (o .n) o (pointer k))
+
+-- the kinds of the objects 1 to 4, and the special selectors
+abbrev pub kindsFine : Objects → Bool
+kindsFine o =
+    eqb (kind o nilObject) fieldsKind
+    && (eqb (kind o falseObject) fieldsKind && (eqb (kind o trueObject) fieldsKind && eqb (kind o integerClassObject) classKind))
+
+unfoldable pub selectorsFine : Objects → Bool
+selectorsFine o =
+    eqb (kind o selectorsObject) listKind
+    && (eqb (size o selectorsObject) specialSelectors && every (isNilOr o bytesKind) (bodyOf o selectorsObject))
