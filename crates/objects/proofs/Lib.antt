@@ -1,0 +1,4 @@
+pub mod Buffers
+pub mod Bodies
+pub mod Methods
+pub mod Chains

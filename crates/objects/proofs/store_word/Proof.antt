@@ -1,0 +1,31 @@
+-- A body is inside the buffer.
+use Prim.Native.Nat.{ℕ, _+_}
+use mathlib.Core.Path.{ap}
+use native.Mathlib.Omega.{arith}
+use Rattle.objects.proofs.Buffers.{stored}
+use Rattle.objects.proofs.Bodies.{room, inside-listed}
+use borrow.Author.Needs.{needs}
+use Rattle.objects.proofs.store_word.Statement.{statement}
+use Rattle.objects.proofs.store_word.Tie as tie
+
+start-of-requires : tie.Need-start-of-requires
+start-of-requires c κs = inside-listed (c .before .before .pre)
+
+add-at : tie.Need-add-at
+add-at c = let h = room (c .before .before .before .pre) in omega (arith, c .start-of .ensures)
+
+mul-bodies : tie.Need-mul-bodies
+mul-bodies c = let h = room (c .before .before .before .pre) in omega (arith, c .start-of .ensures)
+
+slice-write-bodies : tie.Need-slice-write-bodies
+slice-write-bodies c = let h = room (c .before .before .before .pre) in omega (arith, c .start-of .ensures)
+
+same-length : tie.Need-same-length
+same-length c = search needs
+
+returns : tie.Need-returns
+returns c = let h = room (c .before .before .before .pre) in stored (c .before .before .before .args .n) (c .before .before .before .args .b) (c .before .before .before .args .contents .now) (c .before .before .before .args .bodies .now) _ _ _ (c .start-of .result + c .before .before .before .args .i) (h .words) (ap (λ (x : ℕ). x + c .before .before .before .args .i) (c .start-of .ensures)) (omega (arith, c .start-of .ensures))
+
+pub store-word-spec : {M : Type 1} → statement M
+store-word-spec =
+    tie.close (tie.spec start-of-requires add-at mul-bodies slice-write-bodies same-length returns)
