@@ -4,3 +4,4 @@ pub mod HeaderLaws
 pub mod HolderLaws
 pub mod AskedLaws
 pub mod ShapeLaws
+pub mod SendLaws

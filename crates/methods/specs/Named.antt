@@ -9,7 +9,7 @@ use Rattle.model.specs.Word.{objectNumber}
 use Rattle.model.specs.Objects.{objectsAt, isKind, dictionaryWord, pairCount}
 use Rattle.model.specs.Rules.{rule4, rule5, rule6}
 use Rattle.rules.specs.Lent.{Lent}
-use Rattle.methods.specs.Counts.{Counting}
+use Rattle.methods.specs.Counts.{Counts, Counting}
 
 pub record Named (n b w : ℕ) (contents bodies : List ℕ) : Type 0 where
   pub lent : Lent n b contents bodies
@@ -51,3 +51,9 @@ pub record FlagAsked (n b : ℕ) (contents bodies : List ℕ) (m h c : ℕ) : Ty
   pub header : h ≡ Rattle.model.specs.Method.header (objectsAt n b contents bodies) m
   pub home : c ≡ Rattle.model.specs.Method.home (objectsAt n b contents bodies) m
   pub isClass : T (isKind (objectsAt n b contents bodies) classKind c)
+
+-- what a send's rule asks
+pub record SendAsked (n b : ℕ) (contents bodies counts : List ℕ) : Type 0 where
+  pub lent : Lent n b contents bodies
+  pub long : n < length counts
+  pub counted : Counts (objectsAt n b contents bodies) counts

@@ -1,16 +1,15 @@
 // The image rules of methods (refusal 7). A method is given by its word.
 ghost use mathlib.Core.Path.{_≡_};
-ghost use mathlib.Core.Bool.{Bool, _&&_};
 ghost use Prim.Native.Nat.{ℕ, _+_, _*_, _/_, _%_, _<_, _≤_};
-ghost use lib.Dec.{leb, ltb, eqb};
 ghost use lib.ListN.{length, getD};
 ghost use Rattle.bytecode.specs.Test.{below, implies, allOf};
-ghost use Rattle.model.specs.Limits.{fieldFlag, primitiveFlag};
+ghost use mathlib.Core.List.{List};
+ghost use Rattle.model.specs.Limits.{entryWords};
 ghost use Rattle.model.specs.Word.{isValid};
 ghost use Rattle.model.specs.Objects.{Objects, objectsAt, bodyWord, fieldCount};
 ghost use Rattle.model.specs.Method.{header, home, literal, flag, temporaryCount, literalCount, extension, argumentCount};
-ghost use Rattle.model.specs.Rules.{extensionFine};
-ghost use Rattle.methods.specs.Named.{Named, Ready, ClassAsked, PairAsked, ObjectAsked, FlagAsked};
+ghost use Rattle.model.specs.Rules.{extensionFine, variableFine, sendFine};
+ghost use Rattle.methods.specs.Named.{Named, Ready, ClassAsked, PairAsked, ObjectAsked, FlagAsked, SendAsked};
 ghost use Rattle.methods.specs.Counts.{Noted, Turned, Held};
 ghost use Rattle.methods.specs.Passes.{shapeRules, fieldRule, primitiveRule, flagRules, shapeFine, shapes};
 ghost use Rattle.rules.specs.Lent.{Lent};
@@ -256,4 +255,31 @@ pub fn shapes_fine(contents: &[u16], bodies: &[u16], n: usize, b: usize) -> bool
         k += 1;
     }
     true
+}
+
+// A literal variable has its form: a kind 0 object of at least 2 fields.
+pub fn variable_fine(contents: &[u16], n: usize, w: u16) -> bool
+    requires { ⌜ entryWords * n ≤ length (now contents) ⌝ }
+    ensures { λ r. ⌜ ((b : ℕ) (bodies : List ℕ) → r ≡ variableFine (objectsAt n b (now (contents .entry)) bodies) w) ⌝ }
+{
+    if !rules::is_kind(contents, n, 0, w) {
+        return false;
+    }
+    2 <= rules::size(contents, n, (w / 2) as usize)
+}
+
+// A send's selector is nil or of kind 1, and the methods under it take its count.
+pub fn send_fine(contents: &[u16], bodies: &[u16], n: usize, b: usize, counts: &[u8], selector: u16, arguments: u8) -> bool
+    requires { ⌜ SendAsked n b (now contents) (now bodies) (now counts) ⌝ }
+    ensures { λ r. ⌜ r ≡ sendFine (objectsAt n b (now (contents .entry)) (now (bodies .entry))) selector arguments ⌝ }
+{
+    if !rules::is_nil_or(contents, n, 1, selector) {
+        return false;
+    }
+    let j = (selector / 2) as usize;
+    let note = counts[j];
+    if note == 0 {
+        return true;
+    }
+    note as usize == arguments as usize + 1
 }

@@ -1,0 +1,54 @@
+-- The rule of a send by the counts.
+use Prim.Native.Nat.{ℕ, suc, _+_, _*_, _/_, _%_, _≤_, _<_}
+use mathlib.Core.Path.{_≡_, refl, sym, ap, _∙_, subst}
+use mathlib.Core.Logic.{_⊎_, inl, inr}
+use mathlib.Core.Bool.{Bool, true, false, _&&_, _||_}
+use mathlib.Core.List.{List}
+use native.Mathlib.Omega.{arith}
+use borrow.Author.Tests.{eq-eqb, ne-eqb}
+use lib.Dec.{T, eqb, eqb→eq}
+use lib.ListN.{length, getD}
+use Rattle.bytecode.specs.Constant.{nilWord}
+use Rattle.bytecode.proofs.TestLaws.{true→T, or-cases}
+use Rattle.model.specs.Limits.{bytesKind}
+use Rattle.model.specs.Objects.{Objects, objectsAt, isKind, isNilOr}
+use Rattle.model.specs.Rules.{sendFine, takesCount}
+use Rattle.model.proofs.ChainLaws.{named}
+use Rattle.methods.specs.Named.{SendAsked}
+use Rattle.methods.proofs.CountLaws.{takes-by-counts}
+
+module _ (n b : ℕ) (contents bodies counts : List ℕ) (p : SendAsked n b contents bodies counts) (s : ℕ) where
+  abbrev o : Objects
+  o = objectsAt n b contents bodies
+
+  record Place : Type 0 where
+    even : s % 2 ≡ 0
+    most : s / 2 ≤ n
+
+  place : T (isNilOr o bytesKind s) → Place
+  place t = go (or-cases (eqb s nilWord) (isKind o bytesKind s) t)
+    where
+      go : T (eqb s nilWord) ⊎ T (isKind o bytesKind s) → Place
+      go (inl x) = let e = eqb→eq s nilWord x in let l = p .lent .least in record { even = omega arith; most = omega arith }
+      go (inr x) = let h = named o bytesKind s x in record { even = h .even; most = h .most }
+
+  pub no-selector : (a : ℕ) → isNilOr o bytesKind s ≡ false → false ≡ sendFine o s a
+  unfolding sendFine
+  no-selector a e = sym (ap (λ (x : Bool). x && takesCount o s a) e)
+
+  pub selector-inside : isNilOr o bytesKind s ≡ true → s / 2 < length counts
+  selector-inside e = let h = place (true→T e) .most in let l = p .long in omega arith
+
+  by-note : (a : ℕ) → isNilOr o bytesKind s ≡ true → sendFine o s a ≡ (eqb (getD counts (s / 2) 0) 0 || eqb (getD counts (s / 2) 0) (suc a))
+  unfolding sendFine
+  by-note a e = ap (λ (x : Bool). x && takesCount o s a) e ∙ takes-by-counts o counts (p .counted) s a (place (true→T e) .even)
+
+  pub none-under : (a : ℕ) → isNilOr o bytesKind s ≡ true → getD counts (s / 2) 0 ≡ 0 → true ≡ sendFine o s a
+  none-under a e z = sym (by-note a e ∙ ap (λ (x : Bool). x || eqb (getD counts (s / 2) 0) (suc a)) (eq-eqb (getD counts (s / 2) 0) 0 z))
+
+  pub count-under : (a : ℕ) → isNilOr o bytesKind s ≡ true → (getD counts (s / 2) 0 ≡ 0 → ⊥) → eqb (getD counts (s / 2) 0) (a + 1) ≡ sendFine o s a
+  count-under a e z =
+      ap (eqb (getD counts (s / 2) 0)) (plus-one a) ∙ sym (by-note a e ∙ ap (λ (x : Bool). x || eqb (getD counts (s / 2) 0) (suc a)) (ne-eqb (getD counts (s / 2) 0) 0 z))
+    where
+      plus-one : (x : ℕ) → x + 1 ≡ suc x
+      plus-one x = omega arith
