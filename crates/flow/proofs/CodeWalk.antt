@@ -21,7 +21,7 @@ use Rattle.flow.specs.declared.Went.the-variants.{On, Stuck}
 use Rattle.flow.proofs.InvariantLaws.{turn-law, ended, begun}
 use Rattle.flow.proofs.UniqueLaws.{table-is, table-none}
 
-noted-inside : (t : List ℕ) (p d : ℕ) → Noted t p d → p < length t
+pub noted-inside : (t : List ℕ) (p d : ℕ) → Noted t p d → p < length t
 noted-inside [] p d e = absurd (let z : _≡_ {A = ℕ} 0 (suc d) = e in omega arith)
 noted-inside (x ∷ xs) zero d e = omega arith
 noted-inside (x ∷ xs) (suc p) d e = let h = noted-inside xs p d e in omega arith

@@ -130,13 +130,16 @@ module _ (fine : ℕ → ℕ → Bool) (next : ℕ → List ℕ) (after : ℕ �
         → Visits room qs e t s n t′ s′ r → Outcome t n qs e t′ s′ Busy r
     unfolding Visits
     visits-come Busy [] e t s n t′ s′ r l a w v =
-        inr (n, v .2,
-        record {
-          walk = rw (v .0, v .1) w;
-          count = rw (v .0) refl;
-          kept = λ q k h. rw (v .0) h;
-          all = λ q m. absurd (List·Memᴰ·not-nil m);
-        })
+        inr (
+          n,
+          v .2,
+          record {
+            walk = rw (v .0, v .1) w;
+            count = rw (v .0) refl;
+            kept = λ q k h. rw (v .0) h;
+            all = λ q m. absurd (List·Memᴰ·not-nil m);
+          },
+        )
     visits-come Busy (q ∷ qs) e t s n t′ s′ r l a w (inl x) =
         inl (x .1, refused t s n Busy w l q e (a q (List·Memᴰ·head refl)) (x .0))
     visits-come Busy (q ∷ qs) e t s n t′ s′ r l a w (inr x) =

@@ -6,3 +6,5 @@ pub mod RuleLaws
 pub mod InstructionLaws
 pub mod HereLaws
 pub mod CodeWalk
+pub mod LinkLaws
+pub mod MethodLaws

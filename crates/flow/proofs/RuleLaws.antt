@@ -20,11 +20,6 @@ use Rattle.model.specs.Rules.{placeFine, isWritable, allowed, methodTable, vari
 use Rattle.flow.specs.Index.{placeIndexed, indexed}
 use Rattle.flow.specs.Linked.{placeLinked, linked}
 
--- the group 1 is in neither part
-none : (_≡_ {A = ℕ} 1 0) ⊎ (2 ≤ 1) → ⊥
-none (inl e) = omega arith
-none (inr e) = omega arith
-
 and-true : (a : Bool) → a ≡ a && true
 and-true true = refl
 and-true false = refl
@@ -72,32 +67,3 @@ module _ (o : Objects) (m : ℕ) where
   pub table-split : methodTable o m ≡ depthTable (codeWords o m) (codeSize o m) (temporaryCount o m) (frameWords o m) (λ i. indexedIn i && linked o m i)
   unfolding methodTable
   table-split = λ k. depthTable (codeWords o m) (codeSize o m) (temporaryCount o m) (frameWords o m) (λ i. split i k)
-
-  -- an instruction that is in no group with further rules is linked
-  pub plainly-linked : (i : Instruction) → (group i ≡ 0) ⊎ (2 ≤ group i) → linked o m i ≡ true
-  unfolding group pushGroup storeGroup linked placeLinked
-  plainly-linked (Push (Field i)) g = refl
-  plainly-linked (Push (Temporary i)) g = refl
-  plainly-linked (Push (Literal i)) g = refl
-  plainly-linked (Push (LiteralVariable i)) g = absurd (none g)
-  plainly-linked (Store (Field i)) g = refl
-  plainly-linked (Store (Temporary i)) g = refl
-  plainly-linked (Store (Literal i)) g = refl
-  plainly-linked (Store (LiteralVariable i)) g = absurd (none g)
-  plainly-linked (PopStore (Field i)) g = refl
-  plainly-linked (PopStore (Temporary i)) g = refl
-  plainly-linked (PopStore (Literal i)) g = refl
-  plainly-linked (PopStore (LiteralVariable i)) g = absurd (none g)
-  plainly-linked PushSelf g = refl
-  plainly-linked (PushConstant w) g = refl
-  plainly-linked ReturnSelf g = refl
-  plainly-linked (ReturnConstant w) g = refl
-  plainly-linked ReturnTop g = refl
-  plainly-linked Pop g = refl
-  plainly-linked Duplicate g = refl
-  plainly-linked (Jump a b) g = refl
-  plainly-linked (JumpOn x a) g = refl
-  plainly-linked (Send l n) g = absurd (none g)
-  plainly-linked (SuperSend l n) g = absurd (none g)
-  plainly-linked (SpecialSend k) g = absurd (none g)
-  plainly-linked Unused g = refl

@@ -5,12 +5,13 @@ ghost use mathlib.Core.List.{[], _∷_};
 ghost use Prim.Native.Nat.{_+_, _-_, _*_, _<_, _≤_};
 ghost use lib.Dec.{ltb, leb};
 ghost use lib.ListN.{length, getD, replicate};
-ghost use Rattle.bytecode.specs.Code.{placeOf, instructionOf};
-ghost use Rattle.bytecode.specs.Table.{groupPart, lengthPart, needPart, leavesPart, boundPart, indexPart};
+ghost use Rattle.bytecode.specs.Code.{placeOf, instructionOf, decodeAt};
+ghost use Rattle.bytecode.specs.Table.{groupPart, lengthPart, needPart, leavesPart, boundPart, indexPart, groupOf, IsTable};
 ghost use Rattle.model.specs.Depth.{depthTable, isSome};
 ghost use Rattle.model.specs.Rules.{isWritable};
 ghost use Rattle.flow.specs.Index.{placeIndexed, indexed, placeIndexedBy, indexedBy};
-ghost use Rattle.flow.specs.Walk.{Asks, Visit, Visits, Step, Here, Expand, Static, WalkingAt, TurnAt, Answer, Lent, Walked, tableBy};
+ghost use Rattle.flow.specs.Linked.{linkOf};
+ghost use Rattle.flow.specs.Walk.{Asks, Visit, Visits, Step, Here, Expand, Static, WalkingAt, TurnAt, Answer, Lent, Walked, tableBy, mostCode};
 
 // How many positions are pending after a step; or that there is no depth table.
 pub enum Went {
@@ -19,11 +20,16 @@ pub enum Went {
 }
 
 // Notes a position's depth and makes it pending, if nothing is noted there. It is stuck where another depth is noted, too deep, or outside.
-fn visit(notes: &mut [u8], pending: &mut [u16], n: usize, at: usize, depth: usize, room: usize) -> Went
+fn visit(
+    notes: &mut [u8],
+    pending: &mut [u16],
+    n: usize,
+    at: usize,
+    depth: usize,
+    room: usize,
+) -> Went
     requires { ⌜ Asks (now notes) (now pending) n room ⌝ }
-    ensures {
-        λ r. ⌜ Visit room (now (notes .entry)) (now (pending .entry)) n at depth (now (notes .exit)) (now (pending .exit)) r ⌝
-    }
+    ensures { λ r. ⌜ Visit room (now (notes .entry)) (now (pending .entry)) n at depth (now (notes .exit)) (now (pending .exit)) r ⌝ }
 {
     if room < depth {
         return Went::Stuck;
@@ -44,11 +50,17 @@ fn visit(notes: &mut [u8], pending: &mut [u16], n: usize, at: usize, depth: usiz
 }
 
 // Two positions, with one depth.
-fn both(notes: &mut [u8], pending: &mut [u16], n: usize, a: usize, b: usize, depth: usize, room: usize) -> Went
+fn both(
+    notes: &mut [u8],
+    pending: &mut [u16],
+    n: usize,
+    a: usize,
+    b: usize,
+    depth: usize,
+    room: usize,
+) -> Went
     requires { ⌜ Asks (now notes) (now pending) n room ⌝ }
-    ensures {
-        λ r. ⌜ Visits room (a ∷ b ∷ []) depth (now (notes .entry)) (now (pending .entry)) n (now (notes .exit)) (now (pending .exit)) r ⌝
-    }
+    ensures { λ r. ⌜ Visits room (a ∷ b ∷ []) depth (now (notes .entry)) (now (pending .entry)) n (now (notes .exit)) (now (pending .exit)) r ⌝ }
 {
     match visit(notes, pending, n, a, depth, room) {
         Went::On(k) => visit(notes, pending, k, b, depth, room),
@@ -57,11 +69,17 @@ fn both(notes: &mut [u8], pending: &mut [u16], n: usize, a: usize, b: usize, dep
 }
 
 // After a jump on a boolean, which takes one operand.
-fn fork(notes: &mut [u8], pending: &mut [u16], n: usize, next: usize, target: usize, depth: usize, room: usize) -> Went
+fn fork(
+    notes: &mut [u8],
+    pending: &mut [u16],
+    n: usize,
+    next: usize,
+    target: usize,
+    depth: usize,
+    room: usize,
+) -> Went
     requires { ⌜ Asks (now notes) (now pending) n room ⌝ }
-    ensures {
-        λ r. ⌜ Step room (leb 1 depth) (next ∷ target ∷ []) (depth - 1) (now (notes .entry)) (now (pending .entry)) n (now (notes .exit)) (now (pending .exit)) r ⌝
-    }
+    ensures { λ r. ⌜ Step room (leb 1 depth) (next ∷ target ∷ []) (depth - 1) (now (notes .entry)) (now (pending .entry)) n (now (notes .exit)) (now (pending .exit)) r ⌝ }
 {
     if depth < 1 {
         return Went::Stuck;
@@ -70,12 +88,19 @@ fn fork(notes: &mut [u8], pending: &mut [u16], n: usize, next: usize, target: us
 }
 
 // After an instruction that needs and leaves so many operands.
-fn onward(notes: &mut [u8], pending: &mut [u16], n: usize, next: usize, depth: usize, need: usize, leaves: usize, room: usize) -> Went
+fn onward(
+    notes: &mut [u8],
+    pending: &mut [u16],
+    n: usize,
+    next: usize,
+    depth: usize,
+    need: usize,
+    leaves: usize,
+    room: usize,
+) -> Went
     requires { ⌜ Asks (now notes) (now pending) n room ⌝ }
     requires { ⌜ (depth ≤ room) × (leaves ≤ 3) ⌝ }
-    ensures {
-        λ r. ⌜ Step room (leb need depth) (next ∷ []) (depth - need + leaves) (now (notes .entry)) (now (pending .entry)) n (now (notes .exit)) (now (pending .exit)) r ⌝
-    }
+    ensures { λ r. ⌜ Step room (leb need depth) (next ∷ []) (depth - need + leaves) (now (notes .entry)) (now (pending .entry)) n (now (notes .exit)) (now (pending .exit)) r ⌝ }
 {
     if depth < need {
         return Went::Stuck;
@@ -84,19 +109,35 @@ fn onward(notes: &mut [u8], pending: &mut [u16], n: usize, next: usize, depth: u
 }
 
 // An instruction of one byte that goes on to the next: its entry says all of it.
-fn plain(limits: &[u8; 4], room: usize, notes: &mut [u8], pending: &mut [u16], n: usize, at: usize, depth: usize, e: usize) -> Went
+fn plain(
+    limits: &[u8; 4],
+    room: usize,
+    notes: &mut [u8],
+    pending: &mut [u16],
+    n: usize,
+    at: usize,
+    depth: usize,
+    e: usize,
+) -> Went
     requires { ⌜ Asks (now notes) (now pending) n room ⌝ }
     requires { ⌜ (depth ≤ room) × (at ≤ 48000) ⌝ }
-    ensures {
-        λ r. ⌜ Step room (ltb (indexPart e) (getD (now (limits .entry)) (boundPart e) 0) && leb (needPart e) depth) ((at + 1) ∷ []) (depth - needPart e + leavesPart e) (now (notes .entry)) (now (pending .entry)) n (now (notes .exit)) (now (pending .exit)) r ⌝
-    }
+    ensures { λ r. ⌜ Step room (ltb (indexPart e) (getD (now (limits .entry)) (boundPart e) 0) && leb (needPart e) depth) ((at + 1) ∷ []) (depth - needPart e + leavesPart e) (now (notes .entry)) (now (pending .entry)) n (now (notes .exit)) (now (pending .exit)) r ⌝ }
 {
     let bound = e / 32 % 4;
     let index = (e % 32) as u8;
     if limits[bound] <= index {
         return Went::Stuck;
     }
-    onward(notes, pending, n, at + 1, depth, e / 512 % 4, e / 128 % 4, room)
+    onward(
+        notes,
+        pending,
+        n,
+        at + 1,
+        depth,
+        e / 512 % 4,
+        e / 128 % 4,
+        room,
+    )
 }
 
 // The byte of an extended push.
@@ -148,36 +189,71 @@ fn extended_fits(limits: &[u8; 4], b: u8, x: u8, y: u8) -> bool
 }
 
 // An instruction with further bytes that goes on to the next.
-fn extended(limits: &[u8; 4], words: &[u16], room: usize, notes: &mut [u8], pending: &mut [u16], n: usize, at: usize, depth: usize, b: u8, e: usize) -> Went
+fn extended(
+    limits: &[u8; 4],
+    words: &[u16],
+    room: usize,
+    notes: &mut [u8],
+    pending: &mut [u16],
+    n: usize,
+    at: usize,
+    depth: usize,
+    b: u8,
+    e: usize,
+) -> Went
     requires { ⌜ Asks (now notes) (now pending) n room ⌝ }
     requires { ⌜ Here (now limits) (now words) (length (now notes)) room at depth b e ⌝ }
     requires { ⌜ (128 ≤ b) × (b < 135) × (at + lengthPart e ≤ length (now notes)) ⌝ }
-    ensures {
-        λ r. ⌜ Expand (now (limits .entry)) (now (words .entry)) (length (now (notes .entry))) room at depth (now (notes .entry)) (now (pending .entry)) n (now (notes .exit)) (now (pending .exit)) r ⌝
-    }
+    ensures { λ r. ⌜ Expand (now (limits .entry)) (now (words .entry)) (length (now (notes .entry))) room at depth (now (notes .entry)) (now (pending .entry)) n (now (notes .exit)) (now (pending .exit)) r ⌝ }
 {
     let x = bytecode::byte(words, at + 1);
     let y = bytecode::byte(words, at + 2);
     if !extended_fits(limits, b, x, y) {
         return Went::Stuck;
     }
-    onward(notes, pending, n, at + e / 2048 % 4, depth, e / 512 % 4 + bytecode::extra(b, x), e / 128 % 4, room)
+    onward(
+        notes,
+        pending,
+        n,
+        at + e / 2048 % 4,
+        depth,
+        e / 512 % 4 + bytecode::extra(b, x),
+        e / 128 % 4,
+        room,
+    )
 }
 
 // 144 to 175.
-fn jump(limits: &[u8; 4], words: &[u16], room: usize, notes: &mut [u8], pending: &mut [u16], n: usize, at: usize, depth: usize, b: u8, e: usize) -> Went
+fn jump(
+    limits: &[u8; 4],
+    words: &[u16],
+    room: usize,
+    notes: &mut [u8],
+    pending: &mut [u16],
+    n: usize,
+    at: usize,
+    depth: usize,
+    b: u8,
+    e: usize,
+) -> Went
     requires { ⌜ Asks (now notes) (now pending) n room ⌝ }
     requires { ⌜ Here (now limits) (now words) (length (now notes)) room at depth b e ⌝ }
     requires { ⌜ (144 ≤ b) × (b < 176) × (at + lengthPart e ≤ length (now notes)) ⌝ }
-    ensures {
-        λ r. ⌜ Expand (now (limits .entry)) (now (words .entry)) (length (now (notes .entry))) room at depth (now (notes .entry)) (now (pending .entry)) n (now (notes .exit)) (now (pending .exit)) r ⌝
-    }
+    ensures { λ r. ⌜ Expand (now (limits .entry)) (now (words .entry)) (length (now (notes .entry))) room at depth (now (notes .entry)) (now (pending .entry)) n (now (notes .exit)) (now (pending .exit)) r ⌝ }
 {
     if b < 152 {
         return visit(notes, pending, n, at + 2 + (b % 8) as usize, depth, room);
     }
     if b < 160 {
-        return fork(notes, pending, n, at + 1, at + 2 + (b % 8) as usize, depth, room);
+        return fork(
+            notes,
+            pending,
+            n,
+            at + 1,
+            at + 2 + (b % 8) as usize,
+            depth,
+            room,
+        );
     }
     let x = bytecode::fetch(words, at + 1) as usize;
     if b < 168 {
@@ -187,17 +263,34 @@ fn jump(limits: &[u8; 4], words: &[u16], room: usize, notes: &mut [u8], pending:
         }
         return visit(notes, pending, n, to - 1024, depth, room);
     }
-    fork(notes, pending, n, at + 2, at + 2 + (b % 4) as usize * 256 + x, depth, room)
+    fork(
+        notes,
+        pending,
+        n,
+        at + 2,
+        at + 2 + (b % 4) as usize * 256 + x,
+        depth,
+        room,
+    )
 }
 
 // A jump, or an instruction with further bytes.
-fn far(limits: &[u8; 4], words: &[u16], room: usize, notes: &mut [u8], pending: &mut [u16], n: usize, at: usize, depth: usize, b: u8, e: usize) -> Went
+fn far(
+    limits: &[u8; 4],
+    words: &[u16],
+    room: usize,
+    notes: &mut [u8],
+    pending: &mut [u16],
+    n: usize,
+    at: usize,
+    depth: usize,
+    b: u8,
+    e: usize,
+) -> Went
     requires { ⌜ Asks (now notes) (now pending) n room ⌝ }
     requires { ⌜ Here (now limits) (now words) (length (now notes)) room at depth b e ⌝ }
     requires { ⌜ groupPart e ≡ 3 ⌝ }
-    ensures {
-        λ r. ⌜ Expand (now (limits .entry)) (now (words .entry)) (length (now (notes .entry))) room at depth (now (notes .entry)) (now (pending .entry)) n (now (notes .exit)) (now (pending .exit)) r ⌝
-    }
+    ensures { λ r. ⌜ Expand (now (limits .entry)) (now (words .entry)) (length (now (notes .entry))) room at depth (now (notes .entry)) (now (pending .entry)) n (now (notes .exit)) (now (pending .exit)) r ⌝ }
 {
     if notes.len() < at + e / 2048 % 4 {
         return Went::Stuck;
@@ -209,12 +302,21 @@ fn far(limits: &[u8; 4], words: &[u16], room: usize, notes: &mut [u8], pending: 
 }
 
 // Examines the instruction at a position, and visits what follows it.
-fn expand(limits: &[u8; 4], words: &[u16], room: usize, notes: &mut [u8], pending: &mut [u16], n: usize, at: usize, depth: usize, b: u8, e: usize) -> Went
+fn expand(
+    limits: &[u8; 4],
+    words: &[u16],
+    room: usize,
+    notes: &mut [u8],
+    pending: &mut [u16],
+    n: usize,
+    at: usize,
+    depth: usize,
+    b: u8,
+    e: usize,
+) -> Went
     requires { ⌜ Asks (now notes) (now pending) n room ⌝ }
     requires { ⌜ Here (now limits) (now words) (length (now notes)) room at depth b e ⌝ }
-    ensures {
-        λ r. ⌜ Expand (now (limits .entry)) (now (words .entry)) (length (now (notes .entry))) room at depth (now (notes .entry)) (now (pending .entry)) n (now (notes .exit)) (now (pending .exit)) r ⌝
-    }
+    ensures { λ r. ⌜ Expand (now (limits .entry)) (now (words .entry)) (length (now (notes .entry))) room at depth (now (notes .entry)) (now (pending .entry)) n (now (notes .exit)) (now (pending .exit)) r ⌝ }
 {
     let group = e / 8192;
     if group < 2 {
@@ -233,13 +335,19 @@ fn expand(limits: &[u8; 4], words: &[u16], room: usize, notes: &mut [u8], pendin
 }
 
 // Deals with the last pending position.
-fn turn(table: &[u16; 256], limits: &[u8; 4], words: &[u16], room: usize, notes: &mut [u8], pending: &mut [u16], n: usize) -> Went
+fn turn(
+    table: &[u16; 256],
+    limits: &[u8; 4],
+    words: &[u16],
+    room: usize,
+    notes: &mut [u8],
+    pending: &mut [u16],
+    n: usize,
+) -> Went
     requires { ⌜ Static (now table) (now limits) (now words) room (now notes) (now pending) ⌝ }
     requires { ⌜ 0 < n ⌝ }
     requires { ⌜ WalkingAt (now limits) (now words) (length (now notes)) room (now notes) (now pending) n ⌝ }
-    ensures {
-        λ r. ⌜ TurnAt (now (limits .entry)) (now (words .entry)) (length (now (notes .entry))) room (now (notes .entry)) (now (pending .entry)) n (now (notes .exit)) (now (pending .exit)) r ⌝
-    }
+    ensures { λ r. ⌜ TurnAt (now (limits .entry)) (now (words .entry)) (length (now (notes .entry))) room (now (notes .entry)) (now (pending .entry)) n (now (notes .exit)) (now (pending .exit)) r ⌝ }
 {
     let m = n - 1;
     let at = pending[m] as usize;
@@ -250,12 +358,17 @@ fn turn(table: &[u16; 256], limits: &[u8; 4], words: &[u16], room: usize, notes:
 }
 
 // Deals with pending positions until none is left.
-fn drain(table: &[u16; 256], limits: &[u8; 4], words: &[u16], room: usize, notes: &mut [u8], pending: &mut [u16]) -> bool
+fn drain(
+    table: &[u16; 256],
+    limits: &[u8; 4],
+    words: &[u16],
+    room: usize,
+    notes: &mut [u8],
+    pending: &mut [u16],
+) -> bool
     requires { ⌜ Static (now table) (now limits) (now words) room (now notes) (now pending) ⌝ }
     requires { ⌜ WalkingAt (now limits) (now words) (length (now notes)) room (now notes) (now pending) 1 ⌝ }
-    ensures {
-        λ r. ⌜ Answer (tableBy (now (limits .entry)) (now (words .entry)) (length (now (notes .entry))) room) (now (notes .exit)) r ⌝
-    }
+    ensures { λ r. ⌜ Answer (tableBy (now (limits .entry)) (now (words .entry)) (length (now (notes .entry))) room) (now (notes .exit)) r ⌝ }
 {
     let mut n: usize = 1;
     while 0 < n {
@@ -284,11 +397,18 @@ fn clear(notes: &mut [u8])
 
 // Whether the code has a depth table, by the rules that need no objects. The code has as many bytes as there are notes. They end as the
 // table, 0 for a position that is not reached and one more than the depth for any other; or all as 0, where there is none.
-pub fn walk(table: &[u16; 256], words: &[u16], fields: u8, temporaries: u8, literals: u8, limit: usize, notes: &mut [u8], pending: &mut [u16]) -> bool
+pub fn walk(
+    table: &[u16; 256],
+    words: &[u16],
+    fields: u8,
+    temporaries: u8,
+    literals: u8,
+    limit: usize,
+    notes: &mut [u8],
+    pending: &mut [u16],
+) -> bool
     requires { ⌜ Lent (now table) (now words) limit (now notes) (now pending) ⌝ }
-    ensures {
-        λ r. ⌜ Walked (depthTable (now (words .entry)) (length (now (notes .entry))) temporaries limit (indexed fields temporaries literals)) (length (now (notes .entry))) (now (notes .exit)) r ⌝
-    }
+    ensures { λ r. ⌜ Walked (depthTable (now (words .entry)) (length (now (notes .entry))) temporaries limit (indexed fields temporaries literals)) (length (now (notes .entry))) (now (notes .exit)) r ⌝ }
 {
     clear(notes);
     if notes.len() == 0 {
@@ -306,4 +426,70 @@ pub fn walk(table: &[u16; 256], words: &[u16], fields: u8, temporaries: u8, lite
     }
     clear(notes);
     false
+}
+
+// What an instruction asks of the objects: the form of a literal variable, the count that a literal's or a special send's methods take.
+pub enum Link {
+    Nothing,
+    Variable(u8),
+    Selector { literal: u8, arguments: u8 },
+    Special(u8),
+}
+
+// By a byte alone.
+fn short_link(b: u8) -> Link
+    requires { ⌜ groupOf b ≡ 1 ⌝ }
+    ensures { λ r. ⌜ r ≡ linkOf (instructionOf b 0 0) ⌝ }
+{
+    if b < 176 {
+        return Link::Variable(b % 32);
+    }
+    if b < 208 {
+        return Link::Special(b - 176);
+    }
+    Link::Selector { literal: b % 16, arguments: (b - 208) / 16 }
+}
+
+// By a byte from 128 to 134 and those that follow.
+fn extended_link(b: u8, x: u8, y: u8) -> Link
+    requires { ⌜ (128 ≤ b) × (b < 135) ⌝ }
+    ensures { λ r. ⌜ r ≡ linkOf (instructionOf b x y) ⌝ }
+{
+    let low = x % 32;
+    let high = x / 32;
+    match b {
+        131 => Link::Selector { literal: low, arguments: high },
+        132 => Link::Selector { literal: y, arguments: x },
+        133 => Link::Selector { literal: low, arguments: high },
+        134 => Link::Selector { literal: y, arguments: x },
+        _ => {
+            if x < 192 {
+                return Link::Nothing;
+            }
+            Link::Variable(x % 64)
+        }
+    }
+}
+
+// For the pass over the noted positions that follows a walk: what the instruction at a position asks of the objects.
+pub fn link_at(table: &[u16; 256], words: &[u16], size: usize, at: usize) -> Link
+    requires { ⌜ IsTable (now table) × (at < size) × (size ≤ 2 * length (now words)) × (size ≤ mostCode) ⌝ }
+    ensures { λ r. ⌜ r ≡ linkOf (decodeAt (now (words .entry)) size at) ⌝ }
+{
+    let b = bytecode::fetch(words, at);
+    let e = bytecode::entry(table, b);
+    let group = e / 8192;
+    if group == 1 {
+        return short_link(b);
+    }
+    if group != 3 {
+        return Link::Nothing;
+    }
+    if 143 < b {
+        return Link::Nothing;
+    }
+    if size < at + e / 2048 % 4 {
+        return Link::Nothing;
+    }
+    extended_link(b, bytecode::byte(words, at + 1), bytecode::byte(words, at + 2))
 }
