@@ -1,15 +1,15 @@
 -- Rule 6 in the order of specs/Shape.antt is rule 6, and each of its tests by the tests that it is made of.
-use Prim.Native.Nat.{ℕ, zero, suc, _+_, _-_, _*_, _/_, _%_, _≤_, _<_}
-use mathlib.Core.Path.{_≡_, refl, sym, ap, ap₂, _∙_, subst, fun-ext}
+use Prim.Native.Nat.{ℕ, suc, _-_, _/_, _%_, _≤_, _<_}
+use mathlib.Core.Path.{_≡_, refl, sym, ap, _∙_, subst, fun-ext}
 use mathlib.Core.Logic.{_≢_}
 use mathlib.Core.Bool.{Bool, true, false, _&&_, _||_, not}
-use mathlib.Core.List.{List, [], _∷_}
+use mathlib.Core.List.{List}
 use native.Mathlib.Omega.{arith}
 use borrow.Author.Tests.{eq-eqb, ne-eqb, lt-leb, le-leb, eqb-true}
 use lib.Dec.{T, eqb, leb, ltb}
 use Rattle.bytecode.specs.Test.{upTo, below, every, implies, allOf}
 use Rattle.bytecode.specs.Constant.{nilWord}
-use Rattle.bytecode.proofs.TestLaws.{true→T, T→true, and-left, and-right, implied, rule, upTo-at}
+use Rattle.bytecode.proofs.TestLaws.{true→T, T→true, and-right, implied, rule, upTo-at}
 use Rattle.model.specs.Limits.{bytesKind, classKind, listKind, methodKind, otherForm, integerClassObject, selectorsObject, specialSelectors, mostFields, lastForm, bytesForm}
 use Rattle.model.specs.Word.{isNatural, pointer, integerClass}
 use Rattle.model.specs.Objects.{Objects, objectsAt, classWord, kind, size, bodyOf, isKind, isNilOr, superclassWord, dictionaryWord, fieldsWord, formWord, fieldCount, form, pairCount, pairSelector, pairMethod}

@@ -1,20 +1,20 @@
 -- What rule 4 says of each object, and that bodies lie inside the lent words.
-use Prim.Native.Nat.{ℕ, zero, suc, _+_, _-_, _*_, _/_, _%_, _≤_, _<_}
+use Prim.Native.Nat.{ℕ, zero, suc, _+_, _-_, _/_, _%_, _≤_}
 use mathlib.Core.Path.{_≡_, refl, sym, ap, _∙_, subst}
 use mathlib.Core.Logic.{_≢_}
-use mathlib.Core.Bool.{Bool, true, false, _&&_}
+use mathlib.Core.Bool.{Bool, true, false}
 use mathlib.Core.List.{List}
 use native.Mathlib.Omega.{arith}
-use borrow.Author.Tests.{eq-eqb, ne-eqb, eqb-true}
-use lib.Dec.{T, eqb, eqb→eq}
-use lib.ListN.{length, getD, take, drop}
+use borrow.Author.Tests.{eq-eqb, ne-eqb}
+use lib.Dec.{eqb, eqb→eq}
+use lib.ListN.{length, getD, take}
 use lib.Seq.{length-take-le, getD-take}
 use Rattle.bytecode.specs.Test.{if_then_else_, upTo, every, allOf}
 use Rattle.bytecode.proofs.Choice.{if-yes, if-no}
 use Rattle.bytecode.proofs.TestLaws.{true→T, and-left, and-right, upTo-at}
-use Rattle.model.specs.Limits.{bytesKind, methodKind, classKind, classWords}
+use Rattle.model.specs.Limits.{classKind, classWords}
 use Rattle.model.specs.Word.{isValid}
-use Rattle.model.specs.Objects.{Objects, objectsAt, classWord, kind, start, size, sizedInBytes, bodyWords, bodyEnd, bodyWord, bodyOf, part}
+use Rattle.model.specs.Objects.{Objects, objectsAt, classWord, kind, start, size, sizedInBytes, bodyWords, bodyEnd, bodyOf, part}
 use Rattle.model.specs.Rules.{startFine, paddingFine, layoutRules, wordsFine, rule4}
 use Rattle.model.proofs.Parts.{part-same}
 use Rattle.model.proofs.Facts.{Layout, layout-facts, in-words, in-bytes}
