@@ -447,7 +447,10 @@ fn short_link(b: u8) -> Link
     if b < 208 {
         return Link::Special(b - 176);
     }
-    Link::Selector { literal: b % 16, arguments: (b - 208) / 16 }
+    Link::Selector {
+        literal: b % 16,
+        arguments: (b - 208) / 16,
+    }
 }
 
 // By a byte from 128 to 134 and those that follow.
@@ -458,10 +461,22 @@ fn extended_link(b: u8, x: u8, y: u8) -> Link
     let low = x % 32;
     let high = x / 32;
     match b {
-        131 => Link::Selector { literal: low, arguments: high },
-        132 => Link::Selector { literal: y, arguments: x },
-        133 => Link::Selector { literal: low, arguments: high },
-        134 => Link::Selector { literal: y, arguments: x },
+        131 => Link::Selector {
+            literal: low,
+            arguments: high,
+        },
+        132 => Link::Selector {
+            literal: y,
+            arguments: x,
+        },
+        133 => Link::Selector {
+            literal: low,
+            arguments: high,
+        },
+        134 => Link::Selector {
+            literal: y,
+            arguments: x,
+        },
         _ => {
             if x < 192 {
                 return Link::Nothing;
@@ -491,5 +506,9 @@ pub fn link_at(table: &[u16; 256], words: &[u16], size: usize, at: usize) -> Lin
     if size < at + e / 2048 % 4 {
         return Link::Nothing;
     }
-    extended_link(b, bytecode::byte(words, at + 1), bytecode::byte(words, at + 2))
+    extended_link(
+        b,
+        bytecode::byte(words, at + 1),
+        bytecode::byte(words, at + 2),
+    )
 }
