@@ -14,7 +14,7 @@ ghost use Rattle.flow.specs.Linked.{linkOf};
 ghost use Rattle.flow.specs.Walk.{Asks, Visit, Visits, Step, Here, Expand, Static, WalkingAt, TurnAt, Answer, Lent, Walked, tableBy, mostCode};
 
 // How many positions are pending after a step; or that there is no depth table.
-pub enum Went {
+enum Went {
     On(usize),
     Stuck,
 }
