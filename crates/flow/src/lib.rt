@@ -7,14 +7,14 @@ ghost use lib.Dec.{ltb, leb};
 ghost use lib.ListN.{length, getD, replicate};
 ghost use Rattle.bytecode.specs.Code.{placeOf, instructionOf, decodeAt};
 ghost use Rattle.bytecode.specs.Table.{groupPart, lengthPart, needPart, leavesPart, boundPart, indexPart, groupOf, IsTable};
-ghost use Rattle.model.specs.Depth.{depthTable, isSome};
+ghost use Rattle.model.specs.Depth.{depthTable};
 ghost use Rattle.model.specs.Rules.{isWritable};
-ghost use Rattle.flow.specs.Index.{placeIndexed, indexed, placeIndexedBy, indexedBy};
+ghost use Rattle.flow.specs.Index.{indexed, placeIndexedBy, indexedBy};
 ghost use Rattle.flow.specs.Linked.{linkOf};
 ghost use Rattle.flow.specs.Walk.{Asks, Visit, Visits, Step, Here, Expand, Static, WalkingAt, TurnAt, Answer, Lent, Walked, tableBy, mostCode};
 
 // How many positions are pending after a step; or that there is no depth table.
-pub enum Went {
+enum Went {
     On(usize),
     Stuck,
 }
