@@ -4,9 +4,12 @@ ghost use Prim.Native.Nat.{ℕ, _+_, _*_, _/_, _<_, _≤_};
 ghost use lib.ListN.{length};
 ghost use Rattle.bytecode.specs.Table.{IsTable};
 ghost use Rattle.bytecode.specs.Effect.{specialCount};
-ghost use Rattle.model.specs.Objects.{objectsAt};
+ghost use Rattle.model.specs.Objects.{Objects, objectsAt};
 ghost use Rattle.flow.specs.Linked.{linkFine, linkedAt, allLinked};
-ghost use Rattle.code.specs.Asked.{Small, Asked, CodeLent};
+ghost use Rattle.model.specs.Method.{header, frameWords};
+ghost use Rattle.model.specs.Rules.{methodTable};
+ghost use Rattle.flow.specs.Walk.{Walked, mostCode};
+ghost use Rattle.code.specs.Asked.{Small, Asked, CodeLent, MethodWalked};
 use flow::Link;
 
 // The argument count of a special send, from the table's need.
@@ -117,4 +120,91 @@ fn all_fine(
         p += 1;
     }
     true
+}
+
+// The words of a frame for temporaries and operands, by a method's header.
+fn frame_limit(h: u16) -> usize
+    ensures { λ r. ⌜ ((o : Objects) (m : ℕ) → h ≡ header o m → r ≡ frameWords o m) × (r ≤ 32) ⌝ }
+{
+    if h / 128 % 2 == 1 {
+        return 32;
+    }
+    12
+}
+
+// The notes of a method's code: those of its depth table, all 0 where it has none.
+fn code_notes(
+    table: &[u16; 256],
+    contents: &[u16],
+    bodies: &[u16],
+    n: usize,
+    b: usize,
+    counts: &[u8],
+    m: u16,
+    words: &[u16],
+    notes: &mut [u8],
+    pending: &mut [u16],
+) -> bool
+    requires { ⌜ Asked (now table) n b (now contents) (now bodies) (now counts) m × CodeLent (objectsAt n b (now contents) (now bodies)) m (now words) (length (now notes)) × (length (now notes) ≤ length (now pending)) ⌝ }
+    ensures { λ r. ⌜ Walked (methodTable (objectsAt n b (now (contents .entry)) (now (bodies .entry))) m) (length (now (notes .entry))) (now (notes .exit)) r ⌝ }
+{
+    let h = methods::header_of(contents, bodies, n, b, m);
+    let home = methods::body_word(contents, bodies, n, b, m, 1);
+    let fields = rules::class_body::field_count(contents, bodies, n, b, home) as u8;
+    let temporaries = (h / 256 % 32) as u8;
+    let literals = (h / 2 % 64) as u8;
+    let limit = frame_limit(h);
+    if !flow::walk(
+        table,
+        words,
+        fields,
+        temporaries,
+        literals,
+        limit,
+        notes,
+        pending,
+    ) {
+        return false;
+    }
+    if all_fine(table, contents, bodies, n, b, counts, m, words, notes) {
+        return true;
+    }
+    flow::clear(notes);
+    false
+}
+
+// The same in the table of all methods' notes.
+fn method_notes(
+    table: &[u16; 256],
+    contents: &[u16],
+    bodies: &[u16],
+    n: usize,
+    b: usize,
+    counts: &[u8],
+    m: u16,
+    notes: &mut [u8],
+    pending: &mut [u16],
+) -> bool
+    requires { ⌜ Asked (now table) n b (now contents) (now bodies) (now counts) m × (2 * b ≤ length (now notes)) × (mostCode ≤ length (now pending)) ⌝ }
+    ensures { λ r. ⌜ MethodWalked (objectsAt n b (now (contents .entry)) (now (bodies .entry))) m (now (notes .entry)) (now (notes .exit)) r ⌝ }
+{
+    let k = (m / 2) as usize;
+    let h = methods::header_of(contents, bodies, n, b, m);
+    let skip = 2 + (h / 2 % 64) as usize;
+    let from = rules::start(contents, n, k) as usize + skip;
+    let end = rules::body_end(contents, n, k);
+    let first = 2 * from;
+    let last = first + (rules::size(contents, n, k) as usize - 2 * skip);
+    code_notes(
+        table,
+        contents,
+        bodies,
+        n,
+        b,
+        counts,
+        m,
+        &bodies[from..end],
+        &mut notes[first..last],
+        pending,
+    )
 }

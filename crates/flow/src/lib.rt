@@ -385,7 +385,7 @@ fn drain(
 }
 
 // No note.
-fn clear(notes: &mut [u8])
+pub fn clear(notes: &mut [u8])
     ensures { λ _. ⌜ now (notes .exit) ≡ replicate (length (now (notes .entry))) 0 ⌝ }
 {
     let mut i = 0;
