@@ -1,10 +1,10 @@
 -- Each test is a part of `hasRoom`.
 use native.Mathlib.Omega.{arith}
 use Rattle.model.proofs.Facts.{most-words}
-use Rattle.objects.proofs.Growing.{does-none, does-make, no-room}
+use Rattle.primitives.proofs.Growing.{does-none, does-make, no-room}
 use borrow.Author.Needs.{needs}
-use Rattle.objects.proofs.make.Statement.{statement}
-use Rattle.objects.proofs.make.Tie as tie
+use Rattle.primitives.proofs.make.Statement.{statement}
+use Rattle.primitives.proofs.make.Tie as tie
 
 returns : tie.Need-returns
 returns c = does-none (c .before .before .before .args .n) (c .before .before .before .args .b) (c .before .before .before .args .contents .now) (c .before .before .before .args .bodies .now) (c .before .before .before .pre .0) (no-room _ _ _ _ _ _ _ (λ h. (let q = h .objects in omega (arith, c .if1 .taken))))

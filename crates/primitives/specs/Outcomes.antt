@@ -14,8 +14,8 @@ use Rattle.model.specs.Objects.{Objects, objectsAt, classOf, form}
 use Rattle.model.specs.Rules.{Right}
 use Rattle.model.specs.Image.{Room}
 use Rattle.model.specs.Primitive.{Outcome, answers, fails, isIndexable}
-use Rattle.objects.specs.declared.Done.{Done}
+use Rattle.primitives.specs.declared.Done.{Done}
 use Rattle.objects.specs.Lent.{front}
 
 unfoldable pub answerOf : Outcome → Computed
 answerOf (answers w o) = Word w

@@ -1,8 +1,8 @@
 -- The tests of an index, one by one.
 use native.Mathlib.Omega.{arith}
-use Rattle.objects.proofs.Indexing.{no-index, an-index}
-use Rattle.objects.proofs.index.Statement.{statement}
-use Rattle.objects.proofs.index.Tie as tie
+use Rattle.primitives.proofs.Indexing.{no-index, an-index}
+use Rattle.primitives.proofs.index.Statement.{statement}
+use Rattle.primitives.proofs.index.Tie as tie
 
 returns : tie.Need-returns
 returns c = no-index _ _ (λ h. (c .if1 .taken) (h .odd))

@@ -2,10 +2,10 @@
 use mathlib.Core.Path.{ap, sym, _∙_}
 use mathlib.Core.Logic.{inl, inr}
 use Rattle.model.specs.Objects.{objectsAt, form}
 use Rattle.objects.proofs.Buffers.{contents-room}
-use Rattle.objects.proofs.Indexing.{elements-odd, elements-large, elements-form, elements-other, receiver-listed, receiver-class}
-use Rattle.objects.proofs.elements.Statement.{statement}
-use Rattle.objects.proofs.elements.Tie as tie
+use Rattle.primitives.proofs.Indexing.{elements-odd, elements-large, elements-form, elements-other, receiver-listed, receiver-class}
+use Rattle.primitives.proofs.elements.Statement.{statement}
+use Rattle.primitives.proofs.elements.Tie as tie
 
 returns : tie.Need-returns
 returns c = elements-odd _ _ (c .if1 .taken)

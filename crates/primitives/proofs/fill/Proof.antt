@@ -4,10 +4,10 @@ use mathlib.Core.Path.{_≡_, refl}
 use mathlib.Core.List.{_++_}
 use native.Mathlib.Omega.{arith}
 use lib.ListN.{length, take, replicate, length-set}
 use Rattle.objects.specs.Lent.{front}
-use Rattle.objects.proofs.Growing.{fill-first, fill-next}
-use Rattle.objects.proofs.fill.Statement.{statement}
-use Rattle.objects.proofs.fill.Tie as tie
+use Rattle.primitives.proofs.Growing.{fill-first, fill-next}
+use Rattle.primitives.proofs.fill.Statement.{statement}
+use Rattle.primitives.proofs.fill.Tie as tie
 
 abbrev Inv-loop : tie.InvT-loop
 Inv-loop bodies₀ b count w i₀ bodies i = (i ≤ count) × (bodies ≡ front (take b bodies₀ ++ replicate i w) bodies₀) × (length bodies ≡ length bodies₀)

@@ -4,11 +4,11 @@ use native.Mathlib.Omega.{arith}
 use borrow.Author.Tests.{not-true, not-false}
 use Rattle.bytecode.proofs.TestLaws.{true→T}
 use Rattle.model.proofs.Facts.{class-facts}
 use Rattle.objects.proofs.Buffers.{contents-room}
-use Rattle.objects.proofs.Growing.{does-none, does-same, new-no-class, new-other, new-is}
+use Rattle.primitives.proofs.Growing.{does-none, does-same, new-no-class, new-other, new-is}
 use borrow.Author.Needs.{needs}
-use Rattle.objects.proofs.new_object.Statement.{statement}
-use Rattle.objects.proofs.new_object.Tie as tie
+use Rattle.primitives.proofs.new_object.Statement.{statement}
+use Rattle.primitives.proofs.new_object.Tie as tie
 
 is-kind-requires : tie.Need-is-kind-requires
 is-kind-requires c κs = contents-room (c .before .before .before .args .n) (c .before .before .before .args .b) (c .before .before .before .args .contents .now) (c .before .before .before .args .bodies .now) (c .before .before .before .pre)

@@ -1,10 +1,10 @@
 -- A size at most 16,383 is an integer word.
 use native.Mathlib.Omega.{arith}
 use Rattle.model.specs.Objects.{objectsAt}
-use Rattle.objects.proofs.Indexing.{taken, not-taken, receiver-listed, size-none, size-some}
+use Rattle.primitives.proofs.Indexing.{taken, not-taken, receiver-listed, size-none, size-some}
 use borrow.Author.Needs.{needs}
-use Rattle.objects.proofs.size_answer.Statement.{statement}
-use Rattle.objects.proofs.size_answer.Tie as tie
+use Rattle.primitives.proofs.size_answer.Statement.{statement}
+use Rattle.primitives.proofs.size_answer.Tie as tie
 
 elements-requires : tie.Need-elements-requires
 elements-requires c κs = search needs

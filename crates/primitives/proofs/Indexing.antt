@@ -17,10 +17,10 @@ use Rattle.model.specs.Objects.{Objects, objectsAt, classOf, classWord, kind, s
 use Rattle.model.specs.Primitive.{Outcome, answers, fails, storeWord, storeByte, objectByte, isIndexable, holdsBytes, isIndex, at, atPut, sizeAnswer}
 use Rattle.model.proofs.Parts.{or-left, or-right}
 use Rattle.model.proofs.Facts.{in-words, in-bytes, sized-at, Fits, fixed, indexed, bytes, other, entry-class, entry-fits}
 use Rattle.objects.specs.Lent.{front, Listed, Inside, Holds}
-use Rattle.objects.specs.Outcomes.{answerOf, objectsAfter, Receives, Puts, elementsOf, indexOf}
+use Rattle.primitives.specs.Outcomes.{answerOf, objectsAfter, Receives, Puts, elementsOf, indexOf}
 use Rattle.objects.proofs.Buffers.{contents-room, front-same}
 use Rattle.objects.proofs.Bodies.{valid-listed}
 
 not-test : (t : Bool) → (T t → ⊥) → t ≡ false
 not-test true f = absurd (f tt)

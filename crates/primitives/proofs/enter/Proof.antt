@@ -2,10 +2,10 @@
 use Prim.Native.Nat.{_*_}
 use native.Mathlib.Omega.{arith}
 use lib.ListN.{length-set}
-use Rattle.objects.proofs.Growing.{entered}
+use Rattle.primitives.proofs.Growing.{entered}
 use borrow.Author.Needs.{needs}
-use Rattle.objects.proofs.enter.Statement.{statement}
-use Rattle.objects.proofs.enter.Tie as tie
+use Rattle.primitives.proofs.enter.Statement.{statement}
+use Rattle.primitives.proofs.enter.Tie as tie
 
 mul-at : tie.Need-mul-at
 mul-at c = search needs

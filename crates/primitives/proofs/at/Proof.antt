@@ -1,10 +1,10 @@
 -- The element is inside the body, by the form of its class.
 use native.Mathlib.Omega.{arith}
 use Rattle.model.specs.Objects.{objectsAt}
-use Rattle.objects.proofs.Indexing.{taken, not-taken, indexed-by, not-indexed, receiver-listed, byte-inside, word-inside, at-none, at-no-index, at-byte, at-word}
+use Rattle.primitives.proofs.Indexing.{taken, not-taken, indexed-by, not-indexed, receiver-listed, byte-inside, word-inside, at-none, at-no-index, at-byte, at-word}
 use borrow.Author.Needs.{needs}
-use Rattle.objects.proofs.at.Statement.{statement}
-use Rattle.objects.proofs.at.Tie as tie
+use Rattle.primitives.proofs.at.Statement.{statement}
+use Rattle.primitives.proofs.at.Tie as tie
 
 elements-requires : tie.Need-elements-requires
 elements-requires c κs = search needs

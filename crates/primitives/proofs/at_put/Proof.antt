@@ -1,11 +1,11 @@
 -- The element is inside the body, by the form of its class.
 use native.Mathlib.Omega.{arith}
 use Rattle.model.specs.Objects.{objectsAt}
 use Rattle.objects.proofs.Buffers.{bodies-room}
-use Rattle.objects.proofs.Indexing.{taken, not-taken, indexed-by, not-indexed, receiver-listed, byte-inside, word-inside, put-none, put-no-index, put-even, put-large, put-byte, put-word, puts-none, puts-some}
+use Rattle.primitives.proofs.Indexing.{taken, not-taken, indexed-by, not-indexed, receiver-listed, byte-inside, word-inside, put-none, put-no-index, put-even, put-large, put-byte, put-word, puts-none, puts-some}
 use borrow.Author.Needs.{needs}
-use Rattle.objects.proofs.at_put.Statement.{statement}
-use Rattle.objects.proofs.at_put.Tie as tie
+use Rattle.primitives.proofs.at_put.Statement.{statement}
+use Rattle.primitives.proofs.at_put.Tie as tie
 
 elements-requires : tie.Need-elements-requires
 elements-requires c κs = search needs

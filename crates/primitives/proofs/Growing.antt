@@ -20,10 +20,10 @@ use Rattle.model.specs.Image.{Room}
 use Rattle.model.specs.Rules.{Right}
 use Rattle.model.specs.Primitive.{Outcome, fails, appended, hasRoom, make, new, newWith}
 use Rattle.model.proofs.AppendLaws.{HasRoom, room-facts}
-use Rattle.objects.specs.declared.Done.{Done}
+use Rattle.primitives.specs.declared.Done.{Done}
 use Rattle.objects.specs.Lent.{front}
-use Rattle.objects.specs.Outcomes.{answerOf, objectsAfter, roomOf, Does}
+use Rattle.primitives.specs.Outcomes.{answerOf, objectsAfter, roomOf, Does}
 use Rattle.objects.proofs.Buffers.{contents-room, bodies-room, front-same}
 
 -- One more word at the front
 front-next : (p l : List ℕ) (i v : ℕ) → length p ≡ i → i < length l → set (front p l) i v ≡ front (p ++ (v ∷ [])) l
