@@ -6,7 +6,9 @@ ghost use lib.ListN.{length, take, replicate};
 ghost use Rattle.model.specs.Limits.{entryWords};
 ghost use Rattle.model.specs.Objects.{objectsAt};
 ghost use Rattle.model.specs.Rules.{Right};
-ghost use Rattle.model.specs.Primitive.{at, atPut, sizeAnswer, make, new, newWith, computed};
+ghost use Rattle.model.specs.Primitive.{at, atPut, sizeAnswer, make, new, newWith, computed, perform, primitiveCount, primitive};
+ghost use Rattle.model.specs.Word.{booleanWord};
+ghost use lib.Dec.{eqb};
 ghost use Rattle.objects.specs.Lent.{front};
 ghost use Rattle.primitives.specs.Outcomes.{roomOf, Receives, Puts, Does, elementsOf, indexOf};
 use model::Computed;
@@ -310,4 +312,125 @@ pub fn new_with(
         n: n,
         b: b,
     }
+}
+
+// How many arguments a primitive takes.
+pub fn primitive_count(k: usize) -> usize
+    ensures { λ r. ⌜ r ≡ primitiveCount k ⌝ }
+{
+    if k == 61 {
+        return 2;
+    }
+    if k == 62 {
+        return 0;
+    }
+    if k == 70 {
+        return 0;
+    }
+    if k == 111 {
+        return 0;
+    }
+    1
+}
+
+// 110
+fn same(w: u16, x: u16) -> u16
+    ensures { λ r. ⌜ r ≡ booleanWord (eqb w x) ⌝ }
+{
+    if w == x {
+        return 6;
+    }
+    4
+}
+
+// A primitive that is none of 1 to 17, on a receiver and two arguments, those that it takes.
+pub fn perform(
+    contents: &mut [u16],
+    bodies: &mut [u16],
+    n: usize,
+    b: usize,
+    k: usize,
+    w: u16,
+    x: u16,
+    y: u16,
+) -> Done
+    requires { ⌜ Receives n b (now contents) (now bodies) w × (1 ≤ k → 17 < k) ⌝ }
+    ensures { λ r. ⌜ Does (objectsAt n b (now (contents .entry)) (now (bodies .entry))) (perform (roomOf (now (contents .entry)) (now (bodies .entry))) (objectsAt n b (now (contents .entry)) (now (bodies .entry))) k w x y) r (now (contents .entry)) (now (bodies .entry)) (now (contents .exit)) (now (bodies .exit)) ⌝ }
+{
+    if k == 60 {
+        let answer = at(contents, bodies, n, b, w, x);
+        return Done {
+            answer: answer,
+            n: n,
+            b: b,
+        };
+    }
+    if k == 61 {
+        let answer = at_put(contents, bodies, n, b, w, x, y);
+        return Done {
+            answer: answer,
+            n: n,
+            b: b,
+        };
+    }
+    if k == 62 {
+        let answer = size_answer(contents, bodies, n, b, w);
+        return Done {
+            answer: answer,
+            n: n,
+            b: b,
+        };
+    }
+    if k == 70 {
+        return new_object(contents, bodies, n, b, w);
+    }
+    if k == 71 {
+        return new_with(contents, bodies, n, b, w, x);
+    }
+    if k == 110 {
+        return Done {
+            answer: Computed::Word(same(w, x)),
+            n: n,
+            b: b,
+        };
+    }
+    if k == 111 {
+        let class = objects::class_of(contents, n, w);
+        return Done {
+            answer: Computed::Word(class.0),
+            n: n,
+            b: b,
+        };
+    }
+    Done {
+        answer: Computed::Failed,
+        n: n,
+        b: b,
+    }
+}
+
+// The same with the count that the primitive is called with: another than its own fails.
+pub fn primitive(
+    contents: &mut [u16],
+    bodies: &mut [u16],
+    n: usize,
+    b: usize,
+    k: usize,
+    count: usize,
+    w: u16,
+    x: u16,
+    y: u16,
+) -> Done
+    requires { ⌜ Receives n b (now contents) (now bodies) w × (1 ≤ k → 17 < k) ⌝ }
+    ensures { λ r. ⌜ Does (objectsAt n b (now (contents .entry)) (now (bodies .entry))) (primitive (roomOf (now (contents .entry)) (now (bodies .entry))) (objectsAt n b (now (contents .entry)) (now (bodies .entry))) k count w (x ∷ y ∷ [])) r (now (contents .entry)) (now (bodies .entry)) (now (contents .exit)) (now (bodies .exit)) ⌝ }
+{
+    let takes = primitive_count(k);
+    if count != takes {
+        return Done {
+            answer: Computed::Failed,
+            n: n,
+            b: b,
+        };
+    }
+    perform(contents, bodies, n, b, k, w, x, y)
 }
