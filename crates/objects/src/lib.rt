@@ -119,8 +119,8 @@ pub fn store_word(
     requires { ⌜ Inside n b (now contents) (now bodies) (p .0) i ⌝ }
     ensures { λ _. ⌜ now (bodies .exit) ≡ front (storeWord (objectsAt n b (now (contents .entry)) (now (bodies .entry))) (objectNumber (p .0)) i w .bodies) (now (bodies .entry)) ⌝ }
 {
-    let at = start_of(contents, n, p) + i;
-    bodies[at] = w;
+    let to = start_of(contents, n, p) + i;
+    bodies[to] = w;
 }
 
 // Byte i of an object's body, high byte of a word first.
