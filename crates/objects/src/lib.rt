@@ -2,12 +2,12 @@
 // model's specs/, over the objects in the two buffers.
 ghost use mathlib.Core.Path.{_≡_};
 ghost use mathlib.Core.List.{List};
-ghost use Prim.Native.Nat.{ℕ, _+_, _*_, _/_, _%_, _<_, _≤_};
+ghost use Prim.Native.Nat.{ℕ, _*_, _/_, _<_, _≤_};
 ghost use lib.Dec.{T};
 ghost use lib.ListN.{length};
 ghost use Rattle.model.specs.Limits.{entryWords, classKind, listKind, methodKind, primitiveFlag};
 ghost use Rattle.model.specs.Word.{isPointer, isValid, objectNumber};
-ghost use Rattle.model.specs.Objects.{objectsAt, classOf, isKind, isNilOr, kind, start, size, bodyWords, bodyWord, superclassWord, dictionaryWord, fieldCount, form};
+ghost use Rattle.model.specs.Objects.{objectsAt, classOf, isKind, isNilOr, kind, start, size, bodyWord, superclassWord, dictionaryWord, fieldCount, form};
 ghost use Rattle.model.specs.Method.{header, home, literal, flag, literalCount, extension, primitiveNumber, argumentCount};
 ghost use Rattle.model.specs.Lookup.{findIn, lookup, inChain};
 ghost use Rattle.model.specs.Rules.{Right};

@@ -7,7 +7,6 @@ use mathlib.Core.List.{List}
 use native.Mathlib.Omega.{arith}
 use borrow.Author.Tests.{eq-eqb, ne-eqb, le-leb, lt-leb}
 use lib.Dec.{T, T-not, not-T, leb, eqb, leb→le, le→leb, eqb→eq}
-use lib.ListN.{length}
 use Rattle.bytecode.proofs.Choice.{if-yes, if-no}
 use Rattle.bytecode.proofs.TestLaws.{true→T, T→true, and-left, and-right, and-both, or-cases}
 use Rattle.model.specs.declared.Computed.the-variants.{Word, Failed}
@@ -19,7 +18,7 @@ use Rattle.model.proofs.Parts.{or-left, or-right}
 use Rattle.model.proofs.Facts.{in-words, in-bytes, sized-at, Fits, fixed, indexed, bytes, other, entry-class, entry-fits}
 use Rattle.objects.specs.Lent.{front, Listed, Inside, Holds}
 use Rattle.primitives.specs.Outcomes.{answerOf, objectsAfter, Receives, Puts, elementsOf, indexOf}
-use Rattle.objects.proofs.Buffers.{contents-room, front-same}
+use Rattle.objects.proofs.Buffers.{contents-room, bodies-room, front-same}
 use Rattle.objects.proofs.Bodies.{valid-listed}
 
 not-test : (t : Bool) → (T t → ⊥) → t ≡ false
@@ -200,32 +199,32 @@ module _ {n b : ℕ} {contents bodies : List ℕ} {w : ℕ} (r : Receives n b co
       let l = receiver-listed d in
       subst (Fits (objectsAt n b contents bodies) (objectNumber w)) (sym (class-is d)) (entry-fits (r .right) (objectNumber w) (l .least) (l .most))
 
-  pub word-inside : (f j : ℕ) → Taken (objectsAt n b contents bodies) w f → f ≢ 2 → j < size (objectsAt n b contents bodies) (objectNumber w) → Inside n b contents bodies w j
-  word-inside f j t d g =
+  pub word-inside : (f x i : ℕ) → Taken (objectsAt n b contents bodies) w f → Indexed (objectsAt n b contents bodies) w x i → f ≢ 2 → Inside n b contents bodies w (i - 1)
+  word-inside f x i t k d =
       let l = receiver-listed (t .even) in
       record { right = r .right; least = l .least; most = l .most; word = go (fitting (t .even)) (t .forms) (t .by) }
     where
-      words : kind (objectsAt n b contents bodies) (objectNumber w) ≡ fieldsKind → j < bodyWords (objectsAt n b contents bodies) (objectNumber w)
-      words k = let q = in-words (objectsAt n b contents bodies) (objectNumber w) (omega arith) (omega arith) in omega arith
+      words : kind (objectsAt n b contents bodies) (objectNumber w) ≡ fieldsKind → i - 1 < bodyWords (objectsAt n b contents bodies) (objectNumber w)
+      words h = let m = k .most in let l = k .least in let q = in-words (objectsAt n b contents bodies) (objectNumber w) (omega arith) (omega arith) in omega arith
 
       go : Fits (objectsAt n b contents bodies) (objectNumber w) (classOf (objectsAt n b contents bodies) w) → form (objectsAt n b contents bodies) (classOf (objectsAt n b contents bodies) w) ≡ f → (f ≡ 1) ⊎ (f ≡ 2)
-          → j < bodyWords (objectsAt n b contents bodies) (objectNumber w)
+          → i - 1 < bodyWords (objectsAt n b contents bodies) (objectNumber w)
       go (fixed x y z) p q = words y
       go (indexed x y z) p q = words y
       go (bytes x y) p q = absurd (d (sym p ∙ x))
       go (other x y) p (inl q) = absurd (omega arith)
       go (other x y) p (inr q) = absurd (d q)
 
-  pub byte-inside : (f j : ℕ) → Taken (objectsAt n b contents bodies) w f → f ≡ 2 → j < size (objectsAt n b contents bodies) (objectNumber w) → Inside n b contents bodies w (j / 2)
-  byte-inside f j t e g =
+  pub byte-inside : (f x i : ℕ) → Taken (objectsAt n b contents bodies) w f → Indexed (objectsAt n b contents bodies) w x i → f ≡ 2 → Inside n b contents bodies w ((i - 1) / 2)
+  byte-inside f x i t k e =
       let l = receiver-listed (t .even) in
       record { right = r .right; least = l .least; most = l .most; word = go (fitting (t .even)) (t .forms) }
     where
       go : Fits (objectsAt n b contents bodies) (objectNumber w) (classOf (objectsAt n b contents bodies) w) → form (objectsAt n b contents bodies) (classOf (objectsAt n b contents bodies) w) ≡ f
-          → j / 2 < bodyWords (objectsAt n b contents bodies) (objectNumber w)
+          → (i - 1) / 2 < bodyWords (objectsAt n b contents bodies) (objectNumber w)
       go (fixed x y z) p = absurd (omega arith)
       go (indexed x y z) p = absurd (omega arith)
-      go (bytes x y) p = let q = in-bytes (objectsAt n b contents bodies) (objectNumber w) (sized-at (kind (objectsAt n b contents bodies) (objectNumber w)) bytesKind y tt) in omega arith
+      go (bytes x y) p = let m = k .most in let l = k .least in let q = in-bytes (objectsAt n b contents bodies) (objectNumber w) (sized-at (kind (objectsAt n b contents bodies) (objectNumber w)) bytesKind y tt) in omega arith
       go (other x y) p = absurd (omega arith)
 
 -- 60 to 62, case by case
@@ -302,10 +301,10 @@ module _ (o : Objects) (w x : ℕ) where
           sym (if-yes _ _ both ∙ if-yes _ _ (holds e) ∙ if-no _ _ (ap₂ _&&_ (eq-eqb (v % 2) 1 p) (lt-leb (v / 2) 255 q)))
 
 -- in the buffer
-pub puts-none : (n b : ℕ) (contents bodies : List ℕ) {z : Outcome} → b ≤ length bodies → fails ≡ z → Puts (objectsAt n b contents bodies) z Failed bodies bodies
+pub puts-none : {n b : ℕ} {contents bodies : List ℕ} {w : ℕ} {z : Outcome} → Receives n b contents bodies w → fails ≡ z → Puts (objectsAt n b contents bodies) z Failed bodies bodies
 unfolding answerOf objectsAfter
-puts-none n b contents bodies h p =
-    subst (λ (z : Outcome). Puts (objectsAt n b contents bodies) z Failed bodies bodies) p (record { answer = refl; words = sym (front-same b bodies h) })
+puts-none {n} {b} {contents} {bodies} h p =
+    subst (λ (z : Outcome). Puts (objectsAt n b contents bodies) z Failed bodies bodies) p (record { answer = refl; words = sym (front-same b bodies (bodies-room n b contents bodies (h .right))) })
 
 pub puts-some : {o o′ : Objects} {v : ℕ} {bodies after : List ℕ} {z : Outcome} → after ≡ front (o′ .bodies) bodies → answers v o′ ≡ z → Puts o z (Word v) bodies after
 unfolding answerOf objectsAfter

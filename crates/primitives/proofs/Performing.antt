@@ -20,7 +20,8 @@ use Rattle.model.specs.Image.{Room}
 use Rattle.model.specs.Rules.{Right}
 use Rattle.model.specs.Primitive.{Outcome, answers, fails, storeWord, storeByte, at, atPut, sizeAnswer, hasRoom, make, new, newWith, computed, perform, primitiveCount, primitive}
 use Rattle.objects.specs.Lent.{front}
-use Rattle.objects.proofs.Buffers.{contents-room, bodies-room, front-same}
+use Rattle.objects.proofs.Buffers.{objects-front, contents-room, bodies-room, front-same}
+use Rattle.primitives.specs.declared.Done.{Done}
 use Rattle.primitives.specs.Outcomes.{answerOf, objectsAfter, roomOf, Puts, Does}
 use Rattle.primitives.proofs.Growing.{does-none}
 
@@ -32,6 +33,13 @@ does-computed n b contents bodies (Word v) h p =
     subst (λ (z : Outcome). Does (objectsAt n b contents bodies) z (record { answer = Word v; n = n; b = b }) contents bodies contents bodies) p
     (record { answer = refl; count = refl; size = refl; entries = sym (front-same (entryWords * n) contents (contents-room n b contents bodies h)); words = sym (front-same b bodies (bodies-room n b contents bodies h)) })
 does-computed n b contents bodies Failed h p = does-none n b contents bodies h p
+
+-- The objects in the buffers are then those of the outcome.
+pub does-objects : {o : Objects} {z : Outcome} {r : Done} {contents bodies contents′ bodies′ : List ℕ} → Does o z r contents bodies contents′ bodies′
+    → length (objectsAfter o z .contents) ≡ entryWords * objectsAfter o z .n → length (objectsAfter o z .bodies) ≡ objectsAfter o z .b
+    → objectsAt (r .n) (r .b) contents′ bodies′ ≡ objectsAfter o z
+does-objects {o} {z} {r} {contents} {bodies} h p q =
+    (λ i. objectsAt (h .count i) (h .size i) (h .entries i) (h .words i)) ∙ objects-front (objectsAfter o z) contents bodies p q
 
 -- 61 leaves entries, n and b.
 record Stays (o : Objects) (z : Outcome) : Type 0 where
