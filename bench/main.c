@@ -7,9 +7,8 @@
 
 enum { SIZE = 48000, RUNS = 400 };
 
-bool bench_walk(const slice *words, uint8_t fields, uint8_t temporaries, uint8_t literals, size_t limit, const slice *notes,
-                const slice *pending);
-bool bench_table(const slice *table);
+bool bench_walk(slice words, uint8_t fields, uint8_t temporaries, uint8_t literals, size_t limit, slice notes, slice pending);
+void bench_table(uint16_t *table);
 
 static uint16_t entries[256], words[SIZE / 2], pending[SIZE];
 static uint8_t ours[SIZE], theirs[SIZE];
@@ -26,7 +25,7 @@ static int measure(const char *name) {
     bool r = false, s = false;
     for (int i = 0; i < RUNS; i++) {
         const double t0 = now();
-        r = bench_walk(&w, 8, 8, 8, 32, &n, &p);
+        r = bench_walk(w, 8, 8, 8, 32, n, p);
         const double t1 = now();
         s = c_walk(entries, words, 8, 8, 8, 32, theirs, SIZE, pending);
         const double t2 = now();
@@ -44,8 +43,7 @@ static int measure(const char *name) {
 }
 
 int main(void) {
-    const slice t = {entries, 256};
-    if (!bench_table(&t)) return 1;
+    bench_table(entries);
     mixed(words, SIZE);
     int bad = measure("mixed");
     backward(words, SIZE);

@@ -19,35 +19,44 @@ static bool walked(const uint16_t *entries, const uint16_t *words, unsigned fiel
         for (;;) {
             const unsigned b = byte_at(words, at), e = entries[b], group = e >> 13;
             unsigned need = e >> 9 & 3;
-            size_t next = at + (e >> 11 & 3), target = 0;
-            bool fork = false;
             if (group < 2) {
-                if (counts[e >> 5 & 3] <= (e & 31)) return false;
-            } else if (group == 2) {
+                if (counts[e >> 5 & 3] <= (e & 31) || depth < need) return false;
+                depth = depth - need + (e >> 7 & 3);
+                at++;
+                if (room < depth || size <= at) return false;
+                if (notes[at] != 0) {
+                    if (notes[at] != depth + 1) return false;
+                    break;
+                }
+                notes[at] = depth + 1;
+                continue;
+            }
+            if (group == 2) {
                 if (depth < need) return false;
                 break;
+            }
+            size_t next = at + (e >> 11 & 3), target = 0;
+            bool fork = false;
+            if (group > 3 || size < next) return false;
+            if (b < 131) {
+                const unsigned x = byte_at(words, at + 1), place = x >> 6;
+                if (counts[place == 3 ? 3 : place + 1] <= (x & 63) || (b > 128 && place == 2)) return false;
+            } else if (b < 135) {
+                const unsigned x = byte_at(words, at + 1);
+                need += b & 1 ? x >> 5 : x;
+                if (literals <= (b & 1 ? x & 31 : byte_at(words, at + 2))) return false;
+            } else if (b < 152) {
+                next += (b & 7) + 1;
+            } else if (b < 160) {
+                target = next + (b & 7) + 1;
+                fork = true;
+            } else if (b < 168) {
+                next += (b & 7) * 256 + byte_at(words, at + 1);
+                if (next < 1024) return false;
+                next -= 1024;
             } else {
-                if (group > 3 || size < next) return false;
-                if (b < 131) {
-                    const unsigned x = byte_at(words, at + 1), place = x >> 6;
-                    if (counts[place == 3 ? 3 : place + 1] <= (x & 63) || (b > 128 && place == 2)) return false;
-                } else if (b < 135) {
-                    const unsigned x = byte_at(words, at + 1);
-                    need += b & 1 ? x >> 5 : x;
-                    if (literals <= (b & 1 ? x & 31 : byte_at(words, at + 2))) return false;
-                } else if (b < 152) {
-                    next += (b & 7) + 1;
-                } else if (b < 160) {
-                    target = next + (b & 7) + 1;
-                    fork = true;
-                } else if (b < 168) {
-                    next += (b & 7) * 256 + byte_at(words, at + 1);
-                    if (next < 1024) return false;
-                    next -= 1024;
-                } else {
-                    target = next + (b & 3) * 256 + byte_at(words, at + 1);
-                    fork = true;
-                }
+                target = next + (b & 3) * 256 + byte_at(words, at + 1);
+                fork = true;
             }
             if (depth < need) return false;
             depth = depth - need + (e >> 7 & 3);

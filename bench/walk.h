@@ -2,7 +2,7 @@
 #include <stddef.h>
 #include <stdint.h>
 
-// A lent slice, as Rattle passes it: by a pointer to this.
+// A lent slice, as Rattle takes it from C: by value.
 typedef struct {
     const void *at;
     size_t length;

@@ -1,21 +1,21 @@
 -- The walk over code: what is known of the position that a turn takes, what a turn comes to, and what the end says of the depth table.
-use Prim.Native.Nat.{ℕ, zero, suc, pred, _+_, _-_, _*_, _/_, _<_, _≤_}
-use mathlib.Core.Path.{_≡_, refl, sym, ap, _∙_, subst}
+use Prim.Native.Nat.{ℕ, zero, suc, _+_, _-_, _/_, _<_, _≤_}
+use mathlib.Core.Path.{_≡_, refl, sym, ap, _∙_}
 use mathlib.Core.Bool.{Bool, true, false}
 use mathlib.Core.List.{List, [], _∷_}
 use mathlib.Core.Option.{Option, none, some}
 use native.Mathlib.Omega.{arith}
-use lib.Dec.{T, leb, leb→le}
-use lib.ListN.{length, getD, set, replicate, length-set, length-replicate}
+use lib.Dec.{T, leb→le}
+use lib.ListN.{length, getD, set, replicate, length-set}
 use Rattle.bytecode.specs.Code.{byteAt}
 use Rattle.bytecode.specs.Table.{Entry}
 use Rattle.bytecode.specs.declared.Instruction.{Instruction}
 use Rattle.bytecode.proofs.TestLaws.{rule}
-use Rattle.model.specs.Depth.{Reached, first, HasTable, successorsAt, depthAfterAt, rulesAt, fineAt, depthTable, isSome}
+use Rattle.model.specs.Depth.{first, successorsAt, depthAfterAt, rulesAt, fineAt, depthTable}
 use Rattle.model.proofs.Marks.{zeros}
 use Rattle.model.proofs.DepthLaws.{fine-inside}
 use Rattle.flow.specs.Index.{indexed, indexedBy}
-use Rattle.flow.specs.Walk.{Noted, Asks, Walk, Turn, Nobody, fineIn, tableBy, Here, Expand, WalkingAt, TurnAt, Static, Answer, Lent, notesOf, Walked, mostCode, mostDepth}
+use Rattle.flow.specs.Walk.{Noted, Asks, Turn, fineIn, tableBy, Here, Expand, WalkingAt, TurnAt, Static, Answer, Lent, Walked, mostCode, mostDepth}
 use Rattle.flow.specs.declared.Went.{Went}
 use Rattle.flow.specs.declared.Went.the-variants.{On, Stuck}
 use Rattle.flow.proofs.InvariantLaws.{turn-law, ended, begun}

@@ -1,30 +1,29 @@
 -- What the byte at a position and its entry say of the instruction there: its rules at a depth, its successors and the depth after it.
-use Prim.Native.Nat.{ℕ, zero, suc, _+_, _-_, _*_, _/_, _%_, _<_, _≤_}
-use mathlib.Core.Path.{_≡_, refl, sym, ap, _∙_, subst}
+use Prim.Native.Nat.{ℕ, _+_, _-_, _*_, _/_, _%_, _<_, _≤_}
+use mathlib.Core.Path.{_≡_, refl, sym, ap, _∙_}
 use mathlib.Core.Bool.{Bool, true, false, _&&_}
 use mathlib.Core.List.{List, [], _∷_}
 use native.Mathlib.Omega.{arith}
 use borrow.Author.Tests.{le-leb, lt-leb}
-use lib.Dec.{T, ltb, leb}
+use lib.Dec.{ltb, leb}
 use lib.ListN.{length, getD}
-use Rattle.bytecode.specs.Test.{if_then_else_}
 use Rattle.bytecode.specs.Code.{byteAt, instructionOf, lengthOf, nextAt, decodeAt}
 use Rattle.bytecode.specs.Effect.{need, leaves, usable, successors}
-use Rattle.bytecode.specs.Table.{bound, index, group, groupOf, extraOf, groupPart, lengthPart, needPart, leavesPart, boundPart, indexPart, Entry}
+use Rattle.bytecode.specs.Table.{group, extraOf, groupPart, lengthPart, needPart, leavesPart, boundPart, indexPart}
 use Rattle.bytecode.specs.declared.Instruction.{Instruction}
 use Rattle.bytecode.specs.declared.Instruction.the-variants.{Jump, JumpOn, Unused}
-use Rattle.bytecode.proofs.Choice.{if-le, if-gt}
+use Rattle.bytecode.proofs.Choice.{if-le}
 use Rattle.bytecode.proofs.CodeLaws.{jump-short, jump-on-short, length-middle, length-jump}
 use Rattle.bytecode.proofs.DecodeLaws.{next-is, decode-whole}
 use Rattle.bytecode.proofs.EntryLaws.{one-byte, goes-on, group-of}
-use Rattle.bytecode.proofs.PositionLaws.{PlainAt, ReturnAt, WholeAt, plain-at, return-at, unused-at, short-at, whole-at}
+use Rattle.bytecode.proofs.PositionLaws.{plain-at, return-at, unused-at, short-at, whole-at}
 use Rattle.model.specs.Depth.{successorsAt, depthAfterAt, rulesAt, fineAt}
 use Rattle.flow.specs.Index.{indexed, indexedBy}
 use Rattle.flow.specs.Walk.{Step, fineIn, Here, Expand}
 use Rattle.flow.specs.declared.Went.{Went}
-use Rattle.flow.specs.declared.Went.the-variants.{On, Stuck}
-use Rattle.flow.proofs.StepLaws.{step-as, step-no, step-none}
-use Rattle.flow.proofs.InstructionLaws.{said, return-indexed, extended-goes-on, far-low, far-high, jump-long, jump-on-long}
+use Rattle.flow.specs.declared.Went.the-variants.{Stuck}
+use Rattle.flow.proofs.StepLaws.{step-as, step-no}
+use Rattle.flow.proofs.InstructionLaws.{said, return-indexed, extended-goes-on, jump-long, jump-on-long}
 
 and-true : (a : Bool) → a && true ≡ a
 and-true true = refl

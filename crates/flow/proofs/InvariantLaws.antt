@@ -1,5 +1,5 @@
 -- How the walk's invariant begins, what a turn makes of it, and what it says when nothing is pending.
-use Prim.Native.Nat.{ℕ, zero, suc, pred, _+_, _<_, _≤_}
+use Prim.Native.Nat.{ℕ, suc, pred, _+_, _<_, _≤_}
 use mathlib.Core.Path.{_≡_, refl, sym, ap, _∙_, subst}
 use mathlib.Core.Logic.{_⊎_, inl, inr, ⊎-elim}
 use mathlib.Core.Bool.{Bool, true, false}
@@ -8,12 +8,12 @@ use native.Mathlib.Nat.{suc-inj}
 use native.Mathlib.Omega.{arith}
 use native.Mathlib.Decide.{ℕ-discrete, decLt}
 use lib.Dec.{T}
-use lib.ListN.{length, getD, set, length-set, length-replicate}
+use lib.ListN.{length, getD, set, length-replicate}
 use Rattle.bytecode.proofs.TestLaws.{true→T}
-use Rattle.model.specs.Depth.{Reached, first, onward, DepthTable, HasTable}
+use Rattle.model.specs.Depth.{Reached, first, onward, HasTable}
 use Rattle.model.proofs.Marks.{blanks, blank, zeros, zeros-blank}
 use Rattle.model.proofs.WalkLaws.{At, origin, further, at-reached, at-depth, Notes}
-use Rattle.flow.specs.Walk.{Noted, Asks, Visited, Refused, Visits, Step, Nobody, Pending, Done, Walk, Turn, mostCode, mostDepth}
+use Rattle.flow.specs.Walk.{Noted, Visited, Refused, Visits, Step, Nobody, Pending, Done, Walk, Turn, mostCode, mostDepth}
 use Rattle.flow.specs.declared.Went.{Went}
 use Rattle.flow.specs.declared.Went.the-variants.{On, Stuck}
 use Rattle.flow.proofs.VisitLaws.{visited-new}

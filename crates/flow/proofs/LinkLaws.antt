@@ -1,8 +1,7 @@
 -- What an instruction asks of the objects, by its byte and its entry.
 use Prim.Native.Nat.{ℕ, zero, suc, _+_, _-_, _/_, _%_, _<_, _≤_}
 use mathlib.Core.Path.{_≡_, refl, sym, ap, _∙_, subst}
-use mathlib.Core.Logic.{_⊎_, inl, inr}
-use mathlib.Core.Bool.{Bool, true, false, _&&_}
+use mathlib.Core.Bool.{Bool, true, _&&_}
 use mathlib.Core.List.{List}
 use native.Mathlib.Omega.{arith}
 use native.Mathlib.Decide.{decLt}
@@ -23,7 +22,6 @@ use Rattle.bytecode.proofs.PositionLaws.{plain-at, return-at, unused-at, short-
 use Rattle.bytecode.proofs.TestLaws.{true→T, and-left, and-right, implied, below-at}
 use Rattle.model.specs.Objects.{Objects}
 use Rattle.flow.specs.Linked.{placeLinked, linked, placeLink, linkOf, linkFine}
-use Rattle.flow.specs.declared.Link.{Link}
 use Rattle.flow.specs.declared.Link.the-variants.{Nothing, Variable, Selector, Special}
 
 place-linked : (o : Objects) (m : ℕ) (p : Place) → placeLinked o m p ≡ linkFine o m (placeLink p)

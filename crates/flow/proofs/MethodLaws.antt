@@ -5,21 +5,20 @@ use mathlib.Core.Bool.{Bool, true, false, _&&_}
 use mathlib.Core.List.{List}
 use mathlib.Core.Option.{Option, none, some}
 use native.Mathlib.Omega.{arith}
-use native.Mathlib.Decide.{decLt}
 use borrow.Author.Tests.{lt-ltb}
-use lib.Dec.{T, ltb, leb, leb→le}
-use lib.ListN.{length, getD}
-use Rattle.bytecode.specs.Test.{if_then_else_, below, implies}
+use lib.Dec.{T, ltb, leb→le}
+use lib.ListN.{length, getD, replicate}
+use Rattle.bytecode.specs.Test.{below, implies}
 use Rattle.bytecode.specs.Code.{decodeAt}
 use Rattle.bytecode.specs.declared.Instruction.{Instruction}
-use Rattle.bytecode.proofs.TestLaws.{true→T, T→true, implied, rule, below-at, at-below}
+use Rattle.bytecode.proofs.TestLaws.{true→T, T→true, implied, rule, below-at}
 use Rattle.model.specs.Objects.{Objects}
 use Rattle.model.specs.Method.{codeWords, codeSize, temporaryCount, frameWords}
 use Rattle.model.specs.Depth.{rulesAt, fineAt, depthTable, isSome}
 use Rattle.model.specs.Rules.{methodTable}
 use Rattle.model.proofs.DepthLaws.{table-notes}
 use Rattle.flow.specs.Linked.{linked, linkOf, linkFine, linkedAt, allLinked}
-use Rattle.flow.specs.Walk.{mostDepth}
+use Rattle.flow.specs.Walk.{mostDepth, Walked}
 use Rattle.flow.proofs.CodeWalk.{noted-inside}
 use Rattle.flow.proofs.UniqueLaws.{combined-some, combined-fails, combined-none}
 use Rattle.flow.proofs.RuleLaws.{indexedIn, table-split}
@@ -41,6 +40,15 @@ module _ (words : List ℕ) (size temporaries limit : ℕ) (r : Instruction → 
       go : (v : ℕ) → getD t p 0 ≡ v → v ≤ 33
       go zero q = omega arith
       go (suc d) q = let k = within d (table-notes words size temporaries limit r t e .kept p d q) in omega arith
+
+-- what the walk's answer says of the table that it computes
+pub walked-yes : (o : Option (List ℕ)) (size : ℕ) (notes : List ℕ) (r : Bool) → Walked o size notes r → r ≡ true → o ≡ some notes
+walked-yes none size notes r w h = absurd (subst T (sym h ∙ w .answer) tt)
+walked-yes (some t) size notes r w h = ap some (sym (w .noted))
+
+pub walked-no : (o : Option (List ℕ)) (size : ℕ) (notes : List ℕ) (r : Bool) → Walked o size notes r → r ≡ false → (o ≡ none) × (notes ≡ replicate size 0)
+walked-no none size notes r w h = (refl, w .noted)
+walked-no (some t) size notes r w h = absurd (subst T (sym (w .answer) ∙ h) tt)
 
 -- a test that fails below n fails at some number
 failing : (n : ℕ) (f : ℕ → Bool) → below n f ≡ false → (p : ℕ) × (p < n) × (f p ≡ false)

@@ -1,22 +1,16 @@
 -- The rules of a single instruction in two parts, with no objects and with them.
-use Prim.Native.Nat.{ℕ, zero, suc, _<_, _≤_}
-use mathlib.Core.Path.{_≡_, refl, sym, ap, _∙_}
-use mathlib.Core.Bool.{Bool, true, false, _&&_, _||_}
-use mathlib.Core.Logic.{_⊎_, inl, inr}
-use mathlib.Core.List.{List}
-use mathlib.Core.Option.{Option}
-use native.Mathlib.Omega.{arith}
+use Prim.Native.Nat.{ℕ}
+use mathlib.Core.Path.{_≡_, refl, ap, _∙_}
+use mathlib.Core.Bool.{Bool, true, false, _&&_}
 use lib.Dec.{ltb}
-use lib.ListN.{getD}
-use Rattle.bytecode.specs.Table.{pushGroup, storeGroup, group}
 use Rattle.bytecode.specs.declared.Place.{Place}
 use Rattle.bytecode.specs.declared.Place.the-variants.{Field, Temporary, Literal, LiteralVariable}
 use Rattle.bytecode.specs.declared.Instruction.{Instruction}
 use Rattle.bytecode.specs.declared.Instruction.the-variants.{Push, Store, PopStore, PushSelf, PushConstant, ReturnSelf, ReturnConstant, ReturnTop, Pop, Duplicate, Jump, JumpOn, Send, SuperSend, SpecialSend, Unused}
 use Rattle.model.specs.Objects.{Objects, fieldCount}
-use Rattle.model.specs.Method.{home, literal, temporaryCount, literalCount, codeWords, codeSize, frameWords}
+use Rattle.model.specs.Method.{home, temporaryCount, literalCount, codeWords, codeSize, frameWords}
 use Rattle.model.specs.Depth.{depthTable}
-use Rattle.model.specs.Rules.{placeFine, isWritable, allowed, methodTable, variableFine, sendFine}
+use Rattle.model.specs.Rules.{placeFine, isWritable, allowed, methodTable}
 use Rattle.flow.specs.Index.{placeIndexed, indexed}
 use Rattle.flow.specs.Linked.{placeLinked, linked}
 

@@ -1,6 +1,6 @@
 -- A step: visits where the instruction keeps its rules, stuck where not.
 use Prim.Native.Nat.{ℕ}
-use mathlib.Core.Path.{_≡_, refl, sym, subst}
+use mathlib.Core.Path.{_≡_, refl}
 use mathlib.Core.Bool.{Bool, true, false, _&&_}
 use mathlib.Core.List.{List, []}
 use Rattle.flow.specs.Walk.{Visits, Step}

@@ -9,7 +9,7 @@ use native.Mathlib.Omega.{arith}
 use native.Mathlib.Decide.{ℕ-discrete}
 use lib.ListN.{length, getD, set, length-set}
 use lib.Seq.{getD-set-same, getD-set-other}
-use Rattle.model.proofs.Marks.{zeros, zeros-set}
+use Rattle.model.proofs.Marks.{zeros-set}
 use Rattle.flow.specs.Walk.{Noted, Asks, Visited, Refused, Visit, Visits}
 use Rattle.flow.specs.declared.Went.{Went}
 use Rattle.flow.specs.declared.Went.the-variants.{On, Stuck}

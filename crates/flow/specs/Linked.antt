@@ -1,7 +1,7 @@
 -- The rules of a single instruction that need the objects: literal variables have their form, and methods under a send's selector take its
 -- count. With specs/Index.antt they are all of `allowed` (proofs/RuleLaws.antt, `split`).
 use Prim.Native.Nat.{ℕ}
-use mathlib.Core.Bool.{Bool, true, false, _||_}
+use mathlib.Core.Bool.{Bool, true, _||_}
 use mathlib.Core.List.{List}
 use lib.Dec.{ltb}
 use lib.ListN.{getD}

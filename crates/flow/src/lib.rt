@@ -7,14 +7,14 @@ ghost use lib.Dec.{ltb, leb};
 ghost use lib.ListN.{length, getD, replicate};
 ghost use Rattle.bytecode.specs.Code.{placeOf, instructionOf, decodeAt};
 ghost use Rattle.bytecode.specs.Table.{groupPart, lengthPart, needPart, leavesPart, boundPart, indexPart, groupOf, IsTable};
-ghost use Rattle.model.specs.Depth.{depthTable, isSome};
+ghost use Rattle.model.specs.Depth.{depthTable};
 ghost use Rattle.model.specs.Rules.{isWritable};
-ghost use Rattle.flow.specs.Index.{placeIndexed, indexed, placeIndexedBy, indexedBy};
+ghost use Rattle.flow.specs.Index.{indexed, placeIndexedBy, indexedBy};
 ghost use Rattle.flow.specs.Linked.{linkOf};
 ghost use Rattle.flow.specs.Walk.{Asks, Visit, Visits, Step, Here, Expand, Static, WalkingAt, TurnAt, Answer, Lent, Walked, tableBy, mostCode};
 
 // How many positions are pending after a step; or that there is no depth table.
-pub enum Went {
+enum Went {
     On(usize),
     Stuck,
 }
@@ -385,7 +385,7 @@ fn drain(
 }
 
 // No note.
-fn clear(notes: &mut [u8])
+pub fn clear(notes: &mut [u8])
     ensures { λ _. ⌜ now (notes .exit) ≡ replicate (length (now (notes .entry))) 0 ⌝ }
 {
     let mut i = 0;
@@ -447,7 +447,10 @@ fn short_link(b: u8) -> Link
     if b < 208 {
         return Link::Special(b - 176);
     }
-    Link::Selector { literal: b % 16, arguments: (b - 208) / 16 }
+    Link::Selector {
+        literal: b % 16,
+        arguments: (b - 208) / 16,
+    }
 }
 
 // By a byte from 128 to 134 and those that follow.
@@ -458,10 +461,22 @@ fn extended_link(b: u8, x: u8, y: u8) -> Link
     let low = x % 32;
     let high = x / 32;
     match b {
-        131 => Link::Selector { literal: low, arguments: high },
-        132 => Link::Selector { literal: y, arguments: x },
-        133 => Link::Selector { literal: low, arguments: high },
-        134 => Link::Selector { literal: y, arguments: x },
+        131 => Link::Selector {
+            literal: low,
+            arguments: high,
+        },
+        132 => Link::Selector {
+            literal: y,
+            arguments: x,
+        },
+        133 => Link::Selector {
+            literal: low,
+            arguments: high,
+        },
+        134 => Link::Selector {
+            literal: y,
+            arguments: x,
+        },
         _ => {
             if x < 192 {
                 return Link::Nothing;
@@ -491,5 +506,9 @@ pub fn link_at(table: &[u16; 256], words: &[u16], size: usize, at: usize) -> Lin
     if size < at + e / 2048 % 4 {
         return Link::Nothing;
     }
-    extended_link(b, bytecode::byte(words, at + 1), bytecode::byte(words, at + 2))
+    extended_link(
+        b,
+        bytecode::byte(words, at + 1),
+        bytecode::byte(words, at + 2),
+    )
 }

@@ -88,12 +88,12 @@ unfolding Turned
 class-done n b contents bodies class counts₀ p d z ed ez counts i w h =
     next-class (objectsAt n b contents bodies) counts (class / 2) i w
     (λ c j a e l.
-      let x = C.named (objectsAt n b contents bodies) classKind c a .even in
-      let y = C.named (objectsAt n b contents bodies) classKind class (p .isClass) .even in
-      let q : c ≡ class = omega arith in
-      let u : j < size (objectsAt n b contents bodies) (dictionaryWord (objectsAt n b contents bodies) class / 2) / 2 = subst (λ (v : ℕ). j < pairCount (objectsAt n b contents bodies) (dictionaryWord (objectsAt n b contents bodies) v)) q l in
-      let v : j < z / 2 = subst (λ (t : ℕ). j < t / 2) (sym ez) (subst (λ (t : ℕ). j < size (objectsAt n b contents bodies) (t / 2) / 2) (sym ed) u) in
-      omega arith)
+    let x = C.named (objectsAt n b contents bodies) classKind c a .even in
+    let y = C.named (objectsAt n b contents bodies) classKind class (p .isClass) .even in
+    let q : c ≡ class = omega arith in
+    let u : j < size (objectsAt n b contents bodies) (dictionaryWord (objectsAt n b contents bodies) class / 2) / 2 = subst (λ (v : ℕ). j < pairCount (objectsAt n b contents bodies) (dictionaryWord (objectsAt n b contents bodies) v)) q l in
+    let v : j < z / 2 = subst (λ (t : ℕ). j < t / 2) (sym ez) (subst (λ (t : ℕ). j < size (objectsAt n b contents bodies) (t / 2) / 2) (sym ed) u) in
+    omega arith)
 
 -- the loop over the objects
 module _ (n b : ℕ) (contents bodies : List ℕ) (k : ℕ) (counts : List ℕ) (p : ObjectAsked n b contents bodies k counts) where

@@ -176,10 +176,10 @@ all-counted o counts k h w = (at-upTo (o .n) (holderFine o) class-fine, counts-r
     class-fine x a b =
         implying (eqb (kind o x) classKind) (dictionaryMethodsFine o (pointer x))
         (λ q.
-          let c : ℕ = pointer x in
-          let isC = subst (λ (z : ℕ). T (isKind o z c)) (eqb→eq (kind o x) classKind q) (naming o (kind o x) c (named-pointer o x a b)) in
-          at-below (pairCount o (dictionaryWord o c)) (λ j. eqb (home o (pairMethod o (dictionaryWord o c) j)) c && takesCount o (pairSelector o (dictionaryWord o c) j) (argumentCount o (pairMethod o (dictionaryWord o c) j)))
-          (λ j l. and-both (eqb (home o (pairMethod o (dictionaryWord o c) j)) c) (takesCount o (pairSelector o (dictionaryWord o c) j) (argumentCount o (pairMethod o (dictionaryWord o c) j)))
-            (true→T (eq-eqb (home o (pairMethod o (dictionaryWord o c) j)) c (pair c j isC l .homes)))
-            (at-takes o (pairSelector o (dictionaryWord o c) j) (argumentCount o (pairMethod o (dictionaryWord o c) j))
-              (λ y i′ u v e. suc-inj (sym (pair y i′ u v .noted) ∙ ap (λ (z : ℕ). getD counts (objectNumber z) 0) e ∙ pair c j isC l .noted)))))
+        let c : ℕ = pointer x in
+        let isC = subst (λ (z : ℕ). T (isKind o z c)) (eqb→eq (kind o x) classKind q) (naming o (kind o x) c (named-pointer o x a b)) in
+        at-below (pairCount o (dictionaryWord o c)) (λ j. eqb (home o (pairMethod o (dictionaryWord o c) j)) c && takesCount o (pairSelector o (dictionaryWord o c) j) (argumentCount o (pairMethod o (dictionaryWord o c) j)))
+        (λ j l. and-both (eqb (home o (pairMethod o (dictionaryWord o c) j)) c) (takesCount o (pairSelector o (dictionaryWord o c) j) (argumentCount o (pairMethod o (dictionaryWord o c) j)))
+        (true→T (eq-eqb (home o (pairMethod o (dictionaryWord o c) j)) c (pair c j isC l .homes)))
+        (at-takes o (pairSelector o (dictionaryWord o c) j) (argumentCount o (pairMethod o (dictionaryWord o c) j))
+        (λ y i′ u v e. suc-inj (sym (pair y i′ u v .noted) ∙ ap (λ (z : ℕ). getD counts (objectNumber z) 0) e ∙ pair c j isC l .noted)))))

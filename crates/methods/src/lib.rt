@@ -33,7 +33,14 @@ pub fn header_of(contents: &[u16], bodies: &[u16], n: usize, b: usize, m: u16) -
 }
 
 // The extension of flag 7, under a header that is given.
-fn extension_of(contents: &[u16], bodies: &[u16], n: usize, b: usize, m: u16, literals: usize) -> u16
+fn extension_of(
+    contents: &[u16],
+    bodies: &[u16],
+    n: usize,
+    b: usize,
+    m: u16,
+    literals: usize,
+) -> u16
     requires { ⌜ Named n b m (now contents) (now bodies) × (literals ≡ literalCount (objectsAt n b (now contents) (now bodies)) m) ⌝ }
     ensures { λ r. ⌜ r ≡ extension (objectsAt n b (now (contents .entry)) (now (bodies .entry))) m ⌝ }
 {
@@ -78,7 +85,15 @@ fn note_count(counts: &mut [u8], j: usize, note: u8) -> bool
 }
 
 // Pair i of a class's dictionary: its method names the class as home and takes the count of its selector.
-fn count_pair(contents: &[u16], bodies: &[u16], n: usize, b: usize, class: u16, i: usize, counts: &mut [u8]) -> bool
+fn count_pair(
+    contents: &[u16],
+    bodies: &[u16],
+    n: usize,
+    b: usize,
+    class: u16,
+    i: usize,
+    counts: &mut [u8],
+) -> bool
     requires { ⌜ PairAsked n b (now contents) (now bodies) class i (now counts) ⌝ }
     ensures { λ r. ⌜ Turned (objectsAt n b (now (contents .entry)) (now (bodies .entry))) (class / 2) (i + 1) (now (counts .exit)) r ⌝ }
 {
@@ -94,7 +109,14 @@ fn count_pair(contents: &[u16], bodies: &[u16], n: usize, b: usize, class: u16, 
 }
 
 // All pairs of a class's dictionary.
-fn count_class(contents: &[u16], bodies: &[u16], n: usize, b: usize, class: u16, counts: &mut [u8]) -> bool
+fn count_class(
+    contents: &[u16],
+    bodies: &[u16],
+    n: usize,
+    b: usize,
+    class: u16,
+    counts: &mut [u8],
+) -> bool
     requires { ⌜ ClassAsked n b (now contents) (now bodies) class (now counts) ⌝ }
     ensures { λ r. ⌜ Turned (objectsAt n b (now (contents .entry)) (now (bodies .entry))) (class / 2 + 1) 0 (now (counts .exit)) r ⌝ }
 {
@@ -111,7 +133,14 @@ fn count_class(contents: &[u16], bodies: &[u16], n: usize, b: usize, class: u16,
 }
 
 // Object k, where it is a class.
-fn count_object(contents: &[u16], bodies: &[u16], n: usize, b: usize, k: usize, counts: &mut [u8]) -> bool
+fn count_object(
+    contents: &[u16],
+    bodies: &[u16],
+    n: usize,
+    b: usize,
+    k: usize,
+    counts: &mut [u8],
+) -> bool
     requires { ⌜ ObjectAsked n b (now contents) (now bodies) k (now counts) ⌝ }
     ensures { λ r. ⌜ Turned (objectsAt n b (now (contents .entry)) (now (bodies .entry))) (k + 1) 0 (now (counts .exit)) r ⌝ }
 {
@@ -123,7 +152,13 @@ fn count_object(contents: &[u16], bodies: &[u16], n: usize, b: usize, k: usize, 
 
 // The second pass: dictionaries hold methods of their own class, and methods under one selector take equally many arguments. The counts,
 // over object numbers, are left for the sends.
-pub fn count_methods(contents: &[u16], bodies: &[u16], n: usize, b: usize, counts: &mut [u8]) -> bool
+pub fn count_methods(
+    contents: &[u16],
+    bodies: &[u16],
+    n: usize,
+    b: usize,
+    counts: &mut [u8],
+) -> bool
     requires { ⌜ Ready n b (now contents) (now bodies) × (n < length (now counts)) × ((j : ℕ) → getD (now counts) j 0 ≡ 0) ⌝ }
     ensures { λ r. ⌜ Held (objectsAt n b (now (contents .entry)) (now (bodies .entry))) (now (counts .exit)) r ⌝ }
 {
@@ -138,7 +173,14 @@ pub fn count_methods(contents: &[u16], bodies: &[u16], n: usize, b: usize, count
 }
 
 // The literals are valid words.
-fn literals_valid(contents: &[u16], bodies: &[u16], n: usize, b: usize, m: u16, literals: usize) -> bool
+fn literals_valid(
+    contents: &[u16],
+    bodies: &[u16],
+    n: usize,
+    b: usize,
+    m: u16,
+    literals: usize,
+) -> bool
     requires { ⌜ Named n b m (now contents) (now bodies) × (literals < 64) ⌝ }
     ensures { λ r. ⌜ r ≡ below literals (λ i. isValid n (literal (objectsAt n b (now (contents .entry)) (now (bodies .entry))) m i)) ⌝ }
 {
@@ -154,7 +196,14 @@ fn literals_valid(contents: &[u16], bodies: &[u16], n: usize, b: usize, m: u16, 
 }
 
 // The extension of flag 7: 2 literals at least, an integer word, its two high bits zero.
-fn extension_fine(contents: &[u16], bodies: &[u16], n: usize, b: usize, m: u16, literals: usize) -> bool
+fn extension_fine(
+    contents: &[u16],
+    bodies: &[u16],
+    n: usize,
+    b: usize,
+    m: u16,
+    literals: usize,
+) -> bool
     requires { ⌜ Named n b m (now contents) (now bodies) × (literals ≡ literalCount (objectsAt n b (now contents) (now bodies)) m) ⌝ }
     ensures { λ r. ⌜ r ≡ extensionFine (objectsAt n b (now (contents .entry)) (now (bodies .entry))) m ⌝ }
 {
@@ -169,7 +218,15 @@ fn extension_fine(contents: &[u16], bodies: &[u16], n: usize, b: usize, m: u16, 
 }
 
 // Flag 6 answers a field that its home has.
-fn field_fine(contents: &[u16], bodies: &[u16], n: usize, b: usize, m: u16, h: u16, home: u16) -> bool
+fn field_fine(
+    contents: &[u16],
+    bodies: &[u16],
+    n: usize,
+    b: usize,
+    m: u16,
+    h: u16,
+    home: u16,
+) -> bool
     requires { ⌜ FlagAsked n b (now contents) (now bodies) m h home ⌝ }
     ensures { λ r. ⌜ r ≡ fieldRule (objectsAt n b (now (contents .entry)) (now (bodies .entry))) m ⌝ }
 {
@@ -180,7 +237,15 @@ fn field_fine(contents: &[u16], bodies: &[u16], n: usize, b: usize, m: u16, h: u
 }
 
 // Flag 7 has its extension.
-fn primitive_fine(contents: &[u16], bodies: &[u16], n: usize, b: usize, m: u16, h: u16, home: u16) -> bool
+fn primitive_fine(
+    contents: &[u16],
+    bodies: &[u16],
+    n: usize,
+    b: usize,
+    m: u16,
+    h: u16,
+    home: u16,
+) -> bool
     requires { ⌜ FlagAsked n b (now contents) (now bodies) m h home ⌝ }
     ensures { λ r. ⌜ r ≡ primitiveRule (objectsAt n b (now (contents .entry)) (now (bodies .entry))) m ⌝ }
 {
@@ -191,7 +256,15 @@ fn primitive_fine(contents: &[u16], bodies: &[u16], n: usize, b: usize, m: u16, 
 }
 
 // What the flag asks of a method whose home is a class; and arguments are temporaries.
-fn flag_fine(contents: &[u16], bodies: &[u16], n: usize, b: usize, m: u16, h: u16, home: u16) -> bool
+fn flag_fine(
+    contents: &[u16],
+    bodies: &[u16],
+    n: usize,
+    b: usize,
+    m: u16,
+    h: u16,
+    home: u16,
+) -> bool
     requires { ⌜ FlagAsked n b (now contents) (now bodies) m h home ⌝ }
     ensures { λ r. ⌜ r ≡ flagRules (objectsAt n b (now (contents .entry)) (now (bodies .entry))) m ⌝ }
 {
@@ -269,7 +342,15 @@ pub fn variable_fine(contents: &[u16], n: usize, w: u16) -> bool
 }
 
 // A send's selector is nil or of kind 1, and the methods under it take its count.
-pub fn send_fine(contents: &[u16], bodies: &[u16], n: usize, b: usize, counts: &[u8], selector: u16, arguments: u8) -> bool
+pub fn send_fine(
+    contents: &[u16],
+    bodies: &[u16],
+    n: usize,
+    b: usize,
+    counts: &[u8],
+    selector: u16,
+    arguments: u8,
+) -> bool
     requires { ⌜ SendAsked n b (now contents) (now bodies) (now counts) ⌝ }
     ensures { λ r. ⌜ r ≡ sendFine (objectsAt n b (now (contents .entry)) (now (bodies .entry))) selector arguments ⌝ }
 {

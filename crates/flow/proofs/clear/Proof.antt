@@ -1,14 +1,13 @@
-use Prim.Native.Nat.{ℕ, _≤_, _-_, _<_}
-use native.Mathlib.Omega.{arith}
+-- `clear` leaves zeros.
+use Prim.Native.Nat.{ℕ, _≤_, _-_}
 use mathlib.Core.Path.{_≡_, refl, ap, _∙_, subst}
 use mathlib.Core.List.{List, _++_, append-nil}
+use native.Mathlib.Omega.{arith}
+use borrow.Author.Fill.{fill-none, fill-more}
 use lib.ListN.{length, set, replicate, length-set, drop}
 use lib.Seq.{drop-length}
-use borrow.Author.Fill.{fill-none, fill-more}
 use Rattle.flow.proofs.clear.Statement.{statement}
 use Rattle.flow.proofs.clear.Tie as tie
-use Rattle.flow.proofs.clear.Reads as reads
-use Rattle.flow.proofs.clear.Lts as lts
 
 abbrev Inv-loop : tie.InvT-loop
 Inv-loop notes₀ i₀ notes i = (i ≤ length notes₀) × (notes ≡ replicate i 0 ++ drop i notes₀) × (length notes ≡ length notes₀)
@@ -16,31 +15,24 @@ Inv-loop notes₀ i₀ notes i = (i ≤ length notes₀) × (notes ≡ replicate
 abbrev μ-loop : tie.MeasureT-loop
 μ-loop notes₀ i₀ notes i = length notes₀ - i
 
--- src/lib.rt:279:5
 loop-holds : tie.Need-loop-holds Inv-loop μ-loop
 loop-holds c = (omega arith, fill-none _ 0, refl)
 
--- src/lib.rt:280:9
 slice-write-notes : tie.Need-slice-write-notes Inv-loop μ-loop
 slice-write-notes c = omega arith
 
--- src/lib.rt:281:9
 add-i : tie.Need-add-i Inv-loop μ-loop
 add-i c = omega arith
 
--- src/lib.rt:279:5
 loop-less : tie.Need-loop-less Inv-loop μ-loop
 loop-less c = omega arith
 
--- src/lib.rt:279:5
 loop-again : tie.Need-loop-again Inv-loop μ-loop
 loop-again c = let l = c .before .loop in (omega arith, ap (λ (t : List ℕ). set t (l .i) 0) (l .inv .1) ∙ fill-more (l .i) 0 _ (omega arith), simp length-set (l .inv .2))
 
--- src/lib.rt:275:1
 same-length : tie.Need-same-length Inv-loop μ-loop
 same-length c = c .before .loop .inv .2
 
--- src/lib.rt:275:1
 returns : tie.Need-returns Inv-loop μ-loop
 returns c = let l = c .before .loop in
     let d = c .before .before .args .notes .now in

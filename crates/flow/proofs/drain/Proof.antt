@@ -1,16 +1,14 @@
-use Prim.Native.Nat.{ℕ, _+_}
-use native.Mathlib.Omega.{arith}
+-- `drain` ends with the table. Its measure is the pending positions and those without a note.
+use Prim.Native.Nat.{_+_}
 use mathlib.Core.Path.{_≡_, refl, sym, _∙_}
-use lib.ListN.{length}
+use native.Mathlib.Omega.{arith}
 use borrow.Author.Needs.{needs}
+use lib.ListN.{length}
 use Rattle.model.proofs.Marks.{zeros}
 use Rattle.flow.specs.Walk.{Static, WalkingAt, Answer}
 use Rattle.flow.proofs.CodeWalk.{turn-on, turn-stuck, static-again, finishes}
 use Rattle.flow.proofs.drain.Statement.{statement}
 use Rattle.flow.proofs.drain.Tie as tie
-use Rattle.flow.proofs.drain.Reads as reads
-use Rattle.flow.proofs.drain.Lts as lts
-use Rattle.flow.proofs.turn.Reads as turn-reads
 
 abbrev Inv-loop : tie.InvT-loop
 Inv-loop table limits words room notes₀ pending₀ n₀ notes pending n = Static table limits words room notes pending × WalkingAt limits words (length notes) room notes pending n × (length notes ≡ length notes₀) × (length pending ≡ length pending₀)
@@ -18,23 +16,18 @@ Inv-loop table limits words room notes₀ pending₀ n₀ notes pending n = Stat
 abbrev μ-loop : tie.MeasureT-loop
 μ-loop table limits words room notes₀ pending₀ n₀ notes pending n = n + zeros notes
 
--- src/lib.rt:261:5
 loop-holds : tie.Need-loop-holds Inv-loop μ-loop
 loop-holds c = (c .before .before .before .pre .0, c .before .before .before .pre .1, refl, refl)
 
--- src/lib.rt:262:15
 turn-requires : tie.Need-turn-requires Inv-loop μ-loop
 turn-requires c κs = (c .before .before .before .loop .inv .0, (c .before .before .loop-test .taken, c .before .before .before .loop .inv .1))
 
--- src/lib.rt:263:22
 enum-known-k : tie.Need-enum-known-k Inv-loop μ-loop
 enum-known-k c = search needs
 
--- src/lib.rt:261:5
 loop-less : tie.Need-loop-less Inv-loop μ-loop
 loop-less c = turn-on _ _ _ _ _ _ _ _ _ _ _ (c .before .k .given .1) (c .before .before .before .before .before .before .before .turn .ensures) .1
 
--- src/lib.rt:261:5
 loop-again : tie.Need-loop-again Inv-loop μ-loop
 loop-again c = let T = c .before .before .before .before .before .before .before .turn in
     let I = c .before .before .before .before .before .before .before .before .before .before .before .loop .inv in
@@ -42,32 +35,25 @@ loop-again c = let T = c .before .before .before .before .before .before .before
     let ks = T .kept .1 .1 .1 .1 .1 .0 in
     (static-again _ _ _ _ _ _ _ _ kt ks (I .0), rw kt (turn-on _ _ _ _ _ _ _ _ _ _ _ (c .before .k .given .1) (T .ensures) .0), kt ∙ I .2, ks ∙ I .3)
 
--- src/lib.rt:267:17
 enum-told : tie.Need-enum-told Inv-loop μ-loop
 enum-told c = search needs
 
--- src/lib.rt:267:17
 same-length : tie.Need-same-length Inv-loop μ-loop
 same-length c = c .before .before .before .before .before .before .turn .kept .1 .1 .1 .1 .0 ∙ c .before .before .before .before .before .before .before .before .before .before .loop .inv .2
 
--- src/lib.rt:267:17
 same-length-2 : tie.Need-same-length-2 Inv-loop μ-loop
 same-length-2 c = c .before .before .before .before .before .before .turn .kept .1 .1 .1 .1 .1 .0 ∙ c .before .before .before .before .before .before .before .before .before .before .loop .inv .3
 
--- src/lib.rt:267:17
 returns : tie.Need-returns Inv-loop μ-loop
 unfolding Answer
 returns c = rw (sym (c .before .before .before .before .before .before .before .before .before .before .loop .inv .2)) (turn-stuck _ _ _ _ _ _ _ _ _ _ (c .enum-told .given .1) (c .before .before .before .before .before .before .turn .ensures))
 
--- src/lib.rt:253:1
 same-length-3 : tie.Need-same-length-3 Inv-loop μ-loop
 same-length-3 c = c .before .loop .inv .2
 
--- src/lib.rt:253:1
 same-length-4 : tie.Need-same-length-4 Inv-loop μ-loop
 same-length-4 c = c .before .loop .inv .3
 
--- src/lib.rt:253:1
 returns-2 : tie.Need-returns-2 Inv-loop μ-loop
 unfolding Answer
 returns-2 c = rw (sym (c .before .loop .inv .2)) (finishes _ _ _ _ _ _ _ refl (omega arith) (c .before .loop .inv .1))

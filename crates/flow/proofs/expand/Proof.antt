@@ -1,56 +1,42 @@
+-- `expand` examines the instruction at a position.
 use native.Mathlib.Omega.{arith}
 use borrow.Author.Tests.{le-leb, lt-leb}
+use borrow.Author.Needs.{needs}
 use Rattle.flow.proofs.StepLaws.{step-no, step-none}
 use Rattle.flow.proofs.HereLaws.{expand-plain, expand-return, expand-unused}
-use borrow.Author.Needs.{needs}
 use Rattle.flow.proofs.expand.Statement.{statement}
 use Rattle.flow.proofs.expand.Tie as tie
-use Rattle.flow.proofs.expand.Reads as reads
-use Rattle.flow.proofs.expand.Lts as lts
-use Rattle.flow.proofs.far.Reads as far-reads
-use Rattle.flow.proofs.plain.Reads as plain-reads
 
--- src/lib.rt:221:9
 plain-requires : tie.Need-plain-requires
 plain-requires c κs = search needs
 
--- src/lib.rt:221:9
 same-length : tie.Need-same-length
 same-length c = search needs
 
--- src/lib.rt:221:9
 same-length-2 : tie.Need-same-length-2
 same-length-2 c = search needs
 
--- src/lib.rt:221:9
 returns : tie.Need-returns
 returns c = expand-plain _ _ _ _ _ _ _ _ (omega arith) (c .before .before .before .before .before .before .before .before .before .before .before .pre .1) _ _ _ _ _ _ (c .before .before .before .before .before .before .before .if1 .taken) (c .before .before .before .before .plain .ensures)
 
--- src/lib.rt:225:13
 returns-2 : tie.Need-returns-2
 returns-2 c = expand-return _ _ _ _ _ _ _ _ (omega arith) (c .before .before .before .before .before .before .pre .1) _ _ _ _ _ _ (c .before .if2 .taken) (step-no _ _ _ _ _ _ _ _ _ (lt-leb _ _ (c .if3 .taken)))
 
--- src/lib.rt:227:9
 returns-3 : tie.Need-returns-3
 returns-3 c = expand-return _ _ _ _ _ _ _ _ (omega arith) (c .before .before .before .before .before .before .pre .1) _ _ _ _ _ _ (c .before .if2 .taken) (step-none _ _ _ _ _ _ (le-leb _ _ (c .if3 .left)))
 
--- src/lib.rt:230:9
 returns-4 : tie.Need-returns-4
 returns-4 c = expand-unused _ _ _ _ _ _ _ _ (omega arith) (c .before .before .before .before .before .before .pre .1) _ _ _ _ _ (c .if4 .taken)
 
--- src/lib.rt:232:5
 far-requires : tie.Need-far-requires
 far-requires c κs = search needs
 
--- src/lib.rt:212:1
 same-length-3 : tie.Need-same-length-3
 same-length-3 c = search needs
 
--- src/lib.rt:212:1
 same-length-4 : tie.Need-same-length-4
 same-length-4 c = search needs
 
--- src/lib.rt:212:1
 returns-5 : tie.Need-returns-5
 returns-5 c = search needs
 

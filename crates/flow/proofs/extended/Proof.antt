@@ -1,68 +1,50 @@
+-- `extended` examines 128 to 134.
 use mathlib.Core.Path.{sym, _∙_}
 use native.Mathlib.Omega.{arith}
 use borrow.Author.Tests.{not-true, not-false}
+use borrow.Author.Needs.{needs}
 use Rattle.flow.proofs.StepLaws.{and-no, step-no, step-and}
 use Rattle.flow.proofs.InstructionLaws.{extra-small}
 use Rattle.flow.proofs.HereLaws.{expand-extended}
-use borrow.Author.Needs.{needs}
 use Rattle.flow.proofs.extended.Statement.{statement}
 use Rattle.flow.proofs.extended.Tie as tie
-use Rattle.flow.proofs.extended.Reads as reads
-use Rattle.flow.proofs.extended.Lts as lts
-use Rattle.bytecode.proofs.byte.Reads as byte-reads
-use Rattle.bytecode.proofs.extra.Reads as extra-reads
-use Rattle.flow.proofs.extended_fits.Reads as extended-fits-reads
-use Rattle.flow.proofs.onward.Reads as onward-reads
 
--- src/lib.rt:159:35
 add-byte : tie.Need-add-byte
 add-byte c = search needs
 
--- src/lib.rt:159:9
 byte-requires : tie.Need-byte-requires
 byte-requires c κs = search needs
 
--- src/lib.rt:160:35
 add-byte-2 : tie.Need-add-byte-2
 add-byte-2 c = search needs
 
--- src/lib.rt:160:9
 byte-requires-2 : tie.Need-byte-requires-2
 byte-requires-2 c κs = search needs
 
--- src/lib.rt:161:9
 extended-fits-requires : tie.Need-extended-fits-requires
 extended-fits-requires c κs = search needs
 
--- src/lib.rt:162:9
 returns : tie.Need-returns
 returns c = expand-extended _ _ _ _ _ _ _ _ (omega arith) (c .before .before .before .before .before .before .before .pre .1 .0) _ _ _ _ _ _ (c .before .before .before .before .before .before .before .pre .1 .1 .0) (c .before .before .before .before .before .before .before .pre .1 .1 .1) (c .before .before .before .before .before .before .before .pre .1 .1 .2) (step-no _ _ _ _ _ _ _ _ _ (and-no _ _ (sym (rw (c .before .before .before .byte .ensures, c .before .before .byte2 .ensures) at (c .before .extended-fits .ensures)) ∙ not-true _ (c .if1 .taken))))
 
--- src/lib.rt:164:31
 add-onward : tie.Need-add-onward
 add-onward c = search needs
 
--- src/lib.rt:164:71
 extra-requires : tie.Need-extra-requires
 extra-requires c κs = search needs
 
--- src/lib.rt:164:57
 add-onward-2 : tie.Need-add-onward-2
 add-onward-2 c = omega (arith, c .extra .ensures, extra-small (c .before .before .before .before .before .before .before .before .before .before .args .b) (c .before .before .before .before .before .before .byte .result))
 
--- src/lib.rt:164:5
 onward-requires : tie.Need-onward-requires
 onward-requires c κs = search needs
 
--- src/lib.rt:151:1
 same-length : tie.Need-same-length
 same-length c = search needs
 
--- src/lib.rt:151:1
 same-length-2 : tie.Need-same-length-2
 same-length-2 c = search needs
 
--- src/lib.rt:151:1
 returns-2 : tie.Need-returns-2
 returns-2 c = expand-extended _ _ _ _ _ _ _ _ (omega arith) (c .before .before .before .before .before .before .before .before .before .before .before .before .before .before .before .pre .1 .0) _ _ _ _ _ _ (c .before .before .before .before .before .before .before .before .before .before .before .before .before .before .before .pre .1 .1 .0) (c .before .before .before .before .before .before .before .before .before .before .before .before .before .before .before .pre .1 .1 .1) (c .before .before .before .before .before .before .before .before .before .before .before .before .before .before .before .pre .1 .1 .2) (step-and _ _ _ _ _ _ _ _ _ _ _ (sym (rw (c .before .before .before .before .before .before .before .before .before .before .before .byte .ensures, c .before .before .before .before .before .before .before .before .before .before .byte2 .ensures) at (c .before .before .before .before .before .before .before .before .before .extended-fits .ensures)) ∙ not-false _ (c .before .before .before .before .before .before .before .before .if1 .left)) (rw (c .before .before .before .before .before .extra .ensures, c .before .before .before .before .before .before .before .before .before .before .before .byte .ensures) at (c .before .before .before .before .onward .ensures)))
 

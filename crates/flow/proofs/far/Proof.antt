@@ -1,52 +1,39 @@
+-- `far` examines the bytes of group 3.
 use mathlib.Core.Path.{sym, _∙_}
 use native.Mathlib.Omega.{arith}
+use borrow.Author.Needs.{needs}
 use Rattle.flow.proofs.InstructionLaws.{far-low, far-high}
 use Rattle.flow.proofs.HereLaws.{expand-short}
-use borrow.Author.Needs.{needs}
 use Rattle.flow.proofs.far.Statement.{statement}
 use Rattle.flow.proofs.far.Tie as tie
-use Rattle.flow.proofs.far.Reads as reads
-use Rattle.flow.proofs.far.Lts as lts
-use Rattle.flow.proofs.extended.Reads as extended-reads
-use Rattle.flow.proofs.jump.Reads as jump-reads
 
--- src/lib.rt:202:22
 add-if1 : tie.Need-add-if1
 add-if1 c = search needs
 
--- src/lib.rt:203:9
 returns : tie.Need-returns
 returns c = expand-short _ _ _ _ _ _ _ _ (omega arith) (c .before .before .before .before .pre .1 .0) _ _ _ _ _ (c .if1 .taken)
 
--- src/lib.rt:206:9
 extended-requires : tie.Need-extended-requires
 extended-requires c κs = let x = far-low _ (omega arith) (sym (c .before .before .before .before .before .before .before .pre .1 .0 .entry .group) ∙ c .before .before .before .before .before .before .before .pre .1 .1) (c .before .before .if2 .taken) in (c .before .before .before .before .before .before .before .pre .0, (c .before .before .before .before .before .before .before .pre .1 .0, (x .0, x .1, c .before .before .before .if1 .left)))
 
--- src/lib.rt:206:9
 same-length : tie.Need-same-length
 same-length c = search needs
 
--- src/lib.rt:206:9
 same-length-2 : tie.Need-same-length-2
 same-length-2 c = search needs
 
--- src/lib.rt:206:9
 returns-2 : tie.Need-returns-2
 returns-2 c = search needs
 
--- src/lib.rt:208:5
 jump-requires : tie.Need-jump-requires
 jump-requires c κs = (c .before .before .before .before .before .before .before .pre .0, (c .before .before .before .before .before .before .before .pre .1 .0, (c .before .before .if2 .left, far-high _ (omega arith) (sym (c .before .before .before .before .before .before .before .pre .1 .0 .entry .group) ∙ c .before .before .before .before .before .before .before .pre .1 .1) (c .before .before .if2 .left), c .before .before .before .if1 .left)))
 
--- src/lib.rt:194:1
 same-length-3 : tie.Need-same-length-3
 same-length-3 c = search needs
 
--- src/lib.rt:194:1
 same-length-4 : tie.Need-same-length-4
 same-length-4 c = search needs
 
--- src/lib.rt:194:1
 returns-3 : tie.Need-returns-3
 returns-3 c = search needs
 

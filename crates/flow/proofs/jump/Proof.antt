@@ -1,166 +1,124 @@
-use native.Mathlib.Omega.{arith}
+-- `jump` examines 144 to 175.
 use mathlib.Core.Path.{refl}
+use native.Mathlib.Omega.{arith}
+use borrow.Author.Needs.{needs}
 use Rattle.flow.proofs.StepLaws.{step-yes}
 use Rattle.flow.proofs.VisitLaws.{visits-one}
 use Rattle.flow.proofs.HereLaws.{expand-jump, expand-fork, expand-long, expand-fork-long, expand-before, second-inside}
-use borrow.Author.Needs.{needs}
 use Rattle.flow.proofs.jump.Statement.{statement}
 use Rattle.flow.proofs.jump.Tie as tie
-use Rattle.flow.proofs.jump.Reads as reads
-use Rattle.flow.proofs.jump.Lts as lts
-use Rattle.bytecode.proofs.fetch.Reads as fetch-reads
-use Rattle.flow.proofs.fork.Reads as fork-reads
-use Rattle.flow.proofs.visit.Reads as visit-reads
 
--- src/lib.rt:177:41
 add-visit : tie.Need-add-visit
 add-visit c = search needs
 
--- src/lib.rt:177:50
 cast-visit : tie.Need-cast-visit
 cast-visit c = search needs
 
--- src/lib.rt:177:41
 add-visit-2 : tie.Need-add-visit-2
 add-visit-2 c = search needs
 
--- src/lib.rt:177:9
 visit-requires : tie.Need-visit-requires
 visit-requires c κs = search needs
 
--- src/lib.rt:177:9
 same-length : tie.Need-same-length
 same-length c = search needs
 
--- src/lib.rt:177:9
 same-length-2 : tie.Need-same-length-2
 same-length-2 c = search needs
 
--- src/lib.rt:177:9
 returns : tie.Need-returns
 returns c = expand-jump _ _ _ _ _ _ _ _ (omega arith) (c .before .before .before .before .before .before .before .before .before .before .before .pre .1 .0) _ _ _ _ _ _ (c .before .before .before .before .before .before .before .before .before .before .before .pre .1 .1 .2) (c .before .before .before .before .before .before .before .before .before .before .before .pre .1 .1 .0) (c .before .before .before .before .before .before .before .if1 .taken) (step-yes _ _ _ _ _ _ _ _ _ _ refl (visits-one _ _ _ _ _ _ _ _ _ (c .before .before .before .before .visit .ensures)))
 
--- src/lib.rt:180:40
 add-fork : tie.Need-add-fork
 add-fork c = search needs
 
--- src/lib.rt:180:48
 add-fork-2 : tie.Need-add-fork-2
 add-fork-2 c = search needs
 
--- src/lib.rt:180:57
 cast-fork : tie.Need-cast-fork
 cast-fork c = search needs
 
--- src/lib.rt:180:48
 add-fork-3 : tie.Need-add-fork-3
 add-fork-3 c = search needs
 
--- src/lib.rt:180:9
 fork-requires : tie.Need-fork-requires
 fork-requires c κs = search needs
 
--- src/lib.rt:180:9
 same-length-3 : tie.Need-same-length-3
 same-length-3 c = search needs
 
--- src/lib.rt:180:9
 same-length-4 : tie.Need-same-length-4
 same-length-4 c = search needs
 
--- src/lib.rt:180:9
 returns-2 : tie.Need-returns-2
 returns-2 c = expand-fork _ _ _ _ _ _ _ _ (omega arith) (c .before .before .before .before .before .before .before .before .before .before .before .before .pre .1 .0) _ _ _ _ _ _ (c .before .before .before .before .before .before .before .before .before .before .before .before .pre .1 .1 .2) (c .before .before .before .before .before .before .before .before .if1 .left) (c .before .before .before .before .before .before .before .if2 .taken) (c .before .before .before .before .fork .ensures)
 
--- src/lib.rt:182:36
 add-fetch : tie.Need-add-fetch
 add-fetch c = search needs
 
--- src/lib.rt:182:13
 fetch-requires : tie.Need-fetch-requires
 fetch-requires c κs = second-inside _ _ _ _ _ _ _ _ (omega arith) (c .before .before .before .before .before .pre .1 .0) (c .if2 .left) (c .before .before .before .before .before .pre .1 .1 .1) (c .before .before .before .before .before .pre .1 .1 .2)
 
--- src/lib.rt:182:13
 cast-x : tie.Need-cast-x
 cast-x c = search needs
 
--- src/lib.rt:184:18
 add-to : tie.Need-add-to
 add-to c = search needs
 
--- src/lib.rt:184:27
 cast-to : tie.Need-cast-to
 cast-to c = search needs
 
--- src/lib.rt:184:27
 mul-to : tie.Need-mul-to
 mul-to c = search needs
 
--- src/lib.rt:184:18
 add-to-2 : tie.Need-add-to-2
 add-to-2 c = search needs
 
--- src/lib.rt:184:18
 add-to-3 : tie.Need-add-to-3
 add-to-3 c = search needs
 
--- src/lib.rt:186:13
 returns-3 : tie.Need-returns-3
 returns-3 c = expand-before _ _ _ _ _ _ _ _ (omega arith) (c .before .before .before .before .before .before .before .before .pre .1 .0) _ _ _ _ _ (c .before .before .before .before .before .before .before .before .pre .1 .1 .2) (c .before .before .before .if2 .left) (c .before .if3 .taken) (omega (arith, c .before .before .fetch .ensures, c .if4 .taken))
 
--- src/lib.rt:188:9
 visit-requires-2 : tie.Need-visit-requires-2
 visit-requires-2 c κs = search needs
 
--- src/lib.rt:188:9
 same-length-5 : tie.Need-same-length-5
 same-length-5 c = search needs
 
--- src/lib.rt:188:9
 same-length-6 : tie.Need-same-length-6
 same-length-6 c = search needs
 
--- src/lib.rt:188:9
 returns-4 : tie.Need-returns-4
 returns-4 c = expand-long _ _ _ _ _ _ _ _ (omega arith) (c .before .before .before .before .before .before .before .before .before .before .before .before .before .before .before .pre .1 .0) _ _ _ _ _ _ (c .before .before .before .before .before .before .before .before .before .before .before .before .before .before .before .pre .1 .1 .2) (c .before .before .before .before .before .before .before .before .before .before .if2 .left) (c .before .before .before .before .before .before .before .before .if3 .taken) _ (omega (arith, c .before .before .before .before .before .before .before .before .before .fetch .ensures, c .before .before .before .before .before .before .before .if4 .left)) (step-yes _ _ _ _ _ _ _ _ _ _ refl (visits-one _ _ _ _ _ _ _ _ _ (c .before .before .before .before .visit2 .ensures)))
 
--- src/lib.rt:190:29
 add-fork-4 : tie.Need-add-fork-4
 add-fork-4 c = search needs
 
--- src/lib.rt:190:37
 add-fork-5 : tie.Need-add-fork-5
 add-fork-5 c = search needs
 
--- src/lib.rt:190:46
 cast-fork-2 : tie.Need-cast-fork-2
 cast-fork-2 c = search needs
 
--- src/lib.rt:190:46
 mul-fork : tie.Need-mul-fork
 mul-fork c = search needs
 
--- src/lib.rt:190:37
 add-fork-6 : tie.Need-add-fork-6
 add-fork-6 c = search needs
 
--- src/lib.rt:190:37
 add-fork-7 : tie.Need-add-fork-7
 add-fork-7 c = search needs
 
--- src/lib.rt:190:5
 fork-requires-2 : tie.Need-fork-requires-2
 fork-requires-2 c κs = search needs
 
--- src/lib.rt:168:1
 same-length-7 : tie.Need-same-length-7
 same-length-7 c = search needs
 
--- src/lib.rt:168:1
 same-length-8 : tie.Need-same-length-8
 same-length-8 c = search needs
 
--- src/lib.rt:168:1
 returns-5 : tie.Need-returns-5
 returns-5 c = expand-fork-long _ _ _ _ _ _ _ _ (omega arith) (c .before .before .before .before .before .before .before .before .before .before .before .before .before .before .pre .1 .0) _ _ _ _ _ _ (c .before .before .before .before .before .before .before .before .before .before .before .before .before .before .pre .1 .1 .2) (c .before .before .before .before .before .before .before .if3 .left) (c .before .before .before .before .before .before .before .before .before .before .before .before .before .before .pre .1 .1 .1) (rw (c .before .before .before .before .before .before .before .before .fetch .ensures) at (c .before .before .before .before .fork2 .ensures))
 

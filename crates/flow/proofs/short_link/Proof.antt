@@ -1,20 +1,16 @@
+-- `short_link` is `linkOf` for the bytes of group 1.
 use mathlib.Core.Path.{sym}
 use native.Mathlib.Omega.{arith}
 use Rattle.flow.proofs.LinkLaws.{short-variable, short-special, short-send}
 use Rattle.flow.proofs.short_link.Statement.{statement}
 use Rattle.flow.proofs.short_link.Tie as tie
-use Rattle.flow.proofs.short_link.Reads as reads
-use Rattle.flow.proofs.short_link.Lts as lts
 
--- src/lib.rt:445:9
 returns : tie.Need-returns
 returns c = sym (short-variable (c .before .args .b) (omega arith) (c .before .pre) (c .if1 .taken))
 
--- src/lib.rt:448:9
 returns-2 : tie.Need-returns-2
 returns-2 c = sym (short-special (c .before .before .args .b) (c .before .if1 .left) (c .if2 .taken))
 
--- src/lib.rt:440:1
 returns-3 : tie.Need-returns-3
 returns-3 c = sym (short-send (c .before .before .args .b) (c .if2 .left))
 

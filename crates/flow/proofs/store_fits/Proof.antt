@@ -1,41 +1,33 @@
+-- `store_fits` is the rule on the place of an extended store.
 use borrow.Author.Tests.{lt-ltb, le-ltb}
+use borrow.Author.Needs.{needs}
 use Rattle.bytecode.specs.Test.{if_then_else_}
 use Rattle.bytecode.specs.Code.{placeOf}
 use Rattle.flow.specs.Index.{placeIndexed}
-use borrow.Author.Needs.{needs}
 use Rattle.flow.proofs.store_fits.Statement.{statement}
 use Rattle.flow.proofs.store_fits.Tie as tie
-use Rattle.flow.proofs.store_fits.Reads as reads
-use Rattle.flow.proofs.store_fits.Lts as lts
 
--- src/lib.rt:122:20
 element-copy-out-result : tie.Need-element-copy-out-result
 element-copy-out-result c = search needs
 
--- src/lib.rt:122:9
 returns : tie.Need-returns
 unfolding placeOf placeIndexed if_then_else_
 returns c = rw (lt-ltb _ _ (c .before .if1 .taken))
 
--- src/lib.rt:125:20
 element-copy-out-result-2 : tie.Need-element-copy-out-result-2
 element-copy-out-result-2 c = search needs
 
--- src/lib.rt:125:9
 returns-2 : tie.Need-returns-2
 unfolding placeOf placeIndexed if_then_else_
 returns-2 c = rw (le-ltb _ _ (c .before .before .if1 .left), lt-ltb _ _ (c .before .if2 .taken))
 
--- src/lib.rt:128:9
 returns-3 : tie.Need-returns-3
 unfolding placeOf placeIndexed if_then_else_
 returns-3 c = rw (le-ltb _ _ (c .before .before .if1 .left), le-ltb _ _ (c .before .if2 .left), lt-ltb _ _ (c .if3 .taken))
 
--- src/lib.rt:130:9
 element-copy-out-result-3 : tie.Need-element-copy-out-result-3
 element-copy-out-result-3 c = search needs
 
--- src/lib.rt:117:1
 returns-4 : tie.Need-returns-4
 unfolding placeOf placeIndexed if_then_else_
 returns-4 c = rw (le-ltb _ _ (c .before .before .before .if1 .left), le-ltb _ _ (c .before .before .if2 .left), le-ltb _ _ (c .before .if3 .left))

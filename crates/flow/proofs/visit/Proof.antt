@@ -1,84 +1,66 @@
-use mathlib.Core.Logic.{_⊎_, inl, inr}
+-- `visit` notes a position and pushes it, or is refused (`Visit`).
+use mathlib.Core.Logic.{inl, inr}
 use native.Mathlib.Omega.{arith}
+use borrow.Author.Needs.{needs}
 use Rattle.flow.specs.Walk.{Visit}
 use Rattle.flow.proofs.VisitLaws.{has-room, visited-new, visited-same, clash}
-use borrow.Author.Needs.{needs}
 use Rattle.flow.proofs.visit.Statement.{statement}
 use Rattle.flow.proofs.visit.Tie as tie
-use Rattle.flow.proofs.visit.Reads as reads
-use Rattle.flow.proofs.visit.Lts as lts
 
--- src/lib.rt:29:9
 returns : tie.Need-returns
 unfolding Visit
 returns c = inl (c .if1 .taken)
 
--- src/lib.rt:32:9
 returns-2 : tie.Need-returns-2
 unfolding Visit
 returns-2 c = inr (inl (c .if2 .taken))
 
--- src/lib.rt:34:15
 slice-read-old : tie.Need-slice-read-old
 slice-read-old c = search needs
 
--- src/lib.rt:34:15
 cast-old : tie.Need-cast-old
 unfolding Visit
 cast-old c = omega (arith, c .slice-known .given (c .before .before .before .args .at))
 
--- src/lib.rt:36:22
 add-notes : tie.Need-add-notes
 add-notes c = search needs
 
--- src/lib.rt:36:21
 cast-notes : tie.Need-cast-notes
 cast-notes c = search needs
 
--- src/lib.rt:36:9
 slice-write-notes : tie.Need-slice-write-notes
 slice-write-notes c = search needs
 
--- src/lib.rt:37:22
 cast-pending : tie.Need-cast-pending
 cast-pending c = search needs
 
--- src/lib.rt:37:9
 mul-pending : tie.Need-mul-pending
 mul-pending c = search needs
 
--- src/lib.rt:37:9
 slice-write-pending : tie.Need-slice-write-pending
 unfolding Visit
 slice-write-pending c = has-room _ _ _ _ _ _ (c .before .before .before .before .pre) (c .before .before .before .if1 .left) (c .before .before .if2 .left) (c .if3 .taken)
 
--- src/lib.rt:38:25
 add-t12 : tie.Need-add-t12
 add-t12 c = search needs
 
--- src/lib.rt:38:9
 same-length : tie.Need-same-length
 same-length c = search needs
 
--- src/lib.rt:38:9
 same-length-2 : tie.Need-same-length-2
 same-length-2 c = search needs
 
--- src/lib.rt:38:9
 returns-3 : tie.Need-returns-3
 unfolding Visit
 returns-3 c = visited-new _ _ _ _ _ _ (c .before .before .before .before .pre) (c .before .before .before .if1 .left) (c .before .before .if2 .left) (c .if3 .taken)
 
--- src/lib.rt:40:15
 add-if4 : tie.Need-add-if4
 add-if4 c = search needs
 
--- src/lib.rt:41:9
 returns-4 : tie.Need-returns-4
 unfolding Visit
 returns-4 c = visited-same _ _ _ _ _ _ (c .before .before .before .before .before .pre) (c .before .before .before .before .if1 .left) (c .before .before .before .if2 .left) (c .if4 .taken)
 
--- src/lib.rt:22:1
 returns-5 : tie.Need-returns-5
 unfolding Visit
 returns-5 c = clash (c .before .before .before .before .before .args .room) (c .before .before .before .before .before .args .notes .now) (c .before .before .before .before .before .args .at) (c .before .before .before .before .before .args .depth) (c .before .if3 .left) (c .if4 .left)

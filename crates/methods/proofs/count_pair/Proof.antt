@@ -42,18 +42,20 @@ body-word-requires-3 c κs = (dictionary-named _ _ _ _ (c .before .before .befor
 
 -- src/lib.rt:88:9
 body-word-requires-4 : tie.Need-body-word-requires-4
-body-word-requires-4 c κs = 
-    (method-named _ _ _ _ (c .before .before .before .before .before .before .pre .ready) (c .before .before .before .before .before .before .args .class) (c .before .before .before .before .before .before .pre .isClass) (c .before .before .before .before .before .before .args .i) (c .before .before .before .before .before .before .pre .inside) (c .body-word3 .result)
-    (c .body-word3 .ensures ∙ ap (λ (x : ℕ). bodyWord (objectsAt (c .before .before .before .before .before .before .args .n) (c .before .before .before .before .before .before .args .b) (c .before .before .before .before .before .before .args .contents .now) (c .before .before .before .before .before .before .args .bodies .now)) (x / 2) (2 * c .before .before .before .before .before .before .args .i + 1)) (c .before .before .body-word .ensures)), omega arith)
+body-word-requires-4 c κs = (
+  method-named _ _ _ _ (c .before .before .before .before .before .before .pre .ready) (c .before .before .before .before .before .before .args .class) (c .before .before .before .before .before .before .pre .isClass) (c .before .before .before .before .before .before .args .i) (c .before .before .before .before .before .before .pre .inside) (c .body-word3 .result)
+      (c .body-word3 .ensures ∙ ap (λ (x : ℕ). bodyWord (objectsAt (c .before .before .before .before .before .before .args .n) (c .before .before .before .before .before .before .args .b) (c .before .before .before .before .before .before .args .contents .now) (c .before .before .before .before .before .before .args .bodies .now)) (x / 2) (2 * c .before .before .before .before .before .before .args .i + 1)) (c .before .before .body-word .ensures)),
+  omega arith,
+)
 
 -- src/lib.rt:90:9
 returns : tie.Need-returns
-returns c = 
+returns c =
     pair-no _ _ _ _ (c .before .before .before .before .before .before .before .before .args .class) (c .before .before .before .before .before .before .before .before .args .i) (c .before .before .before .before .before .before .before .before .args .counts .now) (c .before .before .before .before .before .before .before .before .pre) (c .before .before .before .before .body-word .result) (c .before .before .body-word3 .result) (c .before .body-word4 .result) (c .before .before .before .before .body-word .ensures) (c .before .before .body-word3 .ensures) (c .before .body-word4 .ensures) _ (c .if1 .taken)
 
 -- src/lib.rt:92:9
 argument-count-requires : tie.Need-argument-count-requires
-argument-count-requires c κs = 
+argument-count-requires c κs =
     method-named _ _ _ _ (c .before .before .before .before .before .before .before .before .pre .ready) (c .before .before .before .before .before .before .before .before .args .class) (c .before .before .before .before .before .before .before .before .pre .isClass) (c .before .before .before .before .before .before .before .before .args .i) (c .before .before .before .before .before .before .before .before .pre .inside) (c .before .before .body-word3 .result)
     (c .before .before .body-word3 .ensures ∙ ap (λ (x : ℕ). bodyWord (objectsAt (c .before .before .before .before .before .before .before .before .args .n) (c .before .before .before .before .before .before .before .before .args .b) (c .before .before .before .before .before .before .before .before .args .contents .now) (c .before .before .before .before .before .before .before .before .args .bodies .now)) (x / 2) (2 * c .before .before .before .before .before .before .before .before .args .i + 1)) (c .before .before .before .before .body-word .ensures))
 
@@ -71,9 +73,13 @@ cast-note-count-2 c = search needs
 
 -- src/lib.rt:93:5
 note-count-requires : tie.Need-note-count-requires
-note-count-requires c κs = 
-    omega (arith, c .before .before .before .before .before .before .before .before .before .before .pre .long, selector-most _ _ _ _ (c .before .before .before .before .before .before .before .before .before .before .pre .ready) (c .before .before .before .before .before .before .before .before .before .before .args .class) (c .before .before .before .before .before .before .before .before .before .before .pre .isClass) (c .before .before .before .before .before .before .before .before .before .before .args .i) (c .before .before .before .before .before .before .before .before .before .before .pre .inside) (c .before .before .before .before .before .body-word2 .result)
-    (c .before .before .before .before .before .body-word2 .ensures ∙ ap (λ (x : ℕ). bodyWord (objectsAt (c .before .before .before .before .before .before .before .before .before .before .args .n) (c .before .before .before .before .before .before .before .before .before .before .args .b) (c .before .before .before .before .before .before .before .before .before .before .args .contents .now) (c .before .before .before .before .before .before .before .before .before .before .args .bodies .now)) (x / 2) (2 * c .before .before .before .before .before .before .before .before .before .before .args .i)) (c .before .before .before .before .before .before .body-word .ensures)))
+note-count-requires c κs =
+    omega (
+      arith,
+      c .before .before .before .before .before .before .before .before .before .before .pre .long,
+      selector-most _ _ _ _ (c .before .before .before .before .before .before .before .before .before .before .pre .ready) (c .before .before .before .before .before .before .before .before .before .before .args .class) (c .before .before .before .before .before .before .before .before .before .before .pre .isClass) (c .before .before .before .before .before .before .before .before .before .before .args .i) (c .before .before .before .before .before .before .before .before .before .before .pre .inside) (c .before .before .before .before .before .body-word2 .result)
+          (c .before .before .before .before .before .body-word2 .ensures ∙ ap (λ (x : ℕ). bodyWord (objectsAt (c .before .before .before .before .before .before .before .before .before .before .args .n) (c .before .before .before .before .before .before .before .before .before .before .args .b) (c .before .before .before .before .before .before .before .before .before .before .args .contents .now) (c .before .before .before .before .before .before .before .before .before .before .args .bodies .now)) (x / 2) (2 * c .before .before .before .before .before .before .before .before .before .before .args .i)) (c .before .before .before .before .before .before .body-word .ensures)),
+    )
 
 -- src/lib.rt:81:1
 same-length : tie.Need-same-length
@@ -81,7 +87,7 @@ same-length c = search needs
 
 -- src/lib.rt:81:1
 returns-2 : tie.Need-returns-2
-returns-2 c = 
+returns-2 c =
     pair-turned _ _ _ _ (c .before .before .before .before .before .before .before .before .before .before .before .before .before .args .class) (c .before .before .before .before .before .before .before .before .before .before .before .before .before .args .i) (c .before .before .before .before .before .before .before .before .before .before .before .before .before .args .counts .now) (c .before .before .before .before .before .before .before .before .before .before .before .before .before .pre) (c .before .before .before .before .before .before .before .before .before .body-word .result) (c .before .before .before .before .before .before .before .body-word3 .result) (c .before .before .before .before .before .before .body-word4 .result) (c .before .before .before .before .before .before .before .before .before .body-word .ensures) (c .before .before .before .before .before .before .before .body-word3 .ensures) (c .before .before .before .before .before .before .body-word4 .ensures)
     (c .before .before .before .before .before .before .before .before .body-word2 .result) (c .before .before .before .before .argument-count .result) (c .before .before .before .before .before .before .before .before .body-word2 .ensures) (c .before .before .before .before .before .if1 .left) (c .before .before .before .before .argument-count .ensures .0) _ _ (c .before .before .note-count .ensures)
 

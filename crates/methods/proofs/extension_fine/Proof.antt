@@ -24,7 +24,7 @@ returns-2 c = simp (ap (leb 2) (sym (c .before .before .before .before .before .
 
 -- src/lib.rt:157:1
 returns-3 : tie.Need-returns-3
-returns-3 c = 
+returns-3 c =
     ap (λ (x : ℕ). ltb x 16384) (c .before .extension-of .ensures)
     ∙ sym (simp (ap (leb 2) (sym (c .before .before .before .before .before .pre .1)) ∙ le-leb _ _ (c .before .before .if1 .left), ap (λ (x : ℕ). eqb (x % 2) 1) (sym (c .before .extension-of .ensures)) ∙ eq-eqb _ _ (c .if2 .left)))
 

@@ -16,7 +16,7 @@ body-word-requires c κs = search needs
 
 -- src/lib.rt:40:9
 returns : tie.Need-returns
-returns c = 
+returns c =
     let o = objectsAt (c .before .before .before .before .args .n) (c .before .before .before .before .args .b) (c .before .before .before .before .args .contents .now) (c .before .before .before .before .args .bodies .now) in
     let e : _≡_ {A = ℕ} 2 (2 + (literalCount o (c .before .before .before .before .args .m) - 2)) = omega (arith, c .before .before .before .before .pre .1) in
     c .body-word .ensures ∙ ap (bodyWord o (c .before .before .before .before .args .m / 2)) e
@@ -27,7 +27,7 @@ body-word-requires-2 c κs = search needs
 
 -- src/lib.rt:35:1
 returns-2 : tie.Need-returns-2
-returns-2 c = 
+returns-2 c =
     let o = objectsAt (c .before .before .before .before .args .n) (c .before .before .before .before .args .b) (c .before .before .before .before .args .contents .now) (c .before .before .before .before .args .bodies .now) in
     let e : c .before .before .before .before .args .literals ≡ 2 + (literalCount o (c .before .before .before .before .args .m) - 2) = omega (arith, c .before .before .before .before .pre .1) in
     c .body-word2 .ensures ∙ ap (bodyWord o (c .before .before .before .before .args .m / 2)) e

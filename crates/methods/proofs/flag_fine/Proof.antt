@@ -37,7 +37,7 @@ argument-count-requires c κs = search needs
 -- src/lib.rt:194:1
 returns-3 : tie.Need-returns-3
 unfolding flagRules
-returns-3 c = 
+returns-3 c =
     ap₂ (λ (x y : ℕ). leb x (y / 256 % 32)) (c .argument-count .ensures .0) (c .before .before .before .before .before .before .before .pre .header)
     ∙ sym (simp (sym (c .before .before .before .before .field-fine .ensures) ∙ not-false _ (c .before .before .before .if1 .left), sym (c .before .before .primitive-fine .ensures) ∙ not-false _ (c .before .if2 .left)))
 

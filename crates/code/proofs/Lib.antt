@@ -1,0 +1,2 @@
+pub mod LinkFine
+pub mod CodePlace

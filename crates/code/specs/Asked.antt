@@ -1,0 +1,56 @@
+-- What the functions of the third pass ask of and promise each other.
+use Prim.Native.Nat.{ℕ, suc, _+_, _*_, _/_, _<_, _≤_}
+use mathlib.Core.Path.{_≡_}
+use mathlib.Core.Logic.{_⊎_}
+use mathlib.Core.Bool.{Bool, true, false}
+use mathlib.Core.List.{List}
+use lib.Dec.{T}
+use lib.ListN.{length, getD}
+use Rattle.bytecode.specs.Test.{allOf}
+use Rattle.bytecode.specs.Table.{IsTable}
+use Rattle.model.specs.Limits.{methodKind}
+use Rattle.model.specs.Objects.{Objects, objectsAt, start, isKind}
+use Rattle.model.specs.Method.{literalCount, codeWords, codeSize}
+use Rattle.model.specs.Depth.{noteAt, isSome}
+use Rattle.model.specs.Rules.{methodTable}
+use Rattle.flow.specs.declared.Link.{Link}
+use Rattle.flow.specs.declared.Link.the-variants.{Nothing, Variable, Selector, Special}
+use Rattle.flow.specs.Walk.{mostCode}
+use Rattle.methods.specs.Named.{Ready, SendAsked}
+use Rattle.methods.specs.Passes.{shapeRules}
+
+-- a special send's number is below 32
+abbrev pub Small : Link → Type 0
+Small Nothing = Unit {0}
+Small (Variable i) = Unit {0}
+Small (Selector l n) = Unit {0}
+Small (Special k) = k < 32
+
+-- method m, whose words are right, in an image whose counts are there
+pub record Asked (table : List ℕ) (n b : ℕ) (contents bodies counts : List ℕ) (m : ℕ) : Type 0 where
+  pub entries : IsTable table
+  pub ready : Ready n b contents bodies
+  pub sends : SendAsked n b contents bodies counts
+  pub isMethod : T (isKind (objectsAt n b contents bodies) methodKind m)
+  pub shape : T (allOf (shapeRules (objectsAt n b contents bodies) m))
+
+-- its code
+pub record CodeLent (o : Objects) (m : ℕ) (words : List ℕ) (size : ℕ) : Type 0 where
+  pub isWords : words ≡ codeWords o m
+  pub isSize : size ≡ codeSize o m
+  pub covered : size ≤ 2 * length words
+  pub small : size ≤ mostCode
+
+-- where the notes of a method's code stand in the table for all methods: a byte for each byte of the bodies
+abbrev pub notesFrom : Objects → ℕ → ℕ
+notesFrom o m = 2 * (start o (m / 2) + (2 + literalCount o m))
+
+-- the notes of method m are those of its depth table, 0 where there is none
+abbrev pub MethodNoted : Objects → List ℕ → ℕ → Type 0
+MethodNoted o notes m = (p : ℕ) → p < codeSize o m → getD notes (notesFrom o m + p) 0 ≡ noteAt (methodTable o m) p
+
+-- one method walked: the others' notes stay
+pub record MethodWalked (o : Objects) (m : ℕ) (notes notes′ : List ℕ) (r : Bool) : Type 0 where
+  pub answer : r ≡ isSome (methodTable o m)
+  pub noted : MethodNoted o notes′ m
+  pub others : (i : ℕ) → (i < notesFrom o m) ⊎ (notesFrom o m + codeSize o m ≤ i) → getD notes′ i 0 ≡ getD notes i 0
