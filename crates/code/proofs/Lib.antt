@@ -1,2 +1,3 @@
 pub mod LinkFine
 pub mod CodePlace
+pub mod PassLaws

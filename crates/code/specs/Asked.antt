@@ -9,15 +9,16 @@ use lib.ListN.{length, getD}
 use Rattle.bytecode.specs.Test.{allOf}
 use Rattle.bytecode.specs.Table.{IsTable}
 use Rattle.model.specs.Limits.{methodKind}
-use Rattle.model.specs.Objects.{Objects, objectsAt, start, isKind}
-use Rattle.model.specs.Method.{literalCount, codeWords, codeSize}
+use Rattle.model.specs.Word.{pointer}
+use Rattle.model.specs.Objects.{Objects, objectsAt, start, kind, isKind}
+use Rattle.model.specs.Method.{literalCount, codeWords, codeSize, runsCode}
 use Rattle.model.specs.Depth.{noteAt, isSome}
-use Rattle.model.specs.Rules.{methodTable}
+use Rattle.model.specs.Rules.{methodTable, rule7}
 use Rattle.flow.specs.declared.Link.{Link}
 use Rattle.flow.specs.declared.Link.the-variants.{Nothing, Variable, Selector, Special}
 use Rattle.flow.specs.Walk.{mostCode}
 use Rattle.methods.specs.Named.{Ready, SendAsked}
-use Rattle.methods.specs.Passes.{shapeRules}
+use Rattle.methods.specs.Passes.{shapeRules, shapes, codeFine, codes}
 
 -- a special send's number is below 32
 abbrev pub Small : Link → Type 0
@@ -54,3 +55,31 @@ pub record MethodWalked (o : Objects) (m : ℕ) (notes notes′ : List ℕ) (r :
   pub answer : r ≡ isSome (methodTable o m)
   pub noted : MethodNoted o notes′ m
   pub others : (i : ℕ) → (i < notesFrom o m) ⊎ (notesFrom o m + codeSize o m ≤ i) → getD notes′ i 0 ≡ getD notes i 0
+
+-- what the pass is lent
+pub record PassLent (table : List ℕ) (n b : ℕ) (contents bodies counts : List ℕ) (notes pending : ℕ) : Type 0 where
+  pub entries : IsTable table
+  pub ready : Ready n b contents bodies
+  pub sends : SendAsked n b contents bodies counts
+  pub shaped : T (shapes (objectsAt n b contents bodies))
+  pub room : 2 * b ≤ notes
+  pub long : mostCode ≤ pending
+
+-- the methods among the objects below k whose code can run have their notes
+abbrev pub NotedBefore : Objects → List ℕ → ℕ → Type 0
+NotedBefore o notes k = (j : ℕ) → 1 ≤ j → j < k → kind o j ≡ methodKind → T (runsCode o (pointer j)) → MethodNoted o notes (pointer j)
+
+-- object k, where it is a method
+pub record ObjectNoted (o : Objects) (k : ℕ) (notes notes′ : List ℕ) (r : Bool) : Type 0 where
+  pub answer : r ≡ codeFine o k
+  pub noted : NotedBefore o notes k → NotedBefore o notes′ (suc k)
+
+-- all objects
+pub record CodesNoted (o : Objects) (notes : List ℕ) (r : Bool) : Type 0 where
+  pub answer : r ≡ codes o
+  pub noted : r ≡ true → NotedBefore o notes (suc (o .n))
+
+-- and rule 7
+pub record MethodsNoted (o : Objects) (notes : List ℕ) (r : Bool) : Type 0 where
+  pub answer : r ≡ rule7 1 o
+  pub noted : r ≡ true → NotedBefore o notes (suc (o .n))

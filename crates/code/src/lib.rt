@@ -6,10 +6,11 @@ ghost use Rattle.bytecode.specs.Table.{IsTable};
 ghost use Rattle.bytecode.specs.Effect.{specialCount};
 ghost use Rattle.model.specs.Objects.{Objects, objectsAt};
 ghost use Rattle.flow.specs.Linked.{linkFine, linkedAt, allLinked};
-ghost use Rattle.model.specs.Method.{header, frameWords};
+ghost use Rattle.model.specs.Method.{header, frameWords, runsCode};
 ghost use Rattle.model.specs.Rules.{methodTable};
 ghost use Rattle.flow.specs.Walk.{Walked, mostCode};
-ghost use Rattle.code.specs.Asked.{Small, Asked, CodeLent, MethodWalked};
+ghost use Rattle.code.specs.Asked.{Small, Asked, CodeLent, MethodWalked, PassLent, ObjectNoted, CodesNoted, MethodsNoted};
+ghost use Rattle.methods.specs.Named.{Ready};
 use flow::Link;
 
 // The argument count of a special send, from the table's need.
@@ -207,4 +208,81 @@ fn method_notes(
         &mut notes[first..last],
         pending,
     )
+}
+
+// Whether the code of a method can run, by its header.
+fn runs(h: u16) -> bool
+    ensures { λ r. ⌜ ((o : Objects) (m : ℕ) → h ≡ header o m → r ≡ runsCode o m) ⌝ }
+{
+    let of = h / 8192 % 8;
+    if of <= 4 {
+        return true;
+    }
+    of == 7
+}
+
+// Object k, where it is a method whose code can run.
+fn code_object(
+    table: &[u16; 256],
+    contents: &[u16],
+    bodies: &[u16],
+    n: usize,
+    b: usize,
+    counts: &[u8],
+    k: usize,
+    notes: &mut [u8],
+    pending: &mut [u16],
+) -> bool
+    requires { ⌜ PassLent (now table) n b (now contents) (now bodies) (now counts) (length (now notes)) (length (now pending)) × (1 ≤ k) × (k ≤ n) ⌝ }
+    ensures { λ r. ⌜ ObjectNoted (objectsAt n b (now (contents .entry)) (now (bodies .entry))) k (now (notes .entry)) (now (notes .exit)) r ⌝ }
+{
+    if rules::kind(contents, n, k) != 4 {
+        return true;
+    }
+    let m = (2 * k) as u16;
+    if !runs(methods::header_of(contents, bodies, n, b, m)) {
+        return true;
+    }
+    method_notes(table, contents, bodies, n, b, counts, m, notes, pending)
+}
+
+// The third pass: the code of all methods.
+fn codes_fine(
+    table: &[u16; 256],
+    contents: &[u16],
+    bodies: &[u16],
+    n: usize,
+    b: usize,
+    counts: &[u8],
+    notes: &mut [u8],
+    pending: &mut [u16],
+) -> bool
+    requires { ⌜ PassLent (now table) n b (now contents) (now bodies) (now counts) (length (now notes)) (length (now pending)) ⌝ }
+    ensures { λ r. ⌜ CodesNoted (objectsAt n b (now (contents .entry)) (now (bodies .entry))) (now (notes .exit)) r ⌝ }
+{
+    let mut k = 1;
+    while k <= n {
+        if !code_object(table, contents, bodies, n, b, counts, k, notes, pending) {
+            return false;
+        }
+        k += 1;
+    }
+    true
+}
+
+// Rule 7, and the notes of all methods whose code can run.
+pub fn methods_fine(contents: &[u16], bodies: &[u16], n: usize, b: usize, notes: &mut [u8]) -> bool
+    requires { ⌜ Ready n b (now contents) (now bodies) × (2 * b ≤ length (now notes)) ⌝ }
+    ensures { λ r. ⌜ MethodsNoted (objectsAt n b (now (contents .entry)) (now (bodies .entry))) (now (notes .exit)) r ⌝ }
+{
+    if !methods::shapes_fine(contents, bodies, n, b) {
+        return false;
+    }
+    let mut counts = [0; 2048];
+    if !methods::count_methods(contents, bodies, n, b, &mut counts) {
+        return false;
+    }
+    let table = bytecode::table();
+    let mut pending = [0; 48000];
+    codes_fine(&table, contents, bodies, n, b, &counts, notes, &mut pending)
 }

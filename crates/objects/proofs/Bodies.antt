@@ -6,13 +6,14 @@ use mathlib.Core.List.{List}
 use lib.Dec.{T, leb, eqb, leb→le}
 use native.Mathlib.Omega.{arith}
 use lib.ListN.{length}
-use Rattle.model.specs.Limits.{entryWords, classKind, listKind, methodKind}
-use Rattle.model.specs.Word.{isPointer, isValid, objectNumber}
+use Rattle.model.specs.Limits.{entryWords, fieldsKind, classKind, listKind, methodKind, selectorsObject, specialSelectors}
+use Rattle.model.specs.Word.{isPointer, isValid, pointer, objectNumber}
 use Rattle.model.specs.Objects.{objectsAt, start, size}
 use Rattle.model.specs.Method.{literalCount}
+use Rattle.model.specs.Rules.{Right}
 use Rattle.model.proofs.ChainLaws.{named}
 use Rattle.bytecode.proofs.TestLaws.{true→T, and-left, and-right}
-use Rattle.model.proofs.Facts.{Valid, odd, names, valid-cases, inside, class-words, method-words, method-facts, list-words}
+use Rattle.model.proofs.Facts.{Valid, odd, names, valid-cases, in-words, least, inside, inside-selectors, class-words, method-words, method-facts, list-words}
 use Rattle.objects.specs.Lent.{Listed, Inside, Holds}
 use Rattle.objects.proofs.Buffers.{contents-room, bodies-room}
 
@@ -48,6 +49,13 @@ module _ {n b : ℕ} {contents bodies : List ℕ} where
       let s = list-words (h .right) d (h .kinds) in
       record { right = h .right; least = q .least; most = q .most; word = omega arith }
 
+  pub field-inside : {w : ℕ} (i : ℕ) → i < size (objectsAt n b contents bodies) (objectNumber w) → Holds fieldsKind n b contents bodies w → Inside n b contents bodies w i
+  field-inside {w} i l h =
+      let q = named (objectsAt n b contents bodies) fieldsKind w (h .kinds) in
+      let k = q .kinds in
+      let s = in-words (objectsAt n b contents bodies) (objectNumber w) (omega arith) (omega arith) in
+      record { right = h .right; least = q .least; most = q .most; word = omega arith }
+
   pub inside-listed : {w i : ℕ} → Inside n b contents bodies w i → Listed n contents w
   inside-listed h = record { least = h .least; most = h .most; room = contents-room n b contents bodies (h .right) }
 
@@ -55,6 +63,12 @@ module _ {n b : ℕ} {contents bodies : List ℕ} where
   holds-listed {k} {w} h =
       let q = named (objectsAt n b contents bodies) k w (h .kinds) in
       record { least = q .least; most = q .most; room = contents-room n b contents bodies (h .right) }
+
+-- the special selectors, by the word of object 5
+pub special-inside : (n b : ℕ) (contents bodies : List ℕ) (k : ℕ) → Right 1 (objectsAt n b contents bodies) → k < specialSelectors → Inside n b contents bodies (pointer selectorsObject) k
+special-inside n b contents bodies k r l =
+    let m = least r in
+    record { right = r; least = omega arith; most = omega arith; word = inside-selectors r k l }
 
 -- a word that is a pointer
 pub pointer-listed : (n : ℕ) (contents : List ℕ) (w : ℕ) → true ≡ isPointer n w → entryWords * n ≤ length contents → Listed n contents w

@@ -71,6 +71,19 @@ objects-front o contents bodies p q =
 pub front-same : (k : ℕ) (buffer : List ℕ) → k ≤ length buffer → front (take k buffer) buffer ≡ buffer
 front-same k buffer h = ap (λ (x : ℕ). take k buffer ++ drop x buffer) (length-take-le k buffer h) ∙ take-append-drop k buffer
 
+-- what a store leaves is what is defined
+pub stored-objects : (n b : ℕ) (contents bodies : List ℕ) (k i w : ℕ) → b ≤ length bodies
+    → objectsAt n b contents (front (storeWord (objectsAt n b contents bodies) k i w .bodies) bodies) ≡ storeWord (objectsAt n b contents bodies) k i w
+unfolding storeWord
+stored-objects n b contents bodies k i w h =
+    let at = start (objectsAt n b contents bodies) k + i in
+    objects-eq refl refl refl (take-at (set (take b bodies) at w) _ b (length-set (take b bodies) at w ∙ length-take-le b bodies h))
+
+pub stored-byte : (n b : ℕ) (contents bodies : List ℕ) (k i v : ℕ) → b ≤ length bodies
+    → objectsAt n b contents (front (storeByte (objectsAt n b contents bodies) k i v .bodies) bodies) ≡ storeByte (objectsAt n b contents bodies) k i v
+unfolding storeByte
+stored-byte n b contents bodies k i v h = stored-objects n b contents bodies k (i / 2) _ h
+
 -- words, by the tests of the code
 pub pointer-odd : (n w : ℕ) → (w % 2 ≡ 0 → ⊥) → false ≡ isPointer n w
 unfolding isPointer

@@ -2,12 +2,12 @@
 // model's specs/, over the objects in the two buffers.
 ghost use mathlib.Core.Path.{_≡_};
 ghost use mathlib.Core.List.{List};
-ghost use Prim.Native.Nat.{ℕ, _+_, _*_, _/_, _%_, _<_, _≤_};
+ghost use Prim.Native.Nat.{ℕ, _*_, _/_, _<_, _≤_};
 ghost use lib.Dec.{T};
-ghost use lib.ListN.{length, getD};
+ghost use lib.ListN.{length};
 ghost use Rattle.model.specs.Limits.{entryWords, classKind, listKind, methodKind, primitiveFlag};
 ghost use Rattle.model.specs.Word.{isPointer, isValid, objectNumber};
-ghost use Rattle.model.specs.Objects.{objectsAt, classOf, isKind, isNilOr, kind, start, size, bodyWords, bodyWord, superclassWord, dictionaryWord, fieldCount, form};
+ghost use Rattle.model.specs.Objects.{objectsAt, classOf, isKind, isNilOr, kind, start, size, bodyWord, superclassWord, dictionaryWord, fieldCount, form};
 ghost use Rattle.model.specs.Method.{header, home, literal, flag, literalCount, extension, primitiveNumber, argumentCount};
 ghost use Rattle.model.specs.Lookup.{findIn, lookup, inChain};
 ghost use Rattle.model.specs.Rules.{Right};
@@ -119,8 +119,8 @@ pub fn store_word(
     requires { ⌜ Inside n b (now contents) (now bodies) (p .0) i ⌝ }
     ensures { λ _. ⌜ now (bodies .exit) ≡ front (storeWord (objectsAt n b (now (contents .entry)) (now (bodies .entry))) (objectNumber (p .0)) i w .bodies) (now (bodies .entry)) ⌝ }
 {
-    let at = start_of(contents, n, p) + i;
-    bodies[at] = w;
+    let to = start_of(contents, n, p) + i;
+    bodies[to] = w;
 }
 
 // Byte i of an object's body, high byte of a word first.

@@ -11,8 +11,8 @@ use Rattle.objects.proofs.store_word.Tie as tie
 start-of-requires : tie.Need-start-of-requires
 start-of-requires c κs = inside-listed (c .before .before .pre)
 
-add-at : tie.Need-add-at
-add-at c = let h = room (c .before .before .before .pre) in omega (arith, c .start-of .ensures)
+add-to : tie.Need-add-to
+add-to c = let h = room (c .before .before .before .pre) in omega (arith, c .start-of .ensures)
 
 mul-bodies : tie.Need-mul-bodies
 mul-bodies c = let h = room (c .before .before .before .pre) in omega (arith, c .start-of .ensures)
@@ -28,4 +28,4 @@ returns c = let h = room (c .before .before .before .pre) in stored (c .before .
 
 pub store-word-spec : {M : Type 1} → statement M
 store-word-spec =
-    tie.close (tie.spec start-of-requires add-at mul-bodies slice-write-bodies same-length returns)
+    tie.close (tie.spec start-of-requires add-to mul-bodies slice-write-bodies same-length returns)

@@ -1,0 +1,210 @@
+-- The pass over all objects: what one turn needs, and what it leaves of the others' notes
+use Prim.Native.Nat.{ℕ, zero, suc, _+_, _-_, _*_, _/_, _%_, _≤_, _<_}
+use mathlib.Core.Path.{_≡_, refl, sym, ap, ap₂, _∙_, subst}
+use mathlib.Core.Logic.{_⊎_, inl, inr}
+use mathlib.Core.Bool.{Bool, true, false, _&&_, _||_}
+use mathlib.Core.List.{List}
+use native.Mathlib.Decide.{ℕ-discrete}
+use native.Mathlib.Omega.{arith}
+use borrow.Author.Tests.{eq-eqb, ne-eqb, le-leb, lt-leb}
+use lib.Dec.{T, eqb, leb}
+use lib.ListN.{length, getD, replicate}
+use Rattle.bytecode.specs.Test.{upTo, implies, allOf}
+use Rattle.bytecode.proofs.TestLaws.{true→T, T→true, implied, upTo-at}
+use Rattle.model.specs.Limits.{methodKind}
+use Rattle.model.specs.Word.{pointer}
+use Rattle.model.specs.Objects.{Objects, objectsAt, kind, start, size, bodyWords, bodyEnd, isKind}
+use Rattle.model.specs.Method.{header, literalCount, codeSize, runsCode}
+use Rattle.model.specs.Depth.{isSome}
+use Rattle.model.specs.Rules.{methodTable, rule4, rule7}
+use Rattle.rules.proofs.Laid.{layout-at, inside-at}
+use Rattle.rules.proofs.Names.{names-kind}
+use Rattle.rules.proofs.Loops.{UpBefore, up-none, up-more, up-all, up-no, never, stop, pass}
+use Rattle.methods.specs.Named.{Ready}
+use Rattle.methods.specs.Passes.{shapeRules, shapeFine, codeFine, shapes, holders, codes}
+use Rattle.methods.specs.Counts.{Held, Counts}
+use Rattle.methods.proofs.PassLaws.{passes}
+use Rattle.code.specs.Asked.{Asked, notesFrom, MethodNoted, MethodWalked, PassLent, NotedBefore, ObjectNoted, CodesNoted, MethodsNoted}
+use Rattle.code.proofs.CodePlace.{code-starts, body-size}
+
+half : (k : ℕ) → pointer k / 2 ≡ k
+half k = omega arith
+
+-- bodies lie in the order of their objects
+module _ (o : Objects) (laid : rule4 1 o ≡ true) where
+  next-start : (k : ℕ) → 1 ≤ k → k < o .n → start o (suc k) ≡ bodyEnd o k
+  next-start k h l =
+      layout-at o laid (suc k) (omega arith) (omega arith) .next (λ q. omega arith) ∙ ap (bodyEnd o) (same k)
+    where
+      same : (k : ℕ) → suc k - 1 ≡ k
+      same k = omega arith
+
+  later : (d k : ℕ) → 1 ≤ k → k + suc d ≤ o .n → bodyEnd o k ≤ start o (k + suc d)
+  later zero k h l = let e = next-start k h (omega arith) in subst (λ (x : ℕ). bodyEnd o k ≤ start o x) (one k) (omega arith)
+    where
+      one : (k : ℕ) → suc k ≡ k + 1
+      one k = omega arith
+  later (suc d) k h l =
+      let a = later d k h (omega arith) in
+      let e = next-start (k + suc d) (omega arith) (omega arith) in
+      subst (λ (x : ℕ). bodyEnd o k ≤ start o x) (more k d) (omega arith)
+    where
+      more : (k d : ℕ) → suc (k + suc d) ≡ k + suc (suc d)
+      more k d = omega arith
+
+  pub in-order : (j k : ℕ) → 1 ≤ j → j < k → k ≤ o .n → bodyEnd o j ≤ start o k
+  in-order j k h l g = subst (λ (x : ℕ). bodyEnd o j ≤ start o x) (gap j k l) (later (k - suc j) j h (omega arith))
+    where
+      gap : (j k : ℕ) → j < k → j + suc (k - suc j) ≡ k
+      gap j k l = omega arith
+
+module _ (o : Objects) where
+  code-runs : (k : ℕ) → kind o k ≡ methodKind → runsCode o (pointer k) ≡ true → codeFine o k ≡ isSome (methodTable o (pointer k))
+  unfolding codeFine
+  code-runs k e c =
+      ap₂ (λ (a b : Bool). implies a (implies b (isSome (methodTable o (pointer k))))) (eq-eqb (kind o k) methodKind e) c
+
+  code-idle : (k : ℕ) → runsCode o (pointer k) ≡ false → codeFine o k ≡ true
+  unfolding codeFine
+  code-idle k c = ap (λ (b : Bool). implies (eqb (kind o k) methodKind) (implies b (isSome (methodTable o (pointer k))))) c ∙ vacuous (eqb (kind o k) methodKind)
+    where
+      vacuous : (a : Bool) → implies a true ≡ true
+      vacuous true = refl
+      vacuous false = refl
+
+  code-other : (k : ℕ) → (kind o k ≡ methodKind → ⊥) → codeFine o k ≡ true
+  unfolding codeFine
+  code-other k e = ap (λ (a : Bool). implies a (implies (runsCode o (pointer k)) (isSome (methodTable o (pointer k))))) (ne-eqb (kind o k) methodKind e)
+
+  one-more : (ns : List ℕ) (k : ℕ) → NotedBefore o ns k → (kind o k ≡ methodKind → T (runsCode o (pointer k)) → MethodNoted o ns (pointer k)) → NotedBefore o ns (suc k)
+  one-more ns k f g j h l = go (ℕ-discrete j k)
+    where
+      go : Dec (j ≡ k) → kind o j ≡ methodKind → T (runsCode o (pointer j)) → MethodNoted o ns (pointer j)
+      go (yes e) = subst (λ (x : ℕ). kind o x ≡ methodKind → T (runsCode o (pointer x)) → MethodNoted o ns (pointer x)) (sym e) g
+      go (no e) = f j h (omega arith)
+
+  pub object-other : (k : ℕ) (ns : List ℕ) → (kind o k ≡ methodKind → ⊥) → ObjectNoted o k ns ns true
+  object-other k ns e = record { answer = sym (code-other k e); noted = λ f. one-more ns k f (λ q. absurd (e q)) }
+
+  pub object-idle : (k : ℕ) (ns : List ℕ) → runsCode o (pointer k) ≡ false → ObjectNoted o k ns ns true
+  object-idle k ns c = record { answer = sym (code-idle k c); noted = λ f. one-more ns k f (λ q t. absurd (subst T c t)) }
+
+  pub codes-stop : (k : ℕ) (ns ns′ : List ℕ) (r : Bool) → 1 ≤ k → k ≤ o .n → ObjectNoted o k ns ns′ r → r ≡ false → CodesNoted o ns′ false
+  unfolding codes
+  codes-stop k ns ns′ r h g w e =
+      record { answer = sym (up-no (o .n) (codeFine o) k h g (sym (w .answer) ∙ e)); noted = λ q. absurd (subst T (sym q) tt) }
+
+  -- so far
+  pub record Going (k : ℕ) (ns : List ℕ) : Type 0 where
+    pub least : 1 ≤ k
+    pub most : k ≤ suc (o .n)
+    pub passed : UpBefore (codeFine o) k
+    pub noted : NotedBefore o ns k
+
+  pub going-first : (ns : List ℕ) → Going 1 ns
+  going-first ns = record { least = omega arith; most = omega arith; passed = up-none (codeFine o); noted = λ j h l. absurd (omega arith) }
+
+  pub going-on : (k : ℕ) (ns ns′ : List ℕ) (r : Bool) → Going k ns → k ≤ o .n → ObjectNoted o k ns ns′ r → r ≡ true → Going (k + 1) ns′
+  going-on k ns ns′ r g h w e =
+      record {
+        least = omega arith;
+        most = omega arith;
+        passed = up-more (codeFine o) k (g .passed) (sym (w .answer) ∙ e);
+        noted = subst (NotedBefore o ns′) (next k) (w .noted (g .noted));
+      }
+    where
+      next : (k : ℕ) → suc k ≡ k + 1
+      next k = omega arith
+
+  pub going-over : (k : ℕ) (ns : List ℕ) → Going k ns → o .n < k → CodesNoted o ns true
+  unfolding codes
+  going-over k ns g h =
+      let m = g .most in
+      record {
+        answer = sym (up-all (o .n) k (codeFine o) (omega arith) (g .passed));
+        noted = λ q. subst (NotedBefore o ns) (last (g .most) h) (g .noted);
+      }
+    where
+      last : k ≤ suc (o .n) → o .n < k → k ≡ suc (o .n)
+      last m h = omega arith
+
+  -- rule 7 by the passes
+  pub seven-shapes : (ns : List ℕ) → shapes o ≡ false → MethodsNoted o ns false
+  seven-shapes ns e = record { answer = sym (passes 1 o ∙ stop (shapes o) (holders o && codes o) e); noted = λ q. absurd (subst T (sym q) tt) }
+
+  pub seven-holders : (ns counts : List ℕ) (r : Bool) → shapes o ≡ true → Held o counts r → r ≡ false → MethodsNoted o ns false
+  unfolding Held
+  seven-holders ns counts true e h q = absurd (subst T q tt)
+  seven-holders ns counts false e h q =
+      record {
+        answer = sym (passes 1 o ∙ pass (shapes o) (holders o && codes o) e ∙ stop (holders o) (codes o) (never (holders o) h));
+        noted = λ x. absurd (subst T (sym x) tt);
+      }
+
+  pub held-counts : (counts : List ℕ) (r : Bool) → Held o counts r → r ≡ true → T (holders o) × Counts o counts
+  unfolding Held
+  held-counts counts true h q = h
+  held-counts counts false h q = absurd (subst T (sym q) tt)
+
+  pub seven-codes : (ns : List ℕ) (r : Bool) → shapes o ≡ true → T (holders o) → CodesNoted o ns r → MethodsNoted o ns r
+  seven-codes ns r e h c =
+      record {
+        answer = c .answer ∙ sym (passes 1 o ∙ pass (shapes o) (holders o && codes o) e ∙ pass (holders o) (codes o) (T→true (holders o) h));
+        noted = c .noted;
+      }
+
+module _ {table contents bodies counts : List ℕ} {n b notes pending : ℕ} (l : PassLent table n b contents bodies counts notes pending) where
+  abbrev o : Objects
+  o = objectsAt n b contents bodies
+
+  -- a method among the objects
+  pub asked-at : (k : ℕ) → 1 ≤ k → k ≤ n → kind o k ≡ methodKind → Asked table n b contents bodies counts (pointer k)
+  unfolding shapes shapeFine
+  asked-at k h g e =
+      record {
+        entries = l .entries;
+        ready = l .ready;
+        sends = l .sends;
+        isMethod = true→T (names-kind o k methodKind h g e);
+        shape = implied (eqb (kind o k) methodKind) (allOf (shapeRules o (pointer k))) (upTo-at n (shapeFine o) (l .shaped) k h g) (true→T (eq-eqb (kind o k) methodKind e));
+      }
+
+  -- the code of an earlier method ends before that of a later one begins
+  apart : (j k : ℕ) → 1 ≤ j → j < k → k ≤ n → kind o j ≡ methodKind → notesFrom o (pointer j) + codeSize o (pointer j) ≤ notesFrom o (pointer k)
+  unfolding codeSize
+  apart j k h l′ g e =
+      let a = asked-at j h (omega arith) e in
+      let s = code-starts a in
+      let w = body-size a in
+      let r : start o (pointer j / 2) + bodyWords o (pointer j / 2) ≤ start o (pointer k / 2) = moved (in-order o (T→true _ (l .ready .layout)) j k h l′ g) in
+      omega arith
+    where
+      moved : bodyEnd o j ≤ start o k → bodyEnd o (pointer j / 2) ≤ start o (pointer k / 2)
+      moved r = subst (λ (x : ℕ). bodyEnd o x ≤ start o (pointer k / 2)) (sym (half j)) (subst (λ (x : ℕ). bodyEnd o j ≤ start o x) (sym (half k)) r)
+
+  pub object-walked : (k : ℕ) (ns ns′ : List ℕ) (r : Bool) → 1 ≤ k → k ≤ n → kind o k ≡ methodKind → runsCode o (pointer k) ≡ true
+      → MethodWalked o (pointer k) ns ns′ r → ObjectNoted o k ns ns′ r
+  object-walked k ns ns′ r h g e c w =
+      record {
+        answer = w .answer ∙ sym (code-runs o k e c);
+        noted = λ f. one-more o ns′ k (λ j a b q t p x. w .others (notesFrom o (pointer j) + p) (inl (near j a b q p x)) ∙ f j a b q t p x) (λ q t. w .noted);
+      }
+    where
+      near : (j : ℕ) → 1 ≤ j → j < k → kind o j ≡ methodKind → (p : ℕ) → p < codeSize o (pointer j) → notesFrom o (pointer j) + p < notesFrom o (pointer k)
+      near j a b q p x = let z = apart j k a b g q in omega arith
+
+-- lent again, with notes and pending positions of the same lengths
+pub lent-again : {table contents bodies counts : List ℕ} {n b s q s′ q′ : ℕ} → s′ ≡ s → q′ ≡ q → PassLent table n b contents bodies counts s q → PassLent table n b contents bodies counts s′ q′
+lent-again {table} {contents} {bodies} {counts} {n} {b} {s} {q} {s′} {q′} e f l =
+    subst (λ (x : ℕ). PassLent table n b contents bodies counts x q′) (sym e) (subst (λ (x : ℕ). PassLent table n b contents bodies counts s x) (sym f) l)
+
+pub runs-low : (o : Objects) (m h : ℕ) → h / 8192 % 8 ≤ 4 → h ≡ header o m → true ≡ runsCode o m
+runs-low o m h l e = ap₂ (λ (x y : Bool). x || y) (sym (le-leb (h / 8192 % 8) 4 l)) refl ∙ ap (λ (v : ℕ). leb (v / 8192 % 8) 4 || eqb (v / 8192 % 8) 7) e
+
+pub runs-high : (o : Objects) (m h : ℕ) → 4 < h / 8192 % 8 → h ≡ header o m → eqb (h / 8192 % 8) 7 ≡ runsCode o m
+runs-high o m h l e = ap (λ (x : Bool). x || eqb (h / 8192 % 8) 7) (sym (lt-leb (h / 8192 % 8) 4 l)) ∙ ap (λ (v : ℕ). leb (v / 8192 % 8) 4 || eqb (v / 8192 % 8) 7) e
+
+pub zeros-at : (n j : ℕ) → getD (replicate {A = ℕ} n 0) j 0 ≡ 0
+zeros-at zero j = refl
+zeros-at (suc n) zero = refl
+zeros-at (suc n) (suc j) = zeros-at n j

@@ -1,0 +1,3 @@
+pub mod Indexing
+pub mod Growing
+pub mod Performing

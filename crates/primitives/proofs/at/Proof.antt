@@ -1,0 +1,67 @@
+-- The element is inside the body, by the form of its class.
+use Rattle.model.specs.Objects.{objectsAt}
+use Rattle.primitives.proofs.Indexing.{taken, not-taken, indexed-by, not-indexed, receiver-listed, byte-inside, word-inside, at-none, at-no-index, at-byte, at-word}
+use borrow.Author.Needs.{needs}
+use Rattle.primitives.proofs.at.Statement.{statement}
+use Rattle.primitives.proofs.at.Tie as tie
+
+elements-requires : tie.Need-elements-requires
+elements-requires c κs = search needs
+
+returns : tie.Need-returns
+returns c = at-none _ _ _ (not-taken _ _ _ (c .before .elements .ensures) (c .if1 .taken))
+
+size-of-requires : tie.Need-size-of-requires
+size-of-requires c κs = receiver-listed (c .before .before .before .before .pre) ((taken _ _ _ (c .before .elements .ensures) (c .if1 .left)) .even)
+
+index-requires : tie.Need-index-requires
+index-requires c κs = search needs
+
+returns-2 : tie.Need-returns-2
+returns-2 c = at-no-index _ _ _ _ (taken _ _ _ (c .before .before .before .before .elements .ensures) (c .before .before .before .if1 .left)) (not-indexed (objectsAt (c .before .before .before .before .before .before .before .args .n) (c .before .before .before .before .before .before .before .args .b) (c .before .before .before .before .before .before .before .args .contents .now) (c .before .before .before .before .before .before .before .args .bodies .now)) (c .before .before .before .before .before .before .before .args .w) _ _ _ (c .before .before .size-of .ensures) (c .before .index .ensures) (c .if2 .taken))
+
+sub-byte-of : tie.Need-sub-byte-of
+sub-byte-of c = search needs
+
+byte-of-requires : tie.Need-byte-of-requires
+byte-of-requires c κs = byte-inside (c .before .before .before .before .before .before .before .before .pre) _ _ _ (taken _ _ _ (c .before .before .before .before .before .elements .ensures) (c .before .before .before .before .if1 .left)) (indexed-by _ _ _ _ _ (c .before .before .before .size-of .ensures) (c .before .before .index .ensures) (c .before .if2 .left)) (c .if3 .taken)
+
+cast-t15 : tie.Need-cast-t15
+cast-t15 c = search needs
+
+mul-t16 : tie.Need-mul-t16
+mul-t16 c = search needs
+
+add-t17 : tie.Need-add-t17
+add-t17 c = search needs
+
+returns-3 : tie.Need-returns-3
+returns-3 c = at-byte _ _ _ _ (taken _ _ _ (c .before .before .before .before .before .before .elements .ensures) (c .before .before .before .before .before .if1 .left)) _ (indexed-by _ _ _ _ _ (c .before .before .before .before .size-of .ensures) (c .before .before .before .index .ensures) (c .before .before .if2 .left)) _ (c .before .if3 .taken) (c .byte-of .ensures)
+
+sub-word-of : tie.Need-sub-word-of
+sub-word-of c = search needs
+
+word-of-requires : tie.Need-word-of-requires
+word-of-requires c κs = word-inside (c .before .before .before .before .before .before .before .before .pre) _ _ _ (taken _ _ _ (c .before .before .before .before .before .elements .ensures) (c .before .before .before .before .if1 .left)) (indexed-by _ _ _ _ _ (c .before .before .before .size-of .ensures) (c .before .before .index .ensures) (c .before .if2 .left)) (c .if3 .left)
+
+returns-4 : tie.Need-returns-4
+returns-4 c = at-word _ _ _ _ (taken _ _ _ (c .before .before .before .before .before .before .elements .ensures) (c .before .before .before .before .before .if1 .left)) _ (indexed-by _ _ _ _ _ (c .before .before .before .before .size-of .ensures) (c .before .before .before .index .ensures) (c .before .before .if2 .left)) _ (c .before .if3 .left) (c .word-of .ensures)
+
+pub at-spec : {M : Type 1} → statement M
+at-spec =
+    tie.close
+    (tie.spec
+    elements-requires
+    returns
+    size-of-requires
+    index-requires
+    returns-2
+    sub-byte-of
+    byte-of-requires
+    cast-t15
+    mul-t16
+    add-t17
+    returns-3
+    sub-word-of
+    word-of-requires
+    returns-4)

@@ -1,0 +1,91 @@
+-- The element is inside the body, by the form of its class.
+use Rattle.model.specs.Objects.{objectsAt}
+use Rattle.primitives.proofs.Indexing.{taken, not-taken, indexed-by, not-indexed, receiver-listed, byte-inside, word-inside, put-none, put-no-index, put-even, put-large, put-byte, put-word, puts-none, puts-some}
+use borrow.Author.Needs.{needs}
+use Rattle.primitives.proofs.at_put.Statement.{statement}
+use Rattle.primitives.proofs.at_put.Tie as tie
+
+elements-requires : tie.Need-elements-requires
+elements-requires c κs = search needs
+
+same-length : tie.Need-same-length
+same-length c = search needs
+
+returns : tie.Need-returns
+returns c = puts-none (c .before .before .before .before .before .pre) (put-none _ _ _ _ (not-taken _ _ _ (c .before .elements .ensures) (c .if1 .taken)))
+
+size-of-requires : tie.Need-size-of-requires
+size-of-requires c κs = receiver-listed (c .before .before .before .before .before .pre) ((taken _ _ _ (c .before .elements .ensures) (c .if1 .left)) .even)
+
+index-requires : tie.Need-index-requires
+index-requires c κs = search needs
+
+same-length-2 : tie.Need-same-length-2
+same-length-2 c = search needs
+
+returns-2 : tie.Need-returns-2
+returns-2 c = puts-none (c .before .before .before .before .before .before .before .before .pre) (put-no-index _ _ _ _ (taken _ _ _ (c .before .before .before .before .elements .ensures) (c .before .before .before .if1 .left)) _ (not-indexed (objectsAt (c .before .before .before .before .before .before .before .before .args .n) (c .before .before .before .before .before .before .before .before .args .b) (c .before .before .before .before .before .before .before .before .args .contents .now) (c .before .before .before .before .before .before .before .before .args .bodies .now)) (c .before .before .before .before .before .before .before .before .args .w) _ _ _ (c .before .before .size-of .ensures) (c .before .index .ensures) (c .if2 .taken)))
+
+same-length-3 : tie.Need-same-length-3
+same-length-3 c = search needs
+
+returns-3 : tie.Need-returns-3
+returns-3 c = puts-none (c .before .before .before .before .before .before .before .before .before .before .pre) (put-even _ _ _ _ (taken _ _ _ (c .before .before .before .before .before .before .elements .ensures) (c .before .before .before .before .before .if1 .left)) _ (indexed-by _ _ _ _ _ (c .before .before .before .before .size-of .ensures) (c .before .before .before .index .ensures) (c .before .before .if2 .left)) _ (c .before .if3 .taken) (c .if4 .taken))
+
+same-length-4 : tie.Need-same-length-4
+same-length-4 c = search needs
+
+returns-4 : tie.Need-returns-4
+returns-4 c = puts-none (c .before .before .before .before .before .before .before .before .before .before .before .pre) (put-large _ _ _ _ (taken _ _ _ (c .before .before .before .before .before .before .before .elements .ensures) (c .before .before .before .before .before .before .if1 .left)) _ (indexed-by _ _ _ _ _ (c .before .before .before .before .before .size-of .ensures) (c .before .before .before .before .index .ensures) (c .before .before .before .if2 .left)) _ (c .before .before .if3 .taken) (c .before .if4 .left) (c .if5 .taken))
+
+sub-store-byte : tie.Need-sub-store-byte
+sub-store-byte c = search needs
+
+cast-store-byte : tie.Need-cast-store-byte
+cast-store-byte c = search needs
+
+store-byte-requires : tie.Need-store-byte-requires
+store-byte-requires c κs = byte-inside (c .before .before .before .before .before .before .before .before .before .before .before .before .pre) _ _ _ (taken _ _ _ (c .before .before .before .before .before .before .before .before .elements .ensures) (c .before .before .before .before .before .before .before .if1 .left)) (indexed-by _ _ _ _ _ (c .before .before .before .before .before .before .size-of .ensures) (c .before .before .before .before .before .index .ensures) (c .before .before .before .before .if2 .left)) (c .before .before .before .if3 .taken)
+
+same-length-5 : tie.Need-same-length-5
+same-length-5 c = search needs
+
+returns-5 : tie.Need-returns-5
+returns-5 c = puts-some (c .before .before .store-byte .ensures) (put-byte _ _ _ _ (taken _ _ _ (c .before .before .before .before .before .before .before .before .before .before .before .elements .ensures) (c .before .before .before .before .before .before .before .before .before .before .if1 .left)) _ (indexed-by _ _ _ _ _ (c .before .before .before .before .before .before .before .before .before .size-of .ensures) (c .before .before .before .before .before .before .before .before .index .ensures) (c .before .before .before .before .before .before .before .if2 .left)) _ (c .before .before .before .before .before .before .if3 .taken) (c .before .before .before .before .before .if4 .left) (c .before .before .before .before .if5 .left))
+
+sub-store-word : tie.Need-sub-store-word
+sub-store-word c = search needs
+
+store-word-requires : tie.Need-store-word-requires
+store-word-requires c κs = word-inside (c .before .before .before .before .before .before .before .before .before .before .pre) _ _ _ (taken _ _ _ (c .before .before .before .before .before .before .elements .ensures) (c .before .before .before .before .before .if1 .left)) (indexed-by _ _ _ _ _ (c .before .before .before .before .size-of .ensures) (c .before .before .before .index .ensures) (c .before .before .if2 .left)) (c .before .if3 .left)
+
+same-length-6 : tie.Need-same-length-6
+same-length-6 c = search needs
+
+returns-6 : tie.Need-returns-6
+returns-6 c = puts-some (c .before .before .store-word .ensures) (put-word _ _ _ _ (taken _ _ _ (c .before .before .before .before .before .before .before .before .before .elements .ensures) (c .before .before .before .before .before .before .before .before .if1 .left)) _ (indexed-by _ _ _ _ _ (c .before .before .before .before .before .before .before .size-of .ensures) (c .before .before .before .before .before .before .index .ensures) (c .before .before .before .before .before .if2 .left)) _ (c .before .before .before .before .if3 .left))
+
+pub at-put-spec : {M : Type 1} → statement M
+at-put-spec =
+    tie.close
+    (tie.spec
+    elements-requires
+    same-length
+    returns
+    size-of-requires
+    index-requires
+    same-length-2
+    returns-2
+    same-length-3
+    returns-3
+    same-length-4
+    returns-4
+    sub-store-byte
+    cast-store-byte
+    store-byte-requires
+    same-length-5
+    returns-5
+    sub-store-word
+    store-word-requires
+    same-length-6
+    returns-6)

@@ -1,0 +1,112 @@
+-- The tests of `newWith`, then `make`.
+use mathlib.Core.Path.{sym, _∙_}
+use native.Mathlib.Omega.{arith}
+use borrow.Author.Tests.{not-true, not-false}
+use Rattle.bytecode.proofs.TestLaws.{true→T}
+use Rattle.model.proofs.Facts.{class-facts}
+use Rattle.objects.proofs.Buffers.{contents-room}
+use Rattle.primitives.proofs.Growing.{does-none, does-same, with-no-class, with-even, with-large, with-words, with-bytes, with-other}
+use borrow.Author.Needs.{needs}
+use Rattle.primitives.proofs.new_with.Statement.{statement}
+use Rattle.primitives.proofs.new_with.Tie as tie
+
+is-kind-requires : tie.Need-is-kind-requires
+is-kind-requires c κs = contents-room (c .before .before .before .args .n) (c .before .before .before .args .b) (c .before .before .before .args .contents .now) (c .before .before .before .args .bodies .now) (c .before .before .before .pre)
+
+same-length : tie.Need-same-length
+same-length c = search needs
+
+returns : tie.Need-returns
+returns c = does-none (c .before .before .before .before .before .args .n) (c .before .before .before .before .before .args .b) (c .before .before .before .before .before .args .contents .now) (c .before .before .before .before .before .args .bodies .now) (c .before .before .before .before .before .pre) (with-no-class _ _ _ _ (sym (c .before .is-kind .ensures (c .before .before .before .before .before .args .b) (c .before .before .before .before .before .args .bodies .now)) ∙ not-true _ (c .if1 .taken)))
+
+same-length-2 : tie.Need-same-length-2
+same-length-2 c = search needs
+
+returns-2 : tie.Need-returns-2
+returns-2 c = does-none (c .before .before .before .before .before .before .args .n) (c .before .before .before .before .before .before .args .b) (c .before .before .before .before .before .before .args .contents .now) (c .before .before .before .before .before .before .args .bodies .now) (c .before .before .before .before .before .before .pre) (with-even _ _ _ (sym (c .before .before .is-kind .ensures (c .before .before .before .before .before .before .args .b) (c .before .before .before .before .before .before .args .bodies .now)) ∙ not-false _ (c .before .if1 .left)) _ (c .if2 .taken))
+
+same-length-3 : tie.Need-same-length-3
+same-length-3 c = search needs
+
+returns-3 : tie.Need-returns-3
+returns-3 c = does-none (c .before .before .before .before .before .before .before .args .n) (c .before .before .before .before .before .before .before .args .b) (c .before .before .before .before .before .before .before .args .contents .now) (c .before .before .before .before .before .before .before .args .bodies .now) (c .before .before .before .before .before .before .before .pre) (with-large _ _ _ (sym (c .before .before .before .is-kind .ensures (c .before .before .before .before .before .before .before .args .b) (c .before .before .before .before .before .before .before .args .bodies .now)) ∙ not-false _ (c .before .before .if1 .left)) _ (c .before .if2 .left) (c .if3 .taken))
+
+form-of-requires : tie.Need-form-of-requires
+form-of-requires c κs = record { right = c .before .before .before .before .before .before .before .before .before .pre; kinds = true→T (sym (c .before .before .before .before .before .is-kind .ensures (c .before .before .before .before .before .before .before .before .before .args .b) (c .before .before .before .before .before .before .before .before .before .args .bodies .now)) ∙ not-false _ (c .before .before .before .before .if1 .left)) }
+
+field-count-requires : tie.Need-field-count-requires
+field-count-requires c κs = record { right = c .before .before .before .before .before .before .before .before .before .before .before .before .before .pre; kinds = true→T (sym (c .before .before .before .before .before .before .before .before .before .is-kind .ensures (c .before .before .before .before .before .before .before .before .before .before .before .before .before .args .b) (c .before .before .before .before .before .before .before .before .before .before .before .before .before .args .bodies .now)) ∙ not-false _ (c .before .before .before .before .before .before .before .before .if1 .left)) }
+
+add-count : tie.Need-add-count
+add-count c = let f = class-facts (c .before .before .before .before .before .before .before .before .before .before .before .before .before .before .pre) (c .before .before .before .before .before .before .before .before .before .before .before .before .before .before .args .w) (true→T (sym (c .before .before .before .before .before .before .before .before .before .before .is-kind .ensures (c .before .before .before .before .before .before .before .before .before .before .before .before .before .before .args .b) (c .before .before .before .before .before .before .before .before .before .before .before .before .before .before .args .bodies .now)) ∙ not-false _ (c .before .before .before .before .before .before .before .before .before .if1 .left))) .fields in let e = c .field-count .ensures in omega arith
+
+cast-make : tie.Need-cast-make
+cast-make c = let f = class-facts (c .before .before .before .before .before .before .before .before .before .before .before .before .before .before .before .before .pre) (c .before .before .before .before .before .before .before .before .before .before .before .before .before .before .before .before .args .w) (true→T (sym (c .before .before .before .before .before .before .before .before .before .before .before .before .is-kind .ensures (c .before .before .before .before .before .before .before .before .before .before .before .before .before .before .before .before .args .b) (c .before .before .before .before .before .before .before .before .before .before .before .before .before .before .before .before .args .bodies .now)) ∙ not-false _ (c .before .before .before .before .before .before .before .before .before .before .before .if1 .left))) .fields in let e = c .before .before .field-count .ensures in omega arith
+
+make-requires : tie.Need-make-requires
+make-requires c κs = let f = class-facts (c .before .before .before .before .before .before .before .before .before .before .before .before .before .before .before .before .pre) (c .before .before .before .before .before .before .before .before .before .before .before .before .before .before .before .before .args .w) (true→T (sym (c .before .before .before .before .before .before .before .before .before .before .before .before .is-kind .ensures (c .before .before .before .before .before .before .before .before .before .before .before .before .before .before .before .before .args .b) (c .before .before .before .before .before .before .before .before .before .before .before .before .before .before .before .before .args .bodies .now)) ∙ not-false _ (c .before .before .before .before .before .before .before .before .before .before .before .if1 .left))) .fields in let e = c .before .before .field-count .ensures in (c .before .before .before .before .before .before .before .before .before .before .before .before .before .before .before .before .pre, omega arith)
+
+same-length-4 : tie.Need-same-length-4
+same-length-4 c = search needs
+
+same-length-5 : tie.Need-same-length-5
+same-length-5 c = search needs
+
+returns-4 : tie.Need-returns-4
+returns-4 c = does-same (with-words _ _ _ (sym (c .before .before .before .before .before .before .before .before .before .before .before .before .before .before .before .before .before .is-kind .ensures (c .before .before .before .before .before .before .before .before .before .before .before .before .before .before .before .before .before .before .before .before .before .args .b) (c .before .before .before .before .before .before .before .before .before .before .before .before .before .before .before .before .before .before .before .before .before .args .bodies .now)) ∙ not-false _ (c .before .before .before .before .before .before .before .before .before .before .before .before .before .before .before .before .if1 .left)) _ _ (c .before .before .before .before .before .before .before .before .before .before .before .before .before .before .before .if2 .left) (c .before .before .before .before .before .before .before .before .before .before .before .before .before .before .if3 .left) (c .before .before .before .before .before .before .before .before .before .before .before .form-of .ensures) _ (c .before .before .before .before .before .before .before .before .before .before .if4 .taken) (c .before .before .before .before .before .before .before .field-count .ensures)) (c .before .before .before .before .make .ensures)
+
+cast-make-2 : tie.Need-cast-make-2
+cast-make-2 c = search needs
+
+add-make : tie.Need-add-make
+add-make c = search needs
+
+make-requires-2 : tie.Need-make-requires-2
+make-requires-2 c κs = search needs
+
+same-length-6 : tie.Need-same-length-6
+same-length-6 c = search needs
+
+same-length-7 : tie.Need-same-length-7
+same-length-7 c = search needs
+
+returns-5 : tie.Need-returns-5
+returns-5 c = does-same (with-bytes _ _ _ (sym (c .before .before .before .before .before .before .before .before .before .before .before .before .before .before .before .is-kind .ensures (c .before .before .before .before .before .before .before .before .before .before .before .before .before .before .before .before .before .before .before .args .b) (c .before .before .before .before .before .before .before .before .before .before .before .before .before .before .before .before .before .before .before .args .bodies .now)) ∙ not-false _ (c .before .before .before .before .before .before .before .before .before .before .before .before .before .before .if1 .left)) _ _ (c .before .before .before .before .before .before .before .before .before .before .before .before .before .if2 .left) (c .before .before .before .before .before .before .before .before .before .before .before .before .if3 .left) (c .before .before .before .before .before .before .before .before .before .form-of .ensures) (c .before .before .before .before .before .before .before .if5 .taken)) (c .before .before .before .before .make2 .ensures)
+
+same-length-8 : tie.Need-same-length-8
+same-length-8 c = search needs
+
+same-length-9 : tie.Need-same-length-9
+same-length-9 c = search needs
+
+returns-6 : tie.Need-returns-6
+returns-6 c = does-none (c .before .before .before .before .before .before .before .before .before .before .before .before .args .n) (c .before .before .before .before .before .before .before .before .before .before .before .before .args .b) (c .before .before .before .before .before .before .before .before .before .before .before .before .args .contents .now) (c .before .before .before .before .before .before .before .before .before .before .before .before .args .bodies .now) (c .before .before .before .before .before .before .before .before .before .before .before .before .pre) (with-other _ _ _ (sym (c .before .before .before .before .before .before .before .before .is-kind .ensures (c .before .before .before .before .before .before .before .before .before .before .before .before .args .b) (c .before .before .before .before .before .before .before .before .before .before .before .before .args .bodies .now)) ∙ not-false _ (c .before .before .before .before .before .before .before .if1 .left)) _ _ (c .before .before .before .before .before .before .if2 .left) (c .before .before .before .before .before .if3 .left) (c .before .before .form-of .ensures) (c .before .if4 .left) (c .if5 .left))
+
+pub new-with-spec : {M : Type 1} → statement M
+new-with-spec =
+    tie.close
+    (tie.spec
+    is-kind-requires
+    same-length
+    returns
+    same-length-2
+    returns-2
+    same-length-3
+    returns-3
+    form-of-requires
+    field-count-requires
+    add-count
+    cast-make
+    make-requires
+    same-length-4
+    same-length-5
+    returns-4
+    cast-make-2
+    add-make
+    make-requires-2
+    same-length-6
+    same-length-7
+    returns-5
+    same-length-8
+    same-length-9
+    returns-6)

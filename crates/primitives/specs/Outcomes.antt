@@ -1,0 +1,57 @@
+-- What a primitive's outcome is in the code's answer and in the buffers.
+use Prim.Native.Nat.{ℕ, _/_}
+use mathlib.Core.Path.{_≡_}
+use mathlib.Core.Bool.{_&&_}
+use mathlib.Core.List.{List}
+use lib.Dec.{T, leb}
+use lib.ListN.{length}
+use Rattle.bytecode.specs.Test.{if_then_else_}
+use Rattle.model.specs.declared.Computed.{Computed}
+use Rattle.model.specs.declared.Computed.the-variants.{Word, Failed}
+use Rattle.model.specs.Limits.{largestInteger}
+use Rattle.model.specs.Word.{isNatural, isValid}
+use Rattle.model.specs.Objects.{Objects, objectsAt, classOf, form}
+use Rattle.model.specs.Rules.{Right}
+use Rattle.model.specs.Image.{Room}
+use Rattle.model.specs.Primitive.{Outcome, answers, fails, isIndexable}
+use Rattle.primitives.specs.declared.Done.{Done}
+use Rattle.objects.specs.Lent.{front}
+
+unfoldable pub answerOf : Outcome → Computed
+answerOf (answers w o) = Word w
+answerOf fails = Failed
+
+-- the objects after it: a failure leaves those before it
+unfoldable pub objectsAfter : Objects → Outcome → Objects
+objectsAfter o (answers w o′) = o′
+objectsAfter o fails = o
+
+-- The lengths of the buffers that a primitive asks for
+abbrev pub roomOf : List ℕ → List ℕ → Room
+roomOf contents bodies = record { contents = length contents; bodies = length bodies; stack = 0; cache = 0 }
+
+-- Right objects, and a valid word as receiver
+pub record Receives (n b : ℕ) (contents bodies : List ℕ) (w : ℕ) : Type 0 where
+  pub right : Right 1 (objectsAt n b contents bodies)
+  pub valid : T (isValid n w)
+
+-- An outcome that leaves entries, n and b
+pub record Puts (o : Objects) (z : Outcome) (r : Computed) (bodies after : List ℕ) : Type 0 where
+  pub answer : r ≡ answerOf z
+  pub words : after ≡ front (objectsAfter o z .bodies) bodies
+
+-- Any outcome
+pub record Does (o : Objects) (z : Outcome) (r : Done) (contents bodies contents′ bodies′ : List ℕ) : Type 0 where
+  pub answer : r .answer ≡ answerOf z
+  pub count : r .n ≡ objectsAfter o z .n
+  pub size : r .b ≡ objectsAfter o z .b
+  pub entries : contents′ ≡ front (objectsAfter o z .contents) contents
+  pub words : bodies′ ≡ front (objectsAfter o z .bodies) bodies
+
+-- How 60 to 62 take w: 1 by words, 2 by bytes, 0 not at all
+unfoldable pub elementsOf : Objects → ℕ → ℕ
+elementsOf o w = if isIndexable o w then form o (classOf o w) else 0
+
+-- The number that an index holds, 0 where it is none
+unfoldable pub indexOf : ℕ → ℕ → ℕ
+indexOf count x = if isNatural largestInteger x && (leb 1 (x / 2) && leb (x / 2) count) then x / 2 else 0
