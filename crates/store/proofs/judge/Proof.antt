@@ -1,0 +1,101 @@
+-- Each rule that fails gives its number, once those before it hold.
+use mathlib.Core.Path.{sym, ap, _∙_}
+use native.Mathlib.Omega.{arith}
+use borrow.Author.Tests.{not-true, not-false}
+use Rattle.bytecode.proofs.TestLaws.{true→T}
+use Rattle.store.specs.Answer.{numberOf}
+use Rattle.store.proofs.Verdicts.{gives-4, gives-5, gives-6, gives-7, gives-8, gives-none}
+use borrow.Author.Needs.{needs}
+use Rattle.store.proofs.judge.Statement.{statement}
+use Rattle.store.proofs.judge.Tie as tie
+
+layout-requires : tie.Need-layout-requires
+layout-requires c κs = search needs
+
+returns : tie.Need-returns
+unfolding numberOf
+returns c =
+    record {
+      answer = sym (ap numberOf (gives-4 _ _ _ _ (sym (c .before .layout .ensures) ∙ not-true _ (c .if1 .taken))));
+      noted = λ e. absurd (omega (arith, e));
+    }
+
+words-requires : tie.Need-words-requires
+words-requires c κs = record { lent = c .before .before .before .before .before .pre .0; layout = sym (c .before .layout .ensures) ∙ not-false _ (c .if1 .left) }
+
+returns-2 : tie.Need-returns-2
+unfolding numberOf
+returns-2 c =
+    record {
+      answer = sym (ap numberOf (gives-5 _ _ _ _ (sym (c .before .before .before .layout .ensures) ∙ not-false _ (c .before .before .if1 .left)) (sym (c .before .words .ensures) ∙ not-true _ (c .if2 .taken))));
+      noted = λ e. absurd (omega (arith, e));
+    }
+
+classes-requires : tie.Need-classes-requires
+classes-requires c κs = record { lent = c .before .before .before .before .before .before .before .pre .0; layout = sym (c .before .before .before .layout .ensures) ∙ not-false _ (c .before .before .if1 .left) }
+
+returns-3 : tie.Need-returns-3
+unfolding numberOf
+returns-3 c =
+    record {
+      answer = sym (ap numberOf (gives-6 _ _ _ _ (sym (c .before .before .before .before .before .layout .ensures) ∙ not-false _ (c .before .before .before .before .if1 .left)) (sym (c .before .before .before .words .ensures) ∙ not-false _ (c .before .before .if2 .left)) (sym (c .before .classes .ensures) ∙ not-true _ (c .if3 .taken))));
+      noted = λ e. absurd (omega (arith, e));
+    }
+
+methods-fine-requires : tie.Need-methods-fine-requires
+methods-fine-requires c κs = (record { lent = c .before .before .before .before .before .before .before .before .before .before .pre .0; layout = true→T (sym (c .before .before .before .before .before .before .layout .ensures) ∙ not-false _ (c .before .before .before .before .before .if1 .left)); words = true→T (sym (c .before .before .before .before .words .ensures) ∙ not-false _ (c .before .before .before .if2 .left)); classes = true→T (sym (c .before .before .classes .ensures) ∙ not-false _ (c .before .if3 .left)) }, c .before .before .before .before .before .before .before .before .before .before .pre .1)
+
+same-length : tie.Need-same-length
+same-length c = search needs
+
+returns-4 : tie.Need-returns-4
+unfolding numberOf
+returns-4 c =
+    record {
+      answer = sym (ap numberOf (gives-7 _ _ _ _ (sym (c .before .before .before .before .before .before .before .before .before .before .layout .ensures) ∙ not-false _ (c .before .before .before .before .before .before .before .before .before .if1 .left)) (sym (c .before .before .before .before .before .before .before .before .words .ensures) ∙ not-false _ (c .before .before .before .before .before .before .before .if2 .left)) (sym (c .before .before .before .before .before .before .classes .ensures) ∙ not-false _ (c .before .before .before .before .before .if3 .left)) (sym (c .before .before .before .methods-fine .ensures .answer) ∙ not-true _ (c .if4 .taken))));
+      noted = λ e. absurd (omega (arith, e));
+    }
+
+starts-fine-requires : tie.Need-starts-fine-requires
+starts-fine-requires c κs = search needs
+
+same-length-2 : tie.Need-same-length-2
+same-length-2 c = search needs
+
+returns-5 : tie.Need-returns-5
+unfolding numberOf
+returns-5 c =
+    record {
+      answer = sym (ap numberOf (gives-8 _ _ _ _ (sym (c .before .before .before .before .before .before .before .before .before .before .before .before .layout .ensures) ∙ not-false _ (c .before .before .before .before .before .before .before .before .before .before .before .if1 .left)) (sym (c .before .before .before .before .before .before .before .before .before .before .words .ensures) ∙ not-false _ (c .before .before .before .before .before .before .before .before .before .if2 .left)) (sym (c .before .before .before .before .before .before .before .before .classes .ensures) ∙ not-false _ (c .before .before .before .before .before .before .before .if3 .left)) (sym (c .before .before .before .before .before .methods-fine .ensures .answer) ∙ not-false _ (c .before .before .if4 .left)) (sym (c .before .starts-fine .ensures _ _) ∙ not-true _ (c .if5 .taken))));
+      noted = λ e. absurd (omega (arith, e));
+    }
+
+same-length-3 : tie.Need-same-length-3
+same-length-3 c = search needs
+
+returns-6 : tie.Need-returns-6
+unfolding numberOf
+returns-6 c =
+    record {
+      answer = sym (ap numberOf (gives-none _ _ _ _ (sym (c .before .before .before .before .before .before .before .before .before .before .before .before .layout .ensures) ∙ not-false _ (c .before .before .before .before .before .before .before .before .before .before .before .if1 .left)) (sym (c .before .before .before .before .before .before .before .before .before .before .words .ensures) ∙ not-false _ (c .before .before .before .before .before .before .before .before .before .if2 .left)) (sym (c .before .before .before .before .before .before .before .before .classes .ensures) ∙ not-false _ (c .before .before .before .before .before .before .before .if3 .left)) (sym (c .before .before .before .before .before .methods-fine .ensures .answer) ∙ not-false _ (c .before .before .if4 .left)) (sym (c .before .starts-fine .ensures _ _) ∙ not-false _ (c .if5 .left))));
+      noted = λ e. c .before .before .before .before .before .methods-fine .ensures .noted (not-false _ (c .before .before .if4 .left));
+    }
+
+pub judge-spec : {M : Type 1} → statement M
+judge-spec =
+    tie.close
+    (tie.spec
+    layout-requires
+    returns
+    words-requires
+    returns-2
+    classes-requires
+    returns-3
+    methods-fine-requires
+    same-length
+    returns-4
+    starts-fine-requires
+    same-length-2
+    returns-5
+    same-length-3
+    returns-6)

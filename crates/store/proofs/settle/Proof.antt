@@ -1,0 +1,51 @@
+-- The objects in place are the image's, so the verdict on them is that on the image.
+use mathlib.Core.Path.{sym, _∙_}
+use Rattle.store.proofs.Settled.{settled-yes, settled-no}
+use borrow.Author.Needs.{needs}
+use Rattle.store.proofs.settle.Statement.{statement}
+use Rattle.store.proofs.settle.Tie as tie
+
+place-requires : tie.Need-place-requires
+place-requires c κs = search needs
+
+slice-aggregate-judge : tie.Need-slice-aggregate-judge
+slice-aggregate-judge c = search needs
+
+judge-requires : tie.Need-judge-requires
+judge-requires c κs = search needs
+
+zero-requires : tie.Need-zero-requires
+zero-requires c κs = search needs
+
+same-length : tie.Need-same-length
+same-length c = search needs
+
+same-length-2 : tie.Need-same-length-2
+same-length-2 c = search needs
+
+returns : tie.Need-returns
+returns c = settled-no _ _ _ _ _ (c .before .before .before .before .before .before .before .before .before .before .before .before .before .before .before .before .before .before .before .before .before .before .before .pre) _ _ (c .before .before .before .before .before .before .before .before .before .before .before .before .before .before .before .before .before .place .ensures .0) (c .before .before .before .before .before .before .before .before .before .before .before .before .before .before .before .before .before .place .ensures .1) _ _ _ _ _ (c .before .before .before .before .before .before .before .before .before .judge .ensures .answer) (c .before .before .before .before .before .before .before .if1 .taken) (c .before .before .before .before .zero .ensures .0) (c .before .before .before .before .zero .ensures .1)
+
+same-length-3 : tie.Need-same-length-3
+same-length-3 c = search needs
+
+same-length-4 : tie.Need-same-length-4
+same-length-4 c = search needs
+
+returns-2 : tie.Need-returns-2
+returns-2 c = settled-yes _ _ _ _ _ (c .before .before .before .before .before .before .before .before .before .before .before .before .before .before .before .before .pre) _ _ (c .before .before .before .before .before .before .before .before .before .before .place .ensures .0) (c .before .before .before .before .before .before .before .before .before .before .place .ensures .1) _ _ (sym (c .if1 .left) ∙ c .before .before .judge .ensures .answer)
+
+pub settle-spec : {M : Type 1} → statement M
+settle-spec =
+    tie.close
+    (tie.spec
+    place-requires
+    slice-aggregate-judge
+    judge-requires
+    zero-requires
+    same-length
+    same-length-2
+    returns
+    same-length-3
+    same-length-4
+    returns-2)

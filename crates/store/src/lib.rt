@@ -1,0 +1,154 @@
+// An image read into the lent contents and bodies, and judged there. The definitions are model's specs/Image.antt and specs/Answer.antt.
+ghost use mathlib.Core.Path.{_≡_};
+ghost use mathlib.Core.List.{List, []};
+ghost use Prim.Native.Nat.{ℕ, _*_, _≤_};
+ghost use lib.ListN.{length};
+ghost use Rattle.model.specs.Limits.{entryWords};
+ghost use Rattle.model.specs.Objects.{objectsAt};
+ghost use Rattle.model.specs.Rules.{headerFine, rule8};
+ghost use Rattle.model.specs.Image.{imageObjects, buffersFine, objectsVerdict, loadVerdict};
+ghost use Rattle.rules.specs.Lent.{Lent};
+ghost use Rattle.store.specs.Judged.{Judged};
+ghost use Rattle.store.specs.Answer.{roomFor, stored, storedBy, Passed};
+
+// The edition, and the bounds of N and B.
+const EDITION: u16 = 1;
+
+const LEAST_OBJECTS: u16 = 5;
+
+const MOST_OBJECTS: u16 = 2047;
+
+const MOST_BODY_WORDS: u16 = 24000;
+
+// Words of an entry, and of the cache.
+const ENTRY_WORDS: usize = 4;
+
+const CACHE_WORDS: usize = 192;
+
+// Bytes of the most body words: a depth note for each.
+const MOST_BYTES: usize = 48000;
+
+// Rule 8 for words that come without arguments: a valid receiver and a kind 1 selector.
+pub fn starts_fine(contents: &[u16], n: usize, receiver: u16, selector: u16) -> bool
+    requires { ⌜ entryWords * n ≤ length (now contents) ⌝ }
+    ensures { λ r. ⌜ ((b : ℕ) (bodies : List ℕ) → r ≡ rule8 (objectsAt n b (now (contents .entry)) bodies) receiver selector []) ⌝ }
+{
+    if !rules::is_valid(n, receiver) {
+        return false;
+    }
+    rules::is_kind(contents, n, rules::BYTES, selector)
+}
+
+// Rule 2: edition, N and B in range.
+pub fn header_fine(edition: u16, n: u16, b: u16) -> bool
+    ensures { λ r. ⌜ r ≡ headerFine edition n b ⌝ }
+{
+    if edition != EDITION {
+        return false;
+    }
+    if n < LEAST_OBJECTS {
+        return false;
+    }
+    if MOST_OBJECTS < n {
+        return false;
+    }
+    b <= MOST_BODY_WORDS
+}
+
+// Rule 3: buffers of these lengths hold n objects and b body words, and the cache has its length.
+pub fn buffers_fine(contents: usize, bodies: usize, cache: usize, n: u16, b: u16) -> bool
+    ensures { λ r. ⌜ r ≡ buffersFine (roomFor contents bodies cache) n b ⌝ }
+{
+    if contents < ENTRY_WORDS * (n as usize) {
+        return false;
+    }
+    if bodies < b as usize {
+        return false;
+    }
+    cache == CACHE_WORDS
+}
+
+// Rules 4 to 8, each over all objects before the next: 0, or the number of the first that does not hold. Accepted, the notes are those of
+// the depth tables.
+pub fn judge(
+    contents: &[u16],
+    bodies: &[u16],
+    n: usize,
+    b: usize,
+    receiver: u16,
+    selector: u16,
+    notes: &mut [u8],
+) -> u32
+    requires { ⌜ Lent n b (now contents) (now bodies) × (2 * b ≤ length (now notes)) ⌝ }
+    ensures { λ r. ⌜ Judged (objectsAt n b (now (contents .entry)) (now (bodies .entry))) receiver selector (now (notes .exit)) r ⌝ }
+{
+    if !rules::layout(contents, bodies, n, b) {
+        return 4;
+    }
+    if !rules::words(contents, bodies, n, b) {
+        return 5;
+    }
+    if !rules::classes(contents, bodies, n, b) {
+        return 6;
+    }
+    if !code::methods_fine(contents, bodies, n, b, notes) {
+        return 7;
+    }
+    if !starts_fine(contents, n, receiver, selector) {
+        return 8;
+    }
+    0
+}
+
+// The image's objects put in place and judged; zeros in their place where they are refused.
+fn settle(
+    image: &[u8],
+    n: usize,
+    b: usize,
+    receiver: u16,
+    selector: u16,
+    contents: &mut [u16],
+    bodies: &mut [u16],
+) -> u32
+    requires { ⌜ Passed (now image) n b (now contents) (now bodies) ⌝ }
+    ensures { λ r. ⌜ stored r (now (contents .exit)) (now (bodies .exit)) ≡ storedBy (objectsVerdict 1 (imageObjects (now (image .entry))) receiver selector) (now (image .entry)) (now (contents .entry)) (now (bodies .entry)) ⌝ }
+{
+    image::place(image, n, b, contents, bodies);
+    let mut notes = [0u8; MOST_BYTES];
+    let number = judge(contents, bodies, n, b, receiver, selector, &mut notes);
+    if number != 0 {
+        image::zero(n, b, contents, bodies);
+        return number;
+    }
+    0
+}
+
+// Loading, but for the cache, of which the length is given: 0, or the number of the refusal.
+pub fn read(image: &[u8], contents: &mut [u16], bodies: &mut [u16], cache: usize) -> u32
+    ensures { λ r. ⌜ stored r (now (contents .exit)) (now (bodies .exit)) ≡ storedBy (loadVerdict (roomFor (length (now (contents .entry))) (length (now (bodies .entry))) cache) (now (image .entry))) (now (image .entry)) (now (contents .entry)) (now (bodies .entry)) ⌝ }
+{
+    if !image::length_fine(image) {
+        return 1;
+    }
+    let header = image::header_of(image);
+    let edition = header.edition;
+    let n = header.n;
+    let b = header.b;
+    if !header_fine(edition, n, b) {
+        return 2;
+    }
+    if !buffers_fine(contents.len(), bodies.len(), cache, n, b) {
+        return 3;
+    }
+    let receiver = header.receiver;
+    let selector = header.selector;
+    settle(
+        image,
+        n as usize,
+        b as usize,
+        receiver,
+        selector,
+        contents,
+        bodies,
+    )
+}
