@@ -1,0 +1,240 @@
+// Images for the benchmarks.
+#include "images.h"
+#include <stdbool.h>
+#include <string.h>
+
+enum { FIELDS, BYTES, CLASS, LIST, METHOD };
+enum { NIL = 1, FALSE, TRUE, INTEGERS, SELECTORS, CLASSES, PLAIN, EMPTY, STRINGS, VARIABLES, FIRST };
+
+static uint64_t state;
+
+static unsigned below(unsigned n) {
+    state = state * 6364136223846793005u + 1442695040888963407u;
+    return (unsigned)(state >> 33) % n;
+}
+
+// The image so far: its objects and their bodies, in order.
+static uint16_t contents[4 * 2048], bodies[65536];
+static size_t n, b;
+
+static unsigned object(unsigned class, unsigned kind, unsigned size) {
+    uint16_t *e = contents + 4 * n++;
+    e[0] = 2 * class, e[1] = kind, e[2] = b, e[3] = size;
+    const size_t words = kind == BYTES || kind == METHOD ? (size + 1) / 2 : size;
+    memset(bodies + b, 0, 2 * words);
+    b += words;
+    return n;
+}
+
+static uint16_t *body(unsigned k) { return bodies + contents[4 * k - 2]; }
+
+static unsigned class(unsigned super, unsigned dictionary, unsigned fields, unsigned form) {
+    const unsigned k = object(CLASSES, CLASS, 4);
+    uint16_t *c = body(k);
+    c[0] = 2 * super, c[1] = 2 * dictionary, c[2] = 2 * fields + 1, c[3] = 2 * form + 1;
+    return k;
+}
+
+static void put(uint16_t *words, size_t at, unsigned x) {
+    const unsigned w = words[at / 2];
+    words[at / 2] = at % 2 == 0 ? (x << 8) | (w & 255) : (w & 65280) | x;
+}
+
+static unsigned bytes(unsigned size) {
+    const unsigned k = object(STRINGS, BYTES, size);
+    for (unsigned i = 0; i < size; i++) put(body(k), i, 97 + below(26));
+    return k;
+}
+
+// An integer, or the name of an object that is there.
+static unsigned any(void) { return below(2) == 0 ? 2 * below(32768) + 1 : 2 * (1 + below(n)); }
+
+static void any_words(unsigned k, unsigned count) {
+    for (unsigned i = 0; i < count; i++) body(k)[i] = any();
+}
+
+// The objects with a fixed number, and the classes that all images have.
+static void begin(void) {
+    n = b = 0;
+    for (int i = 0; i < 3; i++) object(PLAIN, FIELDS, 0);
+    class(NIL, EMPTY, 0, 3);
+    object(CLASSES, LIST, 32);
+    for (int i = 0; i < 32; i++) body(SELECTORS)[i] = 2 * NIL;
+    class(NIL, EMPTY, 0, 3);
+    class(NIL, EMPTY, 0, 0);
+    object(CLASSES, LIST, 0);
+    class(NIL, EMPTY, 0, 2);
+    class(NIL, EMPTY, 2, 0);
+}
+
+static size_t written(uint8_t *image, unsigned receiver, unsigned selector) {
+    const uint16_t header[5] = {1, n, b, receiver, selector};
+    uint8_t *to = image;
+    for (size_t i = 0; i < 5; i++) *to++ = header[i] >> 8, *to++ = header[i] & 255;
+    for (size_t i = 0; i < 4 * n; i++) *to++ = contents[i] >> 8, *to++ = contents[i] & 255;
+    for (size_t i = 0; i < b; i++) *to++ = bodies[i] >> 8, *to++ = bodies[i] & 255;
+    return to - image;
+}
+
+// Code of the method that is being written. Its literals: 8 selectors, two for each count from 0 to 3, then 4 variables, then others.
+enum { VARIABLE = 8, LITERALS = 14, MOST_CODE = 2000 };
+static uint8_t code[MOST_CODE];
+static size_t end;
+static unsigned fields, temporaries;
+
+static void emit(unsigned x) { code[end++] = x; }
+
+static void value(unsigned deep);
+
+static void send(unsigned deep, unsigned count) {
+    const unsigned literal = 2 * count + below(2), how = below(6);
+    for (unsigned i = 0; i <= count; i++) value(deep - 1);
+    if (how < 3 && count < 3) emit(208 + 16 * count + literal);
+    else if (how < 5) { emit(131 + 2 * below(2)); emit(32 * count + literal); }
+    else { emit(132 + 2 * below(2)); emit(count); emit(literal); }
+}
+
+// One value pushed.
+static void value(unsigned deep) {
+    const unsigned kind = below(deep == 0 ? 12 : 18);
+    if (kind < 2) emit(below(fields < 16 ? fields : 16));
+    else if (kind < 5) emit(temporaries > 0 ? 16 + below(temporaries) : 112);
+    else if (kind < 6) emit(32 + below(LITERALS));
+    else if (kind < 7) emit(64 + VARIABLE + below(4));
+    else if (kind < 10) emit(112 + below(8));
+    else if (kind < 11) { emit(128); emit(below(fields)); }
+    else if (kind < 12) { emit(128); emit(192 + VARIABLE + below(4)); }
+    else if (kind < 15) send(deep, below(4));
+    else if (kind < 17) { value(deep - 1); value(deep - 1); emit(176 + below(16)); }
+    else { value(deep - 1); emit(199); }
+}
+
+static void statement(unsigned deep) {
+    const unsigned kind = below(10);
+    if (kind < 5 || deep == 0) {
+        value(2);
+        const unsigned to = below(5);
+        if (to == 0) emit(96 + below(fields < 8 ? fields : 8));
+        else if (to == 1 && temporaries > 0) emit(104 + below(temporaries < 8 ? temporaries : 8));
+        else if (to == 2) { emit(130); emit(192 + VARIABLE + below(4)); }
+        else if (to == 3) { emit(129); emit(below(fields)); emit(135); }
+        else emit(135);
+        return;
+    }
+    const size_t top = end;
+    value(1);
+    const size_t from = end;
+    emit(172);
+    emit(0);
+    for (unsigned i = below(2) + 1; i > 0; i--) statement(deep - 1);
+    const bool loop = kind > 7;
+    const size_t over = end - from - 2 + (loop ? 2 : 0);
+    code[from] = 172 + over / 256;
+    code[from + 1] = over % 256;
+    if (loop) {
+        const size_t back = 1024 - (end + 2 - top);
+        emit(160 + back / 256);
+        emit(back % 256);
+    }
+}
+
+static unsigned first_selector, selectors, first_variable;
+
+// A selector under which methods take this count.
+static unsigned selector_of(unsigned count) { return first_selector + 4 * below(selectors / 4) + count; }
+
+static unsigned method(unsigned home, unsigned count) {
+    unsigned flag = count;
+    const unsigned how = below(8);
+    fields = body(home)[2] / 2;
+    temporaries = count + below(4);
+    if (how == 0) flag = 7;
+    else if (how == 1 && count == 0) flag = 5;
+    else if (how == 2 && count == 0) flag = 6, temporaries = below(fields < 32 ? fields : 32);
+    end = 0;
+    for (unsigned i = below(4) + 1; i > 0; i--) statement(2);
+    if (below(2) == 0) emit(120 + below(4));
+    else { value(2); emit(124); }
+    const unsigned k = object(CLASSES, METHOD, 4 + 2 * LITERALS + end);
+    uint16_t *m = body(k);
+    m[0] = flag << 13 | temporaries << 8 | 128 | LITERALS << 1 | 1;
+    m[1] = 2 * home;
+    for (unsigned i = 0; i < 8; i++) m[2 + i] = below(8) == 0 ? 2 * NIL : 2 * selector_of(i / 2);
+    for (unsigned i = VARIABLE; i < LITERALS; i++) m[2 + i] = i < VARIABLE + 4 ? 2 * (first_variable + below(8)) : any();
+    if (flag == 7) m[LITERALS] = count << 9 | below(256) << 1 | 1;
+    for (size_t i = 0; i < end; i++) put(m + 2 + LITERALS, i, code[i]);
+    return k;
+}
+
+// A class with its methods and some objects. It gives the class.
+static unsigned group(unsigned super) {
+    const unsigned form = below(2), own = (super == NIL ? 2 : body(super)[2] / 2) + below(3);
+    const unsigned k = class(super, EMPTY, own < 200 ? own : 200, form);
+    unsigned pairs[16][2], count = 0;
+    for (unsigned s = first_selector + below(selectors / 2); s < first_selector + selectors && count < 6; s += 1 + below(selectors / 3)) {
+        pairs[count][0] = s;
+        pairs[count++][1] = method(k, (s - first_selector) % 4);
+    }
+    if (below(4) == 0) method(k, below(4));
+    const unsigned dictionary = object(CLASSES, LIST, 2 * count);
+    for (unsigned i = 0; i < count; i++) body(dictionary)[2 * i] = 2 * pairs[i][0], body(dictionary)[2 * i + 1] = 2 * pairs[i][1];
+    body(k)[1] = 2 * dictionary;
+    for (unsigned i = below(3); i > 0; i--) {
+        const unsigned size = body(k)[2] / 2 + form * below(8);
+        any_words(object(k, FIELDS, size), size);
+    }
+    bytes(below(24));
+    if (below(2) == 0) {
+        const unsigned size = below(8);
+        any_words(object(CLASSES, LIST, size), size);
+    }
+    return k;
+}
+
+size_t ordinary(uint8_t *image, size_t words, uint64_t seed) {
+    state = seed;
+    begin();
+    selectors = 16 + words / 1000 * 4;
+    first_selector = n + 1;
+    for (unsigned i = 0; i < selectors; i++) bytes(1 + below(9));
+    static const uint8_t counts[32] = {1, 1, 1, 1, 1, 1, 1, 1, 1, 1, 1, 1, 1, 1, 1, 1, 1, 2, 0, 0, 1, 0, 1, 0, 1, 0, 1, 1, 0, 1, 0, 0};
+    for (unsigned i = 0; i < 32; i++)
+        if (below(4) > 0) body(SELECTORS)[i] = 2 * selector_of(counts[i]);
+    first_variable = n + 1;
+    for (unsigned i = 0; i < 8; i++) any_words(object(VARIABLES, FIELDS, 2), 2);
+    unsigned made[1024], count = 0;
+    for (;;) {
+        const size_t old_n = n, old_b = b;
+        const unsigned k = group(count == 0 || below(4) == 0 ? NIL : made[below(count)]);
+        if (b > words || n > 2000 || count == 1024) {
+            n = old_n;
+            b = old_b;
+            break;
+        }
+        made[count++] = k;
+    }
+    if (b < words) bytes(2 * (words - b) - 1);
+    return written(image, any(), 2 * selector_of(0));
+}
+
+size_t chain(uint8_t *image, size_t count) {
+    begin();
+    const unsigned selector = bytes(1);
+    unsigned last = NIL;
+    for (size_t i = 0; i < count; i++) last = class(last, EMPTY, 0, 0);
+    return written(image, 2 * NIL, 2 * selector);
+}
+
+size_t shared(uint8_t *image, size_t count) {
+    begin();
+    const unsigned selector = n + 1;
+    for (size_t i = 0; i < count; i++) bytes(1);
+    const unsigned m = object(CLASSES, METHOD, 5);
+    body(m)[0] = 1;
+    body(m)[1] = 2 * (n + 2);
+    body(m)[2] = 120 << 8;
+    const unsigned dictionary = object(CLASSES, LIST, 2 * count);
+    for (size_t i = 0; i < count; i++) body(dictionary)[2 * i] = 2 * (selector + i), body(dictionary)[2 * i + 1] = 2 * m;
+    for (size_t i = 0; i < count; i++) class(NIL, dictionary, 0, 0);
+    return written(image, 2 * NIL, 2 * selector);
+}

@@ -1,0 +1,177 @@
+// Times reading and checking images, ours and C's by turns; the least of all runs counts. Both have to answer and leave the same.
+#include "image.h"
+#include "images.h"
+#include "walk.h"
+#include <stdio.h>
+#include <string.h>
+#include <time.h>
+
+enum { CONTENTS = 4 * 2047, BODIES = 24000, NOTES = 48000, EDITS = 20000 };
+
+void bench_table(uint16_t *table);
+uint32_t bench_read(slice image, slice contents, slice bodies, size_t cache);
+void bench_place(slice image, size_t n, size_t b, slice contents, slice bodies);
+uint32_t bench_judge(slice contents, slice bodies, size_t n, size_t b, uint16_t receiver, uint16_t selector, slice notes);
+
+static uint16_t entries[256];
+static uint8_t image[MOST_IMAGE], edited[MOST_IMAGE];
+static uint16_t contents[2][CONTENTS], bodies[2][BODIES];
+static uint8_t notes[2][NOTES];
+static uint64_t seed = 7;
+
+static unsigned below(unsigned n) {
+    seed = seed * 6364136223846793005u + 1442695040888963407u;
+    return (unsigned)(seed >> 33) % n;
+}
+
+static double now(void) {
+    struct timespec t;
+    clock_gettime(CLOCK_MONOTONIC, &t);
+    return t.tv_sec * 1e9 + t.tv_nsec;
+}
+
+static unsigned word(const uint8_t *of, size_t i) { return of[2 * i] << 8 | of[2 * i + 1]; }
+
+static void put(uint8_t *of, size_t i, unsigned w) { of[2 * i] = w >> 8, of[2 * i + 1] = w & 255; }
+
+static bool alike(void) {
+    return memcmp(contents[0], contents[1], sizeof contents[0]) == 0 && memcmp(bodies[0], bodies[1], sizeof bodies[0]) == 0;
+}
+
+// Buffers that both sides find alike and that no image has.
+static void fill(void) {
+    memset(contents, 0xa5, sizeof contents);
+    memset(bodies, 0x5a, sizeof bodies);
+}
+
+// The times of one image: putting words in place, the check, all of it.
+typedef struct {
+    double ours[3], c[3];
+} times;
+
+static void least(double *of, double t) {
+    if (t < *of) *of = t;
+}
+
+// `number` is what both have to answer.
+static bool measure(const char *name, size_t length, uint32_t number, int runs, times *t) {
+    const size_t n = word(image, 1), b = word(image, 2);
+    const uint16_t receiver = word(image, 3), selector = word(image, 4);
+    const slice i = {image, length}, c = {contents[0], CONTENTS}, w = {bodies[0], BODIES}, o = {notes[0], NOTES};
+    for (int k = 0; k < 3; k++) t->ours[k] = t->c[k] = 1e18;
+    for (int run = 0; run < runs; run++) {
+        double t0, t1, t2;
+        uint32_t r, s;
+        fill();
+        t0 = now();
+        bench_place(i, n, b, c, w);
+        t1 = now();
+        c_place(image, n, b, contents[1], bodies[1]);
+        t2 = now();
+        least(t->ours, t1 - t0), least(t->c, t2 - t1);
+        if (!alike()) return printf("%s: the words put in place differ\n", name), false;
+        memset(notes, 0, sizeof notes);
+        t0 = now();
+        r = bench_judge(c, w, n, b, receiver, selector, o);
+        t1 = now();
+        s = c_judge(entries, contents[1], bodies[1], n, b, receiver, selector, notes[1]);
+        t2 = now();
+        least(t->ours + 1, t1 - t0), least(t->c + 1, t2 - t1);
+        if (r != number || s != number || !alike()) return printf("%s: the checks answer %u and %u\n", name, r, s), false;
+        if (r == 0 && memcmp(notes[0], notes[1], NOTES) != 0) return printf("%s: the depth notes differ\n", name), false;
+        fill();
+        t0 = now();
+        r = bench_read(i, c, w, 192);
+        t1 = now();
+        s = c_read(entries, image, length, contents[1], CONTENTS, bodies[1], BODIES, 192);
+        t2 = now();
+        least(t->ours + 2, t1 - t0), least(t->c + 2, t2 - t1);
+        if (r != number || s != number || !alike()) return printf("%s: the readings answer %u and %u\n", name, r, s), false;
+    }
+    return true;
+}
+
+static const char *const parts[3] = {"place", "check", "read"};
+
+static size_t usual(uint8_t *to, size_t b) { return ordinary(to, b, b); }
+
+typedef struct {
+    const char *name;
+    size_t (*make)(uint8_t *, size_t);
+    size_t size;
+    uint32_t number;
+    int runs;
+} sample;
+
+// Times and ratios; and how the times grow, where the sample before has half the size.
+static bool report(const sample *samples, size_t count) {
+    times t[2];
+    for (size_t i = 0; i < count; i++) {
+        const sample *s = samples + i;
+        times *new = t + i % 2, *old = t + (i + 1) % 2;
+        if (!measure(s->name, s->make(image, s->size), s->number, s->runs, new)) return false;
+        for (int k = 0; k < 3; k++) {
+            printf("%-7s %5zu %-5s   ours %8.2f us   C %8.2f us   ratio %.2f", s->name, s->size, parts[k], new->ours[k] / 1e3,
+                   new->c[k] / 1e3, new->ours[k] / new->c[k]);
+            if (i > 0 && s[-1].make == s->make && 2 * s[-1].size == s->size)
+                printf("   growth from half: ours %.2f, C %.2f", new->ours[k] / old->ours[k], new->c[k] / old->c[k]);
+            printf("\n");
+        }
+    }
+    return true;
+}
+
+// A word that is likely to matter: another of the image, a neighbour, one bit off, anything.
+static unsigned changed(size_t words, size_t i) {
+    const unsigned w = word(edited, i);
+    switch (below(8)) {
+    case 0: return w ^ 1u << below(16);
+    case 1: return word(edited, below(words));
+    case 2: return w + 2;
+    case 3: return w - 2;
+    case 4: return w + 1 - 2 * below(2);
+    case 5: return 2 * (1 + below(word(image, 1)));
+    case 6: return below(8);
+    default: return below(65536);
+    }
+}
+
+// Correct images with words changed, lengths and buffers too: both answer the same and leave the same words.
+static bool spoil(void) {
+    size_t seen[9] = {0}, length = 0;
+    for (int edit = 0; edit < EDITS; edit++) {
+        if (edit % 20 == 0) length = ordinary(image, 400 + below(600), edit + 1);
+        memcpy(edited, image, length);
+        const size_t words = length / 2, n = word(image, 1);
+        for (unsigned k = 1 + below(2); k > 0; k--) {
+            const unsigned where = below(40);
+            const size_t i = where == 0 ? below(5) : where < 12 ? 5 + below(4 * n) : 5 + 4 * n + below(words - 5 - 4 * n);
+            put(edited, i, changed(words, i));
+        }
+        const size_t given = below(200) == 0 ? below(below(2) == 0 ? 12 : length) : length;
+        const size_t room = below(200) == 0 ? below(4 * n + 1) : CONTENTS, space = below(200) == 0 ? below(1000) : BODIES;
+        const size_t cache = below(400) == 0 ? below(400) : 192;
+        fill();
+        const uint32_t r = bench_read((slice){edited, given}, (slice){contents[0], room}, (slice){bodies[0], space}, cache);
+        const uint32_t s = c_read(entries, edited, given, contents[1], room, bodies[1], space, cache);
+        if (r != s || r > 8 || !alike()) {
+            printf("edit %d: the readings answer %u and %u%s\n", edit, r, s, r == s ? " and leave different words" : "");
+            return false;
+        }
+        seen[r]++;
+    }
+    printf("%d edited images read alike: %zu accepted", EDITS, seen[0]);
+    for (int k = 1; k < 9; k++) printf(", %zu refused by %d", seen[k], k);
+    printf("\n");
+    return true;
+}
+
+int main(void) {
+    bench_table(entries);
+    static const sample samples[] = {
+        {"image", usual, 1000, 0, 300},  {"image", usual, 2000, 0, 300},  {"image", usual, 6000, 0, 200},
+        {"image", usual, 12000, 0, 150}, {"image", usual, 24000, 0, 100}, {"chain", chain, 1000, 0, 60},
+        {"chain", chain, 2000, 0, 60},   {"shared", shared, 500, 7, 60},  {"shared", shared, 1000, 7, 60},
+    };
+    return report(samples, sizeof samples / sizeof *samples) && spoil() ? 0 : 1;
+}
