@@ -136,7 +136,7 @@ fn settle(
 }
 
 // Loading, but for the cache, of which the length is given: 0, or the number of the refusal.
-fn read_number(image: &[u8], contents: &mut [u16], bodies: &mut [u16], cache: usize) -> u32
+pub fn read_number(image: &[u8], contents: &mut [u16], bodies: &mut [u16], cache: usize) -> u32
     ensures { λ r. ⌜ stored r (now (contents .exit)) (now (bodies .exit)) ≡ storedBy (loadVerdict (roomFor (length (now (contents .entry))) (length (now (bodies .entry))) cache) (now (image .entry))) (now (image .entry)) (now (contents .entry)) (now (bodies .entry)) ⌝ }
 {
     if !image::length_fine(image) {
