@@ -140,6 +140,11 @@ module _ {table contents bodies counts : List ℕ} {n b m : ℕ} (a : Asked tabl
         let y = part-long in
         record { isWords = words-here; isSize = part-long; covered = omega arith; small = omega arith }
 
+    pub code-short : length (take (last - first) (drop first notes)) ≤ 2 * b
+    unfolding codeSize
+    code-short =
+        let k = code-starts a in let q = body-size a in let i = body-inside a in let y = part-long in omega arith
+
     abbrev put : List ℕ → List ℕ
     put ys = take first notes ++ (ys ++ drop (last - first) (drop first notes))
 

@@ -63,7 +63,7 @@ pub record PassLent (table : List ℕ) (n b : ℕ) (contents bodies counts : Lis
   pub sends : SendAsked n b contents bodies counts
   pub shaped : T (shapes (objectsAt n b contents bodies))
   pub room : 2 * b ≤ notes
-  pub long : mostCode ≤ pending
+  pub long : 2 * b ≤ pending
 
 -- the methods among the objects below k whose code can run have their notes
 abbrev pub NotedBefore : Objects → List ℕ → ℕ → Type 0

@@ -8,7 +8,7 @@ ghost use Rattle.model.specs.Objects.{Objects, objectsAt};
 ghost use Rattle.flow.specs.Linked.{linkFine, linkedAt, allLinked};
 ghost use Rattle.model.specs.Method.{header, frameWords, runsCode};
 ghost use Rattle.model.specs.Rules.{methodTable};
-ghost use Rattle.flow.specs.Walk.{Walked, mostCode};
+ghost use Rattle.flow.specs.Walk.{Walked};
 ghost use Rattle.code.specs.Asked.{Small, Asked, CodeLent, MethodWalked, PassLent, ObjectNoted, CodesNoted, MethodsNoted};
 ghost use Rattle.methods.specs.Named.{Ready};
 use flow::Link;
@@ -186,7 +186,7 @@ fn method_notes(
     notes: &mut [u8],
     pending: &mut [u16],
 ) -> bool
-    requires { ⌜ Asked (now table) n b (now contents) (now bodies) (now counts) m × (2 * b ≤ length (now notes)) × (mostCode ≤ length (now pending)) ⌝ }
+    requires { ⌜ Asked (now table) n b (now contents) (now bodies) (now counts) m × (2 * b ≤ length (now notes)) × (2 * b ≤ length (now pending)) ⌝ }
     ensures { λ r. ⌜ MethodWalked (objectsAt n b (now (contents .entry)) (now (bodies .entry))) m (now (notes .entry)) (now (notes .exit)) r ⌝ }
 {
     let k = (m / 2) as usize;
@@ -283,6 +283,11 @@ pub fn methods_fine(contents: &[u16], bodies: &[u16], n: usize, b: usize, notes:
         return false;
     }
     let table = bytecode::table();
+    if b <= 2000 {
+        // few positions can be pending: less to clear
+        let mut few = [0; 4000];
+        return codes_fine(&table, contents, bodies, n, b, &counts, notes, &mut few);
+    }
     let mut pending = [0; 48000];
     codes_fine(&table, contents, bodies, n, b, &counts, notes, &mut pending)
 }

@@ -1,4 +1,4 @@
-use Rattle.code.proofs.CodePlace.{code-lent, walked-put}
+use Rattle.code.proofs.CodePlace.{code-lent, code-short, walked-put}
 use native.Mathlib.Omega.{arith}
 use mathlib.Core.Path.{_≡_, refl, sym, ap, ap₂, subst, _∙_}
 use Rattle.code.proofs.LinkFine.{method-named}
@@ -100,7 +100,7 @@ part-code-notes-end-2 c = let h = c .before .before .before .before .header-of .
 
 -- src/lib.rt:198:5
 code-notes-requires : tie.Need-code-notes-requires
-code-notes-requires c κs = let k = code-lent ((c .before .before .before .before .before .before .before .before .before .before .before .before .pre) .0) (c .before .before .before .before .before .before .header-of .result) (c .before .before .before .before .before .start .result) (c .before .before .before .before .body-end .result) (c .before .before .before .size .result) (c .before .before .before .before .before .before .before .before .before .before .before .before .args .notes .now) (c .before .before .before .before .before .before .header-of .ensures) (c .before .before .before .before .before .start .ensures) (c .before .before .before .before .body-end .ensures (c .before .before .before .before .before .before .before .before .before .before .before .before .args .b) (c .before .before .before .before .before .before .before .before .before .before .before .before .args .bodies .now)) (c .before .before .before .size .ensures) ((c .before .before .before .before .before .before .before .before .before .before .before .before .pre) .1) in ((c .before .before .before .before .before .before .before .before .before .before .before .before .pre) .0, k, let s = k .small in let t = (c .before .before .before .before .before .before .before .before .before .before .before .before .pre) .2 in omega arith)
+code-notes-requires c κs = let k = code-lent ((c .before .before .before .before .before .before .before .before .before .before .before .before .pre) .0) (c .before .before .before .before .before .before .header-of .result) (c .before .before .before .before .before .start .result) (c .before .before .before .before .body-end .result) (c .before .before .before .size .result) (c .before .before .before .before .before .before .before .before .before .before .before .before .args .notes .now) (c .before .before .before .before .before .before .header-of .ensures) (c .before .before .before .before .before .start .ensures) (c .before .before .before .before .body-end .ensures (c .before .before .before .before .before .before .before .before .before .before .before .before .args .b) (c .before .before .before .before .before .before .before .before .before .before .before .before .args .bodies .now)) (c .before .before .before .size .ensures) ((c .before .before .before .before .before .before .before .before .before .before .before .before .pre) .1) in ((c .before .before .before .before .before .before .before .before .before .before .before .before .pre) .0, k, let s = code-short ((c .before .before .before .before .before .before .before .before .before .before .before .before .pre) .0) (c .before .before .before .before .before .before .header-of .result) (c .before .before .before .before .before .start .result) (c .before .before .before .before .body-end .result) (c .before .before .before .size .result) (c .before .before .before .before .before .before .before .before .before .before .before .before .args .notes .now) (c .before .before .before .before .before .before .header-of .ensures) (c .before .before .before .before .before .start .ensures) (c .before .before .before .before .body-end .ensures (c .before .before .before .before .before .before .before .before .before .before .before .before .args .b) (c .before .before .before .before .before .before .before .before .before .before .before .before .args .bodies .now)) (c .before .before .before .size .ensures) ((c .before .before .before .before .before .before .before .before .before .before .before .before .pre) .1) in let t = (c .before .before .before .before .before .before .before .before .before .before .before .before .pre) .2 in omega arith)
 
 -- src/lib.rt:177:1
 same-length : tie.Need-same-length

@@ -1,11 +1,11 @@
 use Prim.Native.Nat.{ℕ}
 use mathlib.Core.Path.{_≡_, refl, sym, ap, _∙_}
 use native.Mathlib.Omega.{arith}
+use borrow.Author.Needs.{needs}
 use borrow.Author.Tests.{not-true, not-false}
 use lib.ListN.{length, length-replicate}
 use Rattle.bytecode.proofs.TestLaws.{true→T}
 use Rattle.code.proofs.PassLaws.{seven-shapes, seven-holders, seven-codes, held-counts, zeros-at}
-use borrow.Author.Needs.{needs}
 use Rattle.code.proofs.methods_fine.Statement.{statement}
 use Rattle.code.proofs.methods_fine.Tie as tie
 use Rattle.code.proofs.methods_fine.Reads as reads
@@ -39,25 +39,45 @@ returns-2 c = seven-holders _ _ _ _ (sym (c .before .before .before .before .bef
 table-requires : tie.Need-table-requires
 table-requires c κs = search needs
 
--- src/lib.rt:287:48
+-- src/lib.rt:289:59
 slice-aggregate-codes-fine : tie.Need-slice-aggregate-codes-fine
 slice-aggregate-codes-fine c = search needs
 
--- src/lib.rt:287:64
+-- src/lib.rt:289:75
 slice-aggregate-codes-fine-2 : tie.Need-slice-aggregate-codes-fine-2
 slice-aggregate-codes-fine-2 c = search needs
 
--- src/lib.rt:287:5
+-- src/lib.rt:289:9
 codes-fine-requires : tie.Need-codes-fine-requires
-codes-fine-requires c κs = record { entries = c .before .before .before .before .table .ensures; ready = (c .before .before .before .before .before .before .before .before .before .before .before .before .before .before .pre) .0; sends = record { lent = (c .before .before .before .before .before .before .before .before .before .before .before .before .before .before .pre) .0 .lent; long = (let q = (c .before .before .before .before .before .before .before .before .before .before .before .before .before .before .pre) .0 .lent .most in let z = c .before .before .before .before .before .before .before .count-methods .kept .1 .1 .1 .1 .0 in omega arith); counted = held-counts _ _ _ (c .before .before .before .before .before .before .before .count-methods .ensures) (not-false _ (c .before .before .before .before .before .if2 .left)) .1 }; shaped = true→T (sym (c .before .before .before .before .before .before .before .before .before .before .shapes-fine .ensures) ∙ not-false _ (c .before .before .before .before .before .before .before .before .before .if1 .left)); room = (c .before .before .before .before .before .before .before .before .before .before .before .before .before .before .pre) .1; long = (let q = length-replicate {A = ℕ} 48000 0 in omega arith) }
+codes-fine-requires c κs = record { entries = c .before .before .before .before .before .table .ensures; ready = (c .before .before .before .before .before .before .before .before .before .before .before .before .before .before .before .pre) .0; sends = record { lent = (c .before .before .before .before .before .before .before .before .before .before .before .before .before .before .before .pre) .0 .lent; long = (let q = (c .before .before .before .before .before .before .before .before .before .before .before .before .before .before .before .pre) .0 .lent .most in let z = c .before .before .before .before .before .before .before .before .count-methods .kept .1 .1 .1 .1 .0 in omega arith); counted = held-counts _ _ _ (c .before .before .before .before .before .before .before .before .count-methods .ensures) (not-false _ (c .before .before .before .before .before .before .if2 .left)) .1 }; shaped = true→T (sym (c .before .before .before .before .before .before .before .before .before .before .before .shapes-fine .ensures) ∙ not-false _ (c .before .before .before .before .before .before .before .before .before .before .if1 .left)); room = (c .before .before .before .before .before .before .before .before .before .before .before .before .before .before .before .pre) .1; long = (let q = length-replicate {A = ℕ} 4000 0 in let l = c .before .before .before .before .if3 .taken in omega arith) }
 
--- src/lib.rt:274:1
+-- src/lib.rt:289:9
 same-length : tie.Need-same-length
 same-length c = search needs
 
--- src/lib.rt:274:1
+-- src/lib.rt:289:9
 returns-3 : tie.Need-returns-3
-returns-3 c = seven-codes _ _ _ (sym (c .before .before .before .before .before .before .before .before .before .before .before .before .before .before .shapes-fine .ensures) ∙ not-false _ (c .before .before .before .before .before .before .before .before .before .before .before .before .before .if1 .left)) (held-counts _ _ _ (c .before .before .before .before .before .before .before .before .before .before .before .count-methods .ensures) (not-false _ (c .before .before .before .before .before .before .before .before .before .if2 .left)) .0) (c .before .before .before .codes-fine .ensures)
+returns-3 c = seven-codes _ _ _ (sym (c .before .before .before .before .before .before .before .before .before .before .before .before .before .before .before .shapes-fine .ensures) ∙ not-false _ (c .before .before .before .before .before .before .before .before .before .before .before .before .before .before .if1 .left)) (held-counts _ _ _ (c .before .before .before .before .before .before .before .before .before .before .before .before .count-methods .ensures) (not-false _ (c .before .before .before .before .before .before .before .before .before .before .if2 .left)) .0) (c .before .before .before .codes-fine .ensures)
+
+-- src/lib.rt:292:48
+slice-aggregate-codes-fine-3 : tie.Need-slice-aggregate-codes-fine-3
+slice-aggregate-codes-fine-3 c = search needs
+
+-- src/lib.rt:292:64
+slice-aggregate-codes-fine-4 : tie.Need-slice-aggregate-codes-fine-4
+slice-aggregate-codes-fine-4 c = search needs
+
+-- src/lib.rt:292:5
+codes-fine-requires-2 : tie.Need-codes-fine-requires-2
+codes-fine-requires-2 c κs = record { entries = c .before .before .before .before .before .table .ensures; ready = (c .before .before .before .before .before .before .before .before .before .before .before .before .before .before .before .pre) .0; sends = record { lent = (c .before .before .before .before .before .before .before .before .before .before .before .before .before .before .before .pre) .0 .lent; long = (let q = (c .before .before .before .before .before .before .before .before .before .before .before .before .before .before .before .pre) .0 .lent .most in let z = c .before .before .before .before .before .before .before .before .count-methods .kept .1 .1 .1 .1 .0 in omega arith); counted = held-counts _ _ _ (c .before .before .before .before .before .before .before .before .count-methods .ensures) (not-false _ (c .before .before .before .before .before .before .if2 .left)) .1 }; shaped = true→T (sym (c .before .before .before .before .before .before .before .before .before .before .before .shapes-fine .ensures) ∙ not-false _ (c .before .before .before .before .before .before .before .before .before .before .if1 .left)); room = (c .before .before .before .before .before .before .before .before .before .before .before .before .before .before .before .pre) .1; long = (let q = length-replicate {A = ℕ} 48000 0 in let l = (c .before .before .before .before .before .before .before .before .before .before .before .before .before .before .before .pre) .0 .lent .most-words in omega arith) }
+
+-- src/lib.rt:274:1
+same-length-2 : tie.Need-same-length-2
+same-length-2 c = search needs
+
+-- src/lib.rt:274:1
+returns-4 : tie.Need-returns-4
+returns-4 c = seven-codes _ _ _ (sym (c .before .before .before .before .before .before .before .before .before .before .before .before .before .before .before .shapes-fine .ensures) ∙ not-false _ (c .before .before .before .before .before .before .before .before .before .before .before .before .before .before .if1 .left)) (held-counts _ _ _ (c .before .before .before .before .before .before .before .before .before .before .before .before .count-methods .ensures) (not-false _ (c .before .before .before .before .before .before .before .before .before .before .if2 .left)) .0) (c .before .before .before .codes-fine2 .ensures)
 
 pub methods-fine-spec : {M : Type 1} → statement M
 methods-fine-spec =
@@ -73,4 +93,9 @@ methods-fine-spec =
     slice-aggregate-codes-fine-2
     codes-fine-requires
     same-length
-    returns-3)
+    returns-3
+    slice-aggregate-codes-fine-3
+    slice-aggregate-codes-fine-4
+    codes-fine-requires-2
+    same-length-2
+    returns-4)
