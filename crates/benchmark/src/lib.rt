@@ -92,5 +92,5 @@ pub extern "C" fn bench_read(
 ) -> u32
     ensures { λ r. ⌜ stored r (now (contents .exit)) (now (bodies .exit)) ≡ storedBy (loadVerdict (roomFor (length (now (contents .entry))) (length (now (bodies .entry))) cache) (now (image .entry))) (now (image .entry)) (now (contents .entry)) (now (bodies .entry)) ⌝ }
 {
-    store::read(image, contents, bodies, cache)
+    store::read_number(image, contents, bodies, cache)
 }

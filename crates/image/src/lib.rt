@@ -155,14 +155,16 @@ fn put_header(header: Header, output: &mut [u8])
     put(output, 4, header.selector);
 }
 
-// The image of the objects in the two buffers, under this header, at the output's front.
-pub fn write(header: Header, contents: &[u16], bodies: &[u16], output: &mut [u8])
+// The image of the objects in the two buffers, under this header, at the output's front, and how many bytes it has.
+pub fn write(header: Header, contents: &[u16], bodies: &[u16], output: &mut [u8]) -> usize
     requires { ⌜ (entryWords * header .n ≤ length (now contents)) × (header .b ≤ length (now bodies)) × (imageBytes (header .n) (header .b) ≤ length (now output)) ⌝ }
-    ensures { λ _. ⌜ now (output .exit) ≡ imageOf (asHeader header) (objectsAt (header .n) (header .b) (now (contents .entry)) (now (bodies .entry))) ++ drop (imageBytes (header .n) (header .b)) (now (output .entry)) ⌝ }
+    ensures { λ r. ⌜ (r ≡ imageBytes (header .n) (header .b)) × (now (output .exit) ≡ imageOf (asHeader header) (objectsAt (header .n) (header .b) (now (contents .entry)) (now (bodies .entry))) ++ drop (imageBytes (header .n) (header .b)) (now (output .entry))) ⌝ }
 {
+    let bytes = length_of(header.n, header.b);
     let n = header.n as usize;
     let b = header.b as usize;
     put_header(header, output);
     put_all(contents, 4 * n, 5, output);
     put_all(bodies, b, 5 + 4 * n, output);
+    bytes
 }

@@ -6,10 +6,22 @@ ghost use lib.ListN.{length};
 ghost use Rattle.model.specs.Limits.{entryWords};
 ghost use Rattle.model.specs.Objects.{objectsAt};
 ghost use Rattle.model.specs.Rules.{headerFine, rule8};
-ghost use Rattle.model.specs.Image.{imageObjects, buffersFine, objectsVerdict, loadVerdict};
+ghost use Rattle.model.specs.Image.{imageHeader, imageObjects, buffersFine, objectsVerdict, loadVerdict};
 ghost use Rattle.rules.specs.Lent.{Lent};
 ghost use Rattle.store.specs.Judged.{Judged};
 ghost use Rattle.store.specs.Answer.{roomFor, stored, storedBy, Passed};
+ghost use Rattle.store.specs.Readings.{readingNumber, readingOf};
+
+// What reading an image gives: its counts and start words, or the number of the refusal.
+pub enum Reading {
+    Accepted {
+        n: u16,
+        b: u16,
+        receiver: u16,
+        selector: u16,
+    },
+    Refused(u32),
+}
 
 // The edition, and the bounds of N and B.
 const EDITION: u16 = 1;
@@ -124,7 +136,7 @@ fn settle(
 }
 
 // Loading, but for the cache, of which the length is given: 0, or the number of the refusal.
-pub fn read(image: &[u8], contents: &mut [u16], bodies: &mut [u16], cache: usize) -> u32
+pub fn read_number(image: &[u8], contents: &mut [u16], bodies: &mut [u16], cache: usize) -> u32
     ensures { λ r. ⌜ stored r (now (contents .exit)) (now (bodies .exit)) ≡ storedBy (loadVerdict (roomFor (length (now (contents .entry))) (length (now (bodies .entry))) cache) (now (image .entry))) (now (image .entry)) (now (contents .entry)) (now (bodies .entry)) ⌝ }
 {
     if !image::length_fine(image) {
@@ -151,4 +163,21 @@ pub fn read(image: &[u8], contents: &mut [u16], bodies: &mut [u16], cache: usize
         contents,
         bodies,
     )
+}
+
+// An image read into the front of contents and bodies. `cache` is the length of the cache, which 01 asks for here too.
+pub fn read(image: &[u8], contents: &mut [u16], bodies: &mut [u16], cache: usize) -> Reading
+    ensures { λ r. ⌜ (r ≡ readingOf (loadVerdict (roomFor (length (now (contents .entry))) (length (now (bodies .entry))) cache) (now (image .entry))) (imageHeader (now (image .entry)))) × (stored (readingNumber r) (now (contents .exit)) (now (bodies .exit)) ≡ storedBy (loadVerdict (roomFor (length (now (contents .entry))) (length (now (bodies .entry))) cache) (now (image .entry))) (now (image .entry)) (now (contents .entry)) (now (bodies .entry))) ⌝ }
+{
+    let number = read_number(image, contents, bodies, cache);
+    if number != 0 {
+        return Reading::Refused(number);
+    }
+    let header = image::header_of(image);
+    Reading::Accepted {
+        n: header.n,
+        b: header.b,
+        receiver: header.receiver,
+        selector: header.selector,
+    }
 }

@@ -1,0 +1,68 @@
+-- 1, 2 and 3 change nothing; `settle` does the rest.
+use mathlib.Core.Path.{sym, ap, _∙_}
+use native.Mathlib.Omega.{arith}
+use borrow.Author.Tests.{not-true, not-false}
+use Rattle.bytecode.proofs.TestLaws.{true→T}
+use Rattle.model.specs.Image as Image
+use Rattle.store.proofs.Verdicts.{gives-1, refuse, stores}
+use Rattle.store.proofs.Settled.{lent-by, read-2, read-3, read-on}
+use borrow.Author.Needs.{needs}
+use Rattle.store.proofs.read_number.Statement.{statement}
+use Rattle.store.proofs.read_number.Tie as tie
+
+length-fine-requires : tie.Need-length-fine-requires
+length-fine-requires c κs = search needs
+
+returns : tie.Need-returns
+returns c = refuse _ 1 _ _ _ (gives-1 _ _ (sym (c .before .length-fine .ensures) ∙ not-true _ (c .if1 .taken))) (omega arith)
+
+header-of-requires : tie.Need-header-of-requires
+header-of-requires c κs = search needs
+
+header-fine-requires : tie.Need-header-fine-requires
+header-fine-requires c κs = search needs
+
+returns-2 : tie.Need-returns-2
+returns-2 c = refuse _ 2 _ _ _ (read-2 _ _ _ (c .before .before .header-of .ensures) (sym (c .before .before .before .before .length-fine .ensures) ∙ not-false _ (c .before .before .before .if1 .left)) (sym (c .before .header-fine .ensures) ∙ not-true _ (c .if2 .taken))) (omega arith)
+
+buffers-fine-requires : tie.Need-buffers-fine-requires
+buffers-fine-requires c κs = search needs
+
+returns-3 : tie.Need-returns-3
+returns-3 c = refuse _ 3 _ _ _ (read-3 _ _ _ (c .before .before .before .before .header-of .ensures) (sym (c .before .before .before .before .before .before .length-fine .ensures) ∙ not-false _ (c .before .before .before .before .before .if1 .left)) (sym (c .before .before .before .header-fine .ensures) ∙ not-false _ (c .before .before .if2 .left)) (sym (c .before .buffers-fine .ensures) ∙ not-true _ (c .if3 .taken))) (omega arith)
+
+cast-settle : tie.Need-cast-settle
+cast-settle c = search needs
+
+cast-settle-2 : tie.Need-cast-settle-2
+cast-settle-2 c = search needs
+
+settle-requires : tie.Need-settle-requires
+settle-requires c κs = record { long = true→T (sym (c .before .before .before .before .before .before .before .before .length-fine .ensures) ∙ not-false _ (c .before .before .before .before .before .before .before .if1 .left)); objects = sym (ap (λ (h : Image.Header). h .n) (c .before .before .before .before .before .before .header-of .ensures)); words = sym (ap (λ (h : Image.Header). h .b) (c .before .before .before .before .before .before .header-of .ensures)); lent = lent-by (c .before .before .before .before .before .before .header-of .result .edition) _ _ (c .before .before .before .before .before .before .before .before .before .before .before .before .args .cache) _ _ (sym (c .before .before .before .before .before .header-fine .ensures) ∙ not-false _ (c .before .before .before .before .if2 .left)) (sym (c .before .before .before .buffers-fine .ensures) ∙ not-false _ (c .before .before .if3 .left)) }
+
+same-length : tie.Need-same-length
+same-length c = search needs
+
+same-length-2 : tie.Need-same-length-2
+same-length-2 c = search needs
+
+returns-4 : tie.Need-returns-4
+returns-4 c = stores _ _ _ _ _ _ (read-on _ _ _ (c .before .before .before .before .before .before .before .before .before .before .before .header-of .ensures) (sym (c .before .before .before .before .before .before .before .before .before .before .before .before .before .length-fine .ensures) ∙ not-false _ (c .before .before .before .before .before .before .before .before .before .before .before .before .if1 .left)) (sym (c .before .before .before .before .before .before .before .before .before .before .header-fine .ensures) ∙ not-false _ (c .before .before .before .before .before .before .before .before .before .if2 .left)) (sym (c .before .before .before .before .before .before .before .before .buffers-fine .ensures) ∙ not-false _ (c .before .before .before .before .before .before .before .if3 .left))) (c .before .before .before .before .settle .ensures)
+
+pub read-number-spec : {M : Type 1} → statement M
+read-number-spec =
+    tie.close
+    (tie.spec
+    length-fine-requires
+    returns
+    header-of-requires
+    header-fine-requires
+    returns-2
+    buffers-fine-requires
+    returns-3
+    cast-settle
+    cast-settle-2
+    settle-requires
+    same-length
+    same-length-2
+    returns-4)
