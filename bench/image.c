@@ -1,5 +1,7 @@
 // Reading and checking an image as one writes it in C: linear passes over contents and bodies, counts by selector, the walk of walk.c.
-// Superclass chains are followed from each class, as the library does.
+// Superclass chains are followed from each class, and a shared dictionary is checked for each class, as the library does: both are
+// quadratic, so the ratios on `chain` and `shared` compare the same steps, not the best way. Marking the classes whose chain is known to end
+// takes about 40 us instead of 8 ms on a chain of 2,000.
 #include "image.h"
 #include "walk.h"
 #include <string.h>

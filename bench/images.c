@@ -56,12 +56,12 @@ static void any_words(unsigned k, unsigned count) {
 // The objects with a fixed number, and the classes that all images have.
 static void begin(void) {
     n = b = 0;
-    for (int i = 0; i < 3; i++) object(PLAIN, FIELDS, 0);
+    for (int i = 0; i < 3; i++) body(object(PLAIN, FIELDS, 1))[0] = 2 * NIL;
     class(NIL, EMPTY, 0, 3);
     object(CLASSES, LIST, 32);
     for (int i = 0; i < 32; i++) body(SELECTORS)[i] = 2 * NIL;
     class(NIL, EMPTY, 0, 3);
-    class(NIL, EMPTY, 0, 0);
+    class(NIL, EMPTY, 1, 0);
     object(CLASSES, LIST, 0);
     class(NIL, EMPTY, 0, 2);
     class(NIL, EMPTY, 2, 0);
@@ -75,6 +75,9 @@ static size_t written(uint8_t *image, unsigned receiver, unsigned selector) {
     for (size_t i = 0; i < b; i++) *to++ = bodies[i] >> 8, *to++ = bodies[i] & 255;
     return to - image;
 }
+
+// The argument counts of bytecodes 176 to 207.
+static const uint8_t special[32] = {1, 1, 1, 1, 1, 1, 1, 1, 1, 1, 1, 1, 1, 1, 1, 1, 1, 2, 0, 0, 1, 0, 1, 0, 1, 0, 1, 1, 0, 1, 0, 0};
 
 // Code of the method that is being written. Its literals: 8 selectors, two for each count from 0 to 3, then 4 variables, then others.
 enum { VARIABLE = 8, LITERALS = 14, MOST_CODE = 2000 };
@@ -106,7 +109,11 @@ static void value(unsigned deep) {
     else if (kind < 12) { emit(128); emit(192 + VARIABLE + below(4)); }
     else if (kind < 15) send(deep, below(4));
     else if (kind < 17) { value(deep - 1); value(deep - 1); emit(176 + below(16)); }
-    else { value(deep - 1); emit(199); }
+    else {
+        const unsigned k = 16 + below(16);
+        for (unsigned i = 0; i <= special[k]; i++) value(deep - 1);
+        emit(176 + k);
+    }
 }
 
 static void statement(unsigned deep) {
@@ -150,14 +157,15 @@ static unsigned method(unsigned home, unsigned count) {
     temporaries = count + below(4);
     if (how == 0) flag = 7;
     else if (how == 1 && count == 0) flag = 5;
-    else if (how == 2 && count == 0) flag = 6, temporaries = below(fields < 32 ? fields : 32);
+    else if (how < 4 && count == 0) flag = 6, temporaries = below(fields < 32 ? fields : 32);
     end = 0;
     for (unsigned i = below(4) + 1; i > 0; i--) statement(2);
     if (below(2) == 0) emit(120 + below(4));
     else { value(2); emit(124); }
     const unsigned k = object(CLASSES, METHOD, 4 + 2 * LITERALS + end);
     uint16_t *m = body(k);
-    m[0] = flag << 13 | temporaries << 8 | 128 | LITERALS << 1 | 1;
+    const unsigned large = temporaries > 5 || below(2) == 0; // no depth is above 7
+    m[0] = flag << 13 | temporaries << 8 | large << 7 | LITERALS << 1 | 1;
     m[1] = 2 * home;
     for (unsigned i = 0; i < 8; i++) m[2 + i] = below(8) == 0 ? 2 * NIL : 2 * selector_of(i / 2);
     for (unsigned i = VARIABLE; i < LITERALS; i++) m[2 + i] = i < VARIABLE + 4 ? 2 * (first_variable + below(8)) : any();
@@ -168,7 +176,7 @@ static unsigned method(unsigned home, unsigned count) {
 
 // A class with its methods and some objects. It gives the class.
 static unsigned group(unsigned super) {
-    const unsigned form = below(2), own = (super == NIL ? 2 : body(super)[2] / 2) + below(3);
+    const unsigned form = below(2), own = (super == NIL ? 1 : body(super)[2] / 2) + below(3);
     const unsigned k = class(super, EMPTY, own < 200 ? own : 200, form);
     unsigned pairs[16][2], count = 0;
     for (unsigned s = first_selector + below(selectors / 2); s < first_selector + selectors && count < 6; s += 1 + below(selectors / 3)) {
@@ -197,9 +205,8 @@ size_t ordinary(uint8_t *image, size_t words, uint64_t seed) {
     selectors = 16 + words / 1000 * 4;
     first_selector = n + 1;
     for (unsigned i = 0; i < selectors; i++) bytes(1 + below(9));
-    static const uint8_t counts[32] = {1, 1, 1, 1, 1, 1, 1, 1, 1, 1, 1, 1, 1, 1, 1, 1, 1, 2, 0, 0, 1, 0, 1, 0, 1, 0, 1, 1, 0, 1, 0, 0};
     for (unsigned i = 0; i < 32; i++)
-        if (below(4) > 0) body(SELECTORS)[i] = 2 * selector_of(counts[i]);
+        if (below(4) > 0) body(SELECTORS)[i] = 2 * selector_of(i == 22 || i == 23 ? below(4) : special[i]);
     first_variable = n + 1;
     for (unsigned i = 0; i < 8; i++) any_words(object(VARIABLES, FIELDS, 2), 2);
     unsigned made[1024], count = 0;

@@ -6,7 +6,7 @@
 #include <string.h>
 #include <time.h>
 
-enum { CONTENTS = 4 * 2047, BODIES = 24000, NOTES = 48000, EDITS = 20000 };
+enum { CONTENTS = 4 * 2047, BODIES = 24000, NOTES = 48000, EDITS = 100000 };
 
 void bench_table(uint16_t *table);
 uint32_t bench_read(slice image, slice contents, slice bodies, size_t cache);
@@ -14,7 +14,7 @@ void bench_place(slice image, size_t n, size_t b, slice contents, slice bodies);
 uint32_t bench_judge(slice contents, slice bodies, size_t n, size_t b, uint16_t receiver, uint16_t selector, slice notes);
 
 static uint16_t entries[256];
-static uint8_t image[MOST_IMAGE], edited[MOST_IMAGE];
+static uint8_t image[MOST_IMAGE], edited[10 + 8 * 65536 + 2 * 65536];
 static uint16_t contents[2][CONTENTS], bodies[2][BODIES];
 static uint8_t notes[2][NOTES];
 static uint64_t seed = 7;
@@ -124,7 +124,8 @@ static bool report(const sample *samples, size_t count) {
 // A word that is likely to matter: another of the image, a neighbour, one bit off, anything.
 static unsigned changed(size_t words, size_t i) {
     const unsigned w = word(edited, i);
-    switch (below(8)) {
+    static const uint16_t edges[] = {0, 1, 2, 7, 9, 511, 513, 16383, 16385, 65535};
+    switch (below(9)) {
     case 0: return w ^ 1u << below(16);
     case 1: return word(edited, below(words));
     case 2: return w + 2;
@@ -132,23 +133,102 @@ static unsigned changed(size_t words, size_t i) {
     case 4: return w + 1 - 2 * below(2);
     case 5: return 2 * (1 + below(word(image, 1)));
     case 6: return below(8);
+    case 7: return edges[below(10)];
     default: return below(65536);
     }
 }
 
-// Correct images with words changed, lengths and buffers too: both answer the same and leave the same words.
+// The header of a method with another flag, T, size of frame or L.
+static unsigned other_header(unsigned w) {
+    switch (below(4)) {
+    case 0: return (w & 0x1fff) | below(8) << 13;
+    case 1: return (w & 0xe0ff) | below(below(2) == 0 ? 8 : 32) << 8;
+    case 2: return w ^ 128;
+    default: return (w & 0xff81) | below(64) << 1;
+    }
+}
+
+// One word of an edited image, often in a method's header, its next to last literal, a class or an entry.
+static void edit_word(size_t words) {
+    const size_t n = word(image, 1), first = 5 + 4 * n, entry = 5 + 4 * below(n), start = first + word(image, entry + 2);
+    const unsigned kind = word(image, entry + 1), header = start < words ? word(image, start) : 0, where = below(40);
+    size_t i = first + below(words - first);
+    if (where == 0) i = below(5);
+    else if (where < 8) i = entry + below(4);
+    else if (where < 12 && kind == 4) return put(edited, start, other_header(header));
+    else if (where < 16 && kind == 4) {
+        i = start + (header >> 1 & 63);
+        return put(edited, i, word(edited, i) ^ 1u << below(16));
+    }
+    else if (where < 14 && kind == 2) return put(edited, start + 2, 2 * (254 + below(4)) + 1);
+    else if (where < 24 && start + 4 <= words) i = start + below(4);
+    put(edited, i, changed(words, i));
+}
+
+// An object with another size: what follows it moves. It gives the length.
+static size_t resize(size_t length) {
+    const size_t n = word(edited, 1), k = below(4) == 0 ? below(8) : below(n), entry = 5 + 4 * k;
+    const unsigned kind = word(edited, entry + 1), size = word(edited, entry + 3), bytes = kind == 1 || kind == 4;
+    const size_t start = 5 + 4 * n + word(edited, entry + 2), old = bytes ? (size + 1) / 2 : size;
+    unsigned other = below(2) == 0 ? below(size + 4) : size + 2 - below(4);
+    if (kind == 4 && below(2) == 0) other = 2 + 2 * (word(edited, start) >> 1 & 63) + below(6);
+    if (other > size + 200) other = size;
+    const size_t new = bytes ? (other + 1) / 2 : other;
+    memmove(edited + 2 * (start + new), edited + 2 * (start + old), length - 2 * (start + old));
+    for (size_t i = old; i < new; i++) put(edited, start + i, below(2) == 0 ? 2 * (1 + below(n)) : 2 * below(300) + 1);
+    if (bytes && other % 2 == 1) edited[2 * (start + new) - 1] = 0;
+    put(edited, entry + 3, other);
+    for (size_t i = k + 1; i < n; i++) put(edited, 5 + 4 * i + 2, word(edited, 5 + 4 * i + 2) + new - old);
+    put(edited, 2, word(edited, 2) + new - old);
+    return length + 2 * new - 2 * old;
+}
+
+// An object with the class and kind of another.
+static void retype(void) {
+    const size_t n = word(edited, 1), to = 5 + 4 * (below(2) == 0 ? below(8) : below(n)), from = 5 + 4 * below(n);
+    put(edited, to, word(edited, from));
+    put(edited, to + 1, word(edited, from + 1));
+}
+
+// Headers and lengths at their bounds, over words that are all 0: rules 1 to 4.
+static bool heads(void) {
+    static const unsigned ns[] = {0, 4, 5, 2047, 2048, 65535}, bs[] = {0, 1, 24000, 24001, 65535};
+    size_t count = 0;
+    memset(edited, 0, sizeof edited);
+    for (size_t i = 0; i < 6 * 5 * 3 * 5 * 3 * 3 * 3; i++) {
+        size_t x = i;
+        const unsigned n = ns[x % 6], b = bs[x / 6 % 5];
+        x /= 30;
+        put(edited, 0, x % 3), put(edited, 1, n), put(edited, 2, b);
+        const size_t asked = 10 + 8 * n + 2 * b, lengths[] = {asked, asked - 1, asked + 1, 9, 0};
+        const size_t length = lengths[x / 3 % 5];
+        x /= 15;
+        const size_t room = x % 3 == 0 ? CONTENTS : 4 * n < CONTENTS ? 4 * n + 1 - x % 3 : 0;
+        const size_t space = x / 3 % 3 == 0 ? BODIES : b < BODIES ? b + 1 - x / 3 % 3 : 0, cache = 191 + x / 9;
+        const slice c = {contents[0], room}, w = {bodies[0], space};
+        if (room > CONTENTS || space > BODIES) continue;
+        fill();
+        const uint32_t r = bench_read((slice){edited, length}, c, w, cache);
+        const uint32_t s = c_read(entries, edited, length, contents[1], room, bodies[1], space, cache);
+        if (r != s || !alike()) return printf("header %u %u: the readings answer %u and %u\n", n, b, r, s), false;
+        count++;
+    }
+    printf("%zu headers read alike\n", count);
+    return true;
+}
+
+// Correct images edited, lengths and buffers too: both answer the same and leave the same words.
 static bool spoil(void) {
     size_t seen[9] = {0}, length = 0;
     for (int edit = 0; edit < EDITS; edit++) {
         if (edit % 20 == 0) length = ordinary(image, 400 + below(600), edit + 1);
         memcpy(edited, image, length);
         const size_t words = length / 2, n = word(image, 1);
-        for (unsigned k = 1 + below(2); k > 0; k--) {
-            const unsigned where = below(40);
-            const size_t i = where == 0 ? below(5) : where < 12 ? 5 + below(4 * n) : 5 + 4 * n + below(words - 5 - 4 * n);
-            put(edited, i, changed(words, i));
-        }
-        const size_t given = below(200) == 0 ? below(below(2) == 0 ? 12 : length) : length;
+        const unsigned how = below(8);
+        const size_t now = how == 0 ? resize(length) : length;
+        if (how == 1) retype();
+        else if (how > 1) for (unsigned k = 1 + below(2); k > 0; k--) edit_word(words);
+        const size_t given = below(200) == 0 ? below(below(2) == 0 ? 12 : now) : now;
         const size_t room = below(200) == 0 ? below(4 * n + 1) : CONTENTS, space = below(200) == 0 ? below(1000) : BODIES;
         const size_t cache = below(400) == 0 ? below(400) : 192;
         fill();
@@ -173,5 +253,5 @@ int main(void) {
         {"image", usual, 12000, 0, 150}, {"image", usual, 24000, 0, 100}, {"chain", chain, 1000, 0, 60},
         {"chain", chain, 2000, 0, 60},   {"shared", shared, 500, 7, 60},  {"shared", shared, 1000, 7, 60},
     };
-    return report(samples, sizeof samples / sizeof *samples) && spoil() ? 0 : 1;
+    return report(samples, sizeof samples / sizeof *samples) && heads() && spoil() ? 0 : 1;
 }
