@@ -19,7 +19,7 @@ pub header-eq : {e e′ n n′ b b′ r r′ s s′ : ℕ} → e ≡ e′ → n 
     → _≡_ {A = Header} (record { edition = e; n = n; b = b; receiver = r; selector = s }) (record { edition = e′; n = n′; b = b′; receiver = r′; selector = s′ })
 header-eq p q r s t = λ i. record { edition = p i; n = q i; b = r i; receiver = s i; selector = t i }
 
-objects-eq : {n n′ b b′ : ℕ} {c c′ d d′ : List ℕ} → n ≡ n′ → b ≡ b′ → c ≡ c′ → d ≡ d′
+pub objects-eq : {n n′ b b′ : ℕ} {c c′ d d′ : List ℕ} → n ≡ n′ → b ≡ b′ → c ≡ c′ → d ≡ d′
     → _≡_ {A = Objects} (record { n = n; b = b; contents = c; bodies = d }) (record { n = n′; b = b′; contents = c′; bodies = d′ })
 objects-eq p q r s = λ i. record { n = p i; b = q i; contents = r i; bodies = s i }
 

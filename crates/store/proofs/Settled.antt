@@ -12,17 +12,13 @@ use Rattle.model.specs.Limits.{isEdition, leastObjects, mostObjects, mostBodyWo
 use Rattle.model.specs.Objects.{Objects, objectsAt}
 use Rattle.model.specs.Rules.{headerFine, sizesFine}
 use Rattle.model.specs.Image.{Room, Header, imageHeader, imageObjects, Verdict, refused, lengthFine, buffersFine, objectsVerdict, loadVerdict}
-use Rattle.image.proofs.RoundTrip.{Fitting, objects-fit}
+use Rattle.image.proofs.RoundTrip.{Fitting, objects-eq, objects-fit}
 use Rattle.rules.specs.Lent.{Lent}
 use Rattle.store.specs.Answer.{numberOf, roomFor, Stored, stored, inFront, storedBy, Passed}
 use Rattle.store.proofs.Verdicts.{gives-2, gives-3, gives-rest, late, kept, undone}
 
 pub stored-eq : {k k′ : ℕ} {c c′ b b′ : List ℕ} → k ≡ k′ → c ≡ c′ → b ≡ b′ → stored k c b ≡ stored k′ c′ b′
 stored-eq p q r = λ i. stored (p i) (q i) (r i)
-
-objects-eq : {n n′ b b′ : ℕ} {c c′ d d′ : List ℕ} → n ≡ n′ → b ≡ b′ → c ≡ c′ → d ≡ d′
-    → _≡_ {A = Objects} (record { n = n; b = b; contents = c; bodies = d }) (record { n = n′; b = b′; contents = c′; bodies = d′ })
-objects-eq p q r s = λ i. record { n = p i; b = q i; contents = r i; bodies = s i }
 
 module _ (image : List ℕ) (n b : ℕ) (contents bodies : List ℕ) (passed : Passed image n b contents bodies) where
   fit : Fitting (imageHeader image) (imageObjects image)
