@@ -4,7 +4,7 @@ use mathlib.Core.Path.{_≡_, refl, sym, ap, ap₂, _∙_, subst}
 use mathlib.Core.Bool.{Bool, true, false, _||_}
 use mathlib.Core.List.{List}
 use native.Mathlib.Omega.{arith}
-use borrow.Author.Tests.{lt-ltb}
+use borrow.Author.Tests.{lt-ltb, ne-eqb}
 use lib.Dec.{T, eqb, ltb}
 use lib.ListN.{length, getD}
 use Rattle.bytecode.specs.Test.{implies}
@@ -39,13 +39,6 @@ special-need k e h x =
     ∙ ap need (is-send (176 + k) 0 0 (omega arith) ∙ if-lt (176 + k) 208 (SpecialSend (176 + k - 176)) _ (omega arith))
     ∙ ap (λ (j : ℕ). 1 + specialCount j) (omega arith)
 
-eq-no : (a b : ℕ) → (a ≡ b → ⊥) → eqb a b ≡ false
-eq-no a b h = go (eqb a b) refl
-  where
-    go : (x : Bool) → eqb a b ≡ x → x ≡ false
-    go true e = absurd (h (lib.Dec.eqb→eq a b (subst T (sym e) tt)))
-    go false e = refl
-
 module _ (o : Objects) (m k : ℕ) where
   pub special-same : k ≡ 22 → true ≡ linkFine o m (Special k)
   unfolding linkFine
@@ -59,7 +52,7 @@ module _ (o : Objects) (m k : ℕ) where
   unfolding linkFine
   special-sent s a h g e f =
       ap₂ (sendFine o) e f
-      ∙ sym (ap₂ (λ (x y : Bool). x || (y || sendFine o (specialSelector o k) (specialCount k))) (eq-no k 22 h) (eq-no k 23 g))
+      ∙ sym (ap₂ (λ (x y : Bool). x || (y || sendFine o (specialSelector o k) (specialCount k))) (ne-eqb k 22 h) (ne-eqb k 23 g))
 
 module _ (o : Objects) (m : ℕ) (l : Link) where
   pub link-nothing : l ≡ Nothing → true ≡ linkFine o m l

@@ -18,8 +18,8 @@ use Rattle.plain.specs.Flat.{Flat, roomOf, flatObjects, plainOf}
 use Rattle.plain.specs.Check.{check}
 use Rattle.plain.specs.FlatCalls.{Given, gives, noAnswer, highestEnd, flatLoad, flatCall}
 
--- From an accepted load of an image, in buffers of any sufficient lengths and with any stack: see `Agrees` below.
--- (The statement itself stands at the end, after what it speaks of.)
+-- The statement is `FromLoad`: from an accepted load of an image, in buffers of any sufficient lengths and with any stack. `FromChecked` is the
+-- same from every state that check accepts. What they speak of stands before them, what follows from them behind.
 
 -- How a run ended: all n bytecodes made, or finished, or halted for a cause
 abbrev pub RunEnds : ℕ → Answer → Type 0
