@@ -19,3 +19,4 @@ pub mod LoadLaws
 pub mod Theorem
 pub mod Consequences
 pub mod WriteLaws
+pub mod RunningLaws

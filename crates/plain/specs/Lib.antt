@@ -6,5 +6,6 @@ pub mod Cache
 pub mod Flat
 pub mod Check
 pub mod FlatCalls
+pub mod Running
 pub mod Program
 pub mod CallLists
