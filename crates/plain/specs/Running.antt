@@ -14,7 +14,7 @@ use Rattle.model.specs.Depth.{noteAt}
 use Rattle.model.specs.Lookup.{found, lookup, inChain}
 use Rattle.model.specs.Rules.{Right, takesCount, methodTable}
 use Rattle.model.specs.Image.{Room}
-use Rattle.plain.specs.Registers.{Registers, running}
+use Rattle.plain.specs.Registers.{Registers, running, finished}
 use Rattle.plain.specs.State.{Frame, Plain}
 use Rattle.plain.specs.Step.{Looked, noLookup, Stepped, next, afterLookup, popped, step}
 use Rattle.plain.specs.Flat.{frameSender, framePosition, frameDepth, frameMethod, operandsStart, frameAt, unlessBottom, framesFrom}
@@ -31,6 +31,10 @@ pub record Runs (n b top : ℕ) (contents bodies stack : List ℕ) : Type 0 wher
 abbrev pub runningWith : ℕ → ℕ → ℕ → ℕ → ℕ → Registers
 runningWith receiver selector n b top =
     record { n = n; b = b; startReceiver = receiver; startSelector = selector; phase = running; top = top; value = 0 }
+
+abbrev pub finishedWith : ℕ → ℕ → ℕ → ℕ → ℕ → Registers
+finishedWith receiver selector n b w =
+    record { n = n; b = b; startReceiver = receiver; startSelector = selector; phase = finished; top = 0; value = w }
 
 abbrev pub runningAt : ℕ → ℕ → ℕ → ℕ → ℕ → List ℕ → List ℕ → List ℕ → Plain
 runningAt receiver selector n b top contents bodies stack =
