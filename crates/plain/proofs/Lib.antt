@@ -21,3 +21,4 @@ pub mod Consequences
 pub mod WriteLaws
 pub mod RunningLaws
 pub mod ReturnLaws
+pub mod TurnLaws

@@ -151,7 +151,7 @@ module _ (room : Room) (worlds : Worlds room) where
   shape-busy p (ends a b c f) e = omega arith
 
   -- after a step the frames stand in the stack in which they were laid
-  shape-stood : (p : Plain) (stack : List ℕ) → length stack ≡ room .stack → Shape (room .stack) p → Stood p (laid stack (p .registers .top) (p .frames))
+  pub shape-stood : (p : Plain) (stack : List ℕ) → length stack ≡ room .stack → Shape (room .stack) p → Stood p (laid stack (p .registers .top) (p .frames))
   shape-stood p stack h (runs a b f) q = laid-back (objects p) (room .stack) stack h (p .frames) (p .registers .top) f
   shape-stood p stack h (ends a b c f) q = absurd (subst (λ (k : ℕ). T (Rattle.plain.specs.Registers.hasFrames k)) a (subst T (sym q) tt))
 
