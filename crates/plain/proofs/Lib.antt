@@ -22,3 +22,4 @@ pub mod WriteLaws
 pub mod RunningLaws
 pub mod ReturnLaws
 pub mod TurnLaws
+pub mod CheckParts
