@@ -23,3 +23,4 @@ pub mod RunningLaws
 pub mod ReturnLaws
 pub mod TurnLaws
 pub mod CheckParts
+pub mod MadeLaws

@@ -129,6 +129,10 @@ module _ (s : Flat) (right : FlatRight s) (phase : s .registers .phase ≡ runni
   pub turn-room : roomOf s′ ≡ room
   turn-room = room-back s p′ stack′ cache′ right-p stood-p (length-laid (s .stack) (p′ .registers .top) (p′ .frames)) (length-filled (s .cache) l)
 
+  pub turn-level : p′ .registers .phase ≡ running → p′ .registers .top ≡ s .registers .top → topEnd p′ ≡ topEnd p
+  unfolding plainOf
+  turn-level a b = goes-on .0 .level a b
+
   -- Check is kept.
   pub turn-right : FlatRight s′
   turn-right = flat-back s p′ stack′ cache′ right-p stood-p (length-laid (s .stack) (p′ .registers .top) (p′ .frames)) (length-filled (s .cache) l) (right .cacheLength) cached-p
