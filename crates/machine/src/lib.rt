@@ -30,7 +30,12 @@ pub fn load(image: &[u8], contents: &mut [u16], bodies: &mut [u16], cache: &mut 
     ensures { λ r. ⌜ ((g : R.Registers) (stack : List ℕ) → loadGives r (now (contents .exit)) (now (bodies .exit)) stack (now (cache .exit)) ≡ flatLoad (flat g (now (contents .entry)) (now (bodies .entry)) stack (now (cache .entry))) (now (image .entry))) ⌝ }
 {
     match store::read(image, contents, bodies, cache.len()) {
-        Reading::Accepted { n, b, receiver, selector } => {
+        Reading::Accepted {
+            n,
+            b,
+            receiver,
+            selector,
+        } => {
             image::clear(cache, cache.len());
             Loaded::Accepted(Registers {
                 n: n,

@@ -24,3 +24,4 @@ pub mod ReturnLaws
 pub mod TurnLaws
 pub mod CheckParts
 pub mod MadeLaws
+pub mod LoopLaws

@@ -83,7 +83,7 @@ pub ends-over : (left h : ℕ) (s : Flat) → topEnd (plainOf s) ≤ h → eqb (
 unfolding plainOf
 ends-over left h s t e = ends-none left h s t (stops (roomOf s) left (plainOf s) e)
 
-highest-least : (q : Plain) (ts : List Taken) → topEnd q ≤ highestEnd q ts
+pub highest-least : (q : Plain) (ts : List Taken) → topEnd q ≤ highestEnd q ts
 unfolding highestEnd
 highest-least q [] = omega arith
 highest-least q (taken l q′ ∷ ts) = omega arith

@@ -7,5 +7,6 @@ pub mod Flat
 pub mod Check
 pub mod FlatCalls
 pub mod Running
+pub mod RunLoop
 pub mod Program
 pub mod CallLists
