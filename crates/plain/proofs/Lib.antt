@@ -20,6 +20,7 @@ pub mod Theorem
 pub mod Consequences
 pub mod WriteLaws
 pub mod RunningLaws
+pub mod FramedLaws
 pub mod ReturnLaws
 pub mod TurnLaws
 pub mod CheckParts
