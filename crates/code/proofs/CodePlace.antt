@@ -15,6 +15,7 @@ use Rattle.model.specs.Objects.{Objects, objectsAt, isKind, start, size, kind, 
 use Rattle.model.specs.Method.{header, home, temporaryCount, literalCount, codeWords, codeSize, frameWords}
 use Rattle.model.specs.Depth.{depthTable, isSome, noteAt}
 use Rattle.model.specs.Rules.{methodTable}
+use Rattle.model.specs.Notes.{notesFrom, MethodNoted}
 use Rattle.model.proofs.Facts.{in-bytes}
 use Rattle.model.proofs.Parts.{length-part, part-same}
 use Rattle.flow.specs.Index.{indexed}
@@ -27,7 +28,7 @@ use Rattle.rules.proofs.Names.{is-named}
 use Rattle.rules.proofs.RuleFacts.{class-at}
 use Rattle.methods.specs.Named.{Ready}
 use Rattle.methods.specs.Passes.{shapeRules}
-use Rattle.code.specs.Asked.{Asked, CodeLent, notesFrom, MethodNoted, MethodWalked}
+use Rattle.code.specs.Asked.{Asked, CodeLent, MethodWalked}
 
 pub code-lent-by : (o : Objects) (m : ℕ) (words : List ℕ) (s s′ : ℕ) → s′ ≡ s → CodeLent o m words s → CodeLent o m words s′
 code-lent-by o m words s s′ e c = subst (CodeLent o m words) (sym e) c

@@ -229,7 +229,7 @@ pub fn layout(contents: &[u16], bodies: &[u16], n: usize, b: usize) -> bool
 }
 
 // Every word is valid.
-fn valid_words(n: usize, words: &[u16]) -> bool
+pub fn valid_words(n: usize, words: &[u16]) -> bool
     ensures { λ r. ⌜ r ≡ every (isValid n) (now (words .entry)) ⌝ }
 {
     let mut i = 0;
