@@ -1,7 +1,6 @@
 -- The words of a frame that stands: header, note, temporaries and operands.
 use Prim.Native.Nat.{ℕ, zero, suc, _+_, _-_, _*_, _/_, _%_, _≤_, _<_}
 use mathlib.Core.Path.{_≡_, refl, sym, ap, ap₂, _∙_, subst}
-use mathlib.Core.Logic.{_⊎_, inl, inr}
 use mathlib.Core.Bool.{Bool, true, false, _&&_}
 use mathlib.Core.List.{List}
 use native.Mathlib.Omega.{arith}
@@ -11,16 +10,16 @@ use lib.Dec.{T, eqb, leb→le, eqb→eq}
 use lib.ListN.{length, getD}
 use Rattle.bytecode.specs.Test.{every, allOf}
 use Rattle.bytecode.specs.Constant.{nilWord}
-use Rattle.bytecode.proofs.TestLaws.{true→T, T→true, and-left, and-right, and-both, rule, every-at, at-every}
+use Rattle.bytecode.proofs.TestLaws.{true→T, and-left, and-right, and-both, rule, every-at, at-every}
 use Rattle.bytecode.proofs.Choice.{if-yes, if-no}
 use Rattle.model.specs.Limits.{classKind, methodKind}
 use Rattle.model.specs.Word.{isValid, pointer, objectNumber}
-use Rattle.model.specs.Objects.{Objects, objectsAt, kind, classOf, isKind, isNilOr, part}
-use Rattle.model.specs.Method.{home, temporaryCount, literalCount, codeWords, codeSize, frameWords, frameSize}
+use Rattle.model.specs.Objects.{Objects, objectsAt, classOf, isKind, isNilOr, part}
+use Rattle.model.specs.Method.{home, temporaryCount, codeWords, codeSize, frameWords}
 use Rattle.model.specs.Depth.{noteAt, rulesAt, fineAt}
 use Rattle.model.specs.Lookup.{inChain}
 use Rattle.model.specs.Rules.{Right, methodTable, allowed}
-use Rattle.model.specs.Notes.{notesFrom, MethodNoted}
+use Rattle.model.specs.Notes.{MethodNoted}
 use Rattle.model.proofs.Parts.{same-test, or-right, length-part, part-at}
 use Rattle.model.proofs.ChainLaws.{named}
 use Rattle.model.proofs.DepthLaws.{spot, fine-inside}
@@ -33,7 +32,7 @@ use Rattle.plain.specs.Flat.{frameAt, frameMethod, framePosition, frameDepth, f
 use Rattle.plain.specs.Check.{noteOf, frameRules}
 use Rattle.plain.proofs.FrameLaws.{FrameRight, frame-right, right-frame, tableDepth, note-is}
 use Rattle.checks.specs.Frame.{standsAt, headerFine, Noted, Stands}
-use Rattle.checks.proofs.Standing.{Standing, standing}
+use Rattle.checks.proofs.Standing.{standing}
 
 -- the six words and the method of a frame that stands
 module _ {n b base : ℕ} {contents bodies stack notes : List ℕ} (h : Stands n b contents bodies stack notes base) where

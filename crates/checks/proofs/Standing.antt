@@ -1,12 +1,11 @@
 -- Where a frame stands, by the tests of the code.
 use Prim.Native.Nat.{ℕ, zero, suc, _+_, _≤_, _<_}
-use mathlib.Core.Path.{_≡_, refl, sym, ap, _∙_, subst}
-use mathlib.Core.Bool.{Bool, true, false, _&&_}
+use mathlib.Core.Path.{_≡_, refl, sym, ap, _∙_}
+use mathlib.Core.Bool.{Bool, true, false}
 use mathlib.Core.List.{List}
 use native.Mathlib.Omega.{arith}
 use lib.Dec.{T}
-use lib.ListN.{length, getD}
-use Rattle.bytecode.specs.Test.{if_then_else_}
+use lib.ListN.{length}
 use Rattle.bytecode.proofs.TestLaws.{true→T, T→true, and-left, and-right, and-both}
 use Rattle.bytecode.proofs.Choice.{if-yes, if-no, if-either}
 use Rattle.model.specs.Limits.{methodKind, mostStackWords, largeFrameWords, smallFrameWords}
@@ -36,6 +35,7 @@ module _ (o : Objects) (stack : List ℕ) (base : ℕ) where
     pub inside : base + frameSize o (frameMethod stack base) ≤ length stack
     pub most : base + frameSize o (frameMethod stack base) ≤ mostStackWords
     pub header : base + 18 ≤ length stack
+    pub low : base + 18 ≤ mostStackWords
 
   pub standing : T (standsAt o stack base) → Standing
   unfolding standsAt
@@ -44,7 +44,8 @@ module _ (o : Objects) (stack : List ℕ) (base : ℕ) where
       let f = fits (length stack) base (frameSize o m) (and-right (isKind o methodKind m) (fitsStack (length stack) base (frameSize o m)) t) in
       let l = frame-least o m in
       let i = f .inside in
-      record { kinds = and-left (isKind o methodKind m) (fitsStack (length stack) base (frameSize o m)) t; inside = i; most = f .most; header = omega arith }
+      let j = f .most in
+      record { kinds = and-left (isKind o methodKind m) (fitsStack (length stack) base (frameSize o m)) t; inside = i; most = j; header = omega arith; low = omega arith }
 
   pub stands : T (isKind o methodKind (frameMethod stack base)) → Fits (length stack) base (frameSize o (frameMethod stack base)) → T (standsAt o stack base)
   unfolding standsAt
@@ -59,6 +60,9 @@ module _ (o : Objects) (stack : List ℕ) (base : ℕ) where
   end-some : T (standsAt o stack base) → frameEnd o stack base ≡ base + frameSize o (frameMethod stack base)
   unfolding frameEnd
   end-some t = if-yes _ _ (T→true (standsAt o stack base) t)
+
+  pub end-high : 65518 < base → 0 ≡ frameEnd o stack base
+  end-high h = end-none (λ s. let i = s .low in absurd (omega arith))
 
   pub end-short : length stack < base + 18 → 0 ≡ frameEnd o stack base
   end-short h = end-none (λ s. let i = s .header in absurd (omega arith))

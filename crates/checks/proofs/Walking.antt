@@ -1,24 +1,24 @@
 -- From a frame to its sender: what the frames from here on say.
 use Prim.Native.Nat.{ℕ, zero, suc, _+_, _-_, _≤_, _<_}
-use mathlib.Core.Path.{_≡_, refl, sym, ap, ap₂, _∙_, subst}
+use mathlib.Core.Path.{_≡_, refl, sym, ap, _∙_, subst}
 use mathlib.Core.Bool.{Bool, true, false, _&&_}
 use mathlib.Core.List.{List, [], _∷_}
 use native.Mathlib.Omega.{arith}
-use borrow.Author.Tests.{eq-eqb, ne-eqb}
+use borrow.Author.Tests.{eq-eqb}
 use lib.Dec.{T, eqb, eqb→eq}
 use lib.ListN.{length, getD}
 use Rattle.bytecode.specs.Test.{allOf}
-use Rattle.bytecode.proofs.TestLaws.{true→T, T→true, and-left, and-right}
+use Rattle.bytecode.proofs.TestLaws.{T→true, and-left, and-right}
 use Rattle.model.specs.Limits.{methodKind}
 use Rattle.model.specs.Objects.{Objects, isKind}
 use Rattle.model.specs.Method.{frameSize}
-use Rattle.rules.proofs.Loops.{never, failed, stop, pass}
+use Rattle.rules.proofs.Loops.{never, failed, pass}
 use Rattle.plain.specs.State.{Frame, fitsStack}
 use Rattle.plain.specs.Flat.{frameAt, frameMethod, frameSender, framesFrom, unlessBottom}
 use Rattle.plain.specs.Check.{frameRules, framesFine}
-use Rattle.plain.proofs.FrameLaws.{FrameRight, frame-right, fits}
+use Rattle.plain.proofs.FrameLaws.{frame-right, fits}
 use Rattle.checks.specs.Frame.{standsAt, frameEnd}
-use Rattle.checks.proofs.Standing.{standing, stands, end-stands, end-is, frame-least}
+use Rattle.checks.proofs.Standing.{stands, end-stands, end-is, frame-least}
 
 -- the first frame keeps its rules and fits
 first : (o : Objects) (stack : ℕ) (isTop : Bool) (base : ℕ) (f : Frame) (fs : List Frame) → T (framesFine o stack isTop base (f ∷ fs))
@@ -102,12 +102,11 @@ module _ (o : Objects) (stack : List ℕ) where
   pub record Going (top base : ℕ) (isTop : Bool) : Type 0 where
     pub left : ℕ
     pub enough : base ≤ left
-    pub small : base < 65536
     pub stands : T (standsAt o stack base)
     pub rest : fineFrom isTop left base ≡ fineFrom true top top
 
-  pub going-first : (top e : ℕ) → top < 65536 → e ≡ frameEnd o stack top → 0 < e → Going top top true
-  going-first top e h p q = record { left = top; enough = omega arith; small = h; stands = end-stands o stack top e p q; rest = refl }
+  pub going-first : (top e : ℕ) → e ≡ frameEnd o stack top → 0 < e → Going top top true
+  going-first top e p q = record { left = top; enough = omega arith; stands = end-stands o stack top e p q; rest = refl }
 
   module _ {top base : ℕ} {isTop : Bool} (g : Going top base isTop) where
     pub going-wrong : allOf (frameRules o isTop (frameAt o stack base)) ≡ false → false ≡ fineFrom true top top
@@ -141,11 +140,9 @@ module _ (o : Objects) (stack : List ℕ) where
       going-down q =
           let z = going-lower q in
           let l = g .enough in
-          let s = g .small in
           record {
             left = g .left - 1;
             enough = omega arith;
-            small = omega arith;
             stands = end-stands o stack sender e p (omega arith);
             rest =
                 sym (above isTop (g .left) base h (g .enough) (g .stands) r

@@ -1,7 +1,7 @@
 // The frames' and the cache's part of check.
 ghost use mathlib.Core.Path.{_≡_};
 ghost use mathlib.Core.Bool.{true, _&&_};
-ghost use Prim.Native.Nat.{suc, _*_, _<_, _≤_};
+ghost use Prim.Native.Nat.{suc};
 ghost use lib.Dec.{T, eqb};
 ghost use lib.ListN.{length};
 ghost use Rattle.bytecode.specs.Test.{allOf};
@@ -27,10 +27,14 @@ fn frame_end(
     b: usize,
     at: StackPosition,
 ) -> StackPosition
-    requires { ⌜ Right 1 (objectsAt n b (now contents) (now bodies)) × (at .0 < 65536) ⌝ }
+    requires { ⌜ Right 1 (objectsAt n b (now contents) (now bodies)) ⌝ }
     ensures { λ r. ⌜ r .0 ≡ frameEnd (objectsAt n b (now (contents .entry)) (now (bodies .entry))) (now (stack .entry)) (at .0) ⌝ }
 {
     let base = at.0;
+    // the smallest frame has 18 words, and none ends above 65,536
+    if 65518 < base {
+        return StackPosition(0);
+    }
     if stack.len() < base + 18 {
         return StackPosition(0);
     }
@@ -38,7 +42,8 @@ fn frame_end(
     if !objects::is_kind(contents, n, 4, m) {
         return StackPosition(0);
     }
-    let end = base + (6 + objects::frame_words(objects::header(contents, bodies, n, b, Pointer(m))));
+    let end = base
+        + (6 + objects::frame_words(objects::header(contents, bodies, n, b, Pointer(m))));
     if stack.len() < end {
         return StackPosition(0);
     }
@@ -128,7 +133,8 @@ fn frame_fine(
     let m = stack[base + 3];
     let depth = stack[base + 2] as usize;
     let from = base + 6;
-    let end = from + (objects::temporary_count(objects::header(contents, bodies, n, b, Pointer(m))) + depth);
+    let end = from
+        + (objects::temporary_count(objects::header(contents, bodies, n, b, Pointer(m))) + depth);
     rules::valid_words(n, &stack[from..end])
 }
 
@@ -142,7 +148,7 @@ pub fn frames_fine(
     b: usize,
     top: StackPosition,
 ) -> bool
-    requires { ⌜ Noted n b (now contents) (now bodies) (now notes) × (top .0 < 65536) ⌝ }
+    requires { ⌜ Noted n b (now contents) (now bodies) (now notes) ⌝ }
     ensures { λ r. ⌜ r ≡ framesFine (objectsAt n b (now (contents .entry)) (now (bodies .entry))) (length (now (stack .entry))) true (top .0) (framesFrom (suc (top .0)) (objectsAt n b (now (contents .entry)) (now (bodies .entry))) (now (stack .entry)) (top .0)) ⌝ }
 {
     let end = frame_end(contents, bodies, stack, n, b, top);
@@ -152,7 +158,16 @@ pub fn frames_fine(
     let mut base = top.0;
     let mut uppermost = true;
     while base != 0 {
-        if !frame_fine(contents, bodies, stack, notes, n, b, StackPosition(base), uppermost) {
+        if !frame_fine(
+            contents,
+            bodies,
+            stack,
+            notes,
+            n,
+            b,
+            StackPosition(base),
+            uppermost,
+        ) {
             return false;
         }
         let sender = stack[base] as usize;
@@ -163,7 +178,16 @@ pub fn frames_fine(
         base = sender;
         uppermost = false;
     }
-    if !frame_fine(contents, bodies, stack, notes, n, b, StackPosition(base), uppermost) {
+    if !frame_fine(
+        contents,
+        bodies,
+        stack,
+        notes,
+        n,
+        b,
+        StackPosition(base),
+        uppermost,
+    ) {
         return false;
     }
     stack[base] == 0
@@ -182,7 +206,15 @@ fn is_empty(s: u16, class: u16, m: u16) -> bool
 }
 
 // An entry of the cache: selector, class, method.
-fn entry_fine(contents: &[u16], bodies: &[u16], n: usize, b: usize, s: u16, class: u16, m: u16) -> bool
+fn entry_fine(
+    contents: &[u16],
+    bodies: &[u16],
+    n: usize,
+    b: usize,
+    s: u16,
+    class: u16,
+    m: u16,
+) -> bool
     requires { ⌜ Right 1 (objectsAt n b (now contents) (now bodies)) ⌝ }
     ensures { λ r. ⌜ r ≡ entryFine (objectsAt n b (now (contents .entry)) (now (bodies .entry))) s class m ⌝ }
 {
@@ -206,7 +238,15 @@ pub fn cache_fine(contents: &[u16], bodies: &[u16], cache: &[u16], n: usize, b: 
     let mut i = 0;
     while i < 64 {
         let at = 3 * i;
-        if !entry_fine(contents, bodies, n, b, cache[at], cache[at + 1], cache[at + 2]) {
+        if !entry_fine(
+            contents,
+            bodies,
+            n,
+            b,
+            cache[at],
+            cache[at + 1],
+            cache[at + 2],
+        ) {
             return false;
         }
         i += 1;

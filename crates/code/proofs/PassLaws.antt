@@ -1,27 +1,26 @@
 -- The pass over all objects: what one turn needs, and what it leaves of the others' notes
-use Prim.Native.Nat.{ℕ, zero, suc, _+_, _-_, _*_, _/_, _%_, _≤_, _<_}
+use Prim.Native.Nat.{ℕ, zero, suc, _+_, _-_, _/_, _%_, _≤_, _<_}
 use mathlib.Core.Path.{_≡_, refl, sym, ap, ap₂, _∙_, subst}
-use mathlib.Core.Logic.{_⊎_, inl, inr}
+use mathlib.Core.Logic.{inl}
 use mathlib.Core.Bool.{Bool, true, false, not, _&&_, _||_}
 use mathlib.Core.List.{List}
 use native.Mathlib.Decide.{ℕ-discrete}
 use native.Mathlib.Omega.{arith}
 use borrow.Author.Tests.{eq-eqb, ne-eqb, le-leb, lt-leb}
 use lib.Dec.{T, eqb, leb}
-use lib.ListN.{length, getD, replicate}
-use Rattle.bytecode.specs.Test.{upTo, implies, allOf}
+use lib.ListN.{getD, replicate}
+use Rattle.bytecode.specs.Test.{implies, allOf}
 use Rattle.bytecode.proofs.TestLaws.{true→T, T→true, implied, upTo-at}
 use Rattle.model.specs.Limits.{methodKind}
 use Rattle.model.specs.Word.{pointer}
-use Rattle.model.specs.Objects.{Objects, objectsAt, kind, start, size, bodyWords, bodyEnd, isKind}
-use Rattle.model.specs.Method.{header, literalCount, codeSize, runsCode}
+use Rattle.model.specs.Objects.{Objects, objectsAt, kind, start, bodyWords, bodyEnd}
+use Rattle.model.specs.Method.{header, codeSize, runsCode}
 use Rattle.model.specs.Depth.{isSome}
-use Rattle.model.specs.Rules.{methodTable, rule4, rule7}
+use Rattle.model.specs.Rules.{methodTable, rule4}
 use Rattle.model.specs.Notes.{notesFrom, MethodNoted, NotedBefore}
-use Rattle.rules.proofs.Laid.{layout-at, inside-at}
+use Rattle.rules.proofs.Laid.{layout-at}
 use Rattle.rules.proofs.Names.{names-kind}
 use Rattle.rules.proofs.Loops.{UpBefore, up-none, up-more, up-all, up-no, never, stop, pass}
-use Rattle.methods.specs.Named.{Ready}
 use Rattle.methods.specs.Passes.{shapeRules, shapeFine, codeFine, shapes, holders, codes}
 use Rattle.methods.specs.Counts.{Held, Counts}
 use Rattle.methods.proofs.PassLaws.{passes}

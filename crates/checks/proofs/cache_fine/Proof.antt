@@ -1,3 +1,4 @@
+-- Every entry before i passed.
 use Prim.Native.Nat.{_-_, _≤_}
 use mathlib.Core.Path.{sym, _∙_}
 use native.Mathlib.Omega.{arith}
@@ -7,9 +8,6 @@ use Rattle.rules.proofs.Loops.{Before, before-none, before-more}
 use Rattle.checks.proofs.Entries.{entryAt, cache-no, cache-all}
 use Rattle.checks.proofs.cache_fine.Statement.{statement}
 use Rattle.checks.proofs.cache_fine.Tie as tie
-use Rattle.checks.proofs.cache_fine.Reads as reads
-use Rattle.checks.proofs.cache_fine.Lts as lts
-use Rattle.checks.proofs.entry_fine.Reads as entry-fine-reads
 
 abbrev Inv-loop : tie.InvT-loop
 Inv-loop contents bodies cache n b i₀ i = (i ≤ 64) × Before (entryAt (objectsAt n b contents bodies) cache) i
@@ -17,73 +15,57 @@ Inv-loop contents bodies cache n b i₀ i = (i ≤ 64) × Before (entryAt (objec
 abbrev μ-loop : tie.MeasureT-loop
 μ-loop contents bodies cache n b i₀ i = 64 - i
 
--- src/lib.rt:207:5
 loop-holds : tie.Need-loop-holds Inv-loop μ-loop
 loop-holds c = let a = c .before .before .before .args in (omega arith, before-none (entryAt (objectsAt (a .n) (a .b) (a .contents .now) (a .bodies .now)) (a .cache .now)))
 
--- src/lib.rt:208:18
 mul-at : tie.Need-mul-at Inv-loop μ-loop
 mul-at c = omega arith
 
--- src/lib.rt:209:48
 mul-entry-fine : tie.Need-mul-entry-fine Inv-loop μ-loop
 mul-entry-fine c = omega (arith, (c .before .before .before .before .before .pre) .1)
 
--- src/lib.rt:209:48
 shared-slice-read-entry-fine : tie.Need-shared-slice-read-entry-fine Inv-loop μ-loop
 shared-slice-read-entry-fine c = omega (arith, (c .before .before .before .before .before .before .pre) .1)
 
--- src/lib.rt:209:65
 add-entry-fine : tie.Need-add-entry-fine Inv-loop μ-loop
 add-entry-fine c = omega (arith, (c .before .before .before .before .before .before .pre) .1)
 
--- src/lib.rt:209:59
 mul-entry-fine-2 : tie.Need-mul-entry-fine-2 Inv-loop μ-loop
 mul-entry-fine-2 c = omega (arith, (c .before .before .before .before .before .before .pre) .1)
 
--- src/lib.rt:209:59
 shared-slice-read-entry-fine-2 : tie.Need-shared-slice-read-entry-fine-2 Inv-loop μ-loop
 shared-slice-read-entry-fine-2 c = omega (arith, (c .before .before .before .before .before .before .before .pre) .1)
 
--- src/lib.rt:209:80
 add-entry-fine-2 : tie.Need-add-entry-fine-2 Inv-loop μ-loop
 add-entry-fine-2 c = omega (arith, (c .before .before .before .before .before .before .before .pre) .1)
 
--- src/lib.rt:209:74
 mul-entry-fine-3 : tie.Need-mul-entry-fine-3 Inv-loop μ-loop
 mul-entry-fine-3 c = omega (arith, (c .before .before .before .before .before .before .before .pre) .1)
 
--- src/lib.rt:209:74
 shared-slice-read-entry-fine-3 : tie.Need-shared-slice-read-entry-fine-3 Inv-loop μ-loop
 shared-slice-read-entry-fine-3 c = omega (arith, (c .before .before .before .before .before .before .before .before .pre) .1)
 
--- src/lib.rt:209:13
 entry-fine-requires : tie.Need-entry-fine-requires Inv-loop μ-loop
 entry-fine-requires c κs = (c .before .before .before .before .before .before .before .before .pre) .0
 
--- src/lib.rt:210:13
 returns : tie.Need-returns Inv-loop μ-loop
-returns c = 
+returns c =
     let a = c .before .before .before .before .before .before .before .before .before .before .args in
     cache-no (objectsAt (a .n) (a .b) (a .contents .now) (a .bodies .now)) (a .cache .now) (c .before .before .before .before .before .before .loop .i) (c .before .before .before .before .before .loop-test .taken) (sym (c .before .entry-fine .ensures) ∙ not-true _ (c .if1 .taken))
 
--- src/lib.rt:212:9
 add-i : tie.Need-add-i Inv-loop μ-loop
 add-i c = omega arith
 
--- src/lib.rt:207:5
 loop-less : tie.Need-loop-less Inv-loop μ-loop
 loop-less c = omega arith
 
--- src/lib.rt:207:5
 loop-again : tie.Need-loop-again Inv-loop μ-loop
-loop-again c = 
+loop-again c =
     let a = c .before .before .before .before .before .before .before .before .before .before .args in
     (omega arith, before-more (entryAt (objectsAt (a .n) (a .b) (a .contents .now) (a .bodies .now)) (a .cache .now)) (c .before .before .before .before .before .before .loop .i) (c .before .before .before .before .before .before .loop .inv .1) (sym (c .before .entry-fine .ensures) ∙ not-false _ (c .if1 .left)))
 
--- src/lib.rt:202:1
 returns-2 : tie.Need-returns-2 Inv-loop μ-loop
-returns-2 c = 
+returns-2 c =
     let a = c .before .before .before .before .before .args in
     cache-all (objectsAt (a .n) (a .b) (a .contents .now) (a .bodies .now)) (a .cache .now) (c .before .loop .i) (c .loop-test .left) (c .before .loop .inv .1)
 

@@ -11,57 +11,43 @@ use Rattle.checks.proofs.Entries.{entry-empty, entry-other, entry-found
 use borrow.Author.Needs.{needs}
 use Rattle.checks.proofs.entry_fine.Statement.{statement}
 use Rattle.checks.proofs.entry_fine.Tie as tie
-use Rattle.checks.proofs.entry_fine.Reads as reads
-use Rattle.checks.proofs.entry_fine.Lts as lts
-use Rattle.checks.proofs.is_empty.Reads as is-empty-reads
-use Rattle.objects.proofs.is_kind.Reads as is-kind-reads
-use Rattle.objects.proofs.lookup.Reads as lookup-reads
 
--- src/lib.rt:189:8
 is-empty-requires : tie.Need-is-empty-requires
 is-empty-requires c κs = search needs
 
--- src/lib.rt:190:9
 returns : tie.Need-returns
-returns c = 
+returns c =
     let a = c .before .before .before .before .args in
     entry-empty (objectsAt (a .n) (a .b) (a .contents .now) (a .bodies .now)) (a .s) (a .class) (a .m) _ (c .before .is-empty .ensures) (c .if1 .taken)
 
--- src/lib.rt:192:9
 is-kind-requires : tie.Need-is-kind-requires
-is-kind-requires c κs = 
+is-kind-requires c κs =
     let a = c .before .before .before .before .args in
     contents-room (a .n) (a .b) (a .contents .now) (a .bodies .now) (c .before .before .before .before .pre)
 
--- src/lib.rt:193:9
 returns-2 : tie.Need-returns-2
-returns-2 c = 
+returns-2 c =
     let a = c .before .before .before .before .before .before .args in
     entry-other (objectsAt (a .n) (a .b) (a .contents .now) (a .bodies .now)) (a .s) (a .class) (a .m) _ (c .before .before .before .is-empty .ensures) (c .before .before .if1 .left) (sym (c .before .is-kind .ensures (a .b) (a .bodies .now)) ∙ not-true _ (c .if2 .taken))
 
--- src/lib.rt:195:11
 lookup-requires : tie.Need-lookup-requires
-lookup-requires c κs = 
+lookup-requires c κs =
     let a = c .before .before .before .before .before .before .args in
     (c .before .before .before .before .before .before .pre, or-right (eqb (a .class) nilWord) (isKind (objectsAt (a .n) (a .b) (a .contents .now) (a .bodies .now)) classKind (a .class)) (true→T (sym (c .before .is-kind .ensures (a .b) (a .bodies .now)) ∙ not-false _ (c .if2 .left))))
 
--- src/lib.rt:196:23
 enum-known-k : tie.Need-enum-known-k
 enum-known-k c = search needs
 
--- src/lib.rt:197:27
 enum-told : tie.Need-enum-told
 enum-told c = search needs
 
--- src/lib.rt:185:1
 returns-3 : tie.Need-returns-3
-returns-3 c = 
+returns-3 c =
     let a = c .before .before .before .before .before .before .before .before .before .before .before .args in
     entry-found (objectsAt (a .n) (a .b) (a .contents .now) (a .bodies .now)) (a .s) (a .class) (a .m) _ (c .before .before .before .before .before .before .before .before .is-empty .ensures) _ _ (c .before .before .before .before .before .before .before .if1 .left) (c .before .before .before .before .lookup .ensures) (c .before .before .k .given .1)
 
--- src/lib.rt:185:1
 returns-4 : tie.Need-returns-4
-returns-4 c = 
+returns-4 c =
     let a = c .before .before .before .before .before .before .before .before .before .args in
     entry-nothing (objectsAt (a .n) (a .b) (a .contents .now) (a .bodies .now)) (a .s) (a .class) (a .m) _ (c .before .before .before .before .before .before .is-empty .ensures) _ (c .before .before .before .before .before .if1 .left) (c .before .before .lookup .ensures) (c .enum-told .given .1)
 

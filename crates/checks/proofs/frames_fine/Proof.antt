@@ -1,17 +1,13 @@
-use mathlib.Core.Path.{sym, ap, _∙_}
+-- What the frames from here on say is what they say from the top.
+use mathlib.Core.Path.{sym, _∙_}
 use mathlib.Core.Bool.{true}
 use native.Mathlib.Omega.{arith}
 use borrow.Author.Tests.{not-true, not-false}
-use lib.ListN.{getD}
 use Rattle.model.specs.Objects.{objectsAt}
 use Rattle.checks.proofs.Standing.{positive, standing, end-no}
 use Rattle.checks.proofs.Walking.{Going, from-unstood, going-first, going-wrong, going-bottom, going-apart, going-lower, going-down}
 use Rattle.checks.proofs.frames_fine.Statement.{statement}
 use Rattle.checks.proofs.frames_fine.Tie as tie
-use Rattle.checks.proofs.frames_fine.Reads as reads
-use Rattle.checks.proofs.frames_fine.Lts as lts
-use Rattle.checks.proofs.frame_end.Reads as frame-end-reads
-use Rattle.checks.proofs.frame_fine.Reads as frame-fine-reads
 
 abbrev Inv-loop : tie.InvT-loop
 Inv-loop contents bodies stack notes n b base₀ uppermost₀ base uppermost = Going (objectsAt n b contents bodies) stack base₀ base uppermost
@@ -19,96 +15,79 @@ Inv-loop contents bodies stack notes n b base₀ uppermost₀ base uppermost = G
 abbrev μ-loop : tie.MeasureT-loop
 μ-loop contents bodies stack notes n b base₀ uppermost₀ base uppermost = base
 
--- src/lib.rt:148:9
 frame-end-requires : tie.Need-frame-end-requires Inv-loop μ-loop
-frame-end-requires c κs = ((c .before .before .before .before .pre) .0 .right, (c .before .before .before .before .pre) .1)
+frame-end-requires c κs = (c .before .before .before .before .pre) .right
 
--- src/lib.rt:150:9
 returns : tie.Need-returns Inv-loop μ-loop
-returns c = 
+returns c =
     let a = c .before .before .before .before .before .before .before .args in
     let o = objectsAt (a .n) (a .b) (a .contents .now) (a .bodies .now) in
     from-unstood o (a .stack .now) true (a .top .0) (a .top .0) (end-no o (a .stack .now) (a .top .0) _ (c .before .before .frame-end .ensures) (c .if1 .taken))
 
--- src/lib.rt:154:5
 loop-holds : tie.Need-loop-holds Inv-loop μ-loop
-loop-holds c = 
+loop-holds c =
     let a = c .before .before .before .before .before .before .before .args in
-    going-first (objectsAt (a .n) (a .b) (a .contents .now) (a .bodies .now)) (a .stack .now) (a .top .0) _ ((c .before .before .before .before .before .before .before .pre) .1) (c .before .before .frame-end .ensures) (positive _ (c .if1 .left))
+    going-first (objectsAt (a .n) (a .b) (a .contents .now) (a .bodies .now)) (a .stack .now) (a .top .0) _ (c .before .before .frame-end .ensures) (positive _ (c .if1 .left))
 
--- src/lib.rt:155:13
 frame-fine-requires : tie.Need-frame-fine-requires Inv-loop μ-loop
-frame-fine-requires c κs = record { image = (c .before .before .before .before .before .before .before .before .before .pre) .0; frame = c .before .loop .inv .stands }
+frame-fine-requires c κs = record { image = c .before .before .before .before .before .before .before .before .before .pre; frame = c .before .loop .inv .stands }
 
--- src/lib.rt:156:13
 returns-2 : tie.Need-returns-2 Inv-loop μ-loop
-returns-2 c = 
+returns-2 c =
     let a = c .before .before .before .before .before .before .before .before .before .before .before .args in
     going-wrong (objectsAt (a .n) (a .b) (a .contents .now) (a .bodies .now)) (a .stack .now) (c .before .before .before .loop .inv) (sym (c .before .frame-fine .ensures) ∙ not-true _ (c .if2 .taken))
 
--- src/lib.rt:158:22
 mul-sender : tie.Need-mul-sender Inv-loop μ-loop
-mul-sender c = 
+mul-sender c =
     let a = c .before .before .before .before .before .before .before .before .before .before .before .args in
     let s = standing (objectsAt (a .n) (a .b) (a .contents .now) (a .bodies .now)) (a .stack .now) (c .before .before .before .loop .base) (c .before .before .before .loop .inv .stands) .header in omega arith
 
--- src/lib.rt:158:22
 shared-slice-read-sender : tie.Need-shared-slice-read-sender Inv-loop μ-loop
-shared-slice-read-sender c = 
+shared-slice-read-sender c =
     let a = c .before .before .before .before .before .before .before .before .before .before .before .before .args in
     let s = standing (objectsAt (a .n) (a .b) (a .contents .now) (a .bodies .now)) (a .stack .now) (c .before .before .before .before .loop .base) (c .before .before .before .before .loop .inv .stands) .header in omega arith
 
--- src/lib.rt:158:22
 cast-sender : tie.Need-cast-sender Inv-loop μ-loop
 cast-sender c = omega (arith, c .shared-slice-known5 .given (c .before .before .before .before .loop .base))
 
--- src/lib.rt:159:13
 frame-end-requires-2 : tie.Need-frame-end-requires-2 Inv-loop μ-loop
-frame-end-requires-2 c κs = ((c .before .before .before .before .before .before .before .before .before .before .before .before .pre) .0 .right, omega (arith, c .shared-slice-known5 .given (c .before .before .before .before .loop .base)))
+frame-end-requires-2 c κs = (c .before .before .before .before .before .before .before .before .before .before .before .before .pre) .right
 
--- src/lib.rt:161:13
 returns-3 : tie.Need-returns-3 Inv-loop μ-loop
-returns-3 c = 
+returns-3 c =
     let a = c .before .before .before .before .before .before .before .before .before .before .before .before .before .before .before .args in
     going-apart (objectsAt (a .n) (a .b) (a .contents .now) (a .bodies .now)) (a .stack .now) (c .before .before .before .before .before .before .before .loop .inv) (positive _ (c .before .before .before .before .before .before .loop-test .taken)) (sym (c .before .before .before .before .before .frame-fine .ensures) ∙ not-false _ (c .before .before .before .before .if2 .left)) _ (c .before .before .frame-end2 .ensures) (c .if3 .taken)
 
--- src/lib.rt:154:5
 loop-less : tie.Need-loop-less Inv-loop μ-loop
-loop-less c = 
+loop-less c =
     let a = c .before .before .before .before .before .before .before .before .before .before .before .before .before .before .before .args in
     going-lower (objectsAt (a .n) (a .b) (a .contents .now) (a .bodies .now)) (a .stack .now) (c .before .before .before .before .before .before .before .loop .inv) (positive _ (c .before .before .before .before .before .before .loop-test .taken)) (sym (c .before .before .before .before .before .frame-fine .ensures) ∙ not-false _ (c .before .before .before .before .if2 .left)) _ (c .before .before .frame-end2 .ensures) (c .if3 .left)
 
--- src/lib.rt:154:5
 loop-again : tie.Need-loop-again Inv-loop μ-loop
-loop-again c = 
+loop-again c =
     let a = c .before .before .before .before .before .before .before .before .before .before .before .before .before .before .before .args in
     going-down (objectsAt (a .n) (a .b) (a .contents .now) (a .bodies .now)) (a .stack .now) (c .before .before .before .before .before .before .before .loop .inv) (positive _ (c .before .before .before .before .before .before .loop-test .taken)) (sym (c .before .before .before .before .before .frame-fine .ensures) ∙ not-false _ (c .before .before .before .before .if2 .left)) _ (c .before .before .frame-end2 .ensures) (c .if3 .left)
 
--- src/lib.rt:166:9
 frame-fine-requires-2 : tie.Need-frame-fine-requires-2 Inv-loop μ-loop
-frame-fine-requires-2 c κs = record { image = (c .before .before .before .before .before .before .before .before .before .pre) .0; frame = c .before .loop .inv .stands }
+frame-fine-requires-2 c κs = record { image = c .before .before .before .before .before .before .before .before .before .pre; frame = c .before .loop .inv .stands }
 
--- src/lib.rt:167:9
 returns-4 : tie.Need-returns-4 Inv-loop μ-loop
-returns-4 c = 
+returns-4 c =
     let a = c .before .before .before .before .before .before .before .before .before .before .before .args in
     going-wrong (objectsAt (a .n) (a .b) (a .contents .now) (a .bodies .now)) (a .stack .now) (c .before .before .before .loop .inv) (sym (c .before .frame-fine2 .ensures) ∙ not-true _ (c .if4 .taken))
 
--- src/lib.rt:169:5
 mul-result : tie.Need-mul-result Inv-loop μ-loop
-mul-result c = 
+mul-result c =
     let a = c .before .before .before .before .before .before .before .before .before .before .before .args in
     let s = standing (objectsAt (a .n) (a .b) (a .contents .now) (a .bodies .now)) (a .stack .now) (c .before .before .before .loop .base) (c .before .before .before .loop .inv .stands) .header in omega arith
 
--- src/lib.rt:169:5
 shared-slice-read-result : tie.Need-shared-slice-read-result Inv-loop μ-loop
-shared-slice-read-result c = 
+shared-slice-read-result c =
     let a = c .before .before .before .before .before .before .before .before .before .before .before .before .args in
     let s = standing (objectsAt (a .n) (a .b) (a .contents .now) (a .bodies .now)) (a .stack .now) (c .before .before .before .before .loop .base) (c .before .before .before .before .loop .inv .stands) .header in omega arith
 
--- src/lib.rt:136:1
 returns-5 : tie.Need-returns-5 Inv-loop μ-loop
-returns-5 c = 
+returns-5 c =
     let a = c .before .before .before .before .before .before .before .before .before .before .before .before .args in
     going-bottom (objectsAt (a .n) (a .b) (a .contents .now) (a .bodies .now)) (a .stack .now) (c .before .before .before .before .loop .inv) (c .before .before .before .loop-test .left) (sym (c .before .before .frame-fine2 .ensures) ∙ not-false _ (c .before .if4 .left))
 

@@ -1,3 +1,4 @@
+-- The tests of the header, one after another.
 use Prim.Native.Nat.{_+_}
 use mathlib.Core.Path.{sym, ap₂, _∙_}
 use native.Mathlib.Omega.{arith}
@@ -10,143 +11,107 @@ use Rattle.checks.proofs.Headers.{header-inside, holds-method, class-na
 use borrow.Author.Needs.{needs}
 use Rattle.checks.proofs.header_fine.Statement.{statement}
 use Rattle.checks.proofs.header_fine.Tie as tie
-use Rattle.checks.proofs.header_fine.Reads as reads
-use Rattle.checks.proofs.header_fine.Lts as lts
-use Rattle.checks.proofs.note_at.Reads as note-at-reads
-use Rattle.objects.proofs.class_of.Reads as class-of-reads
-use Rattle.objects.proofs.home.Reads as home-reads
-use Rattle.objects.proofs.in_chain.Reads as in-chain-reads
-use Rattle.objects.proofs.is_valid.Reads as is-valid-reads
 
--- src/lib.rt:88:14
 add-if1 : tie.Need-add-if1
 add-if1 c = let h = header-inside (c .before .before .before .before .pre) in omega arith
 
--- src/lib.rt:88:8
 mul-if1 : tie.Need-mul-if1
 mul-if1 c = let h = header-inside (c .before .before .before .before .pre) in omega arith
 
--- src/lib.rt:88:8
 shared-slice-read-if1 : tie.Need-shared-slice-read-if1
 shared-slice-read-if1 c = let h = header-inside (c .before .before .before .before .before .pre) in omega arith
 
--- src/lib.rt:89:9
 returns : tie.Need-returns
-returns c = 
+returns c =
     let a = c .before .before .before .before .before .before .args in
     mark-no (objectsAt (a .n) (a .b) (a .contents .now) (a .bodies .now)) (a .stack .now) (a .at .0) (a .uppermost) (c .if1 .taken)
 
--- src/lib.rt:91:26
 add-receiver : tie.Need-add-receiver
 add-receiver c = let h = header-inside (c .before .before .before .before .before .before .pre) in omega arith
 
--- src/lib.rt:91:20
 mul-receiver : tie.Need-mul-receiver
 mul-receiver c = let h = header-inside (c .before .before .before .before .before .before .pre) in omega arith
 
--- src/lib.rt:91:20
 shared-slice-read-receiver : tie.Need-shared-slice-read-receiver
 shared-slice-read-receiver c = let h = header-inside (c .before .before .before .before .before .before .before .pre) in omega arith
 
--- src/lib.rt:92:9
 is-valid-requires : tie.Need-is-valid-requires
 is-valid-requires c κs = search needs
 
--- src/lib.rt:93:9
 returns-2 : tie.Need-returns-2
-returns-2 c = 
+returns-2 c =
     let a = c .before .before .before .before .before .before .before .before .before .args in
     receiver-no (objectsAt (a .n) (a .b) (a .contents .now) (a .bodies .now)) (a .stack .now) (a .at .0) (a .uppermost) (c .before .before .before .if1 .left) (sym (c .before .is-valid .ensures) ∙ not-true _ (c .if2 .taken))
 
--- src/lib.rt:95:19
 add-m : tie.Need-add-m
 add-m c = let h = header-inside (c .before .before .before .before .before .before .before .before .before .pre) in omega arith
 
--- src/lib.rt:95:13
 mul-m : tie.Need-mul-m
 mul-m c = let h = header-inside (c .before .before .before .before .before .before .before .before .before .pre) in omega arith
 
--- src/lib.rt:95:13
 shared-slice-read-m : tie.Need-shared-slice-read-m
 shared-slice-read-m c = let h = header-inside (c .before .before .before .before .before .before .before .before .before .before .pre) in omega arith
 
--- src/lib.rt:96:9
 home-requires : tie.Need-home-requires
 home-requires c κs = holds-method (c .before .before .before .before .before .before .before .before .before .before .pre)
 
--- src/lib.rt:97:9
 class-of-requires : tie.Need-class-of-requires
-class-of-requires c κs = 
+class-of-requires c κs =
     let a = c .before .before .before .before .before .before .before .before .before .before .before .args in
     (true→T (sym (c .before .before .before .is-valid .ensures) ∙ not-false _ (c .before .before .if2 .left)), contents-room (a .n) (a .b) (a .contents .now) (a .bodies .now) ((c .before .before .before .before .before .before .before .before .before .before .before .pre) .image .right))
 
--- src/lib.rt:98:9
 in-chain-requires : tie.Need-in-chain-requires
-in-chain-requires c κs = 
+in-chain-requires c κs =
     let a = c .before .before .before .before .before .before .before .before .before .before .before .before .args in
     ((c .before .before .before .before .before .before .before .before .before .before .before .before .pre) .image .right, class-named ((c .before .before .before .before .before .before .before .before .before .before .before .before .pre) .image .right) _ _ (true→T (sym (c .before .before .before .before .is-valid .ensures) ∙ not-false _ (c .before .before .before .if2 .left))) (c .class-of .ensures (a .b) (a .bodies .now)))
 
--- src/lib.rt:99:9
 returns-3 : tie.Need-returns-3
-returns-3 c = 
+returns-3 c =
     let a = c .before .before .before .before .before .before .before .before .before .before .before .before .before .before .args in
     let o = objectsAt (a .n) (a .b) (a .contents .now) (a .bodies .now) in
     chain-no o (a .stack .now) (a .at .0) (a .uppermost) (c .before .before .before .before .before .before .before .before .if1 .left) (sym (c .before .before .before .before .before .before .is-valid .ensures) ∙ not-false _ (c .before .before .before .before .before .if2 .left)) (ap₂ (inChain o) (sym (c .before .before .before .home .ensures)) (sym (c .before .before .class-of .ensures (a .b) (a .bodies .now))) ∙ sym (c .before .in-chain .ensures) ∙ not-true _ (c .if3 .taken))
 
--- src/lib.rt:101:19
 add-p : tie.Need-add-p
 add-p c = let h = header-inside (c .before .before .before .before .before .before .before .before .before .before .before .before .before .before .pre) in omega arith
 
--- src/lib.rt:101:13
 mul-p : tie.Need-mul-p
 mul-p c = let h = header-inside (c .before .before .before .before .before .before .before .before .before .before .before .before .before .before .pre) in omega arith
 
--- src/lib.rt:101:13
 shared-slice-read-p : tie.Need-shared-slice-read-p
 shared-slice-read-p c = let h = header-inside (c .before .before .before .before .before .before .before .before .before .before .before .before .before .before .before .pre) in omega arith
 
--- src/lib.rt:101:13
 cast-p : tie.Need-cast-p
 cast-p c = omega (arith, c .shared-slice-known8 .given (c .before .before .before .before .before .before .before .before .before .before .before .before .before .before .before .args .at .0 + 1))
 
--- src/lib.rt:102:9
 note-at-requires : tie.Need-note-at-requires
 note-at-requires c κs = ((c .before .before .before .before .before .before .before .before .before .before .before .before .before .before .before .pre) .image, holds-method (c .before .before .before .before .before .before .before .before .before .before .before .before .before .before .before .pre) .kinds)
 
--- src/lib.rt:103:23
 add-depth : tie.Need-add-depth
 add-depth c = let h = header-inside (c .before .before .before .before .before .before .before .before .before .before .before .before .before .before .before .before .pre) in omega arith
 
--- src/lib.rt:103:17
 mul-depth : tie.Need-mul-depth
 mul-depth c = let h = header-inside (c .before .before .before .before .before .before .before .before .before .before .before .before .before .before .before .before .pre) in omega arith
 
--- src/lib.rt:103:17
 shared-slice-read-depth : tie.Need-shared-slice-read-depth
 shared-slice-read-depth c = let h = header-inside (c .before .before .before .before .before .before .before .before .before .before .before .before .before .before .before .before .before .pre) in omega arith
 
--- src/lib.rt:103:17
 cast-depth : tie.Need-cast-depth
 cast-depth c = omega (arith, c .shared-slice-known9 .given (c .before .before .before .before .before .before .before .before .before .before .before .before .before .before .before .before .before .args .at .0 + 2))
 
--- src/lib.rt:105:24
 add-result : tie.Need-add-result
 add-result c = omega (arith, c .before .shared-slice-known9 .given (c .before .before .before .before .before .before .before .before .before .before .before .before .before .before .before .before .before .before .args .at .0 + 2))
 
--- src/lib.rt:105:9
 returns-4 : tie.Need-returns-4
-returns-4 c = 
+returns-4 c =
     let a = c .before .before .before .before .before .before .before .before .before .before .before .before .before .before .before .before .before .before .args in
     let o = objectsAt (a .n) (a .b) (a .contents .now) (a .bodies .now) in
     header-note o (a .stack .now) (a .at .0) (a .uppermost) (c .before .before .before .before .before .before .before .before .before .before .before .before .if1 .left) (sym (c .before .before .before .before .before .before .before .before .before .before .is-valid .ensures) ∙ not-false _ (c .before .before .before .before .before .before .before .before .before .if2 .left)) (ap₂ (inChain o) (sym (c .before .before .before .before .before .before .before .home .ensures)) (sym (c .before .before .before .before .before .before .class-of .ensures (a .b) (a .bodies .now))) ∙ sym (c .before .before .before .before .before .in-chain .ensures) ∙ not-false _ (c .before .before .before .before .if3 .left)) _ _ (c .before .before .note-at .ensures) (note-top o (a .stack .now) (a .at .0) (a .uppermost) (c .if4 .taken))
 
--- src/lib.rt:107:13
 add-result-2 : tie.Need-add-result-2
 add-result-2 c = omega (arith, c .before .shared-slice-known9 .given (c .before .before .before .before .before .before .before .before .before .before .before .before .before .before .before .before .before .before .args .at .0 + 2))
 
--- src/lib.rt:74:1
 returns-5 : tie.Need-returns-5
-returns-5 c = 
+returns-5 c =
     let a = c .before .before .before .before .before .before .before .before .before .before .before .before .before .before .before .before .before .before .args in
     let o = objectsAt (a .n) (a .b) (a .contents .now) (a .bodies .now) in
     header-note o (a .stack .now) (a .at .0) (a .uppermost) (c .before .before .before .before .before .before .before .before .before .before .before .before .if1 .left) (sym (c .before .before .before .before .before .before .before .before .before .before .is-valid .ensures) ∙ not-false _ (c .before .before .before .before .before .before .before .before .before .if2 .left)) (ap₂ (inChain o) (sym (c .before .before .before .before .before .before .before .home .ensures)) (sym (c .before .before .before .before .before .before .class-of .ensures (a .b) (a .bodies .now))) ∙ sym (c .before .before .before .before .before .in-chain .ensures) ∙ not-false _ (c .before .before .before .before .if3 .left)) _ _ (c .before .before .note-at .ensures) (note-below o (a .stack .now) (a .at .0) (a .uppermost) (c .if4 .left))

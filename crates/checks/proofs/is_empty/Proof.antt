@@ -1,18 +1,13 @@
 use Rattle.checks.proofs.Entries.{empty-selector, empty-class, empty-method}
 use Rattle.checks.proofs.is_empty.Statement.{statement}
 use Rattle.checks.proofs.is_empty.Tie as tie
-use Rattle.checks.proofs.is_empty.Reads as reads
-use Rattle.checks.proofs.is_empty.Lts as lts
 
--- src/lib.rt:176:9
 returns : tie.Need-returns
 returns c = empty-selector (c .before .args .s) (c .before .args .class) (c .before .args .m) (c .if1 .taken)
 
--- src/lib.rt:179:9
 returns-2 : tie.Need-returns-2
 returns-2 c = empty-class (c .before .before .args .s) (c .before .before .args .class) (c .before .before .args .m) (c .before .if1 .left) (c .if2 .taken)
 
--- src/lib.rt:172:1
 returns-3 : tie.Need-returns-3
 returns-3 c = empty-method (c .before .before .args .s) (c .before .before .args .class) (c .before .before .args .m) (c .before .if1 .left) (c .if2 .left)
 

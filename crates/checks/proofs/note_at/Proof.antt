@@ -4,35 +4,25 @@ use Rattle.checks.proofs.Headers.{note-outside, note-room, note-read}
 use borrow.Author.Needs.{needs}
 use Rattle.checks.proofs.note_at.Statement.{statement}
 use Rattle.checks.proofs.note_at.Tie as tie
-use Rattle.checks.proofs.note_at.Reads as reads
-use Rattle.checks.proofs.note_at.Lts as lts
-use Rattle.objects.proofs.code_of.Reads as code-of-reads
 
--- src/lib.rt:64:9
 code-of-requires : tie.Need-code-of-requires
 code-of-requires c κs = search needs
 
--- src/lib.rt:67:9
 returns : tie.Need-returns
 returns c = note-outside ((c .before .before .before .before .before .before .pre) .0) _ ((c .before .before .before .before .before .before .pre) .1) _ (c .before .before .code-of .ensures) _ (c .if1 .taken)
 
--- src/lib.rt:69:13
 mul-i : tie.Need-mul-i
 mul-i c = search needs
 
--- src/lib.rt:69:13
 add-i : tie.Need-add-i
 add-i c = let r = note-room ((c .before .before .before .before .before .before .before .pre) .0) _ ((c .before .before .before .before .before .before .before .pre) .1) _ (c .before .before .before .code-of .ensures) _ (c .before .if1 .left) in omega arith
 
--- src/lib.rt:70:5
 shared-slice-read-result : tie.Need-shared-slice-read-result
 shared-slice-read-result c = let r = note-room ((c .before .before .before .before .before .before .before .before .pre) .0) _ ((c .before .before .before .before .before .before .before .before .pre) .1) _ (c .before .before .before .before .code-of .ensures) _ (c .before .before .if1 .left) in omega arith
 
--- src/lib.rt:70:5
 cast-result : tie.Need-cast-result
 cast-result c = omega (arith, c .shared-slice-known4 .given (2 * c .before .before .before .before .code-of .result .from + c .before .before .before .before .before .before .before .before .args .at .0))
 
--- src/lib.rt:52:1
 returns-2 : tie.Need-returns-2
 returns-2 c = note-read ((c .before .before .before .before .before .before .before .before .pre) .0) _ ((c .before .before .before .before .before .before .before .before .pre) .1) _ (c .before .before .before .before .code-of .ensures) _ (c .before .before .if1 .left)
 

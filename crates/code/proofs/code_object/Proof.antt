@@ -1,7 +1,6 @@
 use Rattle.model.specs.Objects.{objectsAt}
 use mathlib.Core.Path.{sym, _∙_}
 use Prim.Native.Nat.{_*_}
-use borrow.Author.Tests.{not-true, not-false}
 use Rattle.code.proofs.PassLaws.{object-other, object-sound, object-unsound, asked-at}
 use borrow.Author.Needs.{needs}
 use Rattle.code.proofs.code_object.Statement.{statement}
