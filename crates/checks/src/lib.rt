@@ -157,7 +157,7 @@ pub fn frames_fine(
     }
     let mut base = top.0;
     let mut uppermost = true;
-    while base != 0 {
+    loop {
         if !frame_fine(
             contents,
             bodies,
@@ -171,6 +171,9 @@ pub fn frames_fine(
             return false;
         }
         let sender = stack[base] as usize;
+        if base == 0 {
+            return sender == 0;
+        }
         let below = frame_end(contents, bodies, stack, n, b, StackPosition(sender));
         if below.0 != base {
             return false;
@@ -178,19 +181,6 @@ pub fn frames_fine(
         base = sender;
         uppermost = false;
     }
-    if !frame_fine(
-        contents,
-        bodies,
-        stack,
-        notes,
-        n,
-        b,
-        StackPosition(base),
-        uppermost,
-    ) {
-        return false;
-    }
-    stack[base] == 0
 }
 
 fn is_empty(s: u16, class: u16, m: u16) -> bool

@@ -30,66 +30,48 @@ loop-holds c =
     going-first (objectsAt (a .n) (a .b) (a .contents .now) (a .bodies .now)) (a .stack .now) (a .top .0) _ (c .before .before .frame-end .ensures) (positive _ (c .if1 .left))
 
 frame-fine-requires : tie.Need-frame-fine-requires Inv-loop μ-loop
-frame-fine-requires c κs = record { image = c .before .before .before .before .before .before .before .before .before .pre; frame = c .before .loop .inv .stands }
+frame-fine-requires c κs = record { image = c .before .before .before .before .before .before .before .before .pre; frame = c .loop .inv .stands }
 
 returns-2 : tie.Need-returns-2 Inv-loop μ-loop
 returns-2 c =
-    let a = c .before .before .before .before .before .before .before .before .before .before .before .args in
-    going-wrong (objectsAt (a .n) (a .b) (a .contents .now) (a .bodies .now)) (a .stack .now) (c .before .before .before .loop .inv) (sym (c .before .frame-fine .ensures) ∙ not-true _ (c .if2 .taken))
+    let a = c .before .before .before .before .before .before .before .before .before .before .args in
+    going-wrong (objectsAt (a .n) (a .b) (a .contents .now) (a .bodies .now)) (a .stack .now) (c .before .before .loop .inv) (sym (c .before .frame-fine .ensures) ∙ not-true _ (c .if2 .taken))
 
 mul-sender : tie.Need-mul-sender Inv-loop μ-loop
 mul-sender c =
-    let a = c .before .before .before .before .before .before .before .before .before .before .before .args in
-    let s = standing (objectsAt (a .n) (a .b) (a .contents .now) (a .bodies .now)) (a .stack .now) (c .before .before .before .loop .base) (c .before .before .before .loop .inv .stands) .header in omega arith
+    let a = c .before .before .before .before .before .before .before .before .before .before .args in
+    let s = standing (objectsAt (a .n) (a .b) (a .contents .now) (a .bodies .now)) (a .stack .now) (c .before .before .loop .base) (c .before .before .loop .inv .stands) .header in omega arith
 
 shared-slice-read-sender : tie.Need-shared-slice-read-sender Inv-loop μ-loop
 shared-slice-read-sender c =
-    let a = c .before .before .before .before .before .before .before .before .before .before .before .before .args in
-    let s = standing (objectsAt (a .n) (a .b) (a .contents .now) (a .bodies .now)) (a .stack .now) (c .before .before .before .before .loop .base) (c .before .before .before .before .loop .inv .stands) .header in omega arith
+    let a = c .before .before .before .before .before .before .before .before .before .before .before .args in
+    let s = standing (objectsAt (a .n) (a .b) (a .contents .now) (a .bodies .now)) (a .stack .now) (c .before .before .before .loop .base) (c .before .before .before .loop .inv .stands) .header in omega arith
 
 cast-sender : tie.Need-cast-sender Inv-loop μ-loop
-cast-sender c = omega (arith, c .shared-slice-known5 .given (c .before .before .before .before .loop .base))
+cast-sender c = omega (arith, c .shared-slice-known5 .given (c .before .before .before .loop .base))
+
+returns-3 : tie.Need-returns-3 Inv-loop μ-loop
+returns-3 c =
+    let a = c .before .before .before .before .before .before .before .before .before .before .before .before .args in
+    going-bottom (objectsAt (a .n) (a .b) (a .contents .now) (a .bodies .now)) (a .stack .now) (c .before .before .before .before .loop .inv) (c .if3 .taken) (sym (c .before .before .before .frame-fine .ensures) ∙ not-false _ (c .before .before .if2 .left))
 
 frame-end-requires-2 : tie.Need-frame-end-requires-2 Inv-loop μ-loop
 frame-end-requires-2 c κs = (c .before .before .before .before .before .before .before .before .before .before .before .before .pre) .right
 
-returns-3 : tie.Need-returns-3 Inv-loop μ-loop
-returns-3 c =
+returns-4 : tie.Need-returns-4 Inv-loop μ-loop
+returns-4 c =
     let a = c .before .before .before .before .before .before .before .before .before .before .before .before .before .before .before .args in
-    going-apart (objectsAt (a .n) (a .b) (a .contents .now) (a .bodies .now)) (a .stack .now) (c .before .before .before .before .before .before .before .loop .inv) (positive _ (c .before .before .before .before .before .before .loop-test .taken)) (sym (c .before .before .before .before .before .frame-fine .ensures) ∙ not-false _ (c .before .before .before .before .if2 .left)) _ (c .before .before .frame-end2 .ensures) (c .if3 .taken)
+    going-apart (objectsAt (a .n) (a .b) (a .contents .now) (a .bodies .now)) (a .stack .now) (c .before .before .before .before .before .before .before .loop .inv) (positive _ (c .before .before .before .if3 .left)) (sym (c .before .before .before .before .before .before .frame-fine .ensures) ∙ not-false _ (c .before .before .before .before .before .if2 .left)) _ (c .before .before .frame-end2 .ensures) (c .if4 .taken)
 
 loop-less : tie.Need-loop-less Inv-loop μ-loop
 loop-less c =
     let a = c .before .before .before .before .before .before .before .before .before .before .before .before .before .before .before .args in
-    going-lower (objectsAt (a .n) (a .b) (a .contents .now) (a .bodies .now)) (a .stack .now) (c .before .before .before .before .before .before .before .loop .inv) (positive _ (c .before .before .before .before .before .before .loop-test .taken)) (sym (c .before .before .before .before .before .frame-fine .ensures) ∙ not-false _ (c .before .before .before .before .if2 .left)) _ (c .before .before .frame-end2 .ensures) (c .if3 .left)
+    going-lower (objectsAt (a .n) (a .b) (a .contents .now) (a .bodies .now)) (a .stack .now) (c .before .before .before .before .before .before .before .loop .inv) (positive _ (c .before .before .before .if3 .left)) (sym (c .before .before .before .before .before .before .frame-fine .ensures) ∙ not-false _ (c .before .before .before .before .before .if2 .left)) _ (c .before .before .frame-end2 .ensures) (c .if4 .left)
 
 loop-again : tie.Need-loop-again Inv-loop μ-loop
 loop-again c =
     let a = c .before .before .before .before .before .before .before .before .before .before .before .before .before .before .before .args in
-    going-down (objectsAt (a .n) (a .b) (a .contents .now) (a .bodies .now)) (a .stack .now) (c .before .before .before .before .before .before .before .loop .inv) (positive _ (c .before .before .before .before .before .before .loop-test .taken)) (sym (c .before .before .before .before .before .frame-fine .ensures) ∙ not-false _ (c .before .before .before .before .if2 .left)) _ (c .before .before .frame-end2 .ensures) (c .if3 .left)
-
-frame-fine-requires-2 : tie.Need-frame-fine-requires-2 Inv-loop μ-loop
-frame-fine-requires-2 c κs = record { image = c .before .before .before .before .before .before .before .before .before .pre; frame = c .before .loop .inv .stands }
-
-returns-4 : tie.Need-returns-4 Inv-loop μ-loop
-returns-4 c =
-    let a = c .before .before .before .before .before .before .before .before .before .before .before .args in
-    going-wrong (objectsAt (a .n) (a .b) (a .contents .now) (a .bodies .now)) (a .stack .now) (c .before .before .before .loop .inv) (sym (c .before .frame-fine2 .ensures) ∙ not-true _ (c .if4 .taken))
-
-mul-result : tie.Need-mul-result Inv-loop μ-loop
-mul-result c =
-    let a = c .before .before .before .before .before .before .before .before .before .before .before .args in
-    let s = standing (objectsAt (a .n) (a .b) (a .contents .now) (a .bodies .now)) (a .stack .now) (c .before .before .before .loop .base) (c .before .before .before .loop .inv .stands) .header in omega arith
-
-shared-slice-read-result : tie.Need-shared-slice-read-result Inv-loop μ-loop
-shared-slice-read-result c =
-    let a = c .before .before .before .before .before .before .before .before .before .before .before .before .args in
-    let s = standing (objectsAt (a .n) (a .b) (a .contents .now) (a .bodies .now)) (a .stack .now) (c .before .before .before .before .loop .base) (c .before .before .before .before .loop .inv .stands) .header in omega arith
-
-returns-5 : tie.Need-returns-5 Inv-loop μ-loop
-returns-5 c =
-    let a = c .before .before .before .before .before .before .before .before .before .before .before .before .args in
-    going-bottom (objectsAt (a .n) (a .b) (a .contents .now) (a .bodies .now)) (a .stack .now) (c .before .before .before .before .loop .inv) (c .before .before .before .loop-test .left) (sym (c .before .before .frame-fine2 .ensures) ∙ not-false _ (c .before .if4 .left))
+    going-down (objectsAt (a .n) (a .b) (a .contents .now) (a .bodies .now)) (a .stack .now) (c .before .before .before .before .before .before .before .loop .inv) (positive _ (c .before .before .before .if3 .left)) (sym (c .before .before .before .before .before .before .frame-fine .ensures) ∙ not-false _ (c .before .before .before .before .before .if2 .left)) _ (c .before .before .frame-end2 .ensures) (c .if4 .left)
 
 pub frames-fine-spec : {M : Type 1} → statement M
 frames-fine-spec =
@@ -105,12 +87,8 @@ frames-fine-spec =
     mul-sender
     shared-slice-read-sender
     cast-sender
-    frame-end-requires-2
     returns-3
-    loop-less
-    loop-again
-    frame-fine-requires-2
+    frame-end-requires-2
     returns-4
-    mul-result
-    shared-slice-read-result
-    returns-5)
+    loop-less
+    loop-again)
