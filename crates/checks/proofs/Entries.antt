@@ -1,9 +1,9 @@
 -- An entry of the cache, by the tests of the code.
 use Prim.Native.Nat.{ℕ, _+_, _*_, _≤_, _<_}
 use mathlib.Core.Path.{_≡_, sym, ap, ap₂, _∙_}
-use mathlib.Core.Bool.{Bool, true, false, _&&_}
+use mathlib.Core.Bool.{Bool, true, false, not, _&&_}
 use mathlib.Core.List.{List}
-use borrow.Author.Tests.{eq-eqb, ne-eqb}
+use borrow.Author.Tests.{eq-eqb, ne-eqb, not-true, not-false}
 use lib.Dec.{eqb}
 use lib.ListN.{getD}
 use Rattle.model.specs.declared.Pointer.{Pointer}
@@ -13,7 +13,7 @@ use Rattle.model.specs.Limits.{classKind, cacheEntries, cacheEntryWords}
 use Rattle.model.specs.Objects.{Objects, isKind}
 use Rattle.model.specs.Lookup.{lookup}
 use Rattle.model.proofs.Unchanged.{no-class}
-use Rattle.rules.proofs.Loops.{Before, below-all, below-no}
+use Rattle.rules.proofs.Loops.{Before, before-more, below-all, below-no}
 use Rattle.plain.specs.Cache.{finds, emptyOr, entryFine, cacheFine}
 
 module _ (s c m : ℕ) where
@@ -35,8 +35,8 @@ module _ (o : Objects) (s c m : ℕ) (e : Bool) (p : e ≡ (eqb s 0 && (eqb c 0 
   unfolding entryFine
   filled f q l = ap₂ (λ (x : Bool) (y : Found). emptyOr x (finds y m)) (sym q ∙ p) l
 
-  pub entry-other : e ≡ false → isKind o classKind c ≡ false → false ≡ entryFine o s c m
-  entry-other q k = filled Nothing q (sym (unfold lookup in no-class o (o .n) s c k))
+  pub entry-other : (x : Bool) → e ≡ false → x ≡ isKind o classKind c → not x ≡ true → false ≡ entryFine o s c m
+  entry-other x q k r = filled Nothing q (sym (unfold lookup in no-class o (o .n) s c (sym k ∙ not-true x r)))
 
   pub entry-found : (f : Found) (k : Pointer) → e ≡ false → f ≡ lookup o s c → f ≡ Method k → eqb (k .0) m ≡ entryFine o s c m
   entry-found f k q l h = filled (Method k) q (sym h ∙ l)
@@ -48,9 +48,12 @@ module _ (o : Objects) (s c m : ℕ) (e : Bool) (p : e ≡ (eqb s 0 && (eqb c 0 
 abbrev pub entryAt : Objects → List ℕ → ℕ → Bool
 entryAt o cache i = entryFine o (getD cache (cacheEntryWords * i) 0) (getD cache (cacheEntryWords * i + 1) 0) (getD cache (cacheEntryWords * i + 2) 0)
 
-pub cache-no : (o : Objects) (cache : List ℕ) (i : ℕ) → i < cacheEntries → entryAt o cache i ≡ false → false ≡ cacheFine o cache
+pub cache-no : (o : Objects) (cache : List ℕ) (i : ℕ) (x : Bool) → i < cacheEntries → x ≡ entryAt o cache i → not x ≡ true → false ≡ cacheFine o cache
 unfolding cacheFine
-cache-no o cache i h e = sym (below-no cacheEntries (entryAt o cache) i h e)
+cache-no o cache i x h e q = sym (below-no cacheEntries (entryAt o cache) i h (sym e ∙ not-true x q))
+
+pub cache-more : (o : Objects) (cache : List ℕ) (i : ℕ) (x : Bool) → Before (entryAt o cache) i → x ≡ entryAt o cache i → not x ≡ false → Before (entryAt o cache) (i + 1)
+cache-more o cache i x h e q = before-more (entryAt o cache) i h (sym e ∙ not-false x q)
 
 pub cache-all : (o : Objects) (cache : List ℕ) (i : ℕ) → cacheEntries ≤ i → Before (entryAt o cache) i → true ≡ cacheFine o cache
 unfolding cacheFine

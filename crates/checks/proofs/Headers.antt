@@ -1,11 +1,11 @@
 -- The words of a frame that stands: header, note, temporaries and operands.
 use Prim.Native.Nat.{ℕ, zero, suc, _+_, _-_, _*_, _/_, _%_, _≤_, _<_}
 use mathlib.Core.Path.{_≡_, refl, sym, ap, ap₂, _∙_, subst}
-use mathlib.Core.Bool.{Bool, true, false, _&&_}
+use mathlib.Core.Bool.{Bool, true, false, not, _&&_}
 use mathlib.Core.List.{List}
 use native.Mathlib.Omega.{arith}
 use native.Mathlib.Decide.{decLt}
-use borrow.Author.Tests.{eq-eqb, ne-eqb}
+use borrow.Author.Tests.{eq-eqb, ne-eqb, not-true, not-false}
 use lib.Dec.{T, eqb, leb→le, eqb→eq}
 use lib.ListN.{length, getD}
 use Rattle.bytecode.specs.Test.{every, allOf}
@@ -15,7 +15,7 @@ use Rattle.bytecode.proofs.Choice.{if-yes, if-no}
 use Rattle.model.specs.Limits.{classKind, methodKind}
 use Rattle.model.specs.Word.{isValid, pointer, objectNumber}
 use Rattle.model.specs.Objects.{Objects, objectsAt, classOf, isKind, isNilOr, part}
-use Rattle.model.specs.Method.{home, temporaryCount, codeWords, codeSize, frameWords}
+use Rattle.model.specs.Method.{header, home, temporaryCount, codeWords, codeSize, frameWords}
 use Rattle.model.specs.Depth.{noteAt, rulesAt, fineAt}
 use Rattle.model.specs.Lookup.{inChain}
 use Rattle.model.specs.Rules.{Right, methodTable, allowed}
@@ -25,7 +25,7 @@ use Rattle.model.proofs.ChainLaws.{named}
 use Rattle.model.proofs.DepthLaws.{spot, fine-inside}
 use Rattle.model.proofs.Facts.{Valid, odd, names, valid-cases, inside, method-words, method-facts, entry-class, integer-class}
 use Rattle.rules.proofs.Loops.{never, failed}
-use Rattle.objects.specs.Lent.{Holds, CodeAt}
+use Rattle.objects.specs.Lent.{Holds, CodeAt, temporariesOf}
 use Rattle.objects.specs.declared.Code.{Code}
 use Rattle.plain.specs.State.{Frame, noMark}
 use Rattle.plain.specs.Flat.{frameAt, frameMethod, framePosition, frameDepth, frameReceiver}
@@ -42,10 +42,13 @@ module _ {n b base : ℕ} {contents bodies stack notes : List ℕ} (h : Stands n
   pub holds-method : Holds methodKind n b contents bodies (frameMethod stack base)
   holds-method = record { right = h .image .right; kinds = standing (objectsAt n b contents bodies) stack base (h .frame) .kinds }
 
+pub valid-read : (n w : ℕ) (x : Bool) → x ≡ isValid n w → not x ≡ false → T (isValid n w)
+valid-read n w x p q = true→T (sym p ∙ not-false x q)
+
 -- a valid word's class is a class
-pub class-named : {e : ℕ} {o : Objects} → Right e o → (w c : ℕ) → T (isValid (o .n) w) → c ≡ classOf o w → T (isNilOr o classKind c)
+pub class-named : {e : ℕ} {o : Objects} → Right e o → (w c : ℕ) (x : Bool) → x ≡ isValid (o .n) w → not x ≡ false → c ≡ classOf o w → T (isNilOr o classKind c)
 unfolding classOf
-class-named {e} {o} r w c v q = or-right (eqb c nilWord) (isKind o classKind c) (subst (λ (x : ℕ). T (isKind o classKind x)) (sym q) (go (valid-cases (o .n) w v)))
+class-named {e} {o} r w c x p n q = let v = valid-read (o .n) w x p n in or-right (eqb c nilWord) (isKind o classKind c) (subst (λ (x : ℕ). T (isKind o classKind x)) (sym q) (go (valid-cases (o .n) w v)))
   where
     go : Valid (o .n) w → T (isKind o classKind (classOf o w))
     go (odd h) = subst (λ (x : ℕ). T (isKind o classKind x)) (sym (if-yes _ _ (eq-eqb (w % 2) 1 h))) (integer-class r)
@@ -113,20 +116,24 @@ module _ (o : Objects) (stack : List ℕ) (base : ℕ) (isTop : Bool) where
   unfolding headerFine frameAt
   mark-no h = simp (ne-eqb (getD stack (base + 4) 0) 0 h)
 
-  pub receiver-no : getD stack (base + 4) 0 ≡ 0 → isValid (o .n) (frameReceiver stack base) ≡ false → false ≡ headerFine o isTop frame
-  unfolding headerFine frameAt
-  receiver-no h v = simp (eq-eqb (getD stack (base + 4) 0) 0 h, v)
+  module _ (unmarked : getD stack (base + 4) 0 ≡ 0) (x : Bool) (v : x ≡ isValid (o .n) (frameReceiver stack base)) where
+    pub receiver-no : not x ≡ true → false ≡ headerFine o isTop frame
+    unfolding headerFine frameAt
+    receiver-no q = simp (eq-eqb (getD stack (base + 4) 0) 0 unmarked, sym v ∙ not-true x q)
 
-  pub chain-no : getD stack (base + 4) 0 ≡ 0 → isValid (o .n) (frameReceiver stack base) ≡ true
-      → inChain o (home o (frameMethod stack base)) (classOf o (frameReceiver stack base)) ≡ false → false ≡ headerFine o isTop frame
-  unfolding headerFine frameAt
-  chain-no h v c = simp (eq-eqb (getD stack (base + 4) 0) 0 h, v, c)
+    module _ (q : not x ≡ false) (h c : ℕ) (p : h ≡ home o (frameMethod stack base)) (r : c ≡ classOf o (frameReceiver stack base)) (y : Bool) (s : y ≡ inChain o h c) where
+      chain-is : inChain o (home o (frameMethod stack base)) (classOf o (frameReceiver stack base)) ≡ y
+      chain-is = sym (s ∙ ap₂ (inChain o) p r)
 
-  pub header-note : getD stack (base + 4) 0 ≡ 0 → isValid (o .n) (frameReceiver stack base) ≡ true
-      → inChain o (home o (frameMethod stack base)) (classOf o (frameReceiver stack base)) ≡ true
-      → (x y : ℕ) → x ≡ noteAt (methodTable o (frameMethod stack base)) (framePosition stack base) → y ≡ noteOf isTop frame → eqb x y ≡ headerFine o isTop frame
-  unfolding headerFine frameAt
-  header-note h v c x y e f = ap₂ eqb e f ∙ simp (eq-eqb (getD stack (base + 4) 0) 0 h, v, c)
+      pub chain-no : not y ≡ true → false ≡ headerFine o isTop frame
+      unfolding headerFine frameAt
+      chain-no t = simp (eq-eqb (getD stack (base + 4) 0) 0 unmarked, sym v ∙ not-false x q, chain-is ∙ not-true y t)
+
+      pub header-note : not y ≡ false → (z w : ℕ) → z ≡ noteAt (methodTable o (frameMethod stack base)) (framePosition stack base) → w ≡ noteOf isTop frame
+          → eqb z w ≡ headerFine o isTop frame
+      unfolding headerFine frameAt
+      header-note t z w e f =
+          ap₂ eqb e f ∙ simp (eq-eqb (getD stack (base + 4) 0) 0 unmarked, sym v ∙ not-false x q, chain-is ∙ not-false y t)
 
   pub note-top : isTop ≡ true → frameDepth stack base + 1 ≡ noteOf isTop frame
   unfolding noteOf frameAt
@@ -173,10 +180,14 @@ module _ (o : Objects) (stack : List ℕ) (base : ℕ) (isTop : Bool) where
       (and-both (isValid (o .n) (frame .receiver)) (c && d) (r .receiver)
       (and-both c d (r .chain) (true→T (eq-eqb (noteAt (methodTable o (frame .method)) (frame .position)) (noteOf isTop frame) (r .note)))))
 
-  pub rules-no : headerFine o isTop frame ≡ false → false ≡ allOf (frameRules o isTop frame)
-  rules-no e = sym (never (allOf (frameRules o isTop frame)) (λ t. failed e (right-header (frame-right o isTop frame t))))
+  pub rules-no : (x : Bool) → x ≡ headerFine o isTop frame → not x ≡ true → false ≡ allOf (frameRules o isTop frame)
+  rules-no x p q =
+      sym (never (allOf (frameRules o isTop frame)) (λ t. failed (sym p ∙ not-true x q) (right-header (frame-right o isTop frame t))))
 
-  module _ (s : T (standsAt o stack base)) (h : T (headerFine o isTop frame)) where
+  module _ (s : T (standsAt o stack base)) (x : Bool) (p : x ≡ headerFine o isTop frame) (q : not x ≡ false) where
+    h : T (headerFine o isTop frame)
+    h = true→T (sym p ∙ not-false x q)
+
     within : temporaryCount o (frameMethod stack base) + frameDepth stack base ≤ frameWords o (frameMethod stack base)
     unfolding frameAt
     within = go isTop (noted-within o (frameMethod stack base) (framePosition stack base) (tableDepth isTop (frameDepth stack base)) (header-right h .note ∙ note-is isTop frame))
@@ -187,7 +198,7 @@ module _ (o : Objects) (stack : List ℕ) (base : ℕ) (isTop : Bool) where
         go false l = omega arith
 
     -- temporaries and operands stand in the stack
-    pub words-inside : base + 6 + (temporaryCount o (frameMethod stack base) + frameDepth stack base) ≤ length stack
+    words-inside : base + 6 + (temporaryCount o (frameMethod stack base) + frameDepth stack base) ≤ length stack
     words-inside = let w = within in let i = standing o stack base s .inside in omega arith
 
     abbrev words : List ℕ
@@ -267,6 +278,21 @@ module _ (o : Objects) (stack : List ℕ) (base : ℕ) (isTop : Bool) where
           validOperands = valid-operands t;
         }
 
-    pub rules-here : every (isValid (o .n)) words ≡ allOf (frameRules o isTop frame)
-    rules-here =
+    rules-all : every (isValid (o .n)) words ≡ allOf (frameRules o isTop frame)
+    rules-all =
         same-test (every (isValid (o .n)) words) (allOf (frameRules o isTop frame)) (λ t. right-frame o isTop frame (all-right t)) (λ t. valid-words (frame-right o isTop frame t))
+
+    -- the words from the first temporary to the last operand, by the count that the header gives
+    module _ (g count : ℕ) (e : g ≡ header o (frameMethod stack base)) (f : count ≡ temporariesOf g) where
+      count-is : count ≡ temporaryCount o (frameMethod stack base)
+      count-is = f ∙ ap temporariesOf e
+
+      pub words-end : base + 6 + (count + frameDepth stack base) ≤ length stack
+      words-end = let i = words-inside in let k = count-is in omega arith
+
+      pub rules-here : (y : Bool) → y ≡ every (isValid (o .n)) (part stack (base + 6) (base + 6 + (count + frameDepth stack base) - (base + 6)))
+          → y ≡ allOf (frameRules o isTop frame)
+      rules-here y r = r ∙ ap (λ (k : ℕ). every (isValid (o .n)) (part stack (base + 6) k)) same ∙ rules-all
+        where
+          same : base + 6 + (count + frameDepth stack base) - (base + 6) ≡ temporaryCount o (frameMethod stack base) + frameDepth stack base
+          same = let k = count-is in omega arith

@@ -1,17 +1,20 @@
 -- Where a frame stands, by the tests of the code.
 use Prim.Native.Nat.{ℕ, zero, suc, _+_, _≤_, _<_}
 use mathlib.Core.Path.{_≡_, refl, sym, ap, _∙_}
-use mathlib.Core.Bool.{Bool, true, false}
+use mathlib.Core.Bool.{Bool, true, false, not}
 use mathlib.Core.List.{List}
 use native.Mathlib.Omega.{arith}
+use borrow.Author.Tests.{not-true, not-false}
 use lib.Dec.{T}
 use lib.ListN.{length}
 use Rattle.bytecode.proofs.TestLaws.{true→T, T→true, and-left, and-right, and-both}
 use Rattle.bytecode.proofs.Choice.{if-yes, if-no, if-either}
 use Rattle.model.specs.Limits.{methodKind, mostStackWords, largeFrameWords, smallFrameWords}
 use Rattle.model.specs.Objects.{Objects, isKind}
-use Rattle.model.specs.Method.{isLarge, frameWords, frameSize}
+use Rattle.model.specs.Method.{header, isLarge, frameWords, frameSize}
 use Rattle.rules.proofs.Loops.{never, failed}
+use Rattle.objects.specs.Lent.{frameOf}
+use Rattle.objects.proofs.Methods.{frame-of}
 use Rattle.plain.specs.State.{fitsStack}
 use Rattle.plain.specs.Flat.{frameMethod}
 use Rattle.plain.proofs.FrameLaws.{Fits, fits, fitting}
@@ -67,20 +70,29 @@ module _ (o : Objects) (stack : List ℕ) (base : ℕ) where
   pub end-short : length stack < base + 18 → 0 ≡ frameEnd o stack base
   end-short h = end-none (λ s. let i = s .header in absurd (omega arith))
 
-  pub end-other : isKind o methodKind (frameMethod stack base) ≡ false → 0 ≡ frameEnd o stack base
-  end-other e = end-none (λ s. failed e (s .kinds))
+  pub end-other : (x : Bool) → x ≡ isKind o methodKind (frameMethod stack base) → not x ≡ true → 0 ≡ frameEnd o stack base
+  end-other x k q = end-none (λ s. failed (sym k ∙ not-true x q) (s .kinds))
 
-  pub end-outside : (words : ℕ) → words ≡ frameWords o (frameMethod stack base) → length stack < base + (6 + words) → 0 ≡ frameEnd o stack base
-  end-outside words e h = end-none (λ s. let i = s .inside in absurd (omega arith))
+  -- its size by the method's header
+  module _ (h words : ℕ) (p : h ≡ header o (frameMethod stack base)) (q : words ≡ frameOf h) where
+    pub words-are : words ≡ frameWords o (frameMethod stack base)
+    words-are = q ∙ ap frameOf p ∙ frame-of o (frameMethod stack base)
 
-  pub end-far : (words : ℕ) → words ≡ frameWords o (frameMethod stack base) → 65536 < base + (6 + words) → 0 ≡ frameEnd o stack base
-  end-far words e h = end-none (λ s. let i = s .most in absurd (omega arith))
+    pub words-few : words ≤ largeFrameWords
+    words-few = let e = words-are in let l = frame-most o (frameMethod stack base) in omega arith
 
-  pub end-here : (words : ℕ) → words ≡ frameWords o (frameMethod stack base) → isKind o methodKind (frameMethod stack base) ≡ true
-      → base + (6 + words) ≤ length stack → base + (6 + words) ≤ 65536 → base + (6 + words) ≡ frameEnd o stack base
-  end-here words e k h g =
-      let f : Fits (length stack) base (frameSize o (frameMethod stack base)) = record { inside = omega arith; most = omega arith } in
-      ap (λ (w : ℕ). base + (6 + w)) e ∙ sym (end-some (stands (true→T k) f))
+    pub end-outside : length stack < base + (6 + words) → 0 ≡ frameEnd o stack base
+    end-outside l = let e = words-are in end-none (λ s. let i = s .inside in absurd (omega arith))
+
+    pub end-far : 65536 < base + (6 + words) → 0 ≡ frameEnd o stack base
+    end-far l = let e = words-are in end-none (λ s. let i = s .most in absurd (omega arith))
+
+    pub end-here : (x : Bool) → x ≡ isKind o methodKind (frameMethod stack base) → not x ≡ false
+        → base + (6 + words) ≤ length stack → base + (6 + words) ≤ 65536 → base + (6 + words) ≡ frameEnd o stack base
+    end-here x k r l g =
+        let e = words-are in
+        let f : Fits (length stack) base (frameSize o (frameMethod stack base)) = record { inside = omega arith; most = omega arith } in
+        ap (λ (w : ℕ). base + (6 + w)) e ∙ sym (end-some (stands (true→T (sym k ∙ not-false x r)) f))
 
   -- what an end says
   pub end-no : (e : ℕ) → e ≡ frameEnd o stack base → e ≡ 0 → standsAt o stack base ≡ false

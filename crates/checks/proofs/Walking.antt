@@ -1,10 +1,10 @@
 -- From a frame to its sender: what the frames from here on say.
 use Prim.Native.Nat.{ℕ, zero, suc, _+_, _-_, _≤_, _<_}
 use mathlib.Core.Path.{_≡_, refl, sym, ap, _∙_, subst}
-use mathlib.Core.Bool.{Bool, true, false, _&&_}
+use mathlib.Core.Bool.{Bool, true, false, not, _&&_}
 use mathlib.Core.List.{List, [], _∷_}
 use native.Mathlib.Omega.{arith}
-use borrow.Author.Tests.{eq-eqb}
+use borrow.Author.Tests.{eq-eqb, not-true, not-false}
 use lib.Dec.{T, eqb, eqb→eq}
 use lib.ListN.{length, getD}
 use Rattle.bytecode.specs.Test.{allOf}
@@ -18,7 +18,7 @@ use Rattle.plain.specs.Flat.{frameAt, frameMethod, frameSender, framesFrom, unl
 use Rattle.plain.specs.Check.{frameRules, framesFine}
 use Rattle.plain.proofs.FrameLaws.{frame-right, fits}
 use Rattle.checks.specs.Frame.{standsAt, frameEnd}
-use Rattle.checks.proofs.Standing.{stands, end-stands, end-is, frame-least}
+use Rattle.checks.proofs.Standing.{positive, stands, end-stands, end-is, frame-least}
 
 -- the first frame keeps its rules and fits
 first : (o : Objects) (stack : ℕ) (isTop : Bool) (base : ℕ) (f : Frame) (fs : List Frame) → T (framesFine o stack isTop base (f ∷ fs))
@@ -105,47 +105,55 @@ module _ (o : Objects) (stack : List ℕ) where
     pub stands : T (standsAt o stack base)
     pub rest : fineFrom isTop left base ≡ fineFrom true top top
 
-  pub going-first : (top e : ℕ) → e ≡ frameEnd o stack top → 0 < e → Going top top true
-  going-first top e p q = record { left = top; enough = omega arith; stands = end-stands o stack top e p q; rest = refl }
+  pub going-first : (top e : ℕ) → e ≡ frameEnd o stack top → (e ≡ 0 → ⊥) → Going top top true
+  going-first top e p q = record { left = top; enough = omega arith; stands = end-stands o stack top e p (positive e q); rest = refl }
 
   module _ {top base : ℕ} {isTop : Bool} (g : Going top base isTop) where
-    pub going-wrong : allOf (frameRules o isTop (frameAt o stack base)) ≡ false → false ≡ fineFrom true top top
-    going-wrong e = from-wrong isTop (g .left) base e ∙ g .rest
+    pub going-wrong : (x : Bool) → x ≡ allOf (frameRules o isTop (frameAt o stack base)) → not x ≡ true → false ≡ fineFrom true top top
+    going-wrong x f q = from-wrong isTop (g .left) base (sym f ∙ not-true x q) ∙ g .rest
 
-    pub going-bottom : base ≡ 0 → allOf (frameRules o isTop (frameAt o stack base)) ≡ true → eqb (getD stack base 0) 0 ≡ fineFrom true top top
-    going-bottom z r = from-bottom isTop (g .left) base z (g .stands) r ∙ g .rest
+    pub going-bottom : (x : Bool) → x ≡ allOf (frameRules o isTop (frameAt o stack base)) → not x ≡ false → base ≡ 0 → eqb (getD stack base 0) 0 ≡ fineFrom true top top
+    going-bottom x f q z = from-bottom isTop (g .left) base z (g .stands) (sym f ∙ not-false x q) ∙ g .rest
 
-    module _ (h : 0 < base) (r : allOf (frameRules o isTop (frameAt o stack base)) ≡ true) (e : ℕ) (p : e ≡ frameEnd o stack (getD stack base 0)) where
-      abbrev sender : ℕ
-      sender = getD stack base 0
+    module _ (x : Bool) (f : x ≡ allOf (frameRules o isTop (frameAt o stack base))) (n : not x ≡ false) (z : base ≡ 0 → ⊥) (e : ℕ)
+        (p : e ≡ frameEnd o stack (getD stack base 0))
+      where
+        h : 0 < base
+        h = positive base z
 
-      -- no frame below ends where this one begins
-      pub going-apart : (e ≡ base → ⊥) → false ≡ fineFrom true top top
-      going-apart d =
-          sym (above isTop (g .left) base h (g .enough) (g .stands) r ∙ never (eqb base (sender + frameSize o (frameMethod stack sender)) && fineFrom false (g .left - 1) sender) go) ∙ g .rest
-        where
-          go : T (eqb base (sender + frameSize o (frameMethod stack sender)) && fineFrom false (g .left - 1) sender) → ⊥
-          go t =
-              let a = and-left (eqb base (sender + frameSize o (frameMethod stack sender))) (fineFrom false (g .left - 1) sender) t in
-              let s = from-first false (g .left - 1) sender (and-right (eqb base (sender + frameSize o (frameMethod stack sender))) (fineFrom false (g .left - 1) sender) t) .1 in
-              d (end-is o stack sender e p s ∙ sym (eqb→eq base (sender + frameSize o (frameMethod stack sender)) a))
+        r : allOf (frameRules o isTop (frameAt o stack base)) ≡ true
+        r = sym f ∙ not-false x n
 
-      below-ends : e ≡ base → base ≡ sender + frameSize o (frameMethod stack sender)
-      below-ends q = sym q ∙ end-is o stack sender e p (end-stands o stack sender e p (omega arith))
+        abbrev sender : ℕ
+        sender = getD stack base 0
 
-      pub going-lower : e ≡ base → sender < base
-      going-lower q = let z = below-ends q in let w = frame-least o (frameMethod stack sender) in omega arith
+        -- no frame below ends where this one begins
+        pub going-apart : (e ≡ base → ⊥) → false ≡ fineFrom true top top
+        going-apart d =
+            sym (above isTop (g .left) base h (g .enough) (g .stands) r ∙ never (eqb base (sender + frameSize o (frameMethod stack sender)) && fineFrom false (g .left - 1) sender) go) ∙ g .rest
+          where
+            go : T (eqb base (sender + frameSize o (frameMethod stack sender)) && fineFrom false (g .left - 1) sender) → ⊥
+            go t =
+                let a = and-left (eqb base (sender + frameSize o (frameMethod stack sender))) (fineFrom false (g .left - 1) sender) t in
+                let s = from-first false (g .left - 1) sender (and-right (eqb base (sender + frameSize o (frameMethod stack sender))) (fineFrom false (g .left - 1) sender) t) .1 in
+                d (end-is o stack sender e p s ∙ sym (eqb→eq base (sender + frameSize o (frameMethod stack sender)) a))
 
-      pub going-down : e ≡ base → Going top sender false
-      going-down q =
-          let z = going-lower q in
-          let l = g .enough in
-          record {
-            left = g .left - 1;
-            enough = omega arith;
-            stands = end-stands o stack sender e p (omega arith);
-            rest =
-                sym (above isTop (g .left) base h (g .enough) (g .stands) r
-                ∙ pass (eqb base (sender + frameSize o (frameMethod stack sender))) (fineFrom false (g .left - 1) sender) (eq-eqb base (sender + frameSize o (frameMethod stack sender)) (below-ends q)))
-                ∙ g .rest;
-          }
+        below-ends : e ≡ base → base ≡ sender + frameSize o (frameMethod stack sender)
+        below-ends q = sym q ∙ end-is o stack sender e p (end-stands o stack sender e p (omega arith))
+
+        pub going-lower : e ≡ base → sender < base
+        going-lower q = let z = below-ends q in let w = frame-least o (frameMethod stack sender) in omega arith
+
+        pub going-down : e ≡ base → Going top sender false
+        going-down q =
+            let z = going-lower q in
+            let l = g .enough in
+            record {
+              left = g .left - 1;
+              enough = omega arith;
+              stands = end-stands o stack sender e p (omega arith);
+              rest =
+                  sym (above isTop (g .left) base h (g .enough) (g .stands) r
+                  ∙ pass (eqb base (sender + frameSize o (frameMethod stack sender))) (fineFrom false (g .left - 1) sender) (eq-eqb base (sender + frameSize o (frameMethod stack sender)) (below-ends q)))
+                  ∙ g .rest;
+            }

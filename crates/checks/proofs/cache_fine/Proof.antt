@@ -1,11 +1,9 @@
+use Rattle.checks.proofs.Entries.{entryAt, cache-no, cache-more, cache-all}
 -- Every entry before i passed.
 use Prim.Native.Nat.{_-_, _≤_}
-use mathlib.Core.Path.{sym, _∙_}
 use native.Mathlib.Omega.{arith}
-use borrow.Author.Tests.{not-true, not-false}
 use Rattle.model.specs.Objects.{objectsAt}
-use Rattle.rules.proofs.Loops.{Before, before-none, before-more}
-use Rattle.checks.proofs.Entries.{entryAt, cache-no, cache-all}
+use Rattle.rules.proofs.Loops.{Before, before-none}
 use Rattle.checks.proofs.cache_fine.Statement.{statement}
 use Rattle.checks.proofs.cache_fine.Tie as tie
 
@@ -51,7 +49,7 @@ entry-fine-requires c κs = (c .before .before .before .before .before .before .
 returns : tie.Need-returns Inv-loop μ-loop
 returns c =
     let a = c .before .before .before .before .before .before .before .before .before .before .args in
-    cache-no (objectsAt (a .n) (a .b) (a .contents .now) (a .bodies .now)) (a .cache .now) (c .before .before .before .before .before .before .loop .i) (c .before .before .before .before .before .loop-test .taken) (sym (c .before .entry-fine .ensures) ∙ not-true _ (c .if1 .taken))
+    cache-no (objectsAt (a .n) (a .b) (a .contents .now) (a .bodies .now)) (a .cache .now) (c .before .before .before .before .before .before .loop .i) _ (omega (arith, c .before .before .before .before .before .loop-test .taken)) (c .before .entry-fine .ensures) (c .if1 .taken)
 
 add-i : tie.Need-add-i Inv-loop μ-loop
 add-i c = omega arith
@@ -62,7 +60,7 @@ loop-less c = omega arith
 loop-again : tie.Need-loop-again Inv-loop μ-loop
 loop-again c =
     let a = c .before .before .before .before .before .before .before .before .before .before .args in
-    (omega arith, before-more (entryAt (objectsAt (a .n) (a .b) (a .contents .now) (a .bodies .now)) (a .cache .now)) (c .before .before .before .before .before .before .loop .i) (c .before .before .before .before .before .before .loop .inv .1) (sym (c .before .entry-fine .ensures) ∙ not-false _ (c .if1 .left)))
+    (omega arith, cache-more (objectsAt (a .n) (a .b) (a .contents .now) (a .bodies .now)) (a .cache .now) (c .before .before .before .before .before .before .loop .i) _ (c .before .before .before .before .before .before .loop .inv .1) (c .before .entry-fine .ensures) (c .if1 .left))
 
 returns-2 : tie.Need-returns-2 Inv-loop μ-loop
 returns-2 c =

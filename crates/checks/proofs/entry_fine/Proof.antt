@@ -1,5 +1,5 @@
 use mathlib.Core.Path.{sym, _∙_}
-use borrow.Author.Tests.{not-true, not-false}
+use borrow.Author.Tests.{not-false}
 use lib.Dec.{eqb}
 use Rattle.bytecode.specs.Constant.{nilWord}
 use Rattle.bytecode.proofs.TestLaws.{true→T}
@@ -28,7 +28,7 @@ is-kind-requires c κs =
 returns-2 : tie.Need-returns-2
 returns-2 c =
     let a = c .before .before .before .before .before .before .args in
-    entry-other (objectsAt (a .n) (a .b) (a .contents .now) (a .bodies .now)) (a .s) (a .class) (a .m) _ (c .before .before .before .is-empty .ensures) (c .before .before .if1 .left) (sym (c .before .is-kind .ensures (a .b) (a .bodies .now)) ∙ not-true _ (c .if2 .taken))
+    entry-other (objectsAt (a .n) (a .b) (a .contents .now) (a .bodies .now)) (a .s) (a .class) (a .m) _ (c .before .before .before .is-empty .ensures) _ (c .before .before .if1 .left) (c .before .is-kind .ensures (a .b) (a .bodies .now)) (c .if2 .taken)
 
 lookup-requires : tie.Need-lookup-requires
 lookup-requires c κs =

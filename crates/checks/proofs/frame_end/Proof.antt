@@ -1,15 +1,11 @@
+use Rattle.checks.proofs.Standing.{end-high, end-short, end-other, words-few, end-outside, end-far, end-here}
 -- Every test that fails says that no frame stands.
-use mathlib.Core.Path.{_≡_, sym, ap, _∙_}
+use mathlib.Core.Path.{sym, _∙_}
 use native.Mathlib.Omega.{arith}
-use borrow.Author.Tests.{not-true, not-false}
+use borrow.Author.Tests.{not-false}
 use Rattle.bytecode.proofs.TestLaws.{true→T}
 use Rattle.model.specs.Objects.{objectsAt}
-use Rattle.model.specs.Method.{frameWords}
-use Rattle.objects.specs.Lent.{frameOf}
 use Rattle.objects.proofs.Buffers.{contents-room}
-use Rattle.objects.proofs.Methods.{frame-of}
-use Rattle.plain.specs.Flat.{frameMethod}
-use Rattle.checks.proofs.Standing.{frame-most, end-high, end-short, end-other, end-outside, end-far, end-here}
 use borrow.Author.Needs.{needs}
 use Rattle.checks.proofs.frame_end.Statement.{statement}
 use Rattle.checks.proofs.frame_end.Tie as tie
@@ -43,7 +39,7 @@ is-kind-requires c κs =
 returns-3 : tie.Need-returns-3
 returns-3 c =
     let a = c .before .before .before .before .before .before .before .before .args in
-    end-other (objectsAt (a .n) (a .b) (a .contents .now) (a .bodies .now)) (a .stack .now) (a .at .0) (sym (c .before .is-kind .ensures (a .b) (a .bodies .now)) ∙ not-true _ (c .if3 .taken))
+    end-other (objectsAt (a .n) (a .b) (a .contents .now) (a .bodies .now)) (a .stack .now) (a .at .0) _ (c .before .is-kind .ensures (a .b) (a .bodies .now)) (c .if3 .taken)
 
 header-requires : tie.Need-header-requires
 header-requires c κs =
@@ -56,38 +52,27 @@ frame-words-requires c κs = search needs
 add-end : tie.Need-add-end
 add-end c =
     let a = c .before .before .before .before .before .before .before .before .before .before .args in
-    let o = objectsAt (a .n) (a .b) (a .contents .now) (a .bodies .now) in
-    let m = frameMethod (a .stack .now) (a .at .0) in
-    let w : c .frame-words .result ≡ frameWords o m = c .frame-words .ensures ∙ ap frameOf (c .before .header .ensures) ∙ frame-of o m in
-    let l = frame-most o m in
-    omega arith
+    let w = words-few (objectsAt (a .n) (a .b) (a .contents .now) (a .bodies .now)) (a .stack .now) (a .at .0) _ _ (c .before .header .ensures) (c .frame-words .ensures) in omega arith
 
 add-end-2 : tie.Need-add-end-2
 add-end-2 c =
     let a = c .before .before .before .before .before .before .before .before .before .before .args in
-    let o = objectsAt (a .n) (a .b) (a .contents .now) (a .bodies .now) in
-    let m = frameMethod (a .stack .now) (a .at .0) in
-    let w : c .frame-words .result ≡ frameWords o m = c .frame-words .ensures ∙ ap frameOf (c .before .header .ensures) ∙ frame-of o m in
-    let l = frame-most o m in
-    omega arith
+    let w = words-few (objectsAt (a .n) (a .b) (a .contents .now) (a .bodies .now)) (a .stack .now) (a .at .0) _ _ (c .before .header .ensures) (c .frame-words .ensures) in omega arith
 
 returns-4 : tie.Need-returns-4
 returns-4 c =
     let a = c .before .before .before .before .before .before .before .before .before .before .before .args in
-    let o = objectsAt (a .n) (a .b) (a .contents .now) (a .bodies .now) in
-    end-outside o (a .stack .now) (a .at .0) _ (c .before .frame-words .ensures ∙ ap frameOf (c .before .before .header .ensures) ∙ frame-of o (frameMethod (a .stack .now) (a .at .0))) (c .if4 .taken)
+    end-outside (objectsAt (a .n) (a .b) (a .contents .now) (a .bodies .now)) (a .stack .now) (a .at .0) _ _ (c .before .before .header .ensures) (c .before .frame-words .ensures) (c .if4 .taken)
 
 returns-5 : tie.Need-returns-5
 returns-5 c =
     let a = c .before .before .before .before .before .before .before .before .before .before .before .before .args in
-    let o = objectsAt (a .n) (a .b) (a .contents .now) (a .bodies .now) in
-    end-far o (a .stack .now) (a .at .0) _ (c .before .before .frame-words .ensures ∙ ap frameOf (c .before .before .before .header .ensures) ∙ frame-of o (frameMethod (a .stack .now) (a .at .0))) (c .if5 .taken)
+    end-far (objectsAt (a .n) (a .b) (a .contents .now) (a .bodies .now)) (a .stack .now) (a .at .0) _ _ (c .before .before .before .header .ensures) (c .before .before .frame-words .ensures) (c .if5 .taken)
 
 returns-6 : tie.Need-returns-6
 returns-6 c =
     let a = c .before .before .before .before .before .before .before .before .before .before .before .before .args in
-    let o = objectsAt (a .n) (a .b) (a .contents .now) (a .bodies .now) in
-    end-here o (a .stack .now) (a .at .0) _ (c .before .before .frame-words .ensures ∙ ap frameOf (c .before .before .before .header .ensures) ∙ frame-of o (frameMethod (a .stack .now) (a .at .0))) (sym (c .before .before .before .before .before .is-kind .ensures (a .b) (a .bodies .now)) ∙ not-false _ (c .before .before .before .before .if3 .left)) (c .before .if4 .left) (c .if5 .left)
+    end-here (objectsAt (a .n) (a .b) (a .contents .now) (a .bodies .now)) (a .stack .now) (a .at .0) _ _ (c .before .before .before .header .ensures) (c .before .before .frame-words .ensures) _ (c .before .before .before .before .before .is-kind .ensures (a .b) (a .bodies .now)) (c .before .before .before .before .if3 .left) (c .before .if4 .left) (c .if5 .left)
 
 pub frame-end-spec : {M : Type 1} → statement M
 frame-end-spec =

@@ -1,16 +1,8 @@
+use Rattle.checks.proofs.Headers.{header-inside, holds-method, rules-no, words-end, rules-here}
 -- Header, and then temporaries and operands as one part of the stack.
-use mathlib.Core.Path.{_≡_, sym, ap, _∙_}
 use Prim.Native.Nat.{_+_, _-_}
 use native.Mathlib.Omega.{arith}
-use borrow.Author.Tests.{not-true, not-false}
-use Rattle.bytecode.specs.Test.{every}
-use Rattle.bytecode.proofs.TestLaws.{true→T}
-use Rattle.model.specs.Word.{isValid}
-use Rattle.model.specs.Objects.{objectsAt, part}
-use Rattle.model.specs.Method.{temporaryCount}
-use Rattle.objects.specs.Lent.{temporariesOf}
-use Rattle.plain.specs.Flat.{frameMethod, frameDepth}
-use Rattle.checks.proofs.Headers.{header-inside, holds-method, rules-no, words-inside, rules-here}
+use Rattle.model.specs.Objects.{objectsAt}
 use borrow.Author.Needs.{needs}
 use Rattle.checks.proofs.frame_fine.Statement.{statement}
 use Rattle.checks.proofs.frame_fine.Tie as tie
@@ -21,7 +13,7 @@ header-fine-requires c κs = search needs
 returns : tie.Need-returns
 returns c =
     let a = c .before .before .before .before .before .before .args in
-    rules-no (objectsAt (a .n) (a .b) (a .contents .now) (a .bodies .now)) (a .stack .now) (a .at .0) (a .uppermost) (sym (c .before .header-fine .ensures) ∙ not-true _ (c .if1 .taken))
+    rules-no (objectsAt (a .n) (a .b) (a .contents .now) (a .bodies .now)) (a .stack .now) (a .at .0) (a .uppermost) _ (c .before .header-fine .ensures) (c .if1 .taken)
 
 add-m : tie.Need-add-m
 add-m c = let h = header-inside (c .before .before .before .before .before .before .pre) in omega arith
@@ -56,18 +48,12 @@ temporary-count-requires c κs = search needs
 add-end : tie.Need-add-end
 add-end c =
     let a = c .before .before .before .before .before .before .before .before .before .before .args in
-    let o = objectsAt (a .n) (a .b) (a .contents .now) (a .bodies .now) in
-    let t : c .temporary-count .result ≡ temporaryCount o (frameMethod (a .stack .now) (a .at .0)) = c .temporary-count .ensures ∙ ap temporariesOf (c .before .header .ensures) in
-    let w = words-inside o (a .stack .now) (a .at .0) (a .uppermost) ((c .before .before .before .before .before .before .before .before .before .before .pre) .frame) (true→T (sym (c .before .before .before .before .before .header-fine .ensures) ∙ not-false _ (c .before .before .before .before .if1 .left))) in
-    omega arith
+    let w = words-end (objectsAt (a .n) (a .b) (a .contents .now) (a .bodies .now)) (a .stack .now) (a .at .0) (a .uppermost) ((c .before .before .before .before .before .before .before .before .before .before .pre) .frame) _ (c .before .before .before .before .before .header-fine .ensures) (c .before .before .before .before .if1 .left) _ _ (c .before .header .ensures) (c .temporary-count .ensures) in omega arith
 
 add-end-2 : tie.Need-add-end-2
 add-end-2 c =
     let a = c .before .before .before .before .before .before .before .before .before .before .args in
-    let o = objectsAt (a .n) (a .b) (a .contents .now) (a .bodies .now) in
-    let t : c .temporary-count .result ≡ temporaryCount o (frameMethod (a .stack .now) (a .at .0)) = c .temporary-count .ensures ∙ ap temporariesOf (c .before .header .ensures) in
-    let w = words-inside o (a .stack .now) (a .at .0) (a .uppermost) ((c .before .before .before .before .before .before .before .before .before .before .pre) .frame) (true→T (sym (c .before .before .before .before .before .header-fine .ensures) ∙ not-false _ (c .before .before .before .before .if1 .left))) in
-    omega arith
+    let w = words-end (objectsAt (a .n) (a .b) (a .contents .now) (a .bodies .now)) (a .stack .now) (a .at .0) (a .uppermost) ((c .before .before .before .before .before .before .before .before .before .before .pre) .frame) _ (c .before .before .before .before .before .header-fine .ensures) (c .before .before .before .before .if1 .left) _ _ (c .before .header .ensures) (c .temporary-count .ensures) in omega arith
 
 mul-valid-words : tie.Need-mul-valid-words
 mul-valid-words c =
@@ -82,10 +68,7 @@ part-valid-words-start c = search needs
 part-valid-words-end : tie.Need-part-valid-words-end
 part-valid-words-end c =
     let a = c .before .before .before .before .before .before .before .before .before .before .args in
-    let o = objectsAt (a .n) (a .b) (a .contents .now) (a .bodies .now) in
-    let t : c .temporary-count .result ≡ temporaryCount o (frameMethod (a .stack .now) (a .at .0)) = c .temporary-count .ensures ∙ ap temporariesOf (c .before .header .ensures) in
-    let w = words-inside o (a .stack .now) (a .at .0) (a .uppermost) ((c .before .before .before .before .before .before .before .before .before .before .pre) .frame) (true→T (sym (c .before .before .before .before .before .header-fine .ensures) ∙ not-false _ (c .before .before .before .before .if1 .left))) in
-    omega arith
+    let w = words-end (objectsAt (a .n) (a .b) (a .contents .now) (a .bodies .now)) (a .stack .now) (a .at .0) (a .uppermost) ((c .before .before .before .before .before .before .before .before .before .before .pre) .frame) _ (c .before .before .before .before .before .header-fine .ensures) (c .before .before .before .before .if1 .left) _ _ (c .before .header .ensures) (c .temporary-count .ensures) in omega arith
 
 valid-words-requires : tie.Need-valid-words-requires
 valid-words-requires c κs = search needs
@@ -93,13 +76,7 @@ valid-words-requires c κs = search needs
 returns-2 : tie.Need-returns-2
 returns-2 c =
     let a = c .before .before .before .before .before .before .before .before .before .before .before .before .args in
-    let o = objectsAt (a .n) (a .b) (a .contents .now) (a .bodies .now) in
-    let s = a .stack .now in
-    let base = a .at .0 in
-    let t : c .before .before .temporary-count .result ≡ temporaryCount o (frameMethod s base) = c .before .before .temporary-count .ensures ∙ ap temporariesOf (c .before .before .before .header .ensures) in
-    let count : base + 6 + (c .before .before .temporary-count .result + frameDepth s base) - (base + 6) ≡ temporaryCount o (frameMethod s base) + frameDepth s base = omega arith in
-    c .valid-words .ensures ∙ ap (λ k. every (isValid (a .n)) (part s (base + 6) k)) count
-    ∙ rules-here o s base (a .uppermost) ((c .before .before .before .before .before .before .before .before .before .before .before .before .pre) .frame) (true→T (sym (c .before .before .before .before .before .before .before .header-fine .ensures) ∙ not-false _ (c .before .before .before .before .before .before .if1 .left)))
+    rules-here (objectsAt (a .n) (a .b) (a .contents .now) (a .bodies .now)) (a .stack .now) (a .at .0) (a .uppermost) ((c .before .before .before .before .before .before .before .before .before .before .before .before .pre) .frame) _ (c .before .before .before .before .before .before .before .header-fine .ensures) (c .before .before .before .before .before .before .if1 .left) _ _ (c .before .before .before .header .ensures) (c .before .before .temporary-count .ensures) _ (c .valid-words .ensures)
 
 pub frame-fine-spec : {M : Type 1} → statement M
 frame-fine-spec =

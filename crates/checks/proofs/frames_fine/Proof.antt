@@ -1,10 +1,8 @@
 -- What the frames from here on say is what they say from the top.
-use mathlib.Core.Path.{sym, _∙_}
 use mathlib.Core.Bool.{true}
 use native.Mathlib.Omega.{arith}
-use borrow.Author.Tests.{not-true, not-false}
 use Rattle.model.specs.Objects.{objectsAt}
-use Rattle.checks.proofs.Standing.{positive, standing, end-no}
+use Rattle.checks.proofs.Standing.{standing, end-no}
 use Rattle.checks.proofs.Walking.{Going, from-unstood, going-first, going-wrong, going-bottom, going-apart, going-lower, going-down}
 use Rattle.checks.proofs.frames_fine.Statement.{statement}
 use Rattle.checks.proofs.frames_fine.Tie as tie
@@ -27,7 +25,7 @@ returns c =
 loop-holds : tie.Need-loop-holds Inv-loop μ-loop
 loop-holds c =
     let a = c .before .before .before .before .before .before .before .args in
-    going-first (objectsAt (a .n) (a .b) (a .contents .now) (a .bodies .now)) (a .stack .now) (a .top .0) _ (c .before .before .frame-end .ensures) (positive _ (c .if1 .left))
+    going-first (objectsAt (a .n) (a .b) (a .contents .now) (a .bodies .now)) (a .stack .now) (a .top .0) _ (c .before .before .frame-end .ensures) (c .if1 .left)
 
 frame-fine-requires : tie.Need-frame-fine-requires Inv-loop μ-loop
 frame-fine-requires c κs = record { image = c .before .before .before .before .before .before .before .before .pre; frame = c .loop .inv .stands }
@@ -35,7 +33,7 @@ frame-fine-requires c κs = record { image = c .before .before .before .before .
 returns-2 : tie.Need-returns-2 Inv-loop μ-loop
 returns-2 c =
     let a = c .before .before .before .before .before .before .before .before .before .before .args in
-    going-wrong (objectsAt (a .n) (a .b) (a .contents .now) (a .bodies .now)) (a .stack .now) (c .before .before .loop .inv) (sym (c .before .frame-fine .ensures) ∙ not-true _ (c .if2 .taken))
+    going-wrong (objectsAt (a .n) (a .b) (a .contents .now) (a .bodies .now)) (a .stack .now) (c .before .before .loop .inv) _ (c .before .frame-fine .ensures) (c .if2 .taken)
 
 mul-sender : tie.Need-mul-sender Inv-loop μ-loop
 mul-sender c =
@@ -53,7 +51,7 @@ cast-sender c = omega (arith, c .shared-slice-known5 .given (c .before .before .
 returns-3 : tie.Need-returns-3 Inv-loop μ-loop
 returns-3 c =
     let a = c .before .before .before .before .before .before .before .before .before .before .before .before .args in
-    going-bottom (objectsAt (a .n) (a .b) (a .contents .now) (a .bodies .now)) (a .stack .now) (c .before .before .before .before .loop .inv) (c .if3 .taken) (sym (c .before .before .before .frame-fine .ensures) ∙ not-false _ (c .before .before .if2 .left))
+    going-bottom (objectsAt (a .n) (a .b) (a .contents .now) (a .bodies .now)) (a .stack .now) (c .before .before .before .before .loop .inv) _ (c .before .before .before .frame-fine .ensures) (c .before .before .if2 .left) (c .if3 .taken)
 
 frame-end-requires-2 : tie.Need-frame-end-requires-2 Inv-loop μ-loop
 frame-end-requires-2 c κs = (c .before .before .before .before .before .before .before .before .before .before .before .before .pre) .right
@@ -61,17 +59,17 @@ frame-end-requires-2 c κs = (c .before .before .before .before .before .before 
 returns-4 : tie.Need-returns-4 Inv-loop μ-loop
 returns-4 c =
     let a = c .before .before .before .before .before .before .before .before .before .before .before .before .before .before .before .args in
-    going-apart (objectsAt (a .n) (a .b) (a .contents .now) (a .bodies .now)) (a .stack .now) (c .before .before .before .before .before .before .before .loop .inv) (positive _ (c .before .before .before .if3 .left)) (sym (c .before .before .before .before .before .before .frame-fine .ensures) ∙ not-false _ (c .before .before .before .before .before .if2 .left)) _ (c .before .before .frame-end2 .ensures) (c .if4 .taken)
+    going-apart (objectsAt (a .n) (a .b) (a .contents .now) (a .bodies .now)) (a .stack .now) (c .before .before .before .before .before .before .before .loop .inv) _ (c .before .before .before .before .before .before .frame-fine .ensures) (c .before .before .before .before .before .if2 .left) (c .before .before .before .if3 .left) _ (c .before .before .frame-end2 .ensures) (c .if4 .taken)
 
 loop-less : tie.Need-loop-less Inv-loop μ-loop
 loop-less c =
     let a = c .before .before .before .before .before .before .before .before .before .before .before .before .before .before .before .args in
-    going-lower (objectsAt (a .n) (a .b) (a .contents .now) (a .bodies .now)) (a .stack .now) (c .before .before .before .before .before .before .before .loop .inv) (positive _ (c .before .before .before .if3 .left)) (sym (c .before .before .before .before .before .before .frame-fine .ensures) ∙ not-false _ (c .before .before .before .before .before .if2 .left)) _ (c .before .before .frame-end2 .ensures) (c .if4 .left)
+    going-lower (objectsAt (a .n) (a .b) (a .contents .now) (a .bodies .now)) (a .stack .now) (c .before .before .before .before .before .before .before .loop .inv) _ (c .before .before .before .before .before .before .frame-fine .ensures) (c .before .before .before .before .before .if2 .left) (c .before .before .before .if3 .left) _ (c .before .before .frame-end2 .ensures) (c .if4 .left)
 
 loop-again : tie.Need-loop-again Inv-loop μ-loop
 loop-again c =
     let a = c .before .before .before .before .before .before .before .before .before .before .before .before .before .before .before .args in
-    going-down (objectsAt (a .n) (a .b) (a .contents .now) (a .bodies .now)) (a .stack .now) (c .before .before .before .before .before .before .before .loop .inv) (positive _ (c .before .before .before .if3 .left)) (sym (c .before .before .before .before .before .before .frame-fine .ensures) ∙ not-false _ (c .before .before .before .before .before .if2 .left)) _ (c .before .before .frame-end2 .ensures) (c .if4 .left)
+    going-down (objectsAt (a .n) (a .b) (a .contents .now) (a .bodies .now)) (a .stack .now) (c .before .before .before .before .before .before .before .loop .inv) _ (c .before .before .before .before .before .before .frame-fine .ensures) (c .before .before .before .before .before .if2 .left) (c .before .before .before .if3 .left) _ (c .before .before .frame-end2 .ensures) (c .if4 .left)
 
 pub frames-fine-spec : {M : Type 1} → statement M
 frames-fine-spec =

@@ -1,13 +1,9 @@
+use Rattle.checks.proofs.Headers.{header-inside, holds-method, valid-read, class-named, mark-no, receiver-no, chain-no, header-note, note-top, note-below}
 -- The tests of the header, one after another.
 use Prim.Native.Nat.{_+_}
-use mathlib.Core.Path.{sym, ap₂, _∙_}
 use native.Mathlib.Omega.{arith}
-use borrow.Author.Tests.{not-true, not-false}
-use Rattle.bytecode.proofs.TestLaws.{true→T}
 use Rattle.model.specs.Objects.{objectsAt}
-use Rattle.model.specs.Lookup.{inChain}
 use Rattle.objects.proofs.Buffers.{contents-room}
-use Rattle.checks.proofs.Headers.{header-inside, holds-method, class-named, mark-no, receiver-no, chain-no, header-note, note-top, note-below}
 use borrow.Author.Needs.{needs}
 use Rattle.checks.proofs.header_fine.Statement.{statement}
 use Rattle.checks.proofs.header_fine.Tie as tie
@@ -41,7 +37,7 @@ is-valid-requires c κs = search needs
 returns-2 : tie.Need-returns-2
 returns-2 c =
     let a = c .before .before .before .before .before .before .before .before .before .args in
-    receiver-no (objectsAt (a .n) (a .b) (a .contents .now) (a .bodies .now)) (a .stack .now) (a .at .0) (a .uppermost) (c .before .before .before .if1 .left) (sym (c .before .is-valid .ensures) ∙ not-true _ (c .if2 .taken))
+    receiver-no (objectsAt (a .n) (a .b) (a .contents .now) (a .bodies .now)) (a .stack .now) (a .at .0) (a .uppermost) (c .before .before .before .if1 .left) _ (c .before .is-valid .ensures) (c .if2 .taken)
 
 add-m : tie.Need-add-m
 add-m c = let h = header-inside (c .before .before .before .before .before .before .before .before .before .pre) in omega arith
@@ -58,18 +54,17 @@ home-requires c κs = holds-method (c .before .before .before .before .before .b
 class-of-requires : tie.Need-class-of-requires
 class-of-requires c κs =
     let a = c .before .before .before .before .before .before .before .before .before .before .before .args in
-    (true→T (sym (c .before .before .before .is-valid .ensures) ∙ not-false _ (c .before .before .if2 .left)), contents-room (a .n) (a .b) (a .contents .now) (a .bodies .now) ((c .before .before .before .before .before .before .before .before .before .before .before .pre) .image .right))
+    (valid-read _ _ _ (c .before .before .before .is-valid .ensures) (c .before .before .if2 .left), contents-room (a .n) (a .b) (a .contents .now) (a .bodies .now) ((c .before .before .before .before .before .before .before .before .before .before .before .pre) .image .right))
 
 in-chain-requires : tie.Need-in-chain-requires
 in-chain-requires c κs =
     let a = c .before .before .before .before .before .before .before .before .before .before .before .before .args in
-    ((c .before .before .before .before .before .before .before .before .before .before .before .before .pre) .image .right, class-named ((c .before .before .before .before .before .before .before .before .before .before .before .before .pre) .image .right) _ _ (true→T (sym (c .before .before .before .before .is-valid .ensures) ∙ not-false _ (c .before .before .before .if2 .left))) (c .class-of .ensures (a .b) (a .bodies .now)))
+    ((c .before .before .before .before .before .before .before .before .before .before .before .before .pre) .image .right, class-named ((c .before .before .before .before .before .before .before .before .before .before .before .before .pre) .image .right) _ _ _ (c .before .before .before .before .is-valid .ensures) (c .before .before .before .if2 .left) (c .class-of .ensures (a .b) (a .bodies .now)))
 
 returns-3 : tie.Need-returns-3
 returns-3 c =
     let a = c .before .before .before .before .before .before .before .before .before .before .before .before .before .before .args in
-    let o = objectsAt (a .n) (a .b) (a .contents .now) (a .bodies .now) in
-    chain-no o (a .stack .now) (a .at .0) (a .uppermost) (c .before .before .before .before .before .before .before .before .if1 .left) (sym (c .before .before .before .before .before .before .is-valid .ensures) ∙ not-false _ (c .before .before .before .before .before .if2 .left)) (ap₂ (inChain o) (sym (c .before .before .before .home .ensures)) (sym (c .before .before .class-of .ensures (a .b) (a .bodies .now))) ∙ sym (c .before .in-chain .ensures) ∙ not-true _ (c .if3 .taken))
+    chain-no (objectsAt (a .n) (a .b) (a .contents .now) (a .bodies .now)) (a .stack .now) (a .at .0) (a .uppermost) (c .before .before .before .before .before .before .before .before .if1 .left) _ (c .before .before .before .before .before .before .is-valid .ensures) (c .before .before .before .before .before .if2 .left) _ _ (c .before .before .before .home .ensures) (c .before .before .class-of .ensures (a .b) (a .bodies .now)) _ (c .before .in-chain .ensures) (c .if3 .taken)
 
 add-p : tie.Need-add-p
 add-p c = let h = header-inside (c .before .before .before .before .before .before .before .before .before .before .before .before .before .before .pre) in omega arith
@@ -104,8 +99,8 @@ add-result c = omega (arith, c .before .shared-slice-known9 .given (c .before .b
 returns-4 : tie.Need-returns-4
 returns-4 c =
     let a = c .before .before .before .before .before .before .before .before .before .before .before .before .before .before .before .before .before .before .args in
-    let o = objectsAt (a .n) (a .b) (a .contents .now) (a .bodies .now) in
-    header-note o (a .stack .now) (a .at .0) (a .uppermost) (c .before .before .before .before .before .before .before .before .before .before .before .before .if1 .left) (sym (c .before .before .before .before .before .before .before .before .before .before .is-valid .ensures) ∙ not-false _ (c .before .before .before .before .before .before .before .before .before .if2 .left)) (ap₂ (inChain o) (sym (c .before .before .before .before .before .before .before .home .ensures)) (sym (c .before .before .before .before .before .before .class-of .ensures (a .b) (a .bodies .now))) ∙ sym (c .before .before .before .before .before .in-chain .ensures) ∙ not-false _ (c .before .before .before .before .if3 .left)) _ _ (c .before .before .note-at .ensures) (note-top o (a .stack .now) (a .at .0) (a .uppermost) (c .if4 .taken))
+    let o = (objectsAt (a .n) (a .b) (a .contents .now) (a .bodies .now)) in
+    header-note o (a .stack .now) (a .at .0) (a .uppermost) (c .before .before .before .before .before .before .before .before .before .before .before .before .if1 .left) _ (c .before .before .before .before .before .before .before .before .before .before .is-valid .ensures) (c .before .before .before .before .before .before .before .before .before .if2 .left) _ _ (c .before .before .before .before .before .before .before .home .ensures) (c .before .before .before .before .before .before .class-of .ensures (a .b) (a .bodies .now)) _ (c .before .before .before .before .before .in-chain .ensures) (c .before .before .before .before .if3 .left) _ _ (c .before .before .note-at .ensures) (note-top o (a .stack .now) (a .at .0) (a .uppermost) (c .if4 .taken))
 
 add-result-2 : tie.Need-add-result-2
 add-result-2 c = omega (arith, c .before .shared-slice-known9 .given (c .before .before .before .before .before .before .before .before .before .before .before .before .before .before .before .before .before .before .args .at .0 + 2))
@@ -113,8 +108,8 @@ add-result-2 c = omega (arith, c .before .shared-slice-known9 .given (c .before 
 returns-5 : tie.Need-returns-5
 returns-5 c =
     let a = c .before .before .before .before .before .before .before .before .before .before .before .before .before .before .before .before .before .before .args in
-    let o = objectsAt (a .n) (a .b) (a .contents .now) (a .bodies .now) in
-    header-note o (a .stack .now) (a .at .0) (a .uppermost) (c .before .before .before .before .before .before .before .before .before .before .before .before .if1 .left) (sym (c .before .before .before .before .before .before .before .before .before .before .is-valid .ensures) ∙ not-false _ (c .before .before .before .before .before .before .before .before .before .if2 .left)) (ap₂ (inChain o) (sym (c .before .before .before .before .before .before .before .home .ensures)) (sym (c .before .before .before .before .before .before .class-of .ensures (a .b) (a .bodies .now))) ∙ sym (c .before .before .before .before .before .in-chain .ensures) ∙ not-false _ (c .before .before .before .before .if3 .left)) _ _ (c .before .before .note-at .ensures) (note-below o (a .stack .now) (a .at .0) (a .uppermost) (c .if4 .left))
+    let o = (objectsAt (a .n) (a .b) (a .contents .now) (a .bodies .now)) in
+    header-note o (a .stack .now) (a .at .0) (a .uppermost) (c .before .before .before .before .before .before .before .before .before .before .before .before .if1 .left) _ (c .before .before .before .before .before .before .before .before .before .before .is-valid .ensures) (c .before .before .before .before .before .before .before .before .before .if2 .left) _ _ (c .before .before .before .before .before .before .before .home .ensures) (c .before .before .before .before .before .before .class-of .ensures (a .b) (a .bodies .now)) _ (c .before .before .before .before .before .in-chain .ensures) (c .before .before .before .before .if3 .left) _ _ (c .before .before .note-at .ensures) (note-below o (a .stack .now) (a .at .0) (a .uppermost) (c .if4 .left))
 
 pub header-fine-spec : {M : Type 1} → statement M
 header-fine-spec =
