@@ -178,13 +178,17 @@ static bool methods(const uint16_t *entries, const objects *o, uint8_t *notes) {
     for (size_t k = 0; k < o->n; k++) {
         const entry *e = o->at + k;
         const uint16_t *m = o->bodies + e->start;
-        if (e->kind != METHOD || m[0] >> 13 == 5 || m[0] >> 13 == 6) continue;
+        if (e->kind != METHOD) continue;
         const unsigned literals = m[0] >> 1 & 63;
         const uint16_t *code = m + 2 + literals;
         const size_t size = e->size - 4 - 2 * literals;
         uint8_t *own = notes + 2 * (code - o->bodies);
-        if (!c_walk(entries, code, body(o, m[1])[2] / 2, m[0] >> 8 & 31, literals, m[0] & 128 ? 32 : 12, own, size, pending)) return false;
-        if (!linked(o, counts, m + 2, code, size, own)) return false;
+        const unsigned flag = m[0] >> 13;
+        if (c_walk(entries, code, body(o, m[1])[2] / 2, m[0] >> 8 & 31, literals, m[0] & 128 ? 32 : 12, own, size, pending)
+            && linked(o, counts, m + 2, code, size, own)) continue;
+        // the code of flags 5 and 6 never runs: it has notes where it is sound
+        if (flag != 5 && flag != 6) return false;
+        memset(own, 0, size);
     }
     return true;
 }

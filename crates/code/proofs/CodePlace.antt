@@ -1,5 +1,5 @@
 -- Where a method's code lies, and its table by the walk and the pass behind it
-use Prim.Native.Nat.{ℕ, suc, _+_, _-_, _*_, _/_, _%_, _≤_, _<_}
+use Prim.Native.Nat.{ℕ, _+_, _-_, _*_, _/_, _%_, _≤_, _<_}
 use mathlib.Core.Path.{_≡_, refl, sym, ap, ap₂, _∙_, subst}
 use mathlib.Core.Logic.{_⊎_, inl, inr}
 use mathlib.Core.Bool.{Bool, true, false}
@@ -11,23 +11,23 @@ use lib.ListN.{length, getD, take, drop, replicate, getD-replicate, List·getD-a
 use lib.Seq.{length-take-le, getD-take, getD-drop, getD-append-add}
 use Rattle.bytecode.proofs.TestLaws.{T→true, rule}
 use Rattle.model.specs.Limits.{classKind, methodKind}
-use Rattle.model.specs.Objects.{Objects, objectsAt, isKind, start, size, kind, bodyWords, bodyEnd, bodyWord, fieldCount, sizedInBytes, part}
+use Rattle.model.specs.Objects.{Objects, objectsAt, isKind, start, size, bodyWords, bodyEnd, fieldCount, sizedInBytes, part}
 use Rattle.model.specs.Method.{header, home, temporaryCount, literalCount, codeWords, codeSize, frameWords}
 use Rattle.model.specs.Depth.{depthTable, isSome, noteAt}
 use Rattle.model.specs.Rules.{methodTable}
+use Rattle.model.specs.Notes.{notesFrom}
 use Rattle.model.proofs.Facts.{in-bytes}
 use Rattle.model.proofs.Parts.{length-part, part-same}
 use Rattle.flow.specs.Index.{indexed}
 use Rattle.flow.specs.Linked.{allLinked}
-use Rattle.flow.specs.Walk.{Walked, notesOf, mostCode}
-use Rattle.flow.proofs.MethodLaws.{indexTable, walked-yes, walked-no, method-none, method-some, method-fails, table-length}
-use Rattle.rules.specs.Lent.{Lent, Laid, Entry}
+use Rattle.flow.specs.Walk.{Walked, notesOf}
+use Rattle.flow.proofs.MethodLaws.{indexTable, walked-yes, walked-no, method-none, method-some, method-fails}
+use Rattle.rules.specs.Lent.{Laid, Entry}
 use Rattle.rules.proofs.Laid.{inside-at}
 use Rattle.rules.proofs.Names.{is-named}
 use Rattle.rules.proofs.RuleFacts.{class-at}
-use Rattle.methods.specs.Named.{Ready}
 use Rattle.methods.specs.Passes.{shapeRules}
-use Rattle.code.specs.Asked.{Asked, CodeLent, notesFrom, MethodNoted, MethodWalked}
+use Rattle.code.specs.Asked.{Asked, CodeLent, MethodWalked}
 
 pub code-lent-by : (o : Objects) (m : ℕ) (words : List ℕ) (s s′ : ℕ) → s′ ≡ s → CodeLent o m words s → CodeLent o m words s′
 code-lent-by o m words s s′ e c = subst (CodeLent o m words) (sym e) c

@@ -1,30 +1,30 @@
 -- The pass over all objects: what one turn needs, and what it leaves of the others' notes
-use Prim.Native.Nat.{ℕ, zero, suc, _+_, _-_, _*_, _/_, _%_, _≤_, _<_}
+use Prim.Native.Nat.{ℕ, zero, suc, _+_, _-_, _/_, _%_, _≤_, _<_}
 use mathlib.Core.Path.{_≡_, refl, sym, ap, ap₂, _∙_, subst}
-use mathlib.Core.Logic.{_⊎_, inl, inr}
-use mathlib.Core.Bool.{Bool, true, false, _&&_, _||_}
+use mathlib.Core.Logic.{inl}
+use mathlib.Core.Bool.{Bool, true, false, not, _&&_, _||_}
 use mathlib.Core.List.{List}
 use native.Mathlib.Decide.{ℕ-discrete}
 use native.Mathlib.Omega.{arith}
 use borrow.Author.Tests.{eq-eqb, ne-eqb, le-leb, lt-leb}
 use lib.Dec.{T, eqb, leb}
-use lib.ListN.{length, getD, replicate}
-use Rattle.bytecode.specs.Test.{upTo, implies, allOf}
+use lib.ListN.{getD, replicate}
+use Rattle.bytecode.specs.Test.{implies, allOf}
 use Rattle.bytecode.proofs.TestLaws.{true→T, T→true, implied, upTo-at}
 use Rattle.model.specs.Limits.{methodKind}
 use Rattle.model.specs.Word.{pointer}
-use Rattle.model.specs.Objects.{Objects, objectsAt, kind, start, size, bodyWords, bodyEnd, isKind}
-use Rattle.model.specs.Method.{header, literalCount, codeSize, runsCode}
+use Rattle.model.specs.Objects.{Objects, objectsAt, kind, start, bodyWords, bodyEnd}
+use Rattle.model.specs.Method.{header, codeSize, runsCode}
 use Rattle.model.specs.Depth.{isSome}
-use Rattle.model.specs.Rules.{methodTable, rule4, rule7}
-use Rattle.rules.proofs.Laid.{layout-at, inside-at}
+use Rattle.model.specs.Rules.{methodTable, rule4}
+use Rattle.model.specs.Notes.{notesFrom, MethodNoted, NotedBefore}
+use Rattle.rules.proofs.Laid.{layout-at}
 use Rattle.rules.proofs.Names.{names-kind}
 use Rattle.rules.proofs.Loops.{UpBefore, up-none, up-more, up-all, up-no, never, stop, pass}
-use Rattle.methods.specs.Named.{Ready}
 use Rattle.methods.specs.Passes.{shapeRules, shapeFine, codeFine, shapes, holders, codes}
 use Rattle.methods.specs.Counts.{Held, Counts}
 use Rattle.methods.proofs.PassLaws.{passes}
-use Rattle.code.specs.Asked.{Asked, notesFrom, MethodNoted, MethodWalked, PassLent, NotedBefore, ObjectNoted, CodesNoted, MethodsNoted}
+use Rattle.code.specs.Asked.{Asked, MethodWalked, PassLent, ObjectNoted, CodesNoted, MethodsNoted}
 use Rattle.code.proofs.CodePlace.{code-starts, body-size}
 
 half : (k : ℕ) → pointer k / 2 ≡ k
@@ -59,35 +59,39 @@ module _ (o : Objects) (laid : rule4 1 o ≡ true) where
       gap j k l = omega arith
 
 module _ (o : Objects) where
-  code-runs : (k : ℕ) → kind o k ≡ methodKind → runsCode o (pointer k) ≡ true → codeFine o k ≡ isSome (methodTable o (pointer k))
+  -- a method's code is asked for only where it can run
+  code-sound : (k : ℕ) → isSome (methodTable o (pointer k)) ≡ true → codeFine o k ≡ true
   unfolding codeFine
-  code-runs k e c =
-      ap₂ (λ (a b : Bool). implies a (implies b (isSome (methodTable o (pointer k))))) (eq-eqb (kind o k) methodKind e) c
-
-  code-idle : (k : ℕ) → runsCode o (pointer k) ≡ false → codeFine o k ≡ true
-  unfolding codeFine
-  code-idle k c = ap (λ (b : Bool). implies (eqb (kind o k) methodKind) (implies b (isSome (methodTable o (pointer k))))) c ∙ vacuous (eqb (kind o k) methodKind)
+  code-sound k s =
+      ap (λ (x : Bool). implies (eqb (kind o k) methodKind) (implies (runsCode o (pointer k)) x)) s ∙ vacuous (eqb (kind o k) methodKind) (runsCode o (pointer k))
     where
-      vacuous : (a : Bool) → implies a true ≡ true
-      vacuous true = refl
-      vacuous false = refl
+      vacuous : (a b : Bool) → implies a (implies b true) ≡ true
+      vacuous true true = refl
+      vacuous true false = refl
+      vacuous false b = refl
+
+  code-unsound : (k : ℕ) → kind o k ≡ methodKind → isSome (methodTable o (pointer k)) ≡ false → codeFine o k ≡ not (runsCode o (pointer k))
+  unfolding codeFine
+  code-unsound k e s =
+      ap₂ (λ (a x : Bool). implies a (implies (runsCode o (pointer k)) x)) (eq-eqb (kind o k) methodKind e) s ∙ asked (runsCode o (pointer k))
+    where
+      asked : (b : Bool) → implies b false ≡ not b
+      asked true = refl
+      asked false = refl
 
   code-other : (k : ℕ) → (kind o k ≡ methodKind → ⊥) → codeFine o k ≡ true
   unfolding codeFine
   code-other k e = ap (λ (a : Bool). implies a (implies (runsCode o (pointer k)) (isSome (methodTable o (pointer k))))) (ne-eqb (kind o k) methodKind e)
 
-  one-more : (ns : List ℕ) (k : ℕ) → NotedBefore o ns k → (kind o k ≡ methodKind → T (runsCode o (pointer k)) → MethodNoted o ns (pointer k)) → NotedBefore o ns (suc k)
+  one-more : (ns : List ℕ) (k : ℕ) → NotedBefore o ns k → (kind o k ≡ methodKind → MethodNoted o ns (pointer k)) → NotedBefore o ns (suc k)
   one-more ns k f g j h l = go (ℕ-discrete j k)
     where
-      go : Dec (j ≡ k) → kind o j ≡ methodKind → T (runsCode o (pointer j)) → MethodNoted o ns (pointer j)
-      go (yes e) = subst (λ (x : ℕ). kind o x ≡ methodKind → T (runsCode o (pointer x)) → MethodNoted o ns (pointer x)) (sym e) g
+      go : Dec (j ≡ k) → kind o j ≡ methodKind → MethodNoted o ns (pointer j)
+      go (yes e) = subst (λ (x : ℕ). kind o x ≡ methodKind → MethodNoted o ns (pointer x)) (sym e) g
       go (no e) = f j h (omega arith)
 
   pub object-other : (k : ℕ) (ns : List ℕ) → (kind o k ≡ methodKind → ⊥) → ObjectNoted o k ns ns true
   object-other k ns e = record { answer = sym (code-other k e); noted = λ f. one-more ns k f (λ q. absurd (e q)) }
-
-  pub object-idle : (k : ℕ) (ns : List ℕ) → runsCode o (pointer k) ≡ false → ObjectNoted o k ns ns true
-  object-idle k ns c = record { answer = sym (code-idle k c); noted = λ f. one-more ns k f (λ q t. absurd (subst T c t)) }
 
   pub codes-stop : (k : ℕ) (ns ns′ : List ℕ) (r : Bool) → 1 ≤ k → k ≤ o .n → ObjectNoted o k ns ns′ r → r ≡ false → CodesNoted o ns′ false
   unfolding codes
@@ -182,16 +186,18 @@ module _ {table contents bodies counts : List ℕ} {n b notes pending : ℕ} (l 
       moved : bodyEnd o j ≤ start o k → bodyEnd o (pointer j / 2) ≤ start o (pointer k / 2)
       moved r = subst (λ (x : ℕ). bodyEnd o x ≤ start o (pointer k / 2)) (sym (half j)) (subst (λ (x : ℕ). bodyEnd o j ≤ start o x) (sym (half k)) r)
 
-  pub object-walked : (k : ℕ) (ns ns′ : List ℕ) (r : Bool) → 1 ≤ k → k ≤ n → kind o k ≡ methodKind → runsCode o (pointer k) ≡ true
-      → MethodWalked o (pointer k) ns ns′ r → ObjectNoted o k ns ns′ r
-  object-walked k ns ns′ r h g e c w =
-      record {
-        answer = w .answer ∙ sym (code-runs o k e c);
-        noted = λ f. one-more o ns′ k (λ j a b q t p x. w .others (notesFrom o (pointer j) + p) (inl (near j a b q p x)) ∙ f j a b q t p x) (λ q t. w .noted);
-      }
-    where
-      near : (j : ℕ) → 1 ≤ j → j < k → kind o j ≡ methodKind → (p : ℕ) → p < codeSize o (pointer j) → notesFrom o (pointer j) + p < notesFrom o (pointer k)
-      near j a b q p x = let z = apart j k a b g q in omega arith
+  module _ (k : ℕ) (ns ns′ : List ℕ) (r : Bool) (h : 1 ≤ k) (g : k ≤ n) (e : kind o k ≡ methodKind) (w : MethodWalked o (pointer k) ns ns′ r) where
+    walked-noted : NotedBefore o ns k → NotedBefore o ns′ (suc k)
+    walked-noted f = one-more o ns′ k (λ j a b q p x. w .others (notesFrom o (pointer j) + p) (inl (near j a b q p x)) ∙ f j a b q p x) (λ q. w .noted)
+      where
+        near : (j : ℕ) → 1 ≤ j → j < k → kind o j ≡ methodKind → (p : ℕ) → p < codeSize o (pointer j) → notesFrom o (pointer j) + p < notesFrom o (pointer k)
+        near j a b q p x = let z = apart j k a b g q in omega arith
+
+    pub object-sound : r ≡ true → ObjectNoted o k ns ns′ true
+    object-sound q = record { answer = sym (code-sound o k (sym (w .answer) ∙ q)); noted = walked-noted }
+
+    pub object-unsound : (x : Bool) → r ≡ false → x ≡ runsCode o (pointer k) → ObjectNoted o k ns ns′ (not x)
+    object-unsound x q c = record { answer = ap not c ∙ sym (code-unsound o k e (sym (w .answer) ∙ q)); noted = walked-noted }
 
 -- lent again, with notes and pending positions of the same lengths
 pub lent-again : {table contents bodies counts : List ℕ} {n b s q s′ q′ : ℕ} → s′ ≡ s → q′ ≡ q → PassLent table n b contents bodies counts s q → PassLent table n b contents bodies counts s′ q′

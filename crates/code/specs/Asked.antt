@@ -1,19 +1,19 @@
 -- What the functions of the third pass ask of and promise each other.
-use Prim.Native.Nat.{ℕ, suc, _+_, _*_, _/_, _<_, _≤_}
+use Prim.Native.Nat.{ℕ, suc, _+_, _*_, _<_, _≤_}
 use mathlib.Core.Path.{_≡_}
 use mathlib.Core.Logic.{_⊎_}
-use mathlib.Core.Bool.{Bool, true, false}
+use mathlib.Core.Bool.{Bool, true}
 use mathlib.Core.List.{List}
 use lib.Dec.{T}
 use lib.ListN.{length, getD}
 use Rattle.bytecode.specs.Test.{allOf}
 use Rattle.bytecode.specs.Table.{IsTable}
 use Rattle.model.specs.Limits.{methodKind}
-use Rattle.model.specs.Word.{pointer}
-use Rattle.model.specs.Objects.{Objects, objectsAt, start, kind, isKind}
-use Rattle.model.specs.Method.{literalCount, codeWords, codeSize, runsCode}
-use Rattle.model.specs.Depth.{noteAt, isSome}
+use Rattle.model.specs.Objects.{Objects, objectsAt, isKind}
+use Rattle.model.specs.Method.{codeWords, codeSize}
+use Rattle.model.specs.Depth.{isSome}
 use Rattle.model.specs.Rules.{methodTable, rule7}
+use Rattle.model.specs.Notes.{notesFrom, MethodNoted, NotedBefore}
 use Rattle.flow.specs.declared.Link.{Link}
 use Rattle.flow.specs.declared.Link.the-variants.{Nothing, Variable, Selector, Special}
 use Rattle.flow.specs.Walk.{mostCode}
@@ -42,14 +42,6 @@ pub record CodeLent (o : Objects) (m : ℕ) (words : List ℕ) (size : ℕ) : Ty
   pub covered : size ≤ 2 * length words
   pub small : size ≤ mostCode
 
--- where the notes of a method's code stand in the table for all methods: a byte for each byte of the bodies
-abbrev pub notesFrom : Objects → ℕ → ℕ
-notesFrom o m = 2 * (start o (m / 2) + (2 + literalCount o m))
-
--- the notes of method m are those of its depth table, 0 where there is none
-abbrev pub MethodNoted : Objects → List ℕ → ℕ → Type 0
-MethodNoted o notes m = (p : ℕ) → p < codeSize o m → getD notes (notesFrom o m + p) 0 ≡ noteAt (methodTable o m) p
-
 -- one method walked: the others' notes stay
 pub record MethodWalked (o : Objects) (m : ℕ) (notes notes′ : List ℕ) (r : Bool) : Type 0 where
   pub answer : r ≡ isSome (methodTable o m)
@@ -64,10 +56,6 @@ pub record PassLent (table : List ℕ) (n b : ℕ) (contents bodies counts : Lis
   pub shaped : T (shapes (objectsAt n b contents bodies))
   pub room : 2 * b ≤ notes
   pub long : 2 * b ≤ pending
-
--- the methods among the objects below k whose code can run have their notes
-abbrev pub NotedBefore : Objects → List ℕ → ℕ → Type 0
-NotedBefore o notes k = (j : ℕ) → 1 ≤ j → j < k → kind o j ≡ methodKind → T (runsCode o (pointer j)) → MethodNoted o notes (pointer j)
 
 -- object k, where it is a method
 pub record ObjectNoted (o : Objects) (k : ℕ) (notes notes′ : List ℕ) (r : Bool) : Type 0 where

@@ -221,7 +221,7 @@ fn runs(h: u16) -> bool
     of == 7
 }
 
-// Object k, where it is a method whose code can run.
+// Object k, where it is a method. Its notes are made whether or not its code can run.
 fn code_object(
     table: &[u16; 256],
     contents: &[u16],
@@ -240,10 +240,10 @@ fn code_object(
         return true;
     }
     let m = (2 * k) as u16;
-    if !runs(methods::header_of(contents, bodies, n, b, m)) {
+    if method_notes(table, contents, bodies, n, b, counts, m, notes, pending) {
         return true;
     }
-    method_notes(table, contents, bodies, n, b, counts, m, notes, pending)
+    !runs(methods::header_of(contents, bodies, n, b, m))
 }
 
 // The third pass: the code of all methods.
@@ -270,7 +270,7 @@ fn codes_fine(
     true
 }
 
-// Rule 7, and the notes of all methods whose code can run.
+// Rule 7, and the notes of all methods.
 pub fn methods_fine(contents: &[u16], bodies: &[u16], n: usize, b: usize, notes: &mut [u8]) -> bool
     requires { ⌜ Ready n b (now contents) (now bodies) × (2 * b ≤ length (now notes)) ⌝ }
     ensures { λ r. ⌜ MethodsNoted (objectsAt n b (now (contents .entry)) (now (bodies .entry))) (now (notes .exit)) r ⌝ }

@@ -5,6 +5,7 @@ pub mod Method
 pub mod Depth
 pub mod Lookup
 pub mod Rules
+pub mod Notes
 pub mod Image
 pub mod Arithmetic
 pub mod Primitive

@@ -1,8 +1,7 @@
-use Prim.Native.Nat.{_*_}
 use Rattle.model.specs.Objects.{objectsAt}
-use mathlib.Core.Path.{_≡_, refl, sym, ap, _∙_}
-use borrow.Author.Tests.{not-true, not-false}
-use Rattle.code.proofs.PassLaws.{object-other, object-idle, object-walked, asked-at}
+use mathlib.Core.Path.{sym, _∙_}
+use Prim.Native.Nat.{_*_}
+use Rattle.code.proofs.PassLaws.{object-other, object-sound, object-unsound, asked-at}
 use borrow.Author.Needs.{needs}
 use Rattle.code.proofs.code_object.Statement.{statement}
 use Rattle.code.proofs.code_object.Tie as tie
@@ -29,33 +28,41 @@ mul-m c = search needs
 cast-m : tie.Need-cast-m
 cast-m c = search needs
 
--- src/lib.rt:243:14
-header-of-requires : tie.Need-header-of-requires
-header-of-requires c κs = search needs
-
--- src/lib.rt:243:9
-runs-requires : tie.Need-runs-requires
-runs-requires c κs = search needs
+-- src/lib.rt:243:8
+method-notes-requires : tie.Need-method-notes-requires
+method-notes-requires c κs = (asked-at ((c .before .before .before .before .before .before .before .before .before .pre) .0) (c .before .before .before .before .before .before .before .before .before .args .k) ((c .before .before .before .before .before .before .before .before .before .pre) .1) ((c .before .before .before .before .before .before .before .before .before .pre) .2) (sym (c .before .before .before .kind .ensures) ∙ c .before .before .if1 .left), (c .before .before .before .before .before .before .before .before .before .pre) .0 .room, (c .before .before .before .before .before .before .before .before .before .pre) .0 .long)
 
 -- src/lib.rt:244:9
-returns-2 : tie.Need-returns-2
-returns-2 c = object-idle _ (c .before .before .before .before .before .before .before .before .before .before .args .k) _ (sym (c .before .runs .ensures (objectsAt (c .before .before .before .before .before .before .before .before .before .before .args .n) (c .before .before .before .before .before .before .before .before .before .before .args .b) (c .before .before .before .before .before .before .before .before .before .before .args .contents .now) (c .before .before .before .before .before .before .before .before .before .before .args .bodies .now)) (2 * c .before .before .before .before .before .before .before .before .before .before .args .k) (c .before .before .header-of .ensures)) ∙ not-true _ (c .if2 .taken))
-
--- src/lib.rt:246:5
-method-notes-requires : tie.Need-method-notes-requires
-method-notes-requires c κs = (asked-at ((c .before .before .before .before .before .before .before .before .before .before .before .before .pre) .0) (c .before .before .before .before .before .before .before .before .before .before .before .before .args .k) ((c .before .before .before .before .before .before .before .before .before .before .before .before .pre) .1) ((c .before .before .before .before .before .before .before .before .before .before .before .before .pre) .2) (sym (c .before .before .before .before .before .before .kind .ensures) ∙ c .before .before .before .before .before .if1 .left), (c .before .before .before .before .before .before .before .before .before .before .before .before .pre) .0 .room, (c .before .before .before .before .before .before .before .before .before .before .before .before .pre) .0 .long)
-
--- src/lib.rt:225:1
 same-length : tie.Need-same-length
 same-length c = search needs
 
--- src/lib.rt:225:1
+-- src/lib.rt:244:9
 same-length-2 : tie.Need-same-length-2
 same-length-2 c = search needs
 
+-- src/lib.rt:244:9
+returns-2 : tie.Need-returns-2
+returns-2 c = object-sound ((c .before .before .before .before .before .before .before .before .before .before .before .before .before .before .before .pre) .0) (c .before .before .before .before .before .before .before .before .before .before .before .before .before .before .before .args .k) _ _ _ ((c .before .before .before .before .before .before .before .before .before .before .before .before .before .before .before .pre) .1) ((c .before .before .before .before .before .before .before .before .before .before .before .before .before .before .before .pre) .2) (sym (c .before .before .before .before .before .before .before .before .before .kind .ensures) ∙ c .before .before .before .before .before .before .before .before .if1 .left) (c .before .before .before .before .before .method-notes .ensures) (c .if2 .taken)
+
+-- src/lib.rt:246:11
+header-of-requires : tie.Need-header-of-requires
+header-of-requires c κs = search needs
+
+-- src/lib.rt:246:6
+runs-requires : tie.Need-runs-requires
+runs-requires c κs = search needs
+
+-- src/lib.rt:225:1
+same-length-3 : tie.Need-same-length-3
+same-length-3 c = search needs
+
+-- src/lib.rt:225:1
+same-length-4 : tie.Need-same-length-4
+same-length-4 c = search needs
+
 -- src/lib.rt:225:1
 returns-3 : tie.Need-returns-3
-returns-3 c = object-walked ((c .before .before .before .before .before .before .before .before .before .before .before .before .before .before .before .before .before .pre) .0) (c .before .before .before .before .before .before .before .before .before .before .before .before .before .before .before .before .before .args .k) _ _ _ ((c .before .before .before .before .before .before .before .before .before .before .before .before .before .before .before .before .before .pre) .1) ((c .before .before .before .before .before .before .before .before .before .before .before .before .before .before .before .before .before .pre) .2) (sym (c .before .before .before .before .before .before .before .before .before .before .before .kind .ensures) ∙ c .before .before .before .before .before .before .before .before .before .before .if1 .left) (sym (c .before .before .before .before .before .before .before .before .runs .ensures (objectsAt (c .before .before .before .before .before .before .before .before .before .before .before .before .before .before .before .before .before .args .n) (c .before .before .before .before .before .before .before .before .before .before .before .before .before .before .before .before .before .args .b) (c .before .before .before .before .before .before .before .before .before .before .before .before .before .before .before .before .before .args .contents .now) (c .before .before .before .before .before .before .before .before .before .before .before .before .before .before .before .before .before .args .bodies .now)) (2 * c .before .before .before .before .before .before .before .before .before .before .before .before .before .before .before .before .before .args .k) (c .before .before .before .before .before .before .before .before .before .header-of .ensures)) ∙ not-false _ (c .before .before .before .before .before .before .before .if2 .left)) (c .before .before .before .before .method-notes .ensures)
+returns-3 c = object-unsound ((c .before .before .before .before .before .before .before .before .before .before .before .before .before .before .before .before .before .pre) .0) (c .before .before .before .before .before .before .before .before .before .before .before .before .before .before .before .before .before .args .k) _ _ _ ((c .before .before .before .before .before .before .before .before .before .before .before .before .before .before .before .before .before .pre) .1) ((c .before .before .before .before .before .before .before .before .before .before .before .before .before .before .before .before .before .pre) .2) (sym (c .before .before .before .before .before .before .before .before .before .before .before .kind .ensures) ∙ c .before .before .before .before .before .before .before .before .before .before .if1 .left) (c .before .before .before .before .before .before .before .method-notes .ensures) (c .runs .result) (c .before .before .if2 .left) (c .runs .ensures (objectsAt (c .before .before .before .before .before .before .before .before .before .before .before .before .before .before .before .before .before .args .n) (c .before .before .before .before .before .before .before .before .before .before .before .before .before .before .before .before .before .args .b) (c .before .before .before .before .before .before .before .before .before .before .before .before .before .before .before .before .before .args .contents .now) (c .before .before .before .before .before .before .before .before .before .before .before .before .before .before .before .before .before .args .bodies .now)) (2 * c .before .before .before .before .before .before .before .before .before .before .before .before .before .before .before .before .before .args .k) (c .before .header-of .ensures))
 
 pub code-object-spec : {M : Type 1} → statement M
 code-object-spec =
@@ -65,10 +72,12 @@ code-object-spec =
     returns
     mul-m
     cast-m
-    header-of-requires
-    runs-requires
-    returns-2
     method-notes-requires
     same-length
     same-length-2
+    returns-2
+    header-of-requires
+    runs-requires
+    same-length-3
+    same-length-4
     returns-3)

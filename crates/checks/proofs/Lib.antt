@@ -1,0 +1,4 @@
+pub mod Standing
+pub mod Headers
+pub mod Walking
+pub mod Entries

@@ -1,0 +1,91 @@
+use Rattle.checks.proofs.Entries.{entryAt, cache-no, cache-more, cache-all}
+-- Every entry before i passed.
+use Prim.Native.Nat.{_-_, _≤_}
+use native.Mathlib.Omega.{arith}
+use Rattle.model.specs.Objects.{objectsAt}
+use Rattle.rules.proofs.Loops.{Before, before-none}
+use Rattle.checks.proofs.cache_fine.Statement.{statement}
+use Rattle.checks.proofs.cache_fine.Tie as tie
+
+abbrev Inv-loop : tie.InvT-loop
+Inv-loop contents bodies cache n b i₀ i = (i ≤ 64) × Before (entryAt (objectsAt n b contents bodies) cache) i
+
+abbrev μ-loop : tie.MeasureT-loop
+μ-loop contents bodies cache n b i₀ i = 64 - i
+
+loop-holds : tie.Need-loop-holds Inv-loop μ-loop
+loop-holds c = let a = c .before .before .before .args in (omega arith, before-none (entryAt (objectsAt (a .n) (a .b) (a .contents .now) (a .bodies .now)) (a .cache .now)))
+
+mul-at : tie.Need-mul-at Inv-loop μ-loop
+mul-at c = omega arith
+
+mul-entry-fine : tie.Need-mul-entry-fine Inv-loop μ-loop
+mul-entry-fine c = omega (arith, (c .before .before .before .before .before .pre) .1)
+
+shared-slice-read-entry-fine : tie.Need-shared-slice-read-entry-fine Inv-loop μ-loop
+shared-slice-read-entry-fine c = omega (arith, (c .before .before .before .before .before .before .pre) .1)
+
+add-entry-fine : tie.Need-add-entry-fine Inv-loop μ-loop
+add-entry-fine c = omega (arith, (c .before .before .before .before .before .before .pre) .1)
+
+mul-entry-fine-2 : tie.Need-mul-entry-fine-2 Inv-loop μ-loop
+mul-entry-fine-2 c = omega (arith, (c .before .before .before .before .before .before .pre) .1)
+
+shared-slice-read-entry-fine-2 : tie.Need-shared-slice-read-entry-fine-2 Inv-loop μ-loop
+shared-slice-read-entry-fine-2 c = omega (arith, (c .before .before .before .before .before .before .before .pre) .1)
+
+add-entry-fine-2 : tie.Need-add-entry-fine-2 Inv-loop μ-loop
+add-entry-fine-2 c = omega (arith, (c .before .before .before .before .before .before .before .pre) .1)
+
+mul-entry-fine-3 : tie.Need-mul-entry-fine-3 Inv-loop μ-loop
+mul-entry-fine-3 c = omega (arith, (c .before .before .before .before .before .before .before .pre) .1)
+
+shared-slice-read-entry-fine-3 : tie.Need-shared-slice-read-entry-fine-3 Inv-loop μ-loop
+shared-slice-read-entry-fine-3 c = omega (arith, (c .before .before .before .before .before .before .before .before .pre) .1)
+
+entry-fine-requires : tie.Need-entry-fine-requires Inv-loop μ-loop
+entry-fine-requires c κs = (c .before .before .before .before .before .before .before .before .pre) .0
+
+returns : tie.Need-returns Inv-loop μ-loop
+returns c =
+    let a = c .before .before .before .before .before .before .before .before .before .before .args in
+    cache-no (objectsAt (a .n) (a .b) (a .contents .now) (a .bodies .now)) (a .cache .now) (c .before .before .before .before .before .before .loop .i) _ (omega (arith, c .before .before .before .before .before .loop-test .taken)) (c .before .entry-fine .ensures) (c .if1 .taken)
+
+add-i : tie.Need-add-i Inv-loop μ-loop
+add-i c = omega arith
+
+loop-less : tie.Need-loop-less Inv-loop μ-loop
+loop-less c = omega arith
+
+loop-again : tie.Need-loop-again Inv-loop μ-loop
+loop-again c =
+    let a = c .before .before .before .before .before .before .before .before .before .before .args in
+    (omega arith, cache-more (objectsAt (a .n) (a .b) (a .contents .now) (a .bodies .now)) (a .cache .now) (c .before .before .before .before .before .before .loop .i) _ (c .before .before .before .before .before .before .loop .inv .1) (c .before .entry-fine .ensures) (c .if1 .left))
+
+returns-2 : tie.Need-returns-2 Inv-loop μ-loop
+returns-2 c =
+    let a = c .before .before .before .before .before .args in
+    cache-all (objectsAt (a .n) (a .b) (a .contents .now) (a .bodies .now)) (a .cache .now) (c .before .loop .i) (c .loop-test .left) (c .before .loop .inv .1)
+
+pub cache-fine-spec : {M : Type 1} → statement M
+cache-fine-spec =
+    tie.close
+    (tie.spec
+    Inv-loop
+    μ-loop
+    loop-holds
+    mul-at
+    mul-entry-fine
+    shared-slice-read-entry-fine
+    add-entry-fine
+    mul-entry-fine-2
+    shared-slice-read-entry-fine-2
+    add-entry-fine-2
+    mul-entry-fine-3
+    shared-slice-read-entry-fine-3
+    entry-fine-requires
+    returns
+    add-i
+    loop-less
+    loop-again
+    returns-2)

@@ -1,0 +1,66 @@
+use mathlib.Core.Path.{sym, _∙_}
+use borrow.Author.Tests.{not-false}
+use lib.Dec.{eqb}
+use Rattle.bytecode.specs.Constant.{nilWord}
+use Rattle.bytecode.proofs.TestLaws.{true→T}
+use Rattle.model.specs.Limits.{classKind}
+use Rattle.model.specs.Objects.{objectsAt, isKind}
+use Rattle.model.proofs.Parts.{or-right}
+use Rattle.objects.proofs.Buffers.{contents-room}
+use Rattle.checks.proofs.Entries.{entry-empty, entry-other, entry-found, entry-nothing}
+use borrow.Author.Needs.{needs}
+use Rattle.checks.proofs.entry_fine.Statement.{statement}
+use Rattle.checks.proofs.entry_fine.Tie as tie
+
+is-empty-requires : tie.Need-is-empty-requires
+is-empty-requires c κs = search needs
+
+returns : tie.Need-returns
+returns c =
+    let a = c .before .before .before .before .args in
+    entry-empty (objectsAt (a .n) (a .b) (a .contents .now) (a .bodies .now)) (a .s) (a .class) (a .m) _ (c .before .is-empty .ensures) (c .if1 .taken)
+
+is-kind-requires : tie.Need-is-kind-requires
+is-kind-requires c κs =
+    let a = c .before .before .before .before .args in
+    contents-room (a .n) (a .b) (a .contents .now) (a .bodies .now) (c .before .before .before .before .pre)
+
+returns-2 : tie.Need-returns-2
+returns-2 c =
+    let a = c .before .before .before .before .before .before .args in
+    entry-other (objectsAt (a .n) (a .b) (a .contents .now) (a .bodies .now)) (a .s) (a .class) (a .m) _ (c .before .before .before .is-empty .ensures) _ (c .before .before .if1 .left) (c .before .is-kind .ensures (a .b) (a .bodies .now)) (c .if2 .taken)
+
+lookup-requires : tie.Need-lookup-requires
+lookup-requires c κs =
+    let a = c .before .before .before .before .before .before .args in
+    (c .before .before .before .before .before .before .pre, or-right (eqb (a .class) nilWord) (isKind (objectsAt (a .n) (a .b) (a .contents .now) (a .bodies .now)) classKind (a .class)) (true→T (sym (c .before .is-kind .ensures (a .b) (a .bodies .now)) ∙ not-false _ (c .if2 .left))))
+
+enum-known-k : tie.Need-enum-known-k
+enum-known-k c = search needs
+
+enum-told : tie.Need-enum-told
+enum-told c = search needs
+
+returns-3 : tie.Need-returns-3
+returns-3 c =
+    let a = c .before .before .before .before .before .before .before .before .before .before .before .args in
+    entry-found (objectsAt (a .n) (a .b) (a .contents .now) (a .bodies .now)) (a .s) (a .class) (a .m) _ (c .before .before .before .before .before .before .before .before .is-empty .ensures) _ _ (c .before .before .before .before .before .before .before .if1 .left) (c .before .before .before .before .lookup .ensures) (c .before .before .k .given .1)
+
+returns-4 : tie.Need-returns-4
+returns-4 c =
+    let a = c .before .before .before .before .before .before .before .before .before .args in
+    entry-nothing (objectsAt (a .n) (a .b) (a .contents .now) (a .bodies .now)) (a .s) (a .class) (a .m) _ (c .before .before .before .before .before .before .is-empty .ensures) _ (c .before .before .before .before .before .if1 .left) (c .before .before .lookup .ensures) (c .enum-told .given .1)
+
+pub entry-fine-spec : {M : Type 1} → statement M
+entry-fine-spec =
+    tie.close
+    (tie.spec
+    is-empty-requires
+    returns
+    is-kind-requires
+    returns-2
+    lookup-requires
+    enum-known-k
+    enum-told
+    returns-3
+    returns-4)

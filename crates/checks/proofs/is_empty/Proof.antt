@@ -1,0 +1,15 @@
+use Rattle.checks.proofs.Entries.{empty-selector, empty-class, empty-method}
+use Rattle.checks.proofs.is_empty.Statement.{statement}
+use Rattle.checks.proofs.is_empty.Tie as tie
+
+returns : tie.Need-returns
+returns c = empty-selector (c .before .args .s) (c .before .args .class) (c .before .args .m) (c .if1 .taken)
+
+returns-2 : tie.Need-returns-2
+returns-2 c = empty-class (c .before .before .args .s) (c .before .before .args .class) (c .before .before .args .m) (c .before .if1 .left) (c .if2 .taken)
+
+returns-3 : tie.Need-returns-3
+returns-3 c = empty-method (c .before .before .args .s) (c .before .before .args .class) (c .before .before .args .m) (c .before .if1 .left) (c .if2 .left)
+
+pub is-empty-spec : {M : Type 1} → statement M
+is-empty-spec = tie.close (tie.spec returns returns-2 returns-3)

@@ -1,0 +1,245 @@
+// The frames' and the cache's part of check.
+ghost use mathlib.Core.Path.{_≡_};
+ghost use mathlib.Core.Bool.{true, _&&_};
+ghost use Prim.Native.Nat.{suc};
+ghost use lib.Dec.{T, eqb};
+ghost use lib.ListN.{length};
+ghost use Rattle.bytecode.specs.Test.{allOf};
+ghost use Rattle.model.specs.Limits.{methodKind, cacheWords};
+ghost use Rattle.model.specs.Objects.{objectsAt, isKind};
+ghost use Rattle.model.specs.Depth.{noteAt};
+ghost use Rattle.model.specs.Rules.{Right, methodTable};
+ghost use Rattle.plain.specs.Flat.{frameAt, framesFrom};
+ghost use Rattle.plain.specs.Check.{frameRules, framesFine};
+ghost use Rattle.plain.specs.Cache.{entryFine, cacheFine};
+ghost use Rattle.checks.specs.Frame.{frameEnd, headerFine, Noted, Stands};
+use model::CodePosition;
+use model::Found;
+use model::Pointer;
+use model::StackPosition;
+
+// Where the frame at a base ends; 0 where none of a method fits there.
+fn frame_end(
+    contents: &[u16],
+    bodies: &[u16],
+    stack: &[u16],
+    n: usize,
+    b: usize,
+    at: StackPosition,
+) -> StackPosition
+    requires { ⌜ Right 1 (objectsAt n b (now contents) (now bodies)) ⌝ }
+    ensures { λ r. ⌜ r .0 ≡ frameEnd (objectsAt n b (now (contents .entry)) (now (bodies .entry))) (now (stack .entry)) (at .0) ⌝ }
+{
+    let base = at.0;
+    // the smallest frame has 18 words, and none ends above 65,536
+    if 65518 < base {
+        return StackPosition(0);
+    }
+    if stack.len() < base + 18 {
+        return StackPosition(0);
+    }
+    let m = stack[base + 3];
+    if !objects::is_kind(contents, n, 4, m) {
+        return StackPosition(0);
+    }
+    let end = base
+        + (6 + objects::frame_words(objects::header(contents, bodies, n, b, Pointer(m))));
+    if stack.len() < end {
+        return StackPosition(0);
+    }
+    if 65536 < end {
+        return StackPosition(0);
+    }
+    StackPosition(end)
+}
+
+// The note at a position of a method's code, 0 outside it.
+fn note_at(
+    contents: &[u16],
+    bodies: &[u16],
+    notes: &[u8],
+    n: usize,
+    b: usize,
+    m: Pointer,
+    at: CodePosition,
+) -> usize
+    requires { ⌜ Noted n b (now contents) (now bodies) (now notes) × T (isKind (objectsAt n b (now contents) (now bodies)) methodKind (m .0)) ⌝ }
+    ensures { λ r. ⌜ r ≡ noteAt (methodTable (objectsAt n b (now (contents .entry)) (now (bodies .entry))) (m .0)) (at .0) ⌝ }
+{
+    let code = objects::code_of(contents, bodies, n, b, m);
+    let p = at.0;
+    if code.size <= p {
+        return 0;
+    }
+    let i = 2 * code.from + p;
+    notes[i] as usize
+}
+
+// The words of a frame but for temporaries and operands.
+fn header_fine(
+    contents: &[u16],
+    bodies: &[u16],
+    stack: &[u16],
+    notes: &[u8],
+    n: usize,
+    b: usize,
+    at: StackPosition,
+    uppermost: bool,
+) -> bool
+    requires { ⌜ Stands n b (now contents) (now bodies) (now stack) (now notes) (at .0) ⌝ }
+    ensures { λ r. ⌜ r ≡ headerFine (objectsAt n b (now (contents .entry)) (now (bodies .entry))) uppermost (frameAt (objectsAt n b (now (contents .entry)) (now (bodies .entry))) (now (stack .entry)) (at .0)) ⌝ }
+{
+    let base = at.0;
+    if stack[base + 4] != 0 {
+        return false;
+    }
+    let receiver = stack[base + 5];
+    if !objects::is_valid(n, receiver) {
+        return false;
+    }
+    let m = stack[base + 3];
+    let home = objects::home(contents, bodies, n, b, Pointer(m));
+    let class = objects::class_of(contents, n, receiver);
+    if !objects::in_chain(contents, bodies, n, b, home, class) {
+        return false;
+    }
+    let p = stack[base + 1] as usize;
+    let note = note_at(contents, bodies, notes, n, b, Pointer(m), CodePosition(p));
+    let depth = stack[base + 2] as usize;
+    if uppermost {
+        return note == depth + 1;
+    }
+    note == depth + 2
+}
+
+// One frame that stands.
+fn frame_fine(
+    contents: &[u16],
+    bodies: &[u16],
+    stack: &[u16],
+    notes: &[u8],
+    n: usize,
+    b: usize,
+    at: StackPosition,
+    uppermost: bool,
+) -> bool
+    requires { ⌜ Stands n b (now contents) (now bodies) (now stack) (now notes) (at .0) ⌝ }
+    ensures { λ r. ⌜ r ≡ allOf (frameRules (objectsAt n b (now (contents .entry)) (now (bodies .entry))) uppermost (frameAt (objectsAt n b (now (contents .entry)) (now (bodies .entry))) (now (stack .entry)) (at .0))) ⌝ }
+{
+    if !header_fine(contents, bodies, stack, notes, n, b, at, uppermost) {
+        return false;
+    }
+    let base = at.0;
+    let m = stack[base + 3];
+    let depth = stack[base + 2] as usize;
+    let from = base + 6;
+    let end = from
+        + (objects::temporary_count(objects::header(contents, bodies, n, b, Pointer(m))) + depth);
+    rules::valid_words(n, &stack[from..end])
+}
+
+// The frames of a state, from the top one down to the one at 0.
+pub fn frames_fine(
+    contents: &[u16],
+    bodies: &[u16],
+    stack: &[u16],
+    notes: &[u8],
+    n: usize,
+    b: usize,
+    top: StackPosition,
+) -> bool
+    requires { ⌜ Noted n b (now contents) (now bodies) (now notes) ⌝ }
+    ensures { λ r. ⌜ r ≡ framesFine (objectsAt n b (now (contents .entry)) (now (bodies .entry))) (length (now (stack .entry))) true (top .0) (framesFrom (suc (top .0)) (objectsAt n b (now (contents .entry)) (now (bodies .entry))) (now (stack .entry)) (top .0)) ⌝ }
+{
+    let end = frame_end(contents, bodies, stack, n, b, top);
+    if end.0 == 0 {
+        return false;
+    }
+    let mut base = top.0;
+    let mut uppermost = true;
+    loop {
+        if !frame_fine(
+            contents,
+            bodies,
+            stack,
+            notes,
+            n,
+            b,
+            StackPosition(base),
+            uppermost,
+        ) {
+            return false;
+        }
+        let sender = stack[base] as usize;
+        if base == 0 {
+            return sender == 0;
+        }
+        let below = frame_end(contents, bodies, stack, n, b, StackPosition(sender));
+        if below.0 != base {
+            return false;
+        }
+        base = sender;
+        uppermost = false;
+    }
+}
+
+fn is_empty(s: u16, class: u16, m: u16) -> bool
+    ensures { λ r. ⌜ r ≡ (eqb s 0 && (eqb class 0 && eqb m 0)) ⌝ }
+{
+    if s != 0 {
+        return false;
+    }
+    if class != 0 {
+        return false;
+    }
+    m == 0
+}
+
+// An entry of the cache: selector, class, method.
+fn entry_fine(
+    contents: &[u16],
+    bodies: &[u16],
+    n: usize,
+    b: usize,
+    s: u16,
+    class: u16,
+    m: u16,
+) -> bool
+    requires { ⌜ Right 1 (objectsAt n b (now contents) (now bodies)) ⌝ }
+    ensures { λ r. ⌜ r ≡ entryFine (objectsAt n b (now (contents .entry)) (now (bodies .entry))) s class m ⌝ }
+{
+    if is_empty(s, class, m) {
+        return true;
+    }
+    if !objects::is_kind(contents, n, 2, class) {
+        return false;
+    }
+    match objects::lookup(contents, bodies, n, b, s, Pointer(class)) {
+        Found::Method(k) => k.0 == m,
+        Found::Nothing => false,
+    }
+}
+
+// Every entry of the cache is empty or what lookup finds.
+pub fn cache_fine(contents: &[u16], bodies: &[u16], cache: &[u16], n: usize, b: usize) -> bool
+    requires { ⌜ Right 1 (objectsAt n b (now contents) (now bodies)) × (length (now cache) ≡ cacheWords) ⌝ }
+    ensures { λ r. ⌜ r ≡ cacheFine (objectsAt n b (now (contents .entry)) (now (bodies .entry))) (now (cache .entry)) ⌝ }
+{
+    let mut i = 0;
+    while i < 64 {
+        let at = 3 * i;
+        if !entry_fine(
+            contents,
+            bodies,
+            n,
+            b,
+            cache[at],
+            cache[at + 1],
+            cache[at + 2],
+        ) {
+            return false;
+        }
+        i += 1;
+    }
+    true
+}
