@@ -1,0 +1,92 @@
+use borrow.Author.Needs.{needs}
+use Rattle.steps.proofs.jump_on.Statement.{statement}
+use Rattle.steps.proofs.jump_on.Tie as tie
+use Rattle.steps.proofs.jump_on.Reads as reads
+use Rattle.steps.proofs.jump_on.Lts as lts
+use Rattle.frames.proofs.move_to.Reads as move-to-reads
+use Rattle.steps.proofs.boolean.Reads as boolean-reads
+
+-- src/lib.rt:206:16
+sub-left : tie.Need-sub-left
+sub-left c = ?
+
+-- src/lib.rt:207:14
+add-at : tie.Need-add-at
+add-at c = ?
+
+-- src/lib.rt:208:13
+mul-w : tie.Need-mul-w
+mul-w c = ?
+
+-- src/lib.rt:208:13
+slice-read-w : tie.Need-slice-read-w
+slice-read-w c = ?
+
+-- src/lib.rt:209:13
+boolean-requires : tie.Need-boolean-requires
+boolean-requires c κs = search needs
+
+-- src/lib.rt:210:31
+add-t20 : tie.Need-add-t20
+add-t20 c = ?
+
+-- src/lib.rt:211:9
+move-to-requires : tie.Need-move-to-requires
+move-to-requires c κs = ?
+
+-- src/lib.rt:212:9
+same-length : tie.Need-same-length
+same-length c = search needs
+
+-- src/lib.rt:212:9
+returns : tie.Need-returns
+returns c = ?
+
+-- src/lib.rt:215:9
+move-to-requires-2 : tie.Need-move-to-requires-2
+move-to-requires-2 c κs = ?
+
+-- src/lib.rt:216:9
+same-length-2 : tie.Need-same-length-2
+same-length-2 c = search needs
+
+-- src/lib.rt:216:9
+returns-2 : tie.Need-returns-2
+returns-2 c = ?
+
+-- src/lib.rt:219:9
+move-to-requires-3 : tie.Need-move-to-requires-3
+move-to-requires-3 c κs = ?
+
+-- src/lib.rt:220:9
+same-length-3 : tie.Need-same-length-3
+same-length-3 c = search needs
+
+-- src/lib.rt:220:9
+returns-3 : tie.Need-returns-3
+returns-3 c = ?
+
+-- src/lib.rt:191:1
+returns-4 : tie.Need-returns-4
+returns-4 c = ?
+
+pub jump-on-spec : {M : Type 1} → statement M
+jump-on-spec =
+    tie.close
+    (tie.spec
+    sub-left
+    add-at
+    mul-w
+    slice-read-w
+    boolean-requires
+    add-t20
+    move-to-requires
+    same-length
+    returns
+    move-to-requires-2
+    same-length-2
+    returns-2
+    move-to-requires-3
+    same-length-3
+    returns-3
+    returns-4)

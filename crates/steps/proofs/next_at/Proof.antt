@@ -1,0 +1,26 @@
+use borrow.Author.Needs.{needs}
+use Rattle.steps.proofs.next_at.Statement.{statement}
+use Rattle.steps.proofs.next_at.Tie as tie
+use Rattle.steps.proofs.next_at.Reads as reads
+use Rattle.steps.proofs.next_at.Lts as lts
+use Rattle.bytecode.proofs.fetch.Reads as fetch-reads
+use Rattle.bytecode.proofs.length.Reads as length-reads
+
+-- src/lib.rt:64:27
+fetch-requires : tie.Need-fetch-requires
+fetch-requires c κs = search needs
+
+-- src/lib.rt:64:10
+length-requires : tie.Need-length-requires
+length-requires c κs = search needs
+
+-- src/lib.rt:64:5
+add-result : tie.Need-add-result
+add-result c = ?
+
+-- src/lib.rt:60:1
+returns : tie.Need-returns
+returns c = ?
+
+pub next-at-spec : {M : Type 1} → statement M
+next-at-spec = tie.close (tie.spec fetch-requires length-requires add-result returns)

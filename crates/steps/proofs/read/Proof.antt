@@ -1,0 +1,127 @@
+use borrow.Author.Needs.{needs}
+use Rattle.steps.proofs.read.Statement.{statement}
+use Rattle.steps.proofs.read.Tie as tie
+use Rattle.steps.proofs.read.Reads as reads
+use Rattle.steps.proofs.read.Lts as lts
+use Rattle.objects.proofs.literal.Reads as literal-reads
+use Rattle.objects.proofs.word_of.Reads as word-of-reads
+
+-- src/lib.rt:118:22
+enum-known-place : tie.Need-enum-known-place
+enum-known-place c = search needs
+
+-- src/lib.rt:119:34
+add-receiver : tie.Need-add-receiver
+add-receiver c = search needs
+
+-- src/lib.rt:119:28
+mul-receiver : tie.Need-mul-receiver
+mul-receiver c = ?
+
+-- src/lib.rt:119:28
+shared-slice-read-receiver : tie.Need-shared-slice-read-receiver
+shared-slice-read-receiver c = ?
+
+-- src/lib.rt:120:73
+cast-word-of : tie.Need-cast-word-of
+cast-word-of c = search needs
+
+-- src/lib.rt:120:13
+word-of-requires : tie.Need-word-of-requires
+word-of-requires c κs = ?
+
+-- src/lib.rt:122:26
+enum-known-place-2 : tie.Need-enum-known-place-2
+enum-known-place-2 c = search needs
+
+-- src/lib.rt:122:38
+add-result : tie.Need-add-result
+add-result c = search needs
+
+-- src/lib.rt:122:49
+cast-result : tie.Need-cast-result
+cast-result c = search needs
+
+-- src/lib.rt:122:38
+add-result-2 : tie.Need-add-result-2
+add-result-2 c = ?
+
+-- src/lib.rt:122:32
+mul-result : tie.Need-mul-result
+mul-result c = ?
+
+-- src/lib.rt:122:32
+shared-slice-read-result : tie.Need-shared-slice-read-result
+shared-slice-read-result c = ?
+
+-- src/lib.rt:123:24
+enum-known-place-3 : tie.Need-enum-known-place-3
+enum-known-place-3 c = search needs
+
+-- src/lib.rt:123:79
+cast-literal : tie.Need-cast-literal
+cast-literal c = search needs
+
+-- src/lib.rt:123:30
+literal-requires : tie.Need-literal-requires
+literal-requires c κs = ?
+
+-- src/lib.rt:124:32
+enum-known-place-4 : tie.Need-enum-known-place-4
+enum-known-place-4 c = search needs
+
+-- src/lib.rt:125:70
+cast-literal-2 : tie.Need-cast-literal-2
+cast-literal-2 c = search needs
+
+-- src/lib.rt:125:17
+literal-requires-2 : tie.Need-literal-requires-2
+literal-requires-2 c κs = ?
+
+-- src/lib.rt:126:13
+word-of-requires-2 : tie.Need-word-of-requires-2
+word-of-requires-2 c κs = ?
+
+-- src/lib.rt:102:1
+returns : tie.Need-returns
+returns c = ?
+
+-- src/lib.rt:102:1
+returns-2 : tie.Need-returns-2
+returns-2 c = ?
+
+-- src/lib.rt:102:1
+returns-3 : tie.Need-returns-3
+returns-3 c = ?
+
+-- src/lib.rt:102:1
+returns-4 : tie.Need-returns-4
+returns-4 c = ?
+
+pub read-spec : {M : Type 1} → statement M
+read-spec =
+    tie.close
+    (tie.spec
+    enum-known-place
+    add-receiver
+    mul-receiver
+    shared-slice-read-receiver
+    cast-word-of
+    word-of-requires
+    enum-known-place-2
+    add-result
+    cast-result
+    add-result-2
+    mul-result
+    shared-slice-read-result
+    enum-known-place-3
+    cast-literal
+    literal-requires
+    enum-known-place-4
+    cast-literal-2
+    literal-requires-2
+    word-of-requires-2
+    returns
+    returns-2
+    returns-3
+    returns-4)
