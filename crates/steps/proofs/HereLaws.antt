@@ -8,7 +8,8 @@ use native.Mathlib.Omega.{arith}
 use native.Mathlib.Decide.{decLt}
 use borrow.Author.Tests.{lt-ltb}
 use lib.Dec.{T}
-use lib.ListN.{length, getD, getElem?}
+use lib.ListN.{length, getD, getElem?, take, drop, length-drop}
+use lib.Seq.{length-take-le}
 use Rattle.bytecode.specs.Code.{byteAt, instructionOf, nextAt, decodeAt}
 use Rattle.bytecode.specs.Effect.{usable}
 use Rattle.bytecode.specs.declared.Instruction.{Instruction}
@@ -19,7 +20,7 @@ use Rattle.bytecode.proofs.DecodeLaws.{decode-short, decode-whole}
 use Rattle.model.specs.Limits.{methodKind}
 use Rattle.model.specs.Word.{isValid, objectNumber}
 use Rattle.model.specs.Objects.{Objects, objectsAt, start, size, bodyWords}
-use Rattle.model.specs.Method.{temporaryCount, literalCount, codeWords, codeSize, frameWords}
+use Rattle.model.specs.Method.{header, temporaryCount, literalCount, codeWords, codeSize, frameWords}
 use Rattle.model.specs.Depth.{noteAt, rulesAt, fineAt}
 use Rattle.model.specs.Rules.{allowed, methodTable}
 use Rattle.model.proofs.ChainLaws.{named}
@@ -32,7 +33,8 @@ use Rattle.plain.specs.Running.{Runs, At, topFrame, restFrames}
 use Rattle.plain.proofs.FrameLaws.{FrameRight, frame-spot}
 use Rattle.plain.proofs.RunningLaws.{stood, all-right, top-right, is-method, TopBounds, top-bounds}
 use Rattle.plain.proofs.WriteLaws.{top-here, operand-here, temporary-here}
-use Rattle.objects.specs.Lent.{Holds}
+use Rattle.objects.specs.Lent.{Holds, CodeAt, temporariesOf}
+use Rattle.objects.specs.declared.Code.{Code}
 use Rattle.steps.specs.declared.Here.{Here}
 use Rattle.steps.specs.Events.{HereAt}
 
@@ -169,3 +171,32 @@ module _ {n b top : ℕ} {contents bodies stack : List ℕ} {h : Here} {i : Inst
       let y = a .isOperands in
       subst (λ (x : ℕ). T (isValid n x)) (sym (operand-here oₐ stack top fₐ true refl r (fₐ .depth - suc k) (omega arith)) ∙ ap (λ (x : ℕ). getD stack x 0) (omega arith))
       (every-at (isValid n) (fₐ .operands) (r .validOperands) (fₐ .depth - suc k) (omega arith))
+
+-- The bytecode as the code fetches it
+module _ {n b top : ℕ} {contents bodies stack : List ℕ} (r : Runs n b top contents bodies stack) {c : Code} (q : CodeAt n b contents bodies (frameMethod stack top) c) where
+  abbrev lent : List ℕ
+  lent = take (c .end - c .from) (drop (c .from) bodies)
+
+  pub position-lent : (framePosition stack top / 2 < length lent) × (framePosition stack top < 65536)
+  position-lent =
+      let k = coded r in
+      let i = position-inside r in
+      let x = q .from in
+      let y = q .end in
+      let z = q .inside in
+      let d = length-drop (c .from) bodies in
+      let l = length-take-le (c .end - c .from) (drop (c .from) bodies) (omega arith) in
+      (omega arith, omega arith)
+
+  pub fetched-here : (i : Instruction) (next word temporaries : ℕ)
+      → i ≡ instructionOf (byteAt lent (framePosition stack top)) (byteAt lent (framePosition stack top + 1)) (byteAt lent (framePosition stack top + 2))
+      → next ≡ nextAt lent (framePosition stack top) → word ≡ header (objectsAt n b contents bodies) (frameMethod stack top) → temporaries ≡ temporariesOf word
+      → HereAt n b top contents bodies stack (record { method = record { 0 = frameMethod stack top }; operands = record { 0 = top + 6 + temporaries }; depth = frameDepth stack top; next = record { 0 = next } }) i
+  fetched-here i next word temporaries e d w t =
+      let s = q .words in
+      record {
+        at = record { runs = r; behind = d ∙ ap (λ (l : List ℕ). nextAt l (framePosition stack top)) s; decoded = e ∙ ap (λ (l : List ℕ). instructionOf (byteAt l (framePosition stack top)) (byteAt l (framePosition stack top + 1)) (byteAt l (framePosition stack top + 2))) s ∙ decode-is r };
+        isMethod = refl;
+        isOperands = ap (λ (k : ℕ). top + 6 + k) (t ∙ ap (λ (x : ℕ). temporariesOf x) w);
+        isDepth = refl;
+      }

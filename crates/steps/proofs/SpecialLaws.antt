@@ -7,13 +7,14 @@ use mathlib.Core.List.{List, [], _∷_, List·Memᴰ·head}
 use mathlib.Core.Option.{Option, none, some}
 use native.Mathlib.Omega.{arith}
 use borrow.Author.Tests.{eq-eqb, ne-eqb, le-ltb}
-use lib.Dec.{T, ltb, eqb}
+use lib.Dec.{T, ltb, eqb, ltb→lt}
 use lib.ListN.{length, getD, set}
 use Rattle.bytecode.specs.Test.{if_then_else_}
 use Rattle.bytecode.specs.Effect.{specialCount, need, leaves, successors}
 use Rattle.bytecode.specs.declared.Instruction.{Instruction}
 use Rattle.bytecode.specs.declared.Instruction.the-variants.{SpecialSend}
 use Rattle.bytecode.proofs.Choice.{if-yes, if-no, if-lt, if-ge}
+use Rattle.bytecode.proofs.TestLaws.{below-at}
 use Rattle.model.specs.declared.Computed.{Computed}
 use Rattle.model.specs.declared.Computed.the-variants.{Word, Failed}
 use Rattle.model.specs.Limits.{specialSelectors}
@@ -60,6 +61,10 @@ pub special-counted : (k : ℕ) → 16 ≤ k → getD (1 ∷ 2 ∷ 0 ∷ 0 ∷ 1
 unfolding specialCount
 special-counted k h = sym (if-ge k 16 1 _ h)
 
+pub special-fits : (i : ℕ) → i < 16 → getD {A = ℕ} (1 ∷ 2 ∷ 0 ∷ 0 ∷ 1 ∷ 0 ∷ 1 ∷ 0 ∷ 1 ∷ 0 ∷ 1 ∷ 1 ∷ 0 ∷ 1 ∷ 0 ∷ 0 ∷ []) i 0 < 3
+special-fits i h =
+    ltb→lt (getD {A = ℕ} (1 ∷ 2 ∷ 0 ∷ 0 ∷ 1 ∷ 0 ∷ 1 ∷ 0 ∷ 1 ∷ 0 ∷ 1 ∷ 1 ∷ 0 ∷ 1 ∷ 0 ∷ 0 ∷ []) i 0) 3 (below-at 16 (λ j. ltb (getD {A = ℕ} (1 ∷ 2 ∷ 0 ∷ 0 ∷ 1 ∷ 0 ∷ 1 ∷ 0 ∷ 1 ∷ 0 ∷ 1 ∷ 1 ∷ 0 ∷ 1 ∷ 0 ∷ 0 ∷ []) j 0) 3) tt i h)
+
 module _ {n b top : ℕ} {contents bodies stack : List ℕ} {h : Here} {k : ℕ} (a : HereAt n b top contents bodies stack h (SpecialSend k)) where
   abbrev o : Objects
   o = objectsAt n b contents bodies
@@ -73,8 +78,10 @@ module _ {n b top : ℕ} {contents bodies stack : List ℕ} {h : Here} {k : ℕ}
   abbrev at : ℕ → ℕ → Plain
   at receiver selector = runningAt receiver selector n b top contents bodies stack
 
-  abbrev last under : ℕ
+  abbrev last : ℕ
   last = getD stack (h .operands .0 + (h .depth - 1)) 0
+
+  abbrev under : ℕ
   under = getD stack (h .operands .0 + (h .depth - 2)) 0
 
   pub special-small : k < 32

@@ -3,8 +3,11 @@ use Prim.Native.Nat.{ℕ, suc, _+_, _-_, _≤_, _<_}
 use mathlib.Core.Path.{_≡_, refl, sym, ap, _∙_, subst}
 use mathlib.Core.List.{List, [], _∷_}
 use mathlib.Core.Option.{Option, none, some}
+use native.Mathlib.Omega.{arith}
 use lib.Dec.{T}
 use lib.ListN.{length, getD, getElem?, take, set}
+use Rattle.bytecode.specs.declared.Place.{Place}
+use Rattle.bytecode.specs.declared.Instruction.{Instruction}
 use Rattle.bytecode.specs.declared.Place.the-variants.{Field, Temporary, Literal, LiteralVariable}
 use Rattle.model.specs.Word.{objectNumber}
 use Rattle.model.specs.Objects.{Objects, objectsAt}
@@ -18,9 +21,31 @@ use Rattle.plain.specs.FlatCalls.{atFront}
 use Rattle.plain.specs.Running.{Moved, runningAt, topFrame, restFrames}
 use Rattle.plain.proofs.RunningLaws.{receiver-is}
 use Rattle.steps.specs.declared.Here.{Here}
-use Rattle.steps.specs.Events.{Storing}
+use Rattle.steps.specs.Events.{HereAt, Storing}
+use Rattle.steps.proofs.HereLaws.{bounds}
 use Rattle.steps.proofs.MoveLaws.{goes-temporary}
-use Rattle.steps.proofs.PlaceLaws.{own-field, temporary-below, temporary-at, literal-at, variable-below, variable-field, store-runs, store-place, store-left, stores, stores-in}
+use Rattle.steps.proofs.PlaceLaws.{own-field, temporary-below, temporary-inside, temporary-at, literal-at, variable-below, variable-field, store-runs, store-place, store-left, stores, stores-in}
+
+pub store-as : {n b top : ℕ} {contents bodies stack : List ℕ} {h : Here} {p : Place} {left : ℕ} → Storing n b top contents bodies stack h p left → (p′ : Place) → p ≡ p′ → Storing n b top contents bodies stack h p′ left
+store-as {n} {b} {top} {contents} {bodies} {stack} {h} {p} {left} z p′ e = subst (λ (x : Place). Storing n b top contents bodies stack h x left) e z
+
+-- what moving the frame on asks
+abbrev pub Goes : ℕ → List ℕ → ℕ → ℕ → Type 0
+Goes top stack q k = (top + 2 < length stack) × (q < 65536) × (k < 65536)
+
+pub goes-there : {n b top : ℕ} {contents bodies stack : List ℕ} {h : Here} {i : Instruction} → HereAt n b top contents bodies stack h i → (q k : ℕ) → q < 65536 → k ≤ h .depth → Goes top stack q k
+goes-there a q k l t = let x = bounds a in (omega arith, l, omega arith)
+
+pub store-goes : {n b top : ℕ} {contents bodies stack : List ℕ} {h : Here} {p : Place} {left : ℕ} → Storing n b top contents bodies stack h p left → Goes top stack (h .next .0) left
+store-goes z = let x = bounds (z .here) in let y = store-left z in (omega arith, omega arith, omega arith)
+
+pub store-puts : {n b top : ℕ} {contents bodies stack : List ℕ} {h : Here} {j left : ℕ} → Storing n b top contents bodies stack h (Temporary j) left
+    → (top + 2 < length stack) × (top + 6 + j < length stack) × (h .next .0 < 65536) × (left < 65536)
+store-puts {j = j} z =
+    let x = bounds (z .here) in
+    let y = store-left z in
+    let t = temporary-inside (store-runs z) j (store-place z) in
+    (omega arith, t .0, omega arith, omega arith)
 
 module _ {n b top : ℕ} {contents bodies stack : List ℕ} {h : Here} {left : ℕ} where
   pub store-field : {j : ℕ} (z : Storing n b top contents bodies stack h (Field j) left) (bodies′ stack′ : List ℕ)

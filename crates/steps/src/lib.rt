@@ -130,7 +130,7 @@ fn read(
 
 // A word in the place of the `taken` uppermost operands, and the frame goes on.
 fn answer(stack: &mut [u16], top: StackPosition, here: Here, taken: usize, w: u16)
-    requires { ⌜ (top .0 + 2 < length (now stack)) × (taken ≤ here .depth) × (here .operands .0 + here .depth ≤ length (now stack)) × (here .operands .0 + (here .depth - taken) < length (now stack)) × (length (now stack) < 18446744073709551615) × (here .depth < 65535) × (here .next .0 < 65536) ⌝ }
+    requires { ⌜ (top .0 + 2 < length (now stack)) × (taken ≤ here .depth) × (here .operands .0 + here .depth ≤ 65536) × (here .operands .0 + (here .depth - taken) < length (now stack)) × (here .depth < 65535) × (here .next .0 < 65536) ⌝ }
     ensures { λ r. ⌜ now (stack .exit) ≡ set (set (set (now (stack .entry)) (here .operands .0 + (here .depth - taken)) w) (top .0 + 1) (here .next .0)) (top .0 + 2) (here .depth - taken + 1) ⌝ }
 {
     let left = here.depth - taken;

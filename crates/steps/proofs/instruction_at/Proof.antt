@@ -1,3 +1,5 @@
+use mathlib.Core.Path.{_∙_, ap, sym, refl}
+use Rattle.bytecode.specs.Code.{instructionOf}
 use borrow.Author.Needs.{needs}
 use Rattle.steps.proofs.instruction_at.Statement.{statement}
 use Rattle.steps.proofs.instruction_at.Tie as tie
@@ -33,7 +35,7 @@ instruction-of-requires c κs = search needs
 
 -- src/lib.rt:50:1
 returns : tie.Need-returns
-returns c = ?
+returns c = c .instruction-of .ensures ∙ (λ i. instructionOf (c .before .before .before .fetch .ensures i) (c .before .before .byte .ensures i) (c .before .byte2 .ensures i))
 
 pub instruction-at-spec : {M : Type 1} → statement M
 instruction-at-spec =
