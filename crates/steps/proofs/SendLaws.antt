@@ -107,9 +107,13 @@ module _ {n b top : ℕ} {contents bodies stack : List ℕ} {h : Here} {i : Inst
       → Becomes n b top contents bodies stack bodies stack (λ room receiver selector. sendStep room receiver selector n b top contents bodies stack s count class (h .next .0))
   unfolding sends
   becomes-send from s count class l c e =
-      record { words = refl; frames = refl; steps = λ receiver selector room. e receiver selector room
-          ∙ ap (λ (x : Option ℕ). x >>= λ w. afterLookup room (runningAt receiver selector n b top contents bodies stack) (popped f (h .next .0) (suc count)) rest s (from w) w (drop (f .depth - count) (f .operands)) (lookup o s (from w))) (receiver-found count l)
-          ∙ ap (λ (x : ℕ). afterLookup room (runningAt receiver selector n b top contents bodies stack) (popped f (h .next .0) (suc count)) rest s x (own count) (drop (f .depth - count) (f .operands)) (lookup o s x)) (sym c) }
+      record {
+        words = refl;
+        frames = refl;
+        steps = λ receiver selector room. e receiver selector room
+            ∙ ap (λ (x : Option ℕ). x >>= λ w. afterLookup room (runningAt receiver selector n b top contents bodies stack) (popped f (h .next .0) (suc count)) rest s (from w) w (drop (f .depth - count) (f .operands)) (lookup o s (from w))) (receiver-found count l)
+            ∙ ap (λ (x : ℕ). afterLookup room (runningAt receiver selector n b top contents bodies stack) (popped f (h .next .0) (suc count)) rest s x (own count) (drop (f .depth - count) (f .operands)) (lookup o s x)) (sym c);
+      }
 
 -- The receiver's class
 module _ {n b top : ℕ} {contents bodies stack : List ℕ} {h : Here} {s count : ℕ} (z : Sends n b top contents bodies stack h s count) where
@@ -207,12 +211,13 @@ module _ {n b top : ℕ} {contents bodies stack : List ℕ} {h : Here} {l k : �
       → Sending n b top contents bodies stack s k class (h .next .0) (eqb (getD stack at 0) (frameReceiver stack top))
       × Becomes n b top contents bodies stack bodies stack (λ room receiver selector. sendStep room receiver selector n b top contents bodies stack s k class (h .next .0))
   unfolding execute
-  super-says at s c class e p q d =
-      (record { runs = a .at .runs; needs = super-depth; noted = super-noted ∙ ap suc (let y = a .isDepth in omega arith); named = selector-named (objectsAt n b contents bodies) s k fine; starts = subst (λ (x : ℕ). T (isNilOr (objectsAt n b contents bodies) classKind x)) (sym same) (class-facts (a .at .runs .right) (home (objectsAt n b contents bodies) (frameMethod stack top)) home-class .superclass); takes = selector-takes (objectsAt n b contents bodies) s k fine; homes = λ t m u. subst (λ (x : ℕ). T (inChain (objectsAt n b contents bodies) (home (objectsAt n b contents bodies) m) (classOf (objectsAt n b contents bodies) x))) (sym (eqb-true (getD stack at 0) (frameReceiver stack top) t) ∙ place-of a k at super-depth e) (own-chain s class m same u) },
-      becomes-send a (λ x. superclassWord (objectsAt n b contents bodies) (home (objectsAt n b contents bodies) (topFrame n b top contents bodies stack .method))) s k class super-depth (same ∙ ap (λ (x : ℕ). superclassWord (objectsAt n b contents bodies) (home (objectsAt n b contents bodies) x)) (sym (method-is (a .at .runs))))
-      (λ receiver selector room. step-is (a .at) receiver selector room
-      ∙ ap (λ (x : Option ℕ). x >>= λ w. sends room (runningAt receiver selector n b top contents bodies stack) (topFrame n b top contents bodies stack) (restFrames n b top contents bodies stack) (h .next .0) (λ x. superclassWord (objectsAt n b contents bodies) (home (objectsAt n b contents bodies) (topFrame n b top contents bodies stack .method))) w k)
-      (literal-at (a .at .runs) l s (h .method .0) (a .isMethod) (subst (λ (x : ℕ). l < literalCount (objectsAt n b contents bodies) x) (a .isMethod) super-below) p)))
+  super-says at s c class e p q d = (
+    record { runs = a .at .runs; needs = super-depth; noted = super-noted ∙ ap suc (let y = a .isDepth in omega arith); named = selector-named (objectsAt n b contents bodies) s k fine; starts = subst (λ (x : ℕ). T (isNilOr (objectsAt n b contents bodies) classKind x)) (sym same) (class-facts (a .at .runs .right) (home (objectsAt n b contents bodies) (frameMethod stack top)) home-class .superclass); takes = selector-takes (objectsAt n b contents bodies) s k fine; homes = λ t m u. subst (λ (x : ℕ). T (inChain (objectsAt n b contents bodies) (home (objectsAt n b contents bodies) m) (classOf (objectsAt n b contents bodies) x))) (sym (eqb-true (getD stack at 0) (frameReceiver stack top) t) ∙ place-of a k at super-depth e) (own-chain s class m same u) },
+    becomes-send a (λ x. superclassWord (objectsAt n b contents bodies) (home (objectsAt n b contents bodies) (topFrame n b top contents bodies stack .method))) s k class super-depth (same ∙ ap (λ (x : ℕ). superclassWord (objectsAt n b contents bodies) (home (objectsAt n b contents bodies) x)) (sym (method-is (a .at .runs))))
+        (λ receiver selector room. step-is (a .at) receiver selector room
+        ∙ ap (λ (x : Option ℕ). x >>= λ w. sends room (runningAt receiver selector n b top contents bodies stack) (topFrame n b top contents bodies stack) (restFrames n b top contents bodies stack) (h .next .0) (λ x. superclassWord (objectsAt n b contents bodies) (home (objectsAt n b contents bodies) (topFrame n b top contents bodies stack .method))) w k)
+        (literal-at (a .at .runs) l s (h .method .0) (a .isMethod) (subst (λ (x : ℕ). l < literalCount (objectsAt n b contents bodies) x) (a .isMethod) super-below) p)),
+  )
     where
       same : class ≡ superclassWord (objectsAt n b contents bodies) (home (objectsAt n b contents bodies) (frameMethod stack top))
       same = d ∙ ap (superclassWord (objectsAt n b contents bodies)) (q ∙ ap (home (objectsAt n b contents bodies)) (a .isMethod))

@@ -1,6 +1,7 @@
 -- Stores, by the place.
 use Prim.Native.Nat.{ℕ, suc, _+_, _-_, _≤_, _<_}
 use mathlib.Core.Path.{_≡_, refl, sym, ap, _∙_, subst}
+use mathlib.Core.Bool.{true, false}
 use mathlib.Core.List.{List, [], _∷_}
 use mathlib.Core.Option.{Option, none, some}
 use native.Mathlib.Omega.{arith}
@@ -8,6 +9,7 @@ use lib.Dec.{T}
 use lib.ListN.{length, getD, getElem?, take, set}
 use Rattle.bytecode.specs.declared.Place.{Place}
 use Rattle.bytecode.specs.declared.Instruction.{Instruction}
+use Rattle.bytecode.specs.declared.Instruction.the-variants.{Store, PopStore}
 use Rattle.bytecode.specs.declared.Place.the-variants.{Field, Temporary, Literal, LiteralVariable}
 use Rattle.model.specs.Word.{objectNumber}
 use Rattle.model.specs.Objects.{Objects, objectsAt}
@@ -74,3 +76,13 @@ module _ {n b top : ℕ} {contents bodies stack : List ℕ} {h : Here} {left : �
       (stores-in z v 1 bodies′ (variable-field (store-runs z) j v (h .method .0) (z .here .isMethod) (store-place z) p)
       (λ receiver selector room. stores z receiver selector room ∙ ap (λ (x : Option ℕ). x >>= λ y. storedField (runningAt receiver selector n b top contents bodies stack) (movedTo (topFrame n b top contents bodies stack) (h .next .0) (take left (topFrame n b top contents bodies stack .operands))) (restFrames n b top contents bodies stack) y 1 (getD stack (h .operands .0 + (h .depth - 1)) 0))
       (literal-at (store-runs z) j v (h .method .0) (z .here .isMethod) (variable-below (store-runs z) j (store-place z)) p)) e)
+
+-- the instruction by another name
+pub here-as : {n b top : ℕ} {contents bodies stack : List ℕ} {h : Here} {i : Instruction} → HereAt n b top contents bodies stack h i → (i′ : Instruction) → i ≡ i′ → HereAt n b top contents bodies stack h i′
+here-as {n} {b} {top} {contents} {bodies} {stack} {h} a i′ e = subst (λ (x : Instruction). HereAt n b top contents bodies stack h x) e a
+
+pub stores-kept : {n b top : ℕ} {contents bodies stack : List ℕ} {h : Here} {p : Place} → HereAt n b top contents bodies stack h (Store p) → Storing n b top contents bodies stack h p (h .depth)
+stores-kept a = record { pop = false; here = a; after = refl }
+
+pub stores-popped : {n b top : ℕ} {contents bodies stack : List ℕ} {h : Here} {p : Place} → HereAt n b top contents bodies stack h (PopStore p) → Storing n b top contents bodies stack h p (h .depth - 1)
+stores-popped a = record { pop = true; here = a; after = refl }
