@@ -20,3 +20,4 @@ pub mod Theorem
 pub mod Consequences
 pub mod WriteLaws
 pub mod RunningLaws
+pub mod FramedLaws
