@@ -1,38 +1,32 @@
 -- Which activation a method's flag leads to, by the tests of the code.
-use Prim.Native.Nat.{ℕ, _+_, _*_, _≤_, _<_}
+use Prim.Native.Nat.{ℕ, _*_, _≤_, _<_}
 use mathlib.Core.Path.{_≡_, refl, sym, ap, ap₂, _∙_, subst}
 use mathlib.Core.Logic.{_≢_}
 use mathlib.Core.Bool.{Bool, true, false, _&&_}
 use mathlib.Core.List.{List, [], _∷_}
-use mathlib.Core.Option.{Option, none, some}
 use native.Mathlib.Omega.{arith}
-use borrow.Author.Tests.{eq-eqb, ne-eqb, le-leb, lt-leb, lt-ltb, le-ltb}
-use lib.Dec.{T, leb, ltb, eqb, leb→le}
+use borrow.Author.Tests.{eq-eqb, ne-eqb, le-leb, lt-ltb, le-ltb}
+use lib.Dec.{T, leb, ltb, leb→le}
 use lib.ListN.{length, getD}
-use Rattle.bytecode.specs.Test.{if_then_else_}
 use Rattle.bytecode.proofs.Choice.{if-yes, if-no}
 use Rattle.bytecode.proofs.TestLaws.{true→T, and-left, and-right}
 use Rattle.model.specs.declared.Computed.{Computed}
 use Rattle.model.specs.declared.Computed.the-variants.{Word, Failed}
 use Rattle.model.specs.Limits.{entryWords, fieldsKind, methodKind, receiverFlag, fieldFlag, primitiveFlag}
-use Rattle.model.specs.Word.{isValid, objectNumber}
+use Rattle.model.specs.Word.{objectNumber}
 use Rattle.model.specs.Objects.{Objects, objectsAt, isKind, size, bodyWord}
 use Rattle.model.specs.Method.{flag, temporaryCount, primitiveNumber, argumentCount}
 use Rattle.model.specs.Arithmetic.{arithmetic}
-use Rattle.model.specs.Rules.{Right}
 use Rattle.model.specs.Image.{Room}
 use Rattle.model.specs.Primitive.{Outcome, answers, fails, computed, perform, primitiveCount, primitive}
-use Rattle.objects.specs.Lent.{Holds, Listed, Inside}
+use Rattle.objects.specs.Lent.{Holds}
 use Rattle.objects.proofs.Buffers.{contents-room, bodies-room, front-same}
-use Rattle.objects.proofs.Bodies.{holds-listed, field-inside}
 use Rattle.primitives.specs.declared.Done.{Done}
 use Rattle.primitives.specs.Outcomes.{answerOf, objectsAfter, roomOf, Does}
 use Rattle.primitives.proofs.Performing.{own-count, other-count, primitive-same}
-use Rattle.plain.specs.Step.{Activation, answered, entered, unfit, entering, fieldOf, fieldAnswered, primitiveAnswered, activate}
+use Rattle.plain.specs.Step.{Activation, answered, unfit, entering, fieldOf, fieldAnswered, primitiveAnswered, activate}
 use Rattle.plain.specs.FlatCalls.{atFront}
-use Rattle.activation.specs.declared.Activated.{Activated}
-use Rattle.activation.specs.declared.Activated.the-variants.{Answer, Frame, Unfit}
-use Rattle.activation.specs.Activating.{Activable, Answers, Leaves, ActivatedIs, Activates}
+use Rattle.activation.specs.Activating.{Activable, Answers, Leaves}
 
 -- ---- 1 to 17
 

@@ -4,39 +4,38 @@ use mathlib.Core.Path.{_≡_, refl, sym, ap, ap₂, _∙_, subst}
 use mathlib.Core.Bool.{Bool, true, false}
 use mathlib.Core.List.{List, [], _∷_, _++_, append-nil}
 use native.Mathlib.Omega.{arith}
-use lib.Dec.{T, ltb, ltb→lt}
+use lib.Dec.{T, ltb→lt}
 use lib.ListN.{length, getD, take, drop, set, replicate, length-take, length-drop, take-append-drop}
 use lib.Seq.{sets, ext-getD, getD-take, getD-drop, length-take-le}
-use Rattle.bytecode.specs.Test.{if_then_else_, every}
+use Rattle.bytecode.specs.Test.{every}
 use Rattle.bytecode.specs.Constant.{nilWord}
 use Rattle.bytecode.proofs.Choice.{if-yes, if-no}
-use Rattle.bytecode.proofs.TestLaws.{true→T, T→true, and-left, and-right, rule}
-use Rattle.model.specs.declared.Found.{Found}
-use Rattle.model.specs.declared.Found.the-variants.{Method, Nothing}
+use Rattle.bytecode.proofs.TestLaws.{T→true, and-left, and-right, rule}
+use Rattle.model.specs.declared.Found.the-variants.{Nothing}
 use Rattle.model.specs.Limits.{entryWords, methodKind}
 use Rattle.model.specs.Word.{isValid}
-use Rattle.model.specs.Objects.{Objects, objectsAt, isKind, classOf, part}
-use Rattle.model.specs.Method.{home, temporaryCount, frameWords, frameSize, argumentCount, codeWords, codeSize}
+use Rattle.model.specs.Objects.{Objects, objectsAt, isKind, part}
+use Rattle.model.specs.Method.{temporaryCount, frameWords, frameSize, argumentCount, codeWords, codeSize}
 use Rattle.model.specs.Depth.{noteAt, rulesAt}
-use Rattle.model.specs.Lookup.{found, lookup, inChain}
+use Rattle.model.specs.Lookup.{found, lookup}
 use Rattle.model.specs.Rules.{methodTable, allowed}
 use Rattle.model.specs.Image.{Room}
 use Rattle.model.proofs.Facts.{method-facts}
 use Rattle.model.proofs.DepthLaws.{spot, spot-start}
 use Rattle.model.proofs.SendFacts.{FoundFacts, lookup-facts}
 use Rattle.plain.specs.Registers.{running, notUnderstood, noStackRoom}
-use Rattle.plain.specs.State.{Frame, Plain, objects, withObjects, withFrames, movedTo, newFrame, fitsStack}
-use Rattle.plain.specs.Step.{looked, Stepped, next, halts, provided, without, hasWord, onTop, pushed, Activation, answered, entered, unfit, entering, activate, framed, changed, activated, afterLookup, popped}
-use Rattle.plain.specs.Flat.{frameDepth, frameMethod, operandsStart, frameAt, framesFrom}
-use Rattle.plain.specs.FlatCalls.{atFront, laid, frameImage}
+use Rattle.plain.specs.State.{Frame, Plain, withObjects, withFrames, movedTo, newFrame, fitsStack}
+use Rattle.plain.specs.Step.{looked, Stepped, next, halts, provided, without, hasWord, onTop, pushed, answered, entered, unfit, activate, framed, changed, activated, afterLookup, popped}
+use Rattle.plain.specs.Flat.{frameDepth, frameMethod, operandsStart, frameAt}
+use Rattle.plain.specs.FlatCalls.{atFront, laid}
 use Rattle.plain.specs.Cache.{filled}
-use Rattle.plain.specs.Running.{Runs, runningWith, runningAt, topFrame, restFrames, roomAt, Made, Stays, Sending, sentReceiver, sendStep}
-use Rattle.plain.proofs.FrameLaws.{FrameRight, FramesRight, Fits, fits, depth-within}
+use Rattle.plain.specs.Running.{runningWith, runningAt, topFrame, restFrames, Made, Sending, sentReceiver, sendStep}
+use Rattle.plain.proofs.FrameLaws.{fits}
 use Rattle.plain.proofs.StepLaws.{Valid, has-word, without-length, arguments-length, arguments-valid}
-use Rattle.plain.proofs.Preserve.{World, Activates, activates}
+use Rattle.plain.proofs.Preserve.{Activates, activates}
 use Rattle.plain.proofs.Worlds.{worlds}
 use Rattle.plain.proofs.After.{After}
-use Rattle.plain.proofs.RunningLaws.{TopBounds, stood, all-right, top-right, is-method, top-bounds}
+use Rattle.plain.proofs.RunningLaws.{stood, all-right, top-right, top-bounds}
 use Rattle.plain.proofs.WriteLaws.{operand-here, moved-writes, pushed-writes}
 
 -- The words of a new frame

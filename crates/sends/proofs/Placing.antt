@@ -1,13 +1,13 @@
 -- Words that are copied, the base of a new frame, and its words written into a part of the stack.
-use Prim.Native.Nat.{ℕ, zero, suc, _+_, _*_, _-_, _/_, _%_, _≤_, _<_}
+use Prim.Native.Nat.{ℕ, zero, suc, _+_, _-_, _/_, _%_, _≤_, _<_}
 use mathlib.Core.Path.{_≡_, refl, sym, ap, ap₂, _∙_, subst}
-use mathlib.Core.Bool.{Bool, true, false, _&&_, _||_}
+use mathlib.Core.Bool.{Bool, true, false, _&&_}
 use mathlib.Core.List.{List, [], _∷_, _++_, append-nil}
 use native.Mathlib.Omega.{arith}
 use borrow.Author.Tests.{eq-eqb, ne-eqb, le-leb, lt-leb}
 use lib.Dec.{T, leb, eqb}
 use lib.ListN.{length, getD, take, drop, set, length-drop, drop-of-length-le}
-use lib.Seq.{sets, take-all, take-suc, take-suc-set, getD-take, getD-drop, length-take-le}
+use lib.Seq.{sets, take-all, take-suc, take-suc-set, getD-take, getD-drop}
 use Rattle.bytecode.proofs.Choice.{if-yes, if-no}
 use Rattle.model.specs.Limits.{classKind, mostStackWords}
 use Rattle.model.specs.Word.{isValid, integerClass}

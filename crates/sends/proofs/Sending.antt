@@ -1,30 +1,27 @@
 -- The answers of the functions that a send calls, put together: the step that is made, or the halt.
-use Prim.Native.Nat.{ℕ, suc, _+_, _*_, _-_, _≤_, _<_}
+use Prim.Native.Nat.{ℕ, _+_, _<_}
 use mathlib.Core.Path.{_≡_, refl, sym, ap, ap₂, _∙_, subst}
 use mathlib.Core.Bool.{Bool, true, false}
 use mathlib.Core.List.{List}
 use native.Mathlib.Omega.{arith}
 use lib.Dec.{T}
-use lib.ListN.{length, getD, set, length-take}
+use lib.ListN.{length, getD, set}
 use lib.Seq.{sets}
 use Rattle.bytecode.proofs.Choice.{if-yes, if-no}
 use Rattle.bytecode.proofs.TestLaws.{true→T}
-use Rattle.model.specs.declared.Found.{Found}
-use Rattle.model.specs.Limits.{entryWords, methodKind}
 use Rattle.model.specs.Word.{isValid}
-use Rattle.model.specs.Objects.{Objects, objectsAt, isKind, classOf, part}
-use Rattle.model.specs.Method.{home, temporaryCount, frameWords, frameSize}
+use Rattle.model.specs.Objects.{Objects, objectsAt, classOf, part}
+use Rattle.model.specs.Method.{home, frameSize}
 use Rattle.model.specs.Lookup.{found, lookup, inChain}
 use Rattle.model.specs.Image.{Room}
 use Rattle.plain.specs.Registers.{notUnderstood, noStackRoom}
-use Rattle.plain.specs.State.{fitsStack}
-use Rattle.plain.specs.Step.{looked, Stepped, halts, Activation, answered, entered, unfit, entering, activate}
-use Rattle.plain.specs.Flat.{frameDepth, frameMethod, operandsStart}
+use Rattle.plain.specs.Step.{looked, Stepped, halts, Activation, entered, unfit, entering, activate}
+use Rattle.plain.specs.Flat.{frameMethod}
 use Rattle.plain.specs.Cache.{filled}
-use Rattle.plain.specs.Running.{Runs, runningWith, roomAt, Made, Stays, Sending, sentReceiver, sendStep}
-use Rattle.plain.proofs.FrameLaws.{Fits, fits}
-use Rattle.plain.proofs.RunningLaws.{TopBounds, top-bounds, is-method}
-use Rattle.plain.proofs.FramedLaws.{sentArguments, receiver-valid, arguments-here, found-method, found-arguments, found-fits, send-none, send-unfit, send-full, answered-made, entered-made}
+use Rattle.plain.specs.Running.{runningWith, roomAt, Made, Stays, Sending, sentReceiver, sendStep}
+use Rattle.plain.proofs.FrameLaws.{fits}
+use Rattle.plain.proofs.RunningLaws.{top-bounds, is-method}
+use Rattle.plain.proofs.FramedLaws.{sentArguments, receiver-valid, arguments-here, found-method, found-arguments, found-fits, send-unfit, send-full, answered-made, entered-made}
 use Rattle.frames.specs.Words.{newWords}
 use Rattle.activation.specs.declared.Activated.{Activated}
 use Rattle.activation.specs.declared.Activated.the-variants.{Answer, Frame, Unfit}
@@ -96,7 +93,7 @@ module _ {n b top : ℕ} {contents bodies stack : List ℕ} {selector count clas
             (subst (λ (d : List ℕ). Framing n b top contents d (r .running) m (r .receiver) sure) (sym (leaves .words))
             (subst (λ (k : ℕ). Framing n b top contents bodies k m (r .receiver) sure) (sym (g .running))
             (subst (λ (w : ℕ). Framing n b top contents bodies (frameMethod stack top) m w sure) (sym (g .receiver))
-            (record { right = s .runs .right; below = is-method (s .runs); method = found-method s m e; valid = receiver-valid s; low = low; homes = λ t. s .homes t m e }))))
+            (record { guarded = record { right = s .runs .right; method = found-method s m e; valid = receiver-valid s; homes = λ t. s .homes t m e }; below = is-method (s .runs); low = low }))))
           where
             low : top < 65536
             low = let t = top-bounds (s .runs) .most in omega arith

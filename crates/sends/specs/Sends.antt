@@ -5,7 +5,6 @@ use mathlib.Core.Bool.{Bool, true, false}
 use mathlib.Core.List.{List}
 use lib.Dec.{T}
 use lib.ListN.{length, getD}
-use Rattle.model.specs.declared.Found.{Found}
 use Rattle.model.specs.Limits.{cacheWords, classKind, methodKind}
 use Rattle.model.specs.Word.{isValid}
 use Rattle.model.specs.Objects.{Objects, objectsAt, classOf, isKind, isNilOr, part}
@@ -17,7 +16,7 @@ use Rattle.plain.specs.State.{fitsStack}
 use Rattle.plain.specs.Step.{Stepped, halts}
 use Rattle.plain.specs.Flat.{frameDepth, frameMethod, operandsStart}
 use Rattle.plain.specs.Cache.{cacheFine}
-use Rattle.plain.specs.Running.{Runs, runningWith, Made, Stays, Sending, sentReceiver}
+use Rattle.plain.specs.Running.{runningWith, Made, Stays, sentReceiver}
 use Rattle.sends.specs.declared.Message.{Message}
 use Rattle.sends.specs.declared.Base.{Base}
 use Rattle.sends.specs.declared.Base.the-variants.{At, Full, Unfit}
@@ -45,14 +44,18 @@ pub record MessageIs (n b top : ℕ) (contents bodies stack : List ℕ) (count :
   pub first : r .first ≡ getD (part stack (r .place + 1) count) 0 0
   pub second : r .second ≡ getD (part stack (r .place + 1) count) 1 0
 
--- A frame that may be made above that of the running method: where it is `sure`, the receiver is one that the method can run on.
-pub record Framing (n b top : ℕ) (contents bodies : List ℕ) (running m receiver : ℕ) (sure : Bool) : Type 0 where
+-- A method that may get a frame: where it is `sure`, the receiver is one that the method can run on.
+pub record Guarded (n b : ℕ) (contents bodies : List ℕ) (m receiver : ℕ) (sure : Bool) : Type 0 where
   pub right : Right 1 (objectsAt n b contents bodies)
-  pub below : T (isKind (objectsAt n b contents bodies) methodKind running)
   pub method : T (isKind (objectsAt n b contents bodies) methodKind m)
   pub valid : T (isValid n receiver)
-  pub low : top < 65536
   pub homes : sure ≡ true → T (inChain (objectsAt n b contents bodies) (home (objectsAt n b contents bodies) m) (classOf (objectsAt n b contents bodies) receiver))
+
+-- A frame of it above that of the running method
+pub record Framing (n b top : ℕ) (contents bodies : List ℕ) (running m receiver : ℕ) (sure : Bool) : Type 0 where
+  pub guarded : Guarded n b contents bodies m receiver sure
+  pub below : T (isKind (objectsAt n b contents bodies) methodKind running)
+  pub low : top < 65536
 
 -- Where it stands, and its temporaries; or it does not fit; or the receiver is none for it
 pub record FrameAt (o : Objects) (room top running m receiver base temporaries : ℕ) : Type 0 where

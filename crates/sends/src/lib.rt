@@ -2,12 +2,9 @@
 ghost use mathlib.Core.Path.{_≡_};
 ghost use mathlib.Core.Bool.{true};
 ghost use Prim.Native.Nat.{ℕ, suc, _+_, _*_, _/_, _≤_, _<_};
-ghost use lib.Dec.{T};
-ghost use lib.ListN.{length, getD, set, take, drop};
+ghost use lib.ListN.{length, getD, set, take};
 ghost use lib.Seq.{sets};
-ghost use Rattle.model.specs.Limits.{methodKind};
-ghost use Rattle.model.specs.Word.{isValid};
-ghost use Rattle.model.specs.Objects.{objectsAt, classOf, isKind, part};
+ghost use Rattle.model.specs.Objects.{objectsAt, classOf, part};
 ghost use Rattle.model.specs.Method.{home};
 ghost use Rattle.model.specs.Lookup.{lookup, inChain};
 ghost use Rattle.plain.specs.Step.{looked};
@@ -15,7 +12,7 @@ ghost use Rattle.plain.specs.Flat.{frameDepth};
 ghost use Rattle.plain.specs.Cache.{cacheEntryOf, filled};
 ghost use Rattle.plain.specs.Running.{Runs, Sending, roomAt, sendStep};
 ghost use Rattle.frames.specs.Words.{newWords};
-ghost use Rattle.sends.specs.Sends.{Caches, Asks, MessageIs, Framing, BaseIs, Enters, SentIs};
+ghost use Rattle.sends.specs.Sends.{Caches, Asks, MessageIs, Guarded, Framing, BaseIs, Enters, SentIs};
 use activation::Activated;
 use model::CodePosition;
 use model::Found;
@@ -139,7 +136,7 @@ fn runs_on(
     receiver: u16,
     sure: bool,
 ) -> bool
-    requires { ⌜ Framing n b 0 (now contents) (now bodies) (method .0) (method .0) receiver sure ⌝ }
+    requires { ⌜ Guarded n b (now contents) (now bodies) (method .0) receiver sure ⌝ }
     ensures { λ r. ⌜ r ≡ inChain (objectsAt n b (now (contents .entry)) (now (bodies .entry))) (home (objectsAt n b (now (contents .entry)) (now (bodies .entry))) (method .0)) (classOf (objectsAt n b (now (contents .entry)) (now (bodies .entry))) receiver) ⌝ }
 {
     if sure {

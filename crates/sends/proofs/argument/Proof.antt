@@ -2,26 +2,19 @@ use Rattle.sends.proofs.Placing.{argument-none, argument-at}
 use borrow.Author.Needs.{needs}
 use Rattle.sends.proofs.argument.Statement.{statement}
 use Rattle.sends.proofs.argument.Tie as tie
-use Rattle.sends.proofs.argument.Reads as reads
-use Rattle.sends.proofs.argument.Lts as lts
 
--- src/lib.rt:98:9
 returns : tie.Need-returns
 returns c = argument-none (c .before .args .stack .now) (c .before .args .from) (c .before .args .count) (c .before .args .i) (c .if1 .taken)
 
--- src/lib.rt:100:11
 add-result : tie.Need-add-result
 add-result c = search needs
 
--- src/lib.rt:100:5
 mul-result : tie.Need-mul-result
 mul-result c = search needs
 
--- src/lib.rt:100:5
 shared-slice-read-result : tie.Need-shared-slice-read-result
 shared-slice-read-result c = search needs
 
--- src/lib.rt:93:1
 returns-2 : tie.Need-returns-2
 returns-2 c = argument-at (c .before .before .args .stack .now) (c .before .before .args .from) (c .before .before .args .count) (c .before .before .args .i) (c .before .if1 .left)
 

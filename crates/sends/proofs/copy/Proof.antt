@@ -7,8 +7,6 @@ use Rattle.model.specs.Objects.{part}
 use Rattle.sends.proofs.Placing.{copied-more}
 use Rattle.sends.proofs.copy.Statement.{statement}
 use Rattle.sends.proofs.copy.Tie as tie
-use Rattle.sends.proofs.copy.Reads as reads
-use Rattle.sends.proofs.copy.Lts as lts
 
 abbrev Inv-loop : tie.InvT-loop
 Inv-loop words₀ stack from count i₀ words i = (i ≤ count) × (length words ≡ length words₀) × (take i words ≡ part stack from i)
@@ -16,47 +14,36 @@ Inv-loop words₀ stack from count i₀ words i = (i ≤ count) × (length words
 abbrev μ-loop : tie.MeasureT-loop
 μ-loop words₀ stack from count i₀ words i = count - i
 
--- src/lib.rt:195:5
 loop-holds : tie.Need-loop-holds Inv-loop μ-loop
 loop-holds c = (omega arith, refl, refl)
 
--- src/lib.rt:196:26
 add-words : tie.Need-add-words Inv-loop μ-loop
 add-words c = omega arith
 
--- src/lib.rt:196:20
 mul-words : tie.Need-mul-words Inv-loop μ-loop
 mul-words c = search needs
 
--- src/lib.rt:196:20
 shared-slice-read-words : tie.Need-shared-slice-read-words Inv-loop μ-loop
 shared-slice-read-words c = omega arith
 
--- src/lib.rt:196:9
 mul-words-2 : tie.Need-mul-words-2 Inv-loop μ-loop
 mul-words-2 c = search needs
 
--- src/lib.rt:196:9
 slice-write-words : tie.Need-slice-write-words Inv-loop μ-loop
 slice-write-words c = omega (arith, c .before .before .loop .inv .1)
 
--- src/lib.rt:197:9
 add-i : tie.Need-add-i Inv-loop μ-loop
 add-i c = search needs
 
--- src/lib.rt:195:5
 loop-less : tie.Need-loop-less Inv-loop μ-loop
 loop-less c = omega arith
 
--- src/lib.rt:195:5
 loop-again : tie.Need-loop-again Inv-loop μ-loop
 loop-again c = (omega arith, simp length-set (c .before .before .loop .inv .1), copied-more (c .before .before .loop .words) (c .before .before .before .args .stack .now) (c .before .before .before .args .from) (c .before .before .loop .i) (omega (arith, c .before .before .loop .inv .1)) (omega arith) (c .before .before .loop .inv .2))
 
--- src/lib.rt:190:1
 same-length : tie.Need-same-length Inv-loop μ-loop
 same-length c = c .before .loop .inv .1
 
--- src/lib.rt:190:1
 returns : tie.Need-returns Inv-loop μ-loop
 returns c = let e : c .before .loop .i ≡ c .before .before .args .count = omega arith in ap (λ (k : ℕ). take k (c .before .loop .words)) (sym e) ∙ c .before .loop .inv .2 ∙ ap (λ (k : ℕ). part (c .before .before .args .stack .now) (c .before .before .args .from) k) e
 

@@ -1,5 +1,5 @@
-use Prim.Native.Nat.{ℕ, _+_}
-use mathlib.Core.Path.{_≡_, ap, ap₂, _∙_}
+use Prim.Native.Nat.{ℕ}
+use mathlib.Core.Path.{ap₂, _∙_}
 use mathlib.Core.List.{List}
 use native.Mathlib.Omega.{arith}
 use lib.ListN.{take}
@@ -9,53 +9,37 @@ use Rattle.sends.proofs.Placing.{lent-sets}
 use borrow.Author.Needs.{needs}
 use Rattle.sends.proofs.enter.Statement.{statement}
 use Rattle.sends.proofs.enter.Tie as tie
-use Rattle.sends.proofs.enter.Reads as reads
-use Rattle.sends.proofs.enter.Lts as lts
-use Rattle.frames.proofs.move_to.Reads as move-to-reads
-use Rattle.frames.proofs.write_frame.Reads as write-frame-reads
-use Rattle.sends.proofs.copy.Reads as copy-reads
 
--- src/lib.rt:218:10
 slice-aggregate-copy : tie.Need-slice-aggregate-copy
 slice-aggregate-copy c = search needs
 
--- src/lib.rt:218:5
 copy-requires : tie.Need-copy-requires
 copy-requires c κs = search needs
 
--- src/lib.rt:219:5
 move-to-requires : tie.Need-move-to-requires
 move-to-requires c κs = search needs
 
--- src/lib.rt:221:9
 mul-write-frame : tie.Need-mul-write-frame
 mul-write-frame c = search needs
 
--- src/lib.rt:221:9
 sub-write-frame : tie.Need-sub-write-frame
 sub-write-frame c = search needs
 
--- src/lib.rt:221:9
 part-write-frame-start : tie.Need-part-write-frame-start
 part-write-frame-start c = search needs
 
--- src/lib.rt:221:9
 part-write-frame-end : tie.Need-part-write-frame-end
 part-write-frame-end c = search needs
 
--- src/lib.rt:227:9
 slice-aggregate-write-frame : tie.Need-slice-aggregate-write-frame
 slice-aggregate-write-frame c = search needs
 
--- src/lib.rt:220:5
 write-frame-requires : tie.Need-write-frame-requires
 write-frame-requires c κs = search needs
 
--- src/lib.rt:202:1
 same-length : tie.Need-same-length
 same-length c = search needs
 
--- src/lib.rt:202:1
 returns : tie.Need-returns
 returns c = lent-sets (newWords (c .before .before .before .before .before .before .before .before .before .before .before .before .before .before .args .top .0) (c .before .before .before .before .before .before .before .before .before .before .before .before .before .before .args .method .0) (c .before .before .before .before .before .before .before .before .before .before .before .before .before .before .args .receiver) (c .before .before .before .before .before .before .before .before .before .before .before .before .before .before .args .temporaries) (take (c .before .before .before .before .before .before .before .before .before .before .before .before .before .before .args .count) (c .before .before .before .before .before .before .before .before .before .before .copy .last .0))) (c .before .before .before .before .before .before .before .move-to .last .0) (c .before .before .write-frame .last .0) (c .before .before .before .before .before .before .before .before .before .before .before .before .before .before .args .base) (let f = c .before .before .before .before .before .before .before .before .before .before .before .before .before .before .pre .fits in let l = c .before .before .before .before .before .before .before .move-to .kept .0 in omega arith) (c .before .before .write-frame .ensures) ∙ ap₂ (λ (xs ws : List ℕ). sets xs (c .before .before .before .before .before .before .before .before .before .before .before .before .before .before .args .base) (newWords (c .before .before .before .before .before .before .before .before .before .before .before .before .before .before .args .top .0) (c .before .before .before .before .before .before .before .before .before .before .before .before .before .before .args .method .0) (c .before .before .before .before .before .before .before .before .before .before .before .before .before .before .args .receiver) (c .before .before .before .before .before .before .before .before .before .before .before .before .before .before .args .temporaries) ws)) (c .before .before .before .before .before .before .before .move-to .ensures) (c .before .before .before .before .before .before .before .before .before .before .copy .ensures)
 

@@ -4,55 +4,40 @@ use Rattle.sends.proofs.Caching.{entry-filled}
 use borrow.Author.Needs.{needs}
 use Rattle.sends.proofs.fill.Statement.{statement}
 use Rattle.sends.proofs.fill.Tie as tie
-use Rattle.sends.proofs.fill.Reads as reads
-use Rattle.sends.proofs.fill.Lts as lts
-use Rattle.sends.proofs.entry.Reads as entry-reads
 
--- src/lib.rt:86:18
 entry-requires : tie.Need-entry-requires
 entry-requires c κs = search needs
 
--- src/lib.rt:86:14
 mul-at : tie.Need-mul-at
 mul-at c = search needs
 
--- src/lib.rt:87:5
 mul-cache : tie.Need-mul-cache
 mul-cache c = search needs
 
--- src/lib.rt:87:5
 slice-write-cache : tie.Need-slice-write-cache
 slice-write-cache c = search needs
 
--- src/lib.rt:88:11
 add-cache : tie.Need-add-cache
 add-cache c = search needs
 
--- src/lib.rt:88:5
 mul-cache-2 : tie.Need-mul-cache-2
 mul-cache-2 c = search needs
 
--- src/lib.rt:88:5
 slice-write-cache-2 : tie.Need-slice-write-cache-2
 slice-write-cache-2 c = simp length-set (omega arith)
 
--- src/lib.rt:89:11
 add-cache-2 : tie.Need-add-cache-2
 add-cache-2 c = search needs
 
--- src/lib.rt:89:5
 mul-cache-3 : tie.Need-mul-cache-3
 mul-cache-3 c = search needs
 
--- src/lib.rt:89:5
 slice-write-cache-3 : tie.Need-slice-write-cache-3
 slice-write-cache-3 c = simp length-set (omega arith)
 
--- src/lib.rt:82:1
 same-length : tie.Need-same-length
 same-length c = search needs
 
--- src/lib.rt:82:1
 returns : tie.Need-returns
 returns c = entry-filled _ _ _ _ _ (c .entry .ensures .0)
 

@@ -8,29 +8,19 @@ use Rattle.sends.proofs.Placing.{class-starts}
 use borrow.Author.Needs.{needs}
 use Rattle.sends.proofs.runs_on.Statement.{statement}
 use Rattle.sends.proofs.runs_on.Tie as tie
-use Rattle.sends.proofs.runs_on.Reads as reads
-use Rattle.sends.proofs.runs_on.Lts as lts
-use Rattle.objects.proofs.class_of.Reads as class-of-reads
-use Rattle.objects.proofs.home.Reads as home-reads
-use Rattle.objects.proofs.in_chain.Reads as in-chain-reads
 
--- src/lib.rt:146:9
 returns : tie.Need-returns
 returns c = sym (T→true _ (c .before .before .before .pre .homes (c .if1 .taken)))
 
--- src/lib.rt:148:9
 home-requires : tie.Need-home-requires
 home-requires c κs = search needs
 
--- src/lib.rt:149:9
 class-of-requires : tie.Need-class-of-requires
 class-of-requires c κs = (c .before .before .before .before .pre .valid, contents-room (c .before .before .before .before .args .n) (c .before .before .before .before .args .b) (c .before .before .before .before .args .contents .now) (c .before .before .before .before .args .bodies .now) (c .before .before .before .before .pre .right))
 
--- src/lib.rt:150:5
 in-chain-requires : tie.Need-in-chain-requires
 in-chain-requires c κs = (c .before .before .before .before .before .pre .right, class-starts (c .before .before .before .before .before .pre .right) _ _ (c .before .before .before .before .before .pre .valid) (c .class-of .ensures (c .before .before .before .before .before .args .b) (c .before .before .before .before .before .args .bodies .now)))
 
--- src/lib.rt:133:1
 returns-2 : tie.Need-returns-2
 returns-2 c = c .in-chain .ensures ∙ ap₂ (λ (h k : ℕ). inChain (objectsAt (c .before .before .before .before .before .before .args .n) (c .before .before .before .before .before .before .args .b) (c .before .before .before .before .before .before .args .contents .now) (c .before .before .before .before .before .before .args .bodies .now)) h k) (c .before .before .home .ensures) (c .before .class-of .ensures (c .before .before .before .before .before .before .args .b) (c .before .before .before .before .before .before .args .bodies .now))
 
