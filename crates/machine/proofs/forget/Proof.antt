@@ -1,3 +1,4 @@
+use Rattle.machine.proofs.Answers.{forgets-not, forgets}
 use borrow.Author.Needs.{needs}
 use Rattle.machine.proofs.forget.Statement.{statement}
 use Rattle.machine.proofs.forget.Tie as tie
@@ -28,7 +29,7 @@ same-length c = search needs
 
 -- src/lib.rt:116:1
 returns : tie.Need-returns
-returns c = ?
+returns c = forgets-not (c .before .before .before .before .before .before .before .before .before .args .registers) (c .before .before .before .before .before .before .before .before .before .args .contents .now) (c .before .before .before .before .before .before .before .before .before .args .bodies .now) (c .before .before .before .before .before .before .before .before .before .args .stack .now) (c .before .before .before .before .before .before .before .before .before .args .cache .now) (c .before .before .before .check .result) (c .before .before .before .check .ensures) _ (c .before .k .given .1)
 
 -- src/lib.rt:116:1
 same-length-2 : tie.Need-same-length-2
@@ -36,7 +37,7 @@ same-length-2 c = search needs
 
 -- src/lib.rt:116:1
 returns-2 : tie.Need-returns-2
-returns-2 c = ?
+returns-2 c = forgets (c .before .before .before .before .before .before .before .before .before .before .before .before .args .registers) (c .before .before .before .before .before .before .before .before .before .before .before .before .args .contents .now) (c .before .before .before .before .before .before .before .before .before .before .before .before .args .bodies .now) (c .before .before .before .before .before .before .before .before .before .before .before .before .args .stack .now) (c .before .before .before .before .before .before .before .before .before .before .before .before .args .cache .now) (c .before .before .before .before .before .before .check .result) (c .before .before .before .before .before .before .check .ensures) (c .before .before .before .before .enum-told .given .1) _ (c .before .before .clear .ensures)
 
 pub forget-spec : {M : Type 1} → statement M
 forget-spec =
