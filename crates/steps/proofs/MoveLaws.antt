@@ -1,15 +1,13 @@
 -- The words that a bytecode writes, and the state that it leads to.
 use Prim.Native.Nat.{ℕ, suc, _+_, _-_, _≤_, _<_}
-use mathlib.Core.Path.{_≡_, refl, sym, ap, ap₂, _∙_, subst}
+use mathlib.Core.Path.{_≡_, refl, sym, ap, _∙_, subst}
 use mathlib.Core.Bool.{Bool, true, false}
 use mathlib.Core.List.{List, [], _∷_, _++_}
-use mathlib.Core.Option.{Option, none, some}
 use native.Mathlib.Omega.{arith}
-use lib.Dec.{T, ltb, ltb→lt}
-use lib.ListN.{length, getD, take, set}
+use lib.Dec.{T, ltb→lt}
+use lib.ListN.{length, take, set}
 use lib.Seq.{take-all}
 use Rattle.bytecode.specs.declared.Instruction.{Instruction}
-use Rattle.bytecode.proofs.TestLaws.{T→true}
 use Rattle.model.specs.Objects.{Objects, objectsAt}
 use Rattle.model.specs.Method.{temporaryCount, frameWords}
 use Rattle.model.specs.Depth.{noteAt}
@@ -18,7 +16,7 @@ use Rattle.model.specs.Primitive.{storeWord}
 use Rattle.model.specs.Image.{Room}
 use Rattle.plain.specs.State.{Frame, Plain, movedTo, withTemporaries, withObjects}
 use Rattle.plain.specs.Step.{Stepped, next, noLookup, provided, onTop, hasWord, pushed, without, popped, execute}
-use Rattle.plain.specs.Flat.{frameDepth, frameMethod, frameAt}
+use Rattle.plain.specs.Flat.{frameMethod, frameAt}
 use Rattle.plain.specs.FlatCalls.{laid, atFront}
 use Rattle.plain.specs.Running.{Moved, runningAt, topFrame, restFrames}
 use Rattle.plain.proofs.FrameLaws.{FrameRight}
@@ -28,7 +26,7 @@ use Rattle.plain.proofs.WriteLaws.{moved-writes, pushed-writes, temporary-write
 use Rattle.objects.proofs.Buffers.{bodies-room, front-same}
 use Rattle.steps.specs.declared.Here.{Here}
 use Rattle.steps.specs.Events.{HereAt}
-use Rattle.steps.proofs.HereLaws.{Bounds, bounds}
+use Rattle.steps.proofs.HereLaws.{bounds}
 
 pub provided-holds : (t : Bool) (x : Stepped) → T t → provided t x ≡ x
 provided-holds true x h = refl

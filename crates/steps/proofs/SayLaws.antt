@@ -1,50 +1,38 @@
 -- What each bytecode is to the run loop.
-use Prim.Native.Nat.{ℕ, zero, suc, _+_, _-_, _/_, _%_, _≤_, _<_}
+use Prim.Native.Nat.{ℕ, suc, _+_, _-_, _≤_, _<_}
 use mathlib.Core.Path.{_≡_, refl, sym, ap, ap₂, _∙_, subst}
-use mathlib.Core.Bool.{Bool, true, false, _&&_, _||_}
-use mathlib.Core.Logic.{_⊎_, inl, inr, _≢_}
-use mathlib.Core.List.{List, [], _∷_, _++_, List·Memᴰ·head, List·Memᴰ·tail, List·Memᴰ}
-use mathlib.Core.Option.{Option, none, some}
+use mathlib.Core.Bool.{Bool, true, false, _||_}
+use mathlib.Core.Logic.{_⊎_, inl, inr}
+use mathlib.Core.List.{List, [], _∷_, List·Memᴰ·head, List·Memᴰ·tail, List·Memᴰ}
+use mathlib.Core.Option.{Option, some}
 use native.Mathlib.Omega.{arith}
-use borrow.Author.Tests.{eq-eqb, ne-eqb, eqb-true, lt-ltb, le-ltb}
-use lib.Dec.{T, leb, ltb, eqb, leb→le, ltb→lt, lt→ltb, eqb→eq}
-use lib.ListN.{length, getD, take, drop, set}
+use borrow.Author.Tests.{eq-eqb, ne-eqb}
+use lib.Dec.{T, leb, eqb, leb→le}
+use lib.ListN.{getD, set}
 use Rattle.bytecode.specs.Test.{if_then_else_}
-use Rattle.bytecode.specs.Constant.{trueWord, falseWord, nilWord}
-use Rattle.bytecode.specs.Effect.{specialCount, need, leaves, usable, successors}
+use Rattle.bytecode.specs.Constant.{trueWord, falseWord}
+use Rattle.bytecode.specs.Effect.{need, leaves, usable, successors}
 use Rattle.bytecode.specs.declared.Place.{Place}
 use Rattle.bytecode.specs.declared.Instruction.{Instruction}
-use Rattle.bytecode.specs.declared.Instruction.the-variants.{Push, Store, PopStore, PushSelf, PushConstant, ReturnSelf, ReturnConstant, ReturnTop, Pop, Duplicate, Jump, JumpOn, Send, SuperSend, SpecialSend, Unused}
-use Rattle.bytecode.proofs.Choice.{if-yes, if-no, if-lt, if-ge}
-use Rattle.bytecode.proofs.TestLaws.{true→T, T→true, and-left, and-right, or-cases}
-use Rattle.model.specs.declared.Computed.{Computed}
-use Rattle.model.specs.declared.Computed.the-variants.{Word, Failed}
-use Rattle.model.specs.Limits.{bytesKind, classKind, methodKind, specialSelectors}
-use Rattle.model.specs.Word.{isValid, booleanWord, objectNumber, integerClass}
-use Rattle.model.specs.Objects.{Objects, objectsAt, isKind, isNilOr, classOf, classWord, superclassWord}
-use Rattle.model.specs.Method.{home, literalCount, literal}
+use Rattle.bytecode.specs.declared.Instruction.the-variants.{Push, PushSelf, PushConstant, ReturnSelf, ReturnConstant, ReturnTop, Pop, Duplicate, Jump, JumpOn, Unused}
+use Rattle.bytecode.proofs.Choice.{if-yes, if-no}
+use Rattle.bytecode.proofs.TestLaws.{T→true}
+use Rattle.model.specs.Word.{booleanWord}
+use Rattle.model.specs.Objects.{Objects, objectsAt}
 use Rattle.model.specs.Depth.{noteAt}
-use Rattle.model.specs.Lookup.{found, lookup, inChain}
-use Rattle.model.specs.Rules.{Right, allowed, sendFine, takesCount, methodTable, specialSelector, isSame, isClass}
+use Rattle.model.specs.Rules.{methodTable}
 use Rattle.model.specs.Image.{Room}
-use Rattle.model.specs.Arithmetic.{arithmetic}
-use Rattle.model.proofs.ChainLaws.{named}
-use Rattle.model.proofs.Facts.{Valid, odd, names, valid-cases, entry-class, integer-class, class-facts, method-facts}
-use Rattle.model.proofs.SendFacts.{lookup-facts}
-use Rattle.model.proofs.Unchanged.{Small, small-at}
 use Rattle.plain.specs.Registers.{noBoolean}
-use Rattle.plain.specs.State.{Frame, Plain, movedTo, objects}
-use Rattle.plain.specs.Step.{Stepped, next, halts, missing, noLookup, _>>=_, provided, operand, without, popped, onTop, pushed, read, returned, jumps, literalOf, sends, aboveHome, afterLookup, triedPrimitive, orSends, arithmeticSends, specialSends, execute}
-use Rattle.plain.specs.Flat.{frameDepth, frameMethod, frameReceiver, operandsStart, frameAt}
-use Rattle.plain.specs.Running.{Runs, Moved, Sending, sendStep, sentReceiver, runningAt, topFrame, restFrames}
+use Rattle.plain.specs.State.{Frame, Plain}
+use Rattle.plain.specs.Step.{Stepped, next, halts, noLookup, _>>=_, popped, onTop, pushed, read, returned, jumps, execute}
+use Rattle.plain.specs.Flat.{frameMethod, frameReceiver, frameAt}
+use Rattle.plain.specs.Running.{Moved, runningAt, topFrame, restFrames}
 use Rattle.plain.proofs.NowLaws.{Now}
-use Rattle.plain.proofs.RunningLaws.{top-right, is-method, method-is, depth-is, receiver-is, step-is, now-is}
+use Rattle.plain.proofs.RunningLaws.{receiver-is, step-is, now-is}
 use Rattle.steps.specs.declared.Here.{Here}
-use Rattle.steps.specs.Events.{HereAt, Sends, Becomes, stepAt}
-use Rattle.steps.proofs.ChainSteps.{chain-joined}
-use Rattle.steps.proofs.HereLaws.{Bounds, bounds, noted-small, operand-is, operand-valid}
-use Rattle.steps.proofs.MoveLaws.{Does, Answers, depth-of, provided-holds, goes-whole, goes-popped, answer-room, answers, pushes}
-use Rattle.steps.proofs.PlaceLaws.{literal-at}
+use Rattle.steps.specs.Events.{HereAt, Becomes, stepAt}
+use Rattle.steps.proofs.HereLaws.{noted-small, operand-is}
+use Rattle.steps.proofs.MoveLaws.{Does, Answers, depth-of, provided-holds, goes-whole, goes-popped, answer-room, pushes}
 
 -- ---- what is noted behind an instruction
 
