@@ -31,7 +31,7 @@ use Rattle.plain.proofs.RunningLaws.{step-is, now-is}
 use Rattle.objects.specs.Lent.{Inside}
 use Rattle.objects.proofs.Bodies.{special-inside}
 use Rattle.steps.specs.declared.Here.{Here}
-use Rattle.steps.specs.Events.{HereAt, Sends}
+use Rattle.steps.specs.Events.{HereAt, answered, Sends}
 use Rattle.steps.proofs.HereLaws.{operand-is}
 use Rattle.steps.proofs.MoveLaws.{Does, Answers, answer-room, answers}
 use Rattle.steps.proofs.SayLaws.{noted, needed}
@@ -156,7 +156,7 @@ module _ {n b top : ℕ} {contents bodies stack : List ℕ} {h : Here} {k : ℕ}
         ∙ ap (λ (y : Computed). orSends y (λ w. pushed (at receiver selector) f rest (h .next .0) (without f 2) w noLookup) (sends room (at receiver selector) f rest (h .next .0) (classOf o) (specialSelector o k) 1)) (sym (d ∙ ap (λ (y : ℕ). arithmetic y under last) e))
 
     pub arithmetic-says : (t w : ℕ) (x : Computed) (stack′ : List ℕ) → t ≡ triedPrimitive k → x ≡ arithmetic t under last → x ≡ Word w
-        → stack′ ≡ set (set (set stack (h .operands .0 + (h .depth - 2)) w) (top + 1) (h .next .0)) (top + 2) (h .depth - 2 + 1) → Moved n b top contents bodies stack bodies stack′
+        → stack′ ≡ answered stack top h 2 w → Moved n b top contents bodies stack bodies stack′
     arithmetic-says t w x stack′ e d g q =
         subst (λ (l : List ℕ). Moved n b top contents bodies stack bodies l) (sym q)
         (answers a 2 w arithmetic-two arithmetic-noted (computes t (Word w) e (sym g ∙ d)))
@@ -181,7 +181,7 @@ module _ {n b top : ℕ} {contents bodies stack : List ℕ} {h : Here} {k : ℕ}
     same-room = answer-room a 2 same-two same-noted
 
     pub same-says : (w : ℕ) (stack′ : List ℕ) → w ≡ booleanWord (eqb under last)
-        → stack′ ≡ set (set (set stack (h .operands .0 + (h .depth - 2)) w) (top + 1) (h .next .0)) (top + 2) (h .depth - 2 + 1) → Moved n b top contents bodies stack bodies stack′
+        → stack′ ≡ answered stack top h 2 w → Moved n b top contents bodies stack bodies stack′
     unfolding execute specialSends
     same-says w stack′ e q =
         subst (λ (l : List ℕ). Moved n b top contents bodies stack bodies l) (sym q)
@@ -197,7 +197,7 @@ module _ {n b top : ℕ} {contents bodies stack : List ℕ} {h : Here} {k : ℕ}
     class-room = answer-room a 1 special-needs class-noted
 
     pub class-says : (w : ℕ) (stack′ : List ℕ) → w ≡ classOf o last
-        → stack′ ≡ set (set (set stack (h .operands .0 + (h .depth - 1)) w) (top + 1) (h .next .0)) (top + 2) (h .depth - 1 + 1) → Moved n b top contents bodies stack bodies stack′
+        → stack′ ≡ answered stack top h 1 w → Moved n b top contents bodies stack bodies stack′
     unfolding execute specialSends
     class-says w stack′ e q =
         subst (λ (l : List ℕ). Moved n b top contents bodies stack bodies l) (sym q)
