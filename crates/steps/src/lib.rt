@@ -169,6 +169,7 @@ fn store(
             let to = StackPosition(base + 6 + i as usize);
             frames::push(stack, top, to, next, left, w);
         }
+        // no reached store goes to a literal
         Place::Literal(i) => {}
         Place::LiteralVariable(i) => {
             let v = objects::literal(contents, bodies, n, b, method, i as usize);
@@ -426,6 +427,7 @@ pub fn step(
             super_sent(contents, bodies, stack, n, b, top, here, literal, arguments)
         }
         Instruction::SpecialSend(k) => special(contents, bodies, stack, n, b, top, here, k),
+        // never reached
         Instruction::Unused => Event::Next,
     }
 }
