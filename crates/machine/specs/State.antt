@@ -11,6 +11,8 @@ use Rattle.machine.specs.declared.Loaded.{Loaded}
 use Rattle.machine.specs.declared.Loaded.the-variants as L
 use Rattle.machine.specs.declared.Checked.{Checked}
 use Rattle.machine.specs.declared.Checked.the-variants as C
+use Rattle.machine.specs.declared.Begun.{Begun}
+use Rattle.machine.specs.declared.Begun.the-variants as B
 use Rattle.machine.specs.declared.Dropped.{Dropped}
 use Rattle.machine.specs.declared.Dropped.the-variants as D
 use Rattle.machine.specs.declared.Forgotten.{Forgotten}
@@ -36,6 +38,11 @@ loadGives (L.Refused k) contents bodies stack cache = gives (refusedBy k) (flat 
 unfoldable pub checkGives : Checked → Verdict
 checkGives C.Right = accepted
 checkGives (C.Refused k) = refused k
+
+-- Begin: the registers come back, those of the state that began or as they were.
+unfoldable pub beginGives : Begun → List ℕ → List ℕ → List ℕ → List ℕ → Given
+beginGives (B.Started r) contents bodies stack cache = gives done (state r contents bodies stack cache)
+beginGives (B.Refused k r) contents bodies stack cache = gives (refusedBy k) (state r contents bodies stack cache)
 
 -- Drop: the registers come back, changed or as they were.
 unfoldable pub dropGives : Dropped → List ℕ → List ℕ → List ℕ → List ℕ → Given

@@ -5,8 +5,9 @@ ghost use Prim.Native.Nat.{ℕ};
 ghost use Rattle.plain.specs.Registers as R;
 ghost use Rattle.plain.specs.Flat.{flat};
 ghost use Rattle.plain.specs.Check as K;
-ghost use Rattle.plain.specs.FlatCalls.{flatLoad, flatDrop, flatForget, flatSave};
-ghost use Rattle.machine.specs.State.{state, loadGives, checkGives, dropGives, forgetGives, saveGives};
+ghost use Rattle.plain.specs.FlatCalls.{flatLoad, flatBegin, flatDrop, flatForget, flatSave};
+ghost use Rattle.machine.specs.State.{state, loadGives, checkGives, beginGives, dropGives, forgetGives, saveGives};
+use begins::Beginning;
 use image::Header;
 use store::Reading;
 
@@ -59,7 +60,12 @@ pub enum Checked {
     Refused(u32),
 }
 
-// The answers of drop, forget and save. What passes registers by value gives them back.
+// The answers of begin, drop, forget and save. What passes registers by value gives them back.
+pub enum Begun {
+    Started(Registers),
+    Refused(u32, Registers),
+}
+
 pub enum Dropped {
     Dropped(Registers),
     Refused(u32, Registers),
@@ -164,6 +170,59 @@ pub fn save(
 }
 
 impl Registers {
+    // A send from no frame, all frames removed: 12 in phase 1, then 8, 9, 10, 13.
+    pub fn begin(
+        self,
+        contents: &mut [u16],
+        bodies: &mut [u16],
+        stack: &mut [u16],
+        cache: &[u16],
+        receiver: u16,
+        selector: u16,
+        arguments: &[u16],
+    ) -> Begun
+        ensures { λ r. ⌜ beginGives r (now (contents .exit)) (now (bodies .exit)) (now (stack .exit)) (now (cache .entry)) ≡ flatBegin (state self (now (contents .entry)) (now (bodies .entry)) (now (stack .entry)) (now (cache .entry))) receiver selector (now (arguments .entry)) ⌝ }
+    {
+        match check(self, contents, bodies, stack, cache) {
+            Checked::Refused(k) => Begun::Refused(k, self),
+            Checked::Right => {
+                if self.phase == 1 {
+                    return Begun::Refused(12, self);
+                }
+                match begins::begin(
+                    contents,
+                    bodies,
+                    stack,
+                    self.n as usize,
+                    self.b as usize,
+                    receiver,
+                    selector,
+                    arguments,
+                ) {
+                    Beginning::Answered { word, n, b } => Begun::Started(Registers {
+                        n: n as u16,
+                        b: b as u16,
+                        receiver: self.receiver,
+                        selector: self.selector,
+                        phase: 2,
+                        top: 0,
+                        value: word,
+                    }),
+                    Beginning::Entered => Begun::Started(Registers {
+                        n: self.n,
+                        b: self.b,
+                        receiver: self.receiver,
+                        selector: self.selector,
+                        phase: 1,
+                        top: 0,
+                        value: 0,
+                    }),
+                    Beginning::Refused(k) => Begun::Refused(k, self),
+                }
+            }
+        }
+    }
+
     // All frames removed.
     pub fn drop(self, contents: &[u16], bodies: &[u16], stack: &[u16], cache: &[u16]) -> Dropped
         ensures { λ r. ⌜ dropGives r (now (contents .entry)) (now (bodies .entry)) (now (stack .entry)) (now (cache .entry)) ≡ flatDrop (state self (now (contents .entry)) (now (bodies .entry)) (now (stack .entry)) (now (cache .entry))) ⌝ }
