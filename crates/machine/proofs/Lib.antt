@@ -2,3 +2,4 @@ pub mod Loading
 pub mod Calling
 pub mod Answers
 pub mod Beginning
+pub mod Looping

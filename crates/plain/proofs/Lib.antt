@@ -26,3 +26,4 @@ pub mod TurnLaws
 pub mod CheckParts
 pub mod MadeLaws
 pub mod LoopLaws
+pub mod ReachLaws

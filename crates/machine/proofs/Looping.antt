@@ -1,0 +1,165 @@
+-- The run loop: its invariant, its turns and its ways out.
+use Prim.Native.Nat.{ℕ, suc, _+_, _-_, _≤_, _<_, max}
+use mathlib.Core.Path.{_≡_, refl, sym, ap, ap₂, _∙_, subst}
+use mathlib.Core.Bool.{Bool, true, false}
+use mathlib.Core.List.{List}
+use native.Mathlib.Omega.{arith}
+use native.Mathlib.Decide.{ℕ-discrete}
+use borrow.Author.Tests.{eq-eqb, ne-eqb}
+use lib.Dec.{T, eqb}
+use lib.ListN.{length}
+use Rattle.bytecode.proofs.Choice.{if-yes, if-no}
+use Rattle.model.specs.Limits.{cacheWords}
+use Rattle.model.specs.Objects.{Objects, objectsAt}
+use Rattle.model.specs.Method.{frameWords, frameSize}
+use Rattle.model.specs.Image.{Room, accepted}
+use Rattle.model.proofs.Facts.{most, most-words}
+use Rattle.plain.specs.Registers.{Cause, phaseOf, running, finished}
+use Rattle.plain.specs.Step.{Stepped, halts, step}
+use Rattle.plain.specs.Flat.{Flat, flat, roomOf, plainOf, frameMethod}
+use Rattle.plain.specs.Check.{check}
+use Rattle.plain.specs.FlatCalls.{topEnd}
+use Rattle.plain.specs.Running.{Runs, runningWith, finishedWith, runningAt, roomAt, Made, Stays}
+use Rattle.plain.specs.RunLoop.{Turn}
+use Rattle.plain.proofs.Preserve.{Shape, runs, ends}
+use Rattle.plain.proofs.StateLaws.{Stands, goes, rests, waits}
+use Rattle.plain.proofs.FlatLaws.{FlatRight, check-right}
+use Rattle.plain.proofs.RunningLaws.{TopBounds, top-bounds}
+use Rattle.plain.proofs.MadeLaws.{made-as, running-is, running-runs}
+use Rattle.plain.proofs.LoopLaws.{top-end-is, turn-start, loop-out, loop-out-ends, loop-halts, loop-halts-ends, loop-level, loop-next, loop-over, loop-over-ends}
+use Rattle.sends.specs.Sends.{Caches}
+use Rattle.interpreter.specs.declared.Advanced.{Advanced}
+use Rattle.interpreter.specs.Advances.{Stops, AdvancedIs}
+use Rattle.machine.specs.declared.Registers.{Registers}
+use Rattle.machine.specs.State.{registersOf, state, raisedTo, RunsTo}
+use Rattle.interpreter.specs.declared.Advanced.the-variants as A
+
+-- The state of the loop: from s₀ the run came to a running state, and the highest end fits a word and one.
+pub record Loop (s₀ : Flat) (grant receiver selector n b top : ℕ) (contents bodies stack cache : List ℕ) (count reach : ℕ) : Type 0 where
+  pub turn : Turn s₀ grant (flat (runningWith receiver selector n b top) contents bodies stack cache) count reach
+  pub low : reach ≤ 65536
+
+-- ---- the start
+value-none : (s : Flat) → FlatRight s → s .registers .phase ≡ running → s .registers .value ≡ 0
+unfolding plainOf
+value-none s r e = go (r .plain .stands)
+  where
+    go : Stands (length (s .stack)) (plainOf s) → s .registers .value ≡ 0
+    go (goes (runs a v f)) = v
+    go (goes (ends a v t f)) = absurd (omega arith)
+    go (rests a v t f) = absurd (omega arith)
+    go (waits a c v f) = absurd (omega arith)
+
+module _ (r : Registers) (contents bodies stack cache : List ℕ) (c : check (state r contents bodies stack cache) ≡ accepted) (e : r .phase ≡ 1) where
+  abbrev s : Flat
+  s = flat (runningWith (r .receiver) (r .selector) (r .n) (r .b) (r .top)) contents bodies stack cache
+
+  start-is : state r contents bodies stack cache ≡ s
+  start-is =
+      let v = value-none (state r contents bodies stack cache) (check-right (state r contents bodies stack cache) c) e in
+      λ i. flat (record { n = r .n; b = r .b; startReceiver = r .receiver; startSelector = r .selector; phase = e i; top = r .top; value = v i }) contents bodies stack cache
+
+  checked : check s ≡ accepted
+  checked = sym (ap check start-is) ∙ c
+
+  pub start-runs : Runs (r .n) (r .b) (r .top) contents bodies stack
+  start-runs = running-runs (r .receiver) (r .selector) (r .n) (r .b) (r .top) contents bodies stack cache (check-right s checked)
+
+  pub loop-start : (grant reach : ℕ) → reach ≡ r .top + frameSize (objectsAt (r .n) (r .b) contents bodies) (frameMethod stack (r .top)) → reach ≤ 65536
+      → Loop (state r contents bodies stack cache) grant (r .receiver) (r .selector) (r .n) (r .b) (r .top) contents bodies stack cache 0 reach
+  loop-start grant reach h l =
+      record { turn = subst (λ (x : Flat). Turn x grant s 0 reach) (sym start-is) (turn-start s grant reach checked refl (h ∙ sym (top-end-is (r .receiver) (r .selector) (r .n) (r .b) (r .top) contents bodies stack cache))); low = l }
+
+module _ (s₀ : Flat) (grant receiver selector n b top : ℕ) (contents bodies stack cache : List ℕ) (count reach : ℕ) (l : Loop s₀ grant receiver selector n b top contents bodies stack cache count reach) where
+  abbrev sₗ : Flat
+  sₗ = flat (runningWith receiver selector n b top) contents bodies stack cache
+
+  rightₗ : FlatRight sₗ
+  rightₗ = check-right sₗ (l .turn .checked)
+
+  -- what a bytecode asks for
+  pub loop-runs : Runs n b top contents bodies stack
+  loop-runs = running-runs receiver selector n b top contents bodies stack cache rightₗ
+
+  pub loop-caches : Caches n b contents bodies cache
+  loop-caches = record { long = rightₗ .cacheLength; fine = rightₗ .cached }
+
+  pub loop-small : (n ≤ 2047) × (b ≤ 24000) × (top < 65536)
+  loop-small =
+      let r = loop-runs in
+      let t = top-bounds r in
+      (most (r .right), most-words (r .right), omega arith)
+
+  pub loop-lengths : (length contents ≡ length (s₀ .contents)) × (length bodies ≡ length (s₀ .bodies)) × (length stack ≡ length (s₀ .stack)) × (length cache ≡ length (s₀ .cache))
+  loop-lengths =
+      let e = l .turn .lengths in
+      (ap (λ (x : Room). x .contents) e, ap (λ (x : Room). x .bodies) e, ap (λ (x : Room). x .stack) e, ap (λ (x : Room). x .cache) e)
+
+  -- the grant is used up
+  pub loop-ends : grant ≤ count → RunsTo s₀ grant contents bodies stack cache (record { registers = record { n = n; b = b; receiver = receiver; selector = selector; phase = 1; top = top; value = 0 }; count = count; reach = reach })
+  loop-ends h = record { gave = loop-out s₀ grant sₗ count reach (l .turn) h; ends = loop-out-ends s₀ grant sₗ count reach (l .turn) h; small = l .low }
+
+  module _ (more : count < grant) (contents′ bodies′ stack′ cache′ : List ℕ) (y : Advanced)
+      (a : AdvancedIs (step (roomAt contents bodies stack cache) (runningAt receiver selector n b top contents bodies stack)) receiver selector n b contents bodies stack cache contents′ bodies′ stack′ cache′ y) where
+    -- the step is that of the flat state
+    same-step : step (roomOf sₗ) (plainOf sₗ) ≡ step (roomAt contents bodies stack cache) (runningAt receiver selector n b top contents bodies stack)
+    same-step = ap (step (roomOf sₗ)) (running-is receiver selector n b top contents bodies stack cache)
+
+    told : (y′ : Advanced) → y ≡ y′ → AdvancedIs (step (roomAt contents bodies stack cache) (runningAt receiver selector n b top contents bodies stack)) receiver selector n b contents bodies stack cache contents′ bodies′ stack′ cache′ y′
+    told y′ e =
+        subst (AdvancedIs (step (roomAt contents bodies stack cache) (runningAt receiver selector n b top contents bodies stack)) receiver selector n b contents bodies stack cache contents′ bodies′ stack′ cache′) e a
+
+    pub loop-finished : (w : ℕ) → y ≡ A.Finished w
+        → RunsTo s₀ grant contents′ bodies′ stack′ cache′ (record { registers = record { n = n; b = b; receiver = receiver; selector = selector; phase = 2; top = 0; value = w }; count = count + 1; reach = reach })
+    loop-finished w e =
+        let m = made-as same-step (told (A.Finished w) e) in
+        let z : topEnd (plainOf (flat (finishedWith receiver selector n b w) contents′ bodies′ stack′ cache′)) ≡ 0 = unfold plainOf topEnd in refl in
+        record { gave = loop-over s₀ grant sₗ count reach (l .turn) more (finishedWith receiver selector n b w) contents′ bodies′ stack′ cache′ m refl; ends = loop-over-ends s₀ grant sₗ count reach (l .turn) more (finishedWith receiver selector n b w) contents′ bodies′ stack′ cache′ m refl z; small = l .low }
+
+    pub loop-halted : (k : ℕ) → y ≡ A.Halted k
+        → RunsTo s₀ grant contents′ bodies′ stack′ cache′ (record { registers = record { n = n; b = b; receiver = receiver; selector = selector; phase = k; top = top; value = 0 }; count = count; reach = reach })
+    loop-halted k e =
+        let h = told (A.Halted k) e in
+        let x = h .stays in
+        record {
+          gave = (λ i. Rattle.plain.specs.FlatCalls.gives (Rattle.plain.specs.Calls.result (h .phase i) count 0) (flat (record { n = n; b = b; startReceiver = receiver; startSelector = selector; phase = h .phase i; top = top; value = 0 }) (x .entries i) (x .words i) (x .frames i) (x .cached i)))
+            ∙ loop-halts s₀ grant sₗ count reach (l .turn) more (h .cause) (same-step ∙ h .steps);
+          ends = loop-halts-ends s₀ grant sₗ count reach (l .turn) more (h .cause) (same-step ∙ h .steps);
+          small = l .low;
+        }
+
+    module _ (n′ b′ t : ℕ) (e : y ≡ A.Went n′ b′ (record { 0 = t })) where
+      made : Made (step (roomOf sₗ) (plainOf sₗ)) (runningWith receiver selector n′ b′ t) contents bodies stack cache contents′ bodies′ stack′ cache′
+      made = made-as same-step (told (A.Went n′ b′ (record { 0 = t })) e)
+
+      abbrev s′ : Flat
+      s′ = flat (runningWith receiver selector n′ b′ t) contents′ bodies′ stack′ cache′
+
+      -- the state after it, whatever the highest end
+      next : (reach′ : ℕ) → reach′ ≡ max reach (topEnd (plainOf s′)) → Turn s₀ grant s′ (count + 1) reach′
+      next reach′ h = loop-next s₀ grant sₗ count reach (l .turn) more (runningWith receiver selector n′ b′ t) contents′ bodies′ stack′ cache′ made refl reach′ h
+
+      pub went-runs : Runs n′ b′ t contents′ bodies′ stack′
+      went-runs = running-runs receiver selector n′ b′ t contents′ bodies′ stack′ cache′ (check-right s′ (next (max reach (topEnd (plainOf s′))) refl .checked))
+
+      abbrev end′ : ℕ
+      end′ = t + frameSize (objectsAt n′ b′ contents′ bodies′) (frameMethod stack′ t)
+
+      raises : Dec (top ≡ t) → raisedTo top t reach end′ ≡ max reach (topEnd (plainOf s′))
+      unfolding raisedTo
+      raises (yes q) =
+          let h = loop-level s₀ grant sₗ count reach (l .turn) more (runningWith receiver selector n′ b′ t) contents′ bodies′ stack′ cache′ made refl (sym q) in
+          if-yes _ _ (eq-eqb top t q) ∙ omega arith
+      raises (no q) = if-no _ _ (ne-eqb top t q) ∙ ap (max reach) (sym (top-end-is receiver selector n′ b′ t contents′ bodies′ stack′ cache′))
+
+      pub loop-went : (reach′ : ℕ) → reach′ ≡ raisedTo top t reach end′ → reach′ ≤ 65536 → Loop s₀ grant receiver selector n′ b′ t contents′ bodies′ stack′ cache′ (count + 1) reach′
+      loop-went reach′ h g = record { turn = next reach′ (h ∙ raises (ℕ-discrete top t)); low = g }
+
+-- The highest end, by the code's tests
+pub raised-same : (before top reach end : ℕ) → before ≡ top → reach ≡ raisedTo before top reach end
+unfolding raisedTo
+raised-same before top reach end e = sym (if-yes _ _ (eq-eqb before top e))
+
+pub raised-other : (before top reach end r : ℕ) → (before ≡ top → ⊥) → r ≡ max reach end → r ≡ raisedTo before top reach end
+unfolding raisedTo
+raised-other before top reach end r e h = h ∙ sym (if-no _ _ (ne-eqb before top e))
