@@ -1,13 +1,30 @@
 // A bytecode of a running handler, whole: the step, and the sends and returns that it leaves to be made.
 ghost use mathlib.Core.Path.{_≡_};
-ghost use Prim.Native.Nat.{_+_, suc, _<_};
+ghost use Prim.Native.Nat.{ℕ, _+_, suc, _<_};
 ghost use lib.ListN.{set};
 ghost use Rattle.model.specs.Objects.{objectsAt};
 ghost use Rattle.model.specs.Method.{temporaryCount};
 ghost use Rattle.plain.specs.Flat.{frameSender, frameDepth, frameMethod};
-ghost use Rattle.plain.specs.Running.{Runs};
+ghost use Rattle.plain.specs.Step.{step};
+ghost use Rattle.plain.specs.Running.{Runs, roomAt, runningAt};
+ghost use Rattle.sends.specs.Sends.{Caches};
+ghost use Rattle.interpreter.specs.Advances.{AdvancedIs};
 use model::Pointer;
 use model::StackPosition;
+use sends::Sent;
+use steps::Event;
+
+// What a bytecode leads to: the number of objects and body words and the top frame then; or the value that the run finishes with; or
+// a halt, with the phase that says why (3, 4 or 5).
+pub enum Advanced {
+    Went {
+        n: usize,
+        b: usize,
+        top: StackPosition,
+    },
+    Finished(u16),
+    Halted(u16),
+}
 
 // A return above the bottom: the word is pushed on the frame below, which is on top then.
 fn return_to(
@@ -32,4 +49,79 @@ fn return_to(
     stack[place] = w;
     stack[sender + 2] = (depth + 1) as u16;
     StackPosition(sender)
+}
+
+// A whole bytecode.
+pub fn advance(
+    contents: &mut [u16],
+    bodies: &mut [u16],
+    stack: &mut [u16],
+    cache: &mut [u16],
+    n: usize,
+    b: usize,
+    top: StackPosition,
+) -> Advanced
+    requires { ⌜ Runs n b (top .0) (now contents) (now bodies) (now stack) × Caches n b (now contents) (now bodies) (now cache) ⌝ }
+    ensures { λ r. ⌜ ((receiver selector : ℕ) → AdvancedIs (step (roomAt (now (contents .entry)) (now (bodies .entry)) (now (stack .entry)) (now (cache .entry))) (runningAt receiver selector n b (top .0) (now (contents .entry)) (now (bodies .entry)) (now (stack .entry)))) receiver selector n b (now (contents .entry)) (now (bodies .entry)) (now (stack .entry)) (now (cache .entry)) (now (contents .exit)) (now (bodies .exit)) (now (stack .exit)) (now (cache .exit)) r) ⌝ }
+{
+    let event = steps::step(contents, bodies, stack, n, b, top);
+    match event {
+        Event::Next => Advanced::Went {
+            n: n,
+            b: b,
+            top: top,
+        },
+        Event::Send {
+            selector: selector,
+            count: count,
+            class: class,
+            next: next,
+            sure: sure,
+        } => {
+            let sent = sends::send(
+                contents,
+                bodies,
+                stack,
+                cache,
+                n,
+                b,
+                top,
+                selector,
+                count,
+                class,
+                next,
+                sure,
+            );
+            match sent {
+                Sent::Answered {
+                    n: objects,
+                    b: words,
+                } => Advanced::Went {
+                    n: objects,
+                    b: words,
+                    top: top,
+                },
+                Sent::Entered(base) => Advanced::Went {
+                    n: n,
+                    b: b,
+                    top: base,
+                },
+                Sent::NotUnderstood => Advanced::Halted(3),
+                Sent::NoRoom => Advanced::Halted(5),
+            }
+        }
+        Event::Return(w) => {
+            let base = top.0;
+            if base == 0 {
+                return Advanced::Finished(w);
+            }
+            let below = return_to(contents, bodies, stack, n, b, top, w);
+            Advanced::Went {
+                n: n,
+                b: b,
+                top: below,
+            }
+        }
+        Event::NoBoolean => Advanced::Halted(4),
+    }
 }

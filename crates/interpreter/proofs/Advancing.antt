@@ -1,0 +1,136 @@
+-- The events of a bytecode, with the send or the return that is made of them: the step, or the halt.
+use Prim.Native.Nat.{ℕ, suc, _+_, _<_}
+use mathlib.Core.Path.{_≡_, refl, sym, _∙_, subst}
+use mathlib.Core.Bool.{Bool}
+use mathlib.Core.List.{List}
+use lib.ListN.{set}
+use Rattle.model.specs.Objects.{objectsAt}
+use Rattle.model.specs.Method.{temporaryCount}
+use Rattle.model.specs.declared.Pointer.{Pointer}
+use Rattle.model.specs.declared.CodePosition.{CodePosition}
+use Rattle.model.specs.declared.StackPosition.{StackPosition}
+use Rattle.plain.specs.Registers.{Cause, notUnderstood, noBoolean, noStackRoom, phaseOf}
+use Rattle.plain.specs.Step.{Stepped, halts, returned}
+use Rattle.plain.specs.Flat.{frameSender, frameDepth, frameMethod}
+use Rattle.plain.specs.Running.{Runs, Sending, Made, Stays, runningWith, finishedWith, runningAt, roomAt, topFrame, restFrames, sendStep}
+use Rattle.plain.proofs.MadeLaws.{moved-made, made-as}
+use Rattle.plain.proofs.ReturnLaws.{bottom-returns, sender-returns}
+use Rattle.steps.specs.declared.Event.{Event}
+use Rattle.steps.specs.declared.Event.the-variants.{Next, Send, Return, NoBoolean}
+use Rattle.steps.specs.Events.{Says, Becomes, stepAt}
+use Rattle.steps.proofs.HereLaws.{noted-small}
+use Rattle.sends.specs.declared.Sent.{Sent}
+use Rattle.sends.specs.declared.Sent.the-variants.{Answered, Entered, NotUnderstood, NoRoom}
+use Rattle.sends.specs.Sends.{Caches, SentIs}
+use Rattle.interpreter.specs.Advances.{Stops}
+
+-- Buffers that are left as they were
+module _ {bodies stack bodies₁ stack₁ : List ℕ} (ew : bodies₁ ≡ bodies) (ef : stack₁ ≡ stack) (P : List ℕ → List ℕ → Type 0) where
+  onto : P bodies stack → P bodies₁ stack₁
+  onto x = subst (λ (l : List ℕ). P l stack₁) (sym ew) (subst (P bodies) (sym ef) x)
+
+  back : P bodies₁ stack₁ → P bodies stack
+  back x = subst (P bodies) ef (subst (λ (l : List ℕ). P l stack₁) ew x)
+
+module _ {n b top : ℕ} {contents bodies stack : List ℕ} (r : Runs n b top contents bodies stack) (bodies₁ stack₁ : List ℕ) (event : Event) (says : Says n b top contents bodies stack bodies₁ stack₁ event) where
+  abbrev stepFrom : List ℕ → ℕ → ℕ → Stepped
+  stepFrom cache receiver selector = stepAt (roomAt contents bodies stack cache) receiver selector n b top contents bodies stack
+
+  by-event : (y : Event) → event ≡ y → Says n b top contents bodies stack bodies₁ stack₁ y
+  by-event y e = subst (Says n b top contents bodies stack bodies₁ stack₁) e says
+
+  -- A bytecode that is done
+  pub went-on : (cache : List ℕ) → event ≡ Next → (receiver selector : ℕ)
+      → Made (stepFrom cache receiver selector) (runningWith receiver selector n b top) contents bodies stack cache contents bodies₁ stack₁ cache
+  went-on cache e receiver selector =
+      moved-made n b top contents bodies stack cache bodies₁ stack₁ r (by-event Next e) receiver selector (roomAt contents bodies stack cache)
+
+  -- A jump on a word that is no boolean
+  pub no-boolean : (cache : List ℕ) → event ≡ NoBoolean → (receiver selector : ℕ)
+      → Stops (stepFrom cache receiver selector) 4 contents bodies stack cache contents bodies₁ stack₁ cache
+  no-boolean cache e receiver selector =
+      let x : Becomes n b top contents bodies stack bodies₁ stack₁ (λ room receiver selector. halts noBoolean) = by-event NoBoolean e in
+      record { cause = noBoolean; steps = x .steps receiver selector (roomAt contents bodies stack cache); phase = refl; stays = record { entries = refl; words = x .words; frames = x .frames; cached = refl } }
+
+  -- A return
+  module _ (w : ℕ) (e : event ≡ Return w) where
+    abbrev return-step : ℕ → ℕ → Stepped
+    return-step receiver selector = returned (runningAt receiver selector n b top contents bodies stack) (topFrame n b top contents bodies stack) (restFrames n b top contents bodies stack) w
+
+    returns-word : Becomes n b top contents bodies stack bodies₁ stack₁ (λ room receiver selector. return-step receiver selector)
+    returns-word = by-event (Return w) e
+
+    pub finishes : (cache : List ℕ) → top ≡ 0 → (receiver selector : ℕ)
+        → Made (stepFrom cache receiver selector) (finishedWith receiver selector n b w) contents bodies stack cache contents bodies₁ stack₁ cache
+    finishes cache z receiver selector =
+        let x = returns-word in
+        made-as (x .steps receiver selector (roomAt contents bodies stack cache))
+        (onto (x .words) (x .frames) (λ (l s : List ℕ). Made (return-step receiver selector) (finishedWith receiver selector n b w) contents bodies stack cache contents l s cache) (bottom-returns r receiver selector w cache z))
+
+    pub return-runs : Runs n b top contents bodies₁ stack₁
+    return-runs = let x = returns-word in onto (x .words) (x .frames) (λ (l s : List ℕ). Runs n b top contents l s) r
+
+    abbrev after : List ℕ → List ℕ → ℕ → List ℕ
+    after l s t = set (set s (t + (6 + (temporaryCount (objectsAt n b contents l) (frameMethod s t) + frameDepth s t))) w) (t + 2) (suc (frameDepth s t))
+
+    pub returns-below : (cache stack′ : List ℕ) (t : ℕ) → 0 < top → t ≡ frameSender stack₁ top → stack′ ≡ after bodies₁ stack₁ t → (receiver selector : ℕ)
+        → Made (stepFrom cache receiver selector) (runningWith receiver selector n b t) contents bodies stack cache contents bodies₁ stack′ cache
+    returns-below cache stack′ t above et es receiver selector =
+        let x = returns-word in
+        made-as (x .steps receiver selector (roomAt contents bodies stack cache))
+        (subst (λ (s : List ℕ). Made (return-step receiver selector) (runningWith receiver selector n b t) contents bodies stack cache contents bodies₁ s cache) (sym es)
+        (subst (λ (k : ℕ). Made (return-step receiver selector) (runningWith receiver selector n b k) contents bodies stack cache contents bodies₁ (after bodies₁ stack₁ k) cache) (sym et)
+        (onto (x .words) (x .frames) (λ (l s : List ℕ). Made (return-step receiver selector) (runningWith receiver selector n b (frameSender s top)) contents bodies stack cache contents l (after l s (frameSender s top)) cache)
+        (sender-returns r above receiver selector w cache))))
+
+  -- A send
+  module _ (s k : ℕ) (c : Pointer) (q : CodePosition) (sure : Bool) (e : event ≡ Send s k c q sure) where
+    abbrev send-step : List ℕ → List ℕ → List ℕ → ℕ → ℕ → Stepped
+    send-step cache l z receiver selector = sendStep (roomAt contents l z cache) receiver selector n b top contents l z s k (c .0) (q .0)
+
+    abbrev Sends : Type 0
+    Sends = Sending n b top contents bodies stack s k (c .0) (q .0) sure × Becomes n b top contents bodies stack bodies₁ stack₁ (λ room receiver selector. sendStep room receiver selector n b top contents bodies stack s k (c .0) (q .0))
+
+    sends-it : Sends
+    sends-it = by-event (Send s k c q sure) e
+
+    pub can-send : (cache : List ℕ) → Caches n b contents bodies cache
+        → Sending n b top contents bodies₁ stack₁ s k (c .0) (q .0) sure × Caches n b contents bodies₁ cache × (q .0 < 65536)
+    can-send cache g =
+        let x = sends-it in
+        (onto (x .1 .words) (x .1 .frames) (λ (l z : List ℕ). Sending n b top contents l z s k (c .0) (q .0) sure) (x .0), onto (x .1 .words) (x .1 .frames) (λ (l z : List ℕ). Caches n b contents l cache) g, noted-small r (q .0) _ (x .0 .noted))
+
+    module _ (cache contents′ bodies′ stack′ cache′ : List ℕ) (a : Sent)
+        (h : (receiver selector : ℕ) → SentIs (send-step cache bodies₁ stack₁ receiver selector) receiver selector n b top contents bodies₁ stack₁ cache contents′ bodies′ stack′ cache′ a)
+      where
+        -- what the send says, of the buffers before the step
+        said : (y : Sent) → a ≡ y → (receiver selector : ℕ) → SentIs (send-step cache bodies stack receiver selector) receiver selector n b top contents bodies stack cache contents′ bodies′ stack′ cache′ y
+        said y d receiver selector =
+            let x = sends-it .1 in
+            subst (SentIs (send-step cache bodies stack receiver selector) receiver selector n b top contents bodies stack cache contents′ bodies′ stack′ cache′) d
+            (back (x .words) (x .frames) (λ (l z : List ℕ). SentIs (send-step cache l z receiver selector) receiver selector n b top contents l z cache contents′ bodies′ stack′ cache′ a) (h receiver selector))
+
+        as-sent : (receiver selector : ℕ) → stepFrom cache receiver selector ≡ send-step cache bodies stack receiver selector
+        as-sent receiver selector = sends-it .1 .steps receiver selector (roomAt contents bodies stack cache)
+
+        pub answers : (n′ b′ : ℕ) → a ≡ Answered n′ b′ → (receiver selector : ℕ)
+            → Made (stepFrom cache receiver selector) (runningWith receiver selector n′ b′ top) contents bodies stack cache contents′ bodies′ stack′ cache′
+        answers n′ b′ d receiver selector = made-as (as-sent receiver selector) (said (Answered n′ b′) d receiver selector)
+
+        pub enters : (t : StackPosition) → a ≡ Entered t → (receiver selector : ℕ)
+            → Made (stepFrom cache receiver selector) (runningWith receiver selector n b (t .0)) contents bodies stack cache contents′ bodies′ stack′ cache′
+        enters t d receiver selector = made-as (as-sent receiver selector) (said (Entered t) d receiver selector)
+
+        stops : (cause : Cause) (receiver selector : ℕ)
+            → (send-step cache bodies stack receiver selector ≡ halts cause) × Stays contents bodies stack cache contents′ bodies′ stack′ cache′
+            → Stops (stepFrom cache receiver selector) (phaseOf cause) contents bodies stack cache contents′ bodies′ stack′ cache′
+        stops cause receiver selector x =
+            record { cause = cause; steps = as-sent receiver selector ∙ x .0; phase = refl; stays = x .1 }
+
+        pub none-understood : a ≡ NotUnderstood → (receiver selector : ℕ)
+            → Stops (stepFrom cache receiver selector) 3 contents bodies stack cache contents′ bodies′ stack′ cache′
+        none-understood d receiver selector = stops notUnderstood receiver selector (said NotUnderstood d receiver selector)
+
+        pub none-fits : a ≡ NoRoom → (receiver selector : ℕ)
+            → Stops (stepFrom cache receiver selector) 5 contents bodies stack cache contents′ bodies′ stack′ cache′
+        none-fits d receiver selector = stops noStackRoom receiver selector (said NoRoom d receiver selector)
