@@ -5,6 +5,7 @@ ghost use lib.ListN.{length, set, take, replicate};
 ghost use lib.Seq.{sets};
 ghost use Rattle.bytecode.specs.Constant.{nilWord};
 ghost use Rattle.frames.specs.Words.{newWords};
+use model::CodePosition;
 use model::Pointer;
 use model::StackPosition;
 
@@ -55,4 +56,35 @@ pub fn write_frame(
     words[5] = receiver;
     copy_arguments(words, count, arguments);
     fill_nil(words, count, temporaries);
+}
+
+// The frame at a base goes on at another position, with so many operands.
+pub fn move_to(stack: &mut [u16], base: StackPosition, position: CodePosition, depth: usize)
+    requires { ⌜ (base .0 + 2 < length (now stack)) × (position .0 < 65536) × (depth < 65536) ⌝ }
+    ensures { λ r. ⌜ now (stack .exit) ≡ set (set (now (stack .entry)) (base .0 + 1) (position .0)) (base .0 + 2) depth ⌝ }
+{
+    let at = base.0;
+    let next = position.0;
+    stack[at + 1] = next as u16;
+    stack[at + 2] = depth as u16;
+}
+
+// The same, an operand being written at a place of the stack.
+pub fn push(
+    stack: &mut [u16],
+    base: StackPosition,
+    place: StackPosition,
+    position: CodePosition,
+    depth: usize,
+    w: u16,
+)
+    requires { ⌜ (base .0 + 2 < length (now stack)) × (place .0 < length (now stack)) × (position .0 < 65536) × (depth < 65536) ⌝ }
+    ensures { λ r. ⌜ now (stack .exit) ≡ set (set (set (now (stack .entry)) (place .0) w) (base .0 + 1) (position .0)) (base .0 + 2) depth ⌝ }
+{
+    let at = base.0;
+    let to = place.0;
+    let next = position.0;
+    stack[to] = w;
+    stack[at + 1] = next as u16;
+    stack[at + 2] = depth as u16;
 }

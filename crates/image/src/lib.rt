@@ -101,7 +101,7 @@ pub fn place(image: &[u8], n: usize, b: usize, contents: &mut [u16], bodies: &mu
 }
 
 // Zeros at the front.
-fn clear(words: &mut [u16], count: usize)
+pub fn clear(words: &mut [u16], count: usize)
     requires { ⌜ count ≤ length (now words) ⌝ }
     ensures { λ _. ⌜ now (words .exit) ≡ replicate count 0 ++ drop count (now (words .entry)) ⌝ }
 {

@@ -19,3 +19,10 @@ pub mod LoadLaws
 pub mod Theorem
 pub mod Consequences
 pub mod WriteLaws
+pub mod RunningLaws
+pub mod FramedLaws
+pub mod ReturnLaws
+pub mod TurnLaws
+pub mod CheckParts
+pub mod MadeLaws
+pub mod LoopLaws

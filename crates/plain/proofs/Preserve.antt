@@ -34,6 +34,7 @@ use Rattle.model.specs.Arithmetic.{arithmetic}
 use Rattle.model.specs.Primitive.{Outcome, answers, fails, primitive, storeWord}
 use Rattle.model.proofs.DepthLaws.{spot-start}
 use Rattle.plain.specs.Registers.{running, finished}
+use Rattle.plain.specs.FlatCalls.{topEnd}
 use Rattle.plain.specs.State.{Frame, Plain, objects, withObjects, withFrames, movedTo, withTemporaries, newFrame, fitsStack, noMark}
 use Rattle.plain.specs.Step.{Looked, noLookup, looked, Stepped, next, halts, missing, _>>=_, provided, operand, without, fieldOf, literalOf, onTop, hasWord, pushed, read, storedField, stored, returned, Activation, answered, entered, unfit, entering, fieldAnswered, primitiveAnswered, activate, framed, changed, activated, afterLookup, popped, sends, aboveHome, triedPrimitive, orSends, arithmeticSends, specialSends, jumps, execute}
 use Rattle.plain.proofs.FrameLaws.{FrameRight, Fits, fits, FramesRight, tableDepth, note-is, within}
@@ -132,6 +133,7 @@ module _ (After : Objects → Objects → Type 0) (room : Room) (s : Plain) wher
     pub receiver : s′ .registers .startReceiver ≡ s .registers .startReceiver
     pub selector : s′ .registers .startSelector ≡ s .registers .startSelector
     pub shape : Shape (room .stack) s′
+    pub level : s′ .registers .phase ≡ running → s′ .registers .top ≡ s .registers .top → topEnd s′ ≡ topEnd s
 
   abbrev pub Goes : Stepped → Type 0
   Goes (next s′ l) = Kept s′ × LookedRight (objects s) l
@@ -205,7 +207,12 @@ module _ (After : Objects → Objects → Type 0) (room : Room) (s : Plain) wher
             ∙ (let x = world .arguments m k in omega arith)
 
   module _ (world : World After room o) (f : Frame) (rest : List Frame) (r : FrameRight o true f)
-      (fr : FramesRight o (room .stack) true (s .registers .top) (f ∷ rest)) where
+      (fr : FramesRight o (room .stack) true (s .registers .top) (f ∷ rest)) (frames-are : s .frames ≡ f ∷ rest) where
+    -- the end of the top frame
+    own-end : topEnd s ≡ s .registers .top + frameSize o (f .method)
+    unfolding topEnd
+    own-end = ap (λ (fs : List Frame). elim fs as (λ _. ℕ) [ [] ↦ 0 | g ∷ gs ↦ s .registers .top + frameSize o (g .method) ]) frames-are
+
     -- ---- the objects change, the frames stay
     frames-keep : (o′ : Objects) → After o o′ → (b : Bool) (base : ℕ) (fs : List Frame) → FramesRight o (room .stack) b base fs → FramesRight o′ (room .stack) b base fs
     frames-keep o′ a b base [] t = t
@@ -222,13 +229,13 @@ module _ (After : Objects → Objects → Type 0) (room : Room) (s : Plain) wher
     -- a state that runs on with another top frame, of the same method and sender
     run-on : (f′ : Frame) → f′ .sender ≡ f .sender → f′ .method ≡ f .method → FrameRight o true f′ → (l : Looked) → LookedRight o l → Goes (next (onTop s f′ rest) l)
     run-on f′ a b r′ l q =
-        (record { after = world .self; receiver = refl; selector = refl; shape = runs refl refl (new-top o (room .stack) true true (s .registers .top) f f′ rest a b r′ fr) }, q)
+        (record { after = world .self; receiver = refl; selector = refl; shape = runs refl refl (new-top o (room .stack) true true (s .registers .top) f f′ rest a b r′ fr); level = λ x y. unfold topEnd in (ap (λ (m : ℕ). s .registers .top + frameSize o m) b ∙ sym own-end) }, q)
 
     -- the same with other objects
     run-on-with : (o′ : Objects) → After o o′ → (f′ : Frame) → f′ .sender ≡ f .sender → f′ .method ≡ f .method → FrameRight o′ true f′ → (l : Looked) → LookedRight o l
         → Goes (next (withObjects (onTop s f′ rest) o′) l)
     run-on-with o′ x f′ a b r′ l q =
-        (record { after = x; receiver = refl; selector = refl; shape = runs refl refl (new-top o′ (room .stack) true true (s .registers .top) f f′ rest a b r′ (frames-keep o′ x true (s .registers .top) (f ∷ rest) fr)) }, q)
+        (record { after = x; receiver = refl; selector = refl; shape = runs refl refl (new-top o′ (room .stack) true true (s .registers .top) f f′ rest a b r′ (frames-keep o′ x true (s .registers .top) (f ∷ rest) fr)); level = λ y z. unfold topEnd in (ap (λ (m : ℕ). s .registers .top + frameSize o′ m) b ∙ ap (λ (k : ℕ). s .registers .top + k) (world .sizes o′ x (f .method) (r .isMethod)) ∙ sym own-end) }, q)
 
     -- a push on a frame of the same method and sender, which is right on top or below it
     length-more : (ops : List ℕ) (w : ℕ) → length (ops ++ (w ∷ [])) ≡ suc (length ops)
@@ -334,10 +341,10 @@ module _ (After : Objects → Objects → Type 0) (room : Room) (s : Plain) wher
     -- ---- returns
     returns : (w : ℕ) → T (isValid (o .n) w) → (gs : List Frame) → gs ≡ rest → Goes (returned s f gs w)
     unfolding returned
-    returns w v [] e = (record { after = world .self; receiver = refl; selector = refl; shape = ends refl v refl refl }, tt)
+    returns w v [] e = (record { after = world .self; receiver = refl; selector = refl; shape = ends refl v refl refl; level = λ x y. absurd (omega arith) }, tt)
     returns w v (g ∷ gs) e =
         goes-provided (hasWord o g (g .depth)) _ (lt→ltb (temporaryCount o (g .method) + g .depth) (frameWords o (g .method)) (let h = within o false g rg in omega arith))
-        (record { after = world .self; receiver = refl; selector = refl; shape = runs refl refl (new-top o (room .stack) false true (f .sender) g g′ gs refl refl rg′ below) }, tt)
+        (record { after = world .self; receiver = refl; selector = refl; shape = runs refl refl (new-top o (room .stack) false true (f .sender) g g′ gs refl refl rg′ below); level = λ x y. absurd (let z = parts .2 in omega arith) }, tt)
       where
         parts : FrameRight o true f × Fits (room .stack) (s .registers .top) (frameSize o (f .method)) × (s .registers .top ≡ f .sender + frameSize o (g .method)) × FramesRight o (room .stack) false (f .sender) (g ∷ gs)
         parts = subst (λ (x : List Frame). FramesRight o (room .stack) true (s .registers .top) (f ∷ x)) (sym e) fr
@@ -382,7 +389,7 @@ module _ (After : Objects → Objects → Type 0) (room : Room) (s : Plain) wher
       framed-goes m receiver rn l k =
           if-cases Goes (fitsStack (room .stack) (s .registers .top + frameSize o (f .method)) (frameSize o m)) _ _
           (λ e.
-          (record { after = world .self; receiver = refl; selector = refl; shape = runs refl refl (rn, fits (room .stack) (s .registers .top + frameSize o (f .method)) (frameSize o m) (true→T e), refl, new-top o (room .stack) true false (s .registers .top) f f′ rest refl refl right′ fr) }, k))
+          (record { after = world .self; receiver = refl; selector = refl; shape = runs refl refl (rn, fits (room .stack) (s .registers .top + frameSize o (f .method)) (frameSize o m) (true→T e), refl, new-top o (room .stack) true false (s .registers .top) f f′ rest refl refl right′ fr); level = λ x y. absurd (omega arith) }, k))
           (λ e. tt)
 
       activated-goes : (selector class m receiver : ℕ) → lookup o selector class ≡ found m → argumentCount o m ≡ length arguments′ → T (isValid (o .n) receiver)

@@ -67,18 +67,18 @@ module _ (room : Room) (worlds : Worlds room) where
   frame-step : (p : Plain) → PlainRight room p → FramesRight (objects p) (room .stack) true (p .registers .top) (p .frames)
       → Goes (After room) room p (step room p)
   unfolding step
-  frame-step p r f = go (p .frames) f
+  frame-step p r f = go (p .frames) refl f
     where
       head-right : (f : Frame) (rest : List Frame) → FramesRight (objects p) (room .stack) true (p .registers .top) (f ∷ rest) → FrameRight (objects p) true f
       head-right f [] x = x .0
       head-right f (g ∷ rest) x = x .0
 
-      go : (fs : List Frame) → FramesRight (objects p) (room .stack) true (p .registers .top) fs
+      go : (fs : List Frame) → p .frames ≡ fs → FramesRight (objects p) (room .stack) true (p .registers .top) fs
           → Goes (After room) room p (elim fs as (λ _. Stepped) [ [] ↦ missing | f ∷ rest ↦ stepFrame room p f rest ])
-      go [] x = absurd x
-      go (f ∷ rest) x =
+      go [] e x = absurd x
+      go (f ∷ rest) e x =
           unfold stepFrame in
-          executes (After room) room p (world p r) f rest (head-right f rest x) x
+          executes (After room) room p (world p r) f rest (head-right f rest x) x e
           (nextAt (codeWords (objects p) (f .method)) (f .position))
           (decodeAt (codeWords (objects p) (f .method)) (codeSize (objects p) (f .method)) (f .position))
           (now (objects p) f (head-right f rest x))
@@ -151,7 +151,7 @@ module _ (room : Room) (worlds : Worlds room) where
   shape-busy p (ends a b c f) e = omega arith
 
   -- after a step the frames stand in the stack in which they were laid
-  shape-stood : (p : Plain) (stack : List ℕ) → length stack ≡ room .stack → Shape (room .stack) p → Stood p (laid stack (p .registers .top) (p .frames))
+  pub shape-stood : (p : Plain) (stack : List ℕ) → length stack ≡ room .stack → Shape (room .stack) p → Stood p (laid stack (p .registers .top) (p .frames))
   shape-stood p stack h (runs a b f) q = laid-back (objects p) (room .stack) stack h (p .frames) (p .registers .top) f
   shape-stood p stack h (ends a b c f) q = absurd (subst (λ (k : ℕ). T (Rattle.plain.specs.Registers.hasFrames k)) a (subst T (sym q) tt))
 

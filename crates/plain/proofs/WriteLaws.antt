@@ -198,22 +198,22 @@ laid-same o stack isTop base (suc left) (f ∷ g ∷ rest) r e =
     not-bottom zero fs h = absurd (omega arith)
     not-bottom (suc b) fs h = refl
 
--- ---- a state whose frames f ∷ rest stand in the stack, f at t
+-- ---- frames f ∷ rest that stand in the stack, f at t, on top or below it
 
-module _ (o : Objects) (stack : List ℕ) (t left : ℕ) (f : Frame) (rest : List Frame) (fr : FramesRight o (length stack) true t (f ∷ rest)) (stood : framesFrom left o stack t ≡ f ∷ rest) where
-  head-right : (fs : List Frame) → FramesRight o (length stack) true t (f ∷ fs) → FrameRight o true f
+module _ (isTop : Bool) (o : Objects) (stack : List ℕ) (t left : ℕ) (f : Frame) (rest : List Frame) (fr : FramesRight o (length stack) isTop t (f ∷ rest)) (stood : framesFrom left o stack t ≡ f ∷ rest) where
+  head-right : (fs : List Frame) → FramesRight o (length stack) isTop t (f ∷ fs) → FrameRight o isTop f
   head-right [] x = x .0
   head-right (g ∷ fs) x = x .0
 
-  pub top-right : FrameRight o true f
-  top-right = head-right rest fr
+  pub frame-right-at : FrameRight o isTop f
+  frame-right-at = head-right rest fr
 
-  fits-here : (fs : List Frame) → FramesRight o (length stack) true t (f ∷ fs) → t + frameSize o (f .method) ≤ length stack
+  fits-here : (fs : List Frame) → FramesRight o (length stack) isTop t (f ∷ fs) → t + frameSize o (f .method) ≤ length stack
   fits-here [] x = x .1 .inside
   fits-here (g ∷ fs) x = x .1 .inside
 
-  pub top-here : frameAt o stack t ≡ f
-  top-here = go left stood
+  pub frame-here-at : frameAt o stack t ≡ f
+  frame-here-at = go left stood
     where
       go : (n : ℕ) → framesFrom n o stack t ≡ f ∷ rest → frameAt o stack t ≡ f
       go zero e = absurd (bad e)
@@ -227,10 +227,10 @@ module _ (o : Objects) (stack : List ℕ) (t left : ℕ) (f : Frame) (rest : Lis
       go (suc n) e = stands-tail o stack t n f rest e .0
 
   -- the frames below are laid there already
-  pub rest-same : laid stack (f .sender) rest ≡ stack
-  rest-same = go left rest fr stood
+  pub rest-same-at : laid stack (f .sender) rest ≡ stack
+  rest-same-at = go left rest fr stood
     where
-      go : (n : ℕ) (fs : List Frame) → FramesRight o (length stack) true t (f ∷ fs) → framesFrom n o stack t ≡ f ∷ fs → laid stack (f .sender) fs ≡ stack
+      go : (n : ℕ) (fs : List Frame) → FramesRight o (length stack) isTop t (f ∷ fs) → framesFrom n o stack t ≡ f ∷ fs → laid stack (f .sender) fs ≡ stack
       go n [] x e = unfold laid in refl
       go zero (g ∷ fs) x e = absurd (bad e)
         where
@@ -250,9 +250,9 @@ module _ (o : Objects) (stack : List ℕ) (t left : ℕ) (f : Frame) (rest : Lis
           not-bottom (suc b) ys h = refl
 
   -- so another top frame with the same sender is the one that is written
-  pub top-laid : (f′ : Frame) → f′ .sender ≡ f .sender → laid stack t (f′ ∷ rest) ≡ sets stack t (frameImage f′)
+  pub laid-at : (f′ : Frame) → f′ .sender ≡ f .sender → laid stack t (f′ ∷ rest) ≡ sets stack t (frameImage f′)
   unfolding laid
-  top-laid f′ e = ap (λ (l : List ℕ). sets l t (frameImage f′)) (ap (λ (b : ℕ). laid stack b rest) e ∙ rest-same)
+  laid-at f′ e = ap (λ (l : List ℕ). sets l t (frameImage f′)) (ap (λ (b : ℕ). laid stack b rest) e ∙ rest-same-at)
 
   abbrev tc : ℕ
   tc = temporaryCount o (f .method)
@@ -272,43 +272,43 @@ module _ (o : Objects) (stack : List ℕ) (t left : ℕ) (f : Frame) (rest : Lis
   other-three l a b c i u v w x y z = getD-set-other (set (set l a u) b v) c i w 0 z ∙ other-two l a b i u v x y
 
   -- The frame moves on with the first k operands: two words.
-  pub moved-writes : (q k : ℕ) → k ≤ f .depth → laid stack t (movedTo f q (take k (f .operands)) ∷ rest) ≡ set (set stack (t + 1) q) (t + 2) k
-  moved-writes q k h =
-      let r = top-right in
-      let w = depth-within o true f r in
+  pub moved-at : (q k : ℕ) → k ≤ f .depth → laid stack t (movedTo f q (take k (f .operands)) ∷ rest) ≡ set (set stack (t + 1) q) (t + 2) k
+  moved-at q k h =
+      let r = frame-right-at in
+      let w = depth-within o isTop f r in
       let z = fits-here rest fr in
       let a = r .temporaries in
       let lk : length (take k (f .operands)) ≡ k = length-take-le k (f .operands) (let b = r .depth in omega arith) in
-      top-laid (movedTo f q (take k (f .operands))) refl
-      ∙ frame-written o stack t f true top-here r (movedTo f q (take k (f .operands))) (set (set stack (t + 1) q) (t + 2) k) refl refl refl refl
+      laid-at (movedTo f q (take k (f .operands))) refl
+      ∙ frame-written o stack t f isTop frame-here-at r (movedTo f q (take k (f .operands))) (set (set stack (t + 1) q) (t + 2) k) refl refl refl refl
       (length-set (set stack (t + 1) q) (t + 2) k ∙ length-set stack (t + 1) q) (omega arith)
       (λ i x. other-two stack (t + 1) (t + 2) i q k (header-apart i (t + 1) x (inl (omega arith, omega arith))) (header-apart i (t + 2) x (inl (omega arith, omega arith))))
       (getD-set-other (set stack (t + 1) q) (t + 2) (t + 1) k 0 (λ e. omega arith) ∙ getD-set-same stack (t + 1) q 0 (omega arith))
       (getD-set-same (set stack (t + 1) q) (t + 2) k 0 (subst (λ (n : ℕ). t + 2 < n) (sym (length-set stack (t + 1) q)) (omega arith)) ∙ sym lk)
-      (λ j y. other-two stack (t + 1) (t + 2) (t + (6 + j)) q k (λ e. omega arith) (λ e. omega arith) ∙ temporary-here o stack t f true top-here r j (omega arith))
+      (λ j y. other-two stack (t + 1) (t + 2) (t + (6 + j)) q k (λ e. omega arith) (λ e. omega arith) ∙ temporary-here o stack t f isTop frame-here-at r j (omega arith))
       (λ j y. other-two stack (t + 1) (t + 2) (t + (6 + (length (f .temporaries) + j))) q k (λ e. omega arith) (λ e. omega arith)
-      ∙ subst (λ (x : ℕ). getD stack (t + (6 + (x + j))) 0 ≡ getD (f .operands) j 0) (sym a) (operand-here o stack t f true top-here r j (omega arith))
+      ∙ subst (λ (x : ℕ). getD stack (t + (6 + (x + j))) 0 ≡ getD (f .operands) j 0) (sym a) (operand-here o stack t f isTop frame-here-at r j (omega arith))
       ∙ sym (getD-take k (f .operands) j 0 (omega arith)))
       (λ i y. other-two stack (t + 1) (t + 2) i q k (λ e. omega arith) (λ e. omega arith))
 
   -- One operand is written above the first k: three words.
-  pub pushed-writes : (q k w : ℕ) → k ≤ f .depth → tc + k < Rattle.model.specs.Method.frameWords o (f .method)
+  pub pushed-at : (q k w : ℕ) → k ≤ f .depth → tc + k < Rattle.model.specs.Method.frameWords o (f .method)
       → laid stack t (movedTo f q (take k (f .operands) ++ (w ∷ [])) ∷ rest) ≡ set (set (set stack (t + (6 + (tc + k))) w) (t + 1) q) (t + 2) (suc k)
-  pushed-writes q k w h room =
-      let r = top-right in
+  pushed-at q k w h room =
+      let r = frame-right-at in
       let z = fits-here rest fr in
       let a = r .temporaries in
       let lk : length (take k (f .operands)) ≡ k = length-take-le k (f .operands) (let b = r .depth in omega arith) in
       let ln : length (take k (f .operands) ++ (w ∷ [])) ≡ suc k = length-append (take k (f .operands)) (w ∷ []) ∙ omega arith in
       let p : ℕ = t + (6 + (tc + k)) in
       let s : List ℕ = set (set (set stack (t + (6 + (tc + k))) w) (t + 1) q) (t + 2) (suc k) in
-      top-laid (movedTo f q (take k (f .operands) ++ (w ∷ []))) refl
-      ∙ frame-written o stack t f true top-here r (movedTo f q (take k (f .operands) ++ (w ∷ []))) s refl refl refl refl
+      laid-at (movedTo f q (take k (f .operands) ++ (w ∷ []))) refl
+      ∙ frame-written o stack t f isTop frame-here-at r (movedTo f q (take k (f .operands) ++ (w ∷ []))) s refl refl refl refl
       (length-set (set (set stack (t + (6 + (tc + k))) w) (t + 1) q) (t + 2) (suc k) ∙ length-set (set stack (t + (6 + (tc + k))) w) (t + 1) q ∙ length-set stack (t + (6 + (tc + k))) w) (omega arith)
       (λ i x. other-three stack (t + (6 + (tc + k))) (t + 1) (t + 2) i w q (suc k) (header-apart i (t + (6 + (tc + k))) x (inr (omega arith))) (header-apart i (t + 1) x (inl (omega arith, omega arith))) (header-apart i (t + 2) x (inl (omega arith, omega arith))))
       (getD-set-other (set (set stack (t + (6 + (tc + k))) w) (t + 1) q) (t + 2) (t + 1) (suc k) 0 (λ e. omega arith) ∙ getD-set-same (set stack (t + (6 + (tc + k))) w) (t + 1) q 0 (subst (λ (n : ℕ). t + 1 < n) (sym (length-set stack (t + (6 + (tc + k))) w)) (omega arith)))
       (getD-set-same (set (set stack (t + (6 + (tc + k))) w) (t + 1) q) (t + 2) (suc k) 0 (subst (λ (n : ℕ). t + 2 < n) (sym (length-set (set stack (t + (6 + (tc + k))) w) (t + 1) q ∙ length-set stack (t + (6 + (tc + k))) w)) (omega arith)) ∙ sym ln)
-      (λ j y. other-three stack (t + (6 + (tc + k))) (t + 1) (t + 2) (t + (6 + j)) w q (suc k) (λ e. omega arith) (λ e. omega arith) (λ e. omega arith) ∙ temporary-here o stack t f true top-here r j (omega arith))
+      (λ j y. other-three stack (t + (6 + (tc + k))) (t + 1) (t + 2) (t + (6 + j)) w q (suc k) (λ e. omega arith) (λ e. omega arith) (λ e. omega arith) ∙ temporary-here o stack t f isTop frame-here-at r j (omega arith))
       (λ j y. subst (λ (x : ℕ). getD s (t + (6 + (x + j))) 0 ≡ getD (take k (f .operands) ++ (w ∷ [])) j 0) (sym a) (ops j (subst (λ (n : ℕ). j < n) ln y) lk (ℕ-discrete j k)))
       (λ i y. other-three stack (t + (6 + (tc + k))) (t + 1) (t + 2) i w q (suc k) (λ e. omega arith) (λ e. omega arith) (λ e. omega arith))
     where
@@ -322,23 +322,23 @@ module _ (o : Objects) (stack : List ℕ) (t left : ℕ) (f : Frame) (rest : Lis
           ∙ sym (ap (λ (x : ℕ). getD (take k (f .operands) ++ (w ∷ [])) x 0) (e ∙ sym lk) ∙ lib.Seq.getD-append-seam (take k (f .operands)) w [] 0)
       ops j y lk (no d) =
           other-three stack (t + (6 + (tc + k))) (t + 1) (t + 2) (t + (6 + (tc + j))) w q (suc k) (λ x. d (omega arith)) (λ x. omega arith) (λ x. omega arith)
-          ∙ operand-here o stack t f true top-here top-right j (omega arith)
+          ∙ operand-here o stack t f isTop frame-here-at frame-right-at j (omega arith)
           ∙ sym (List·getD-append (take k (f .operands)) (w ∷ []) 0 j (omega arith) ∙ getD-take k (f .operands) j 0 (omega arith))
 
   -- The frame moves on with the first k operands and another temporary: three words.
-  pub temporary-writes : (q k i w : ℕ) → k ≤ f .depth → i < tc
+  pub temporary-at : (q k i w : ℕ) → k ≤ f .depth → i < tc
       → laid stack t (withTemporaries (movedTo f q (take k (f .operands))) (set (f .temporaries) i w) ∷ rest) ≡ set (set (set stack (t + (6 + i)) w) (t + 1) q) (t + 2) k
-  temporary-writes q k i w h ht =
-      let r = top-right in
-      let dw = depth-within o true f r in
+  temporary-at q k i w h ht =
+      let r = frame-right-at in
+      let dw = depth-within o isTop f r in
       let z = fits-here rest fr in
       let a = r .temporaries in
       let lt : length (set (f .temporaries) i w) ≡ tc = length-set (f .temporaries) i w ∙ a in
       let lk : length (take k (f .operands)) ≡ k = length-take-le k (f .operands) (let b = r .depth in omega arith) in
       let s : List ℕ = set (set (set stack (t + (6 + i)) w) (t + 1) q) (t + 2) k in
       let f′ : Frame = withTemporaries (movedTo f q (take k (f .operands))) (set (f .temporaries) i w) in
-      top-laid f′ refl
-      ∙ frame-written o stack t f true top-here r f′ s refl refl refl refl
+      laid-at f′ refl
+      ∙ frame-written o stack t f isTop frame-here-at r f′ s refl refl refl refl
       (length-set (set (set stack (t + (6 + i)) w) (t + 1) q) (t + 2) k ∙ length-set (set stack (t + (6 + i)) w) (t + 1) q ∙ length-set stack (t + (6 + i)) w) (omega arith)
       (λ j x. other-three stack (t + (6 + i)) (t + 1) (t + 2) j w q k (header-apart j (t + (6 + i)) x (inr (omega arith))) (header-apart j (t + 1) x (inl (omega arith, omega arith))) (header-apart j (t + 2) x (inl (omega arith, omega arith))))
       (getD-set-other (set (set stack (t + (6 + i)) w) (t + 1) q) (t + 2) (t + 1) k 0 (λ e. omega arith) ∙ getD-set-same (set stack (t + (6 + i)) w) (t + 1) q 0 (subst (λ (n : ℕ). t + 1 < n) (sym (length-set stack (t + (6 + i)) w)) (omega arith)))
@@ -350,16 +350,41 @@ module _ (o : Objects) (stack : List ℕ) (t left : ℕ) (f : Frame) (rest : Lis
       tmp : (j : ℕ) → j < tc → Dec (j ≡ i) → getD (set (set (set stack (t + (6 + i)) w) (t + 1) q) (t + 2) k) (t + (6 + j)) 0 ≡ getD (set (f .temporaries) i w) j 0
       tmp j y (yes e) =
           let z = fits-here rest fr in
-          let dw = depth-within o true f top-right in
-          let a = top-right .temporaries in
+          let dw = depth-within o isTop f frame-right-at in
+          let a = frame-right-at .temporaries in
           ap (λ (x : ℕ). getD (set (set (set stack (t + (6 + i)) w) (t + 1) q) (t + 2) k) (t + (6 + x)) 0) e
           ∙ other-two (set stack (t + (6 + i)) w) (t + 1) (t + 2) (t + (6 + i)) q k (λ x. omega arith) (λ x. omega arith) ∙ getD-set-same stack (t + (6 + i)) w 0 (omega arith)
           ∙ sym (ap (λ (x : ℕ). getD (set (f .temporaries) i w) x 0) e ∙ getD-set-same (f .temporaries) i w 0 (omega arith))
       tmp j y (no d) =
           other-three stack (t + (6 + i)) (t + 1) (t + 2) (t + (6 + j)) w q k (λ x. d (omega arith)) (λ x. omega arith) (λ x. omega arith)
-          ∙ temporary-here o stack t f true top-here top-right j y ∙ sym (getD-set-other (f .temporaries) i j w 0 d)
+          ∙ temporary-here o stack t f isTop frame-here-at frame-right-at j y ∙ sym (getD-set-other (f .temporaries) i j w 0 d)
 
       ops : (j : ℕ) → j < k → getD (set (set (set stack (t + (6 + i)) w) (t + 1) q) (t + 2) k) (t + (6 + (tc + j))) 0 ≡ getD (take k (f .operands)) j 0
       ops j y =
           other-three stack (t + (6 + i)) (t + 1) (t + 2) (t + (6 + (tc + j))) w q k (λ x. omega arith) (λ x. omega arith) (λ x. omega arith)
-          ∙ operand-here o stack t f true top-here top-right j (omega arith) ∙ sym (getD-take k (f .operands) j 0 y)
+          ∙ operand-here o stack t f isTop frame-here-at frame-right-at j (omega arith) ∙ sym (getD-take k (f .operands) j 0 y)
+
+-- The same of the top frame
+module _ (o : Objects) (stack : List ℕ) (t left : ℕ) (f : Frame) (rest : List Frame) (fr : FramesRight o (length stack) true t (f ∷ rest)) (stood : framesFrom left o stack t ≡ f ∷ rest) where
+  pub top-right : FrameRight o true f
+  top-right = frame-right-at true o stack t left f rest fr stood
+
+  pub top-here : frameAt o stack t ≡ f
+  top-here = frame-here-at true o stack t left f rest fr stood
+
+  pub rest-same : laid stack (f .sender) rest ≡ stack
+  rest-same = rest-same-at true o stack t left f rest fr stood
+
+  pub top-laid : (f′ : Frame) → f′ .sender ≡ f .sender → laid stack t (f′ ∷ rest) ≡ sets stack t (frameImage f′)
+  top-laid = laid-at true o stack t left f rest fr stood
+
+  pub moved-writes : (q k : ℕ) → k ≤ f .depth → laid stack t (movedTo f q (take k (f .operands)) ∷ rest) ≡ set (set stack (t + 1) q) (t + 2) k
+  moved-writes = moved-at true o stack t left f rest fr stood
+
+  pub pushed-writes : (q k w : ℕ) → k ≤ f .depth → temporaryCount o (f .method) + k < Rattle.model.specs.Method.frameWords o (f .method)
+      → laid stack t (movedTo f q (take k (f .operands) ++ (w ∷ [])) ∷ rest) ≡ set (set (set stack (t + (6 + (temporaryCount o (f .method) + k))) w) (t + 1) q) (t + 2) (suc k)
+  pushed-writes = pushed-at true o stack t left f rest fr stood
+
+  pub temporary-writes : (q k i w : ℕ) → k ≤ f .depth → i < temporaryCount o (f .method)
+      → laid stack t (withTemporaries (movedTo f q (take k (f .operands))) (set (f .temporaries) i w) ∷ rest) ≡ set (set (set stack (t + (6 + i)) w) (t + 1) q) (t + 2) k
+  temporary-writes = temporary-at true o stack t left f rest fr stood

@@ -18,6 +18,9 @@ pub record Flat : Type 0 where
   pub stack : List ℕ
   pub cache : List ℕ
 
+abbrev pub flat : Registers → List ℕ → List ℕ → List ℕ → List ℕ → Flat
+flat r contents bodies stack cache = record { registers = r; contents = contents; bodies = bodies; stack = stack; cache = cache }
+
 abbrev pub roomOf : Flat → Room
 roomOf s = record { contents = length (s .contents); bodies = length (s .bodies); stack = length (s .stack); cache = length (s .cache) }
 

@@ -91,6 +91,22 @@ reachOf s stuck reach = false
 unfoldable pub reachFine : Flat → ℕ → ℕ → Bool
 reachFine s n reach = reachOf s (steps (roomOf s) n (plainOf s)) reach
 
+-- What is left of a run from a state on, k bytecodes having been made; and the highest end of a frame, with h that of the frames so far
+abbrev pub afterRunFrom : ℕ → Flat → Ran → Given
+afterRunFrom k s (ran j p ts) =
+    gives (result (p .registers .phase) (k + j) (p .registers .value)) (withPlain s p (stackAfter (s .stack) ts) (cacheAfter (s .cache) ts))
+afterRunFrom k s stuck = noAnswer
+
+unfoldable pub runsFrom : ℕ → ℕ → Flat → Given
+runsFrom left k s = afterRunFrom k s (steps (roomOf s) left (plainOf s))
+
+abbrev pub highestOf : Plain → Ran → ℕ
+highestOf p (ran k p′ ts) = highestEnd p ts
+highestOf p stuck = 0
+
+unfoldable pub endsFrom : ℕ → ℕ → Flat → ℕ
+endsFrom left h s = max h (highestOf (plainOf s) (steps (roomOf s) left (plainOf s)))
+
 -- Drop and forget are allowed in every phase.
 unfoldable pub flatDrop : Flat → Given
 flatDrop s = checked s (check s) (gives done (withPlain s (dropped (plainOf s)) (s .stack) (s .cache)))

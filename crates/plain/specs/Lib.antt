@@ -6,5 +6,7 @@ pub mod Cache
 pub mod Flat
 pub mod Check
 pub mod FlatCalls
+pub mod Running
+pub mod RunLoop
 pub mod Program
 pub mod CallLists

@@ -1,0 +1,221 @@
+-- One turn of a run, on the flat state: what is left of the run before a bytecode is what is left of it after the bytecode.
+use Prim.Native.Nat.{ℕ, zero, suc, _+_, _*_, _-_, _≤_, _<_, max}
+use mathlib.Core.Path.{_≡_, refl, sym, ap, ap₂, _∙_, subst}
+use mathlib.Core.Bool.{Bool, true, false}
+use mathlib.Core.List.{List, [], _∷_, _++_}
+use native.Mathlib.Omega.{arith}
+use borrow.Author.Tests.{eq-eqb, ne-eqb}
+use lib.Dec.{T, eqb}
+use lib.ListN.{length, take, drop, length-append, length-drop}
+use lib.Seq.{drop-append-add, drop-drop}
+use Rattle.model.specs.Limits.{entryWords, cacheWords}
+use Rattle.model.specs.Objects.{Objects}
+use Rattle.model.specs.Image.{Room}
+use Rattle.model.proofs.Extends.{Extends}
+use Rattle.model.proofs.Unchanged.{lookup-same}
+use Rattle.plain.specs.Registers.{Registers, running, Cause, phaseOf, withPhase}
+use Rattle.plain.specs.State.{Frame, Plain, objects, withFrames}
+use Rattle.plain.specs.Step.{Looked, Stepped, next, halts, missing, step}
+use Rattle.plain.specs.Calls.{Taken, taken, Ran, ran, stuck, counted, halted, onward, ifRunning, steps, Answer, result}
+use Rattle.plain.specs.Cache.{filled, cacheFine}
+use Rattle.plain.specs.Flat.{Flat, roomOf, flatObjects, plainOf, framesFrom, ifFrames}
+use Rattle.plain.specs.FlatCalls.{Given, gives, noAnswer, atFront, withPlain, laid, stackAfter, cacheAfter, topEnd, highestEnd, afterRunFrom, runsFrom, highestOf, endsFrom}
+use Rattle.plain.proofs.LaidLaws.{length-laid}
+use Rattle.plain.proofs.Preserve.{Goes, Kept}
+use Rattle.plain.proofs.StateLaws.{PlainRight}
+use Rattle.plain.proofs.CacheLaws.{cache-filled, cache-kept, length-filled}
+use Rattle.plain.proofs.After.{kept-right}
+use Rattle.plain.proofs.RunLaws.{Stood, RanRight, RunGoes, step-goes, shape-stood, runs-right}
+use Rattle.plain.proofs.FlatLaws.{FlatRight, plain-back, room-back, flat-back}
+use Rattle.plain.proofs.Worlds.{worlds}
+use Rattle.plain.proofs.ReturnLaws.{front-same}
+
+-- words at the front, over other words at the front that are no more
+front-over : (ws us buffer : List ℕ) → length us ≤ length ws → length us ≤ length buffer → atFront ws (atFront us buffer) ≡ atFront ws buffer
+front-over ws us buffer h g =
+    let e : length ws ≡ length us + (length ws - length us) = omega arith in
+    ap (λ (l : List ℕ). ws ++ l)
+    (ap (λ (k : ℕ). drop k (us ++ drop (length us) buffer)) e ∙ drop-append-add us (drop (length us) buffer) (length ws - length us) ∙ drop-drop (length ws - length us) (length us) buffer
+    ∙ ap (λ (k : ℕ). drop k buffer) (sym e))
+
+-- The frames of a flat state stand in its own stack.
+pub own-stood : (s : Flat) → Stood (plainOf s) (s .stack)
+unfolding plainOf
+own-stood s e = sym (ap (λ (b : Bool). ifFrames b (framesFrom (suc (s .registers .top)) (flatObjects s) (s .stack) (s .registers .top))) e)
+
+-- A flat state with its own plain state laid back is itself.
+pub plain-same : (s : Flat) → FlatRight s → withPlain s (plainOf s) (s .stack) (s .cache) ≡ s
+unfolding plainOf
+plain-same s r =
+    λ i. record { registers = s .registers; contents = front-same (entryWords * s .registers .n) (s .contents) (r .contents) i; bodies = front-same (s .registers .b) (s .bodies) (r .bodies) i; stack = s .stack; cache = s .cache }
+
+-- A run that makes no bytecode: none is granted, or the phase is not 1.
+no-more : (left k : ℕ) (s : Flat) → FlatRight s → steps (roomOf s) left (plainOf s) ≡ ran 0 (plainOf s) []
+    → runsFrom left k s ≡ gives (result (s .registers .phase) k (s .registers .value)) s
+unfolding runsFrom stackAfter cacheAfter plainOf
+no-more left k s r e =
+    ap (afterRunFrom k s) e ∙ ap₂ (λ (c : ℕ) (t : Flat). gives (result (s .registers .phase) c (s .registers .value)) t) (none k) (plain-same s r)
+  where
+    none : (k : ℕ) → k + 0 ≡ k
+    none k = omega arith
+
+pub runs-out : (k : ℕ) (s : Flat) → FlatRight s → runsFrom 0 k s ≡ gives (result (s .registers .phase) k (s .registers .value)) s
+runs-out k s r = no-more 0 k s r (unfold steps in refl)
+
+stops : (room : Room) (left : ℕ) (p : Plain) → eqb (p .registers .phase) running ≡ false → steps room left p ≡ ran 0 p []
+unfolding steps
+stops room zero p e = refl
+stops room (suc n) p e = ap (ifRunning (λ p′. steps room n p′) room p) e
+
+pub runs-over : (left k : ℕ) (s : Flat) → FlatRight s → eqb (s .registers .phase) running ≡ false
+    → runsFrom left k s ≡ gives (result (s .registers .phase) k (s .registers .value)) s
+unfolding plainOf
+runs-over left k s r e = no-more left k s r (stops (roomOf s) left (plainOf s) e)
+
+ends-none : (left h : ℕ) (s : Flat) → topEnd (plainOf s) ≤ h → steps (roomOf s) left (plainOf s) ≡ ran 0 (plainOf s) [] → endsFrom left h s ≡ h
+unfolding endsFrom highestEnd
+ends-none left h s t e = ap (λ (x : Ran). max h (highestOf (plainOf s) x)) e ∙ omega arith
+
+pub ends-out : (h : ℕ) (s : Flat) → topEnd (plainOf s) ≤ h → endsFrom 0 h s ≡ h
+ends-out h s t = ends-none 0 h s t (unfold steps in refl)
+
+pub ends-over : (left h : ℕ) (s : Flat) → topEnd (plainOf s) ≤ h → eqb (s .registers .phase) running ≡ false → endsFrom left h s ≡ h
+unfolding plainOf
+ends-over left h s t e = ends-none left h s t (stops (roomOf s) left (plainOf s) e)
+
+pub highest-least : (q : Plain) (ts : List Taken) → topEnd q ≤ highestEnd q ts
+unfolding highestEnd
+highest-least q [] = omega arith
+highest-least q (taken l q′ ∷ ts) = omega arith
+
+-- One bytecode that was made
+module _ (s : Flat) (right : FlatRight s) (phase : s .registers .phase ≡ running) (p′ : Plain) (l : Looked) (made : step (roomOf s) (plainOf s) ≡ next p′ l) where
+  abbrev room : Room
+  room = roomOf s
+
+  abbrev p : Plain
+  p = plainOf s
+
+  goes-on : Goes (Rattle.plain.proofs.After.After room) room p (next p′ l)
+  unfolding plainOf
+  goes-on = subst (Goes (Rattle.plain.proofs.After.After room) room p) made (step-goes room (worlds room) p (right .plain) phase)
+
+  abbrev stack′ : List ℕ
+  stack′ = laid (s .stack) (p′ .registers .top) (p′ .frames)
+
+  abbrev cache′ : List ℕ
+  cache′ = filled (s .cache) l
+
+  -- the state after it
+  abbrev s′ : Flat
+  s′ = withPlain s p′ stack′ cache′
+
+  right-p : PlainRight room p′
+  right-p = kept-right room p p′ (right .plain) (goes-on .0)
+
+  stood-p : Stood p′ stack′
+  stood-p = shape-stood room (worlds room) p′ (s .stack) refl (goes-on .0 .shape)
+
+  extends-p : Extends (objects p) (objects p′)
+  extends-p = goes-on .0 .after .extends
+
+  cached-p : T (cacheFine (objects p′) cache′)
+  unfolding plainOf
+  cached-p = cache-kept (objects p) (objects p′) (lookup-same extends-p (right .plain .image)) cache′ (cache-filled (objects p) (s .cache) l (right .cacheLength) (goes-on .1) (right .cached))
+
+  pub turn-plain : plainOf s′ ≡ p′
+  turn-plain = plain-back s p′ stack′ cache′ right-p stood-p
+
+  pub turn-room : roomOf s′ ≡ room
+  turn-room = room-back s p′ stack′ cache′ right-p stood-p (length-laid (s .stack) (p′ .registers .top) (p′ .frames)) (length-filled (s .cache) l)
+
+  pub turn-level : p′ .registers .phase ≡ running → p′ .registers .top ≡ s .registers .top → topEnd p′ ≡ topEnd p
+  unfolding plainOf
+  turn-level a b = goes-on .0 .level a b
+
+  -- Check is kept.
+  pub turn-right : FlatRight s′
+  turn-right = flat-back s p′ stack′ cache′ right-p stood-p (length-laid (s .stack) (p′ .registers .top) (p′ .frames)) (length-filled (s .cache) l) (right .cacheLength) cached-p
+
+  -- the rest of the run, from either state
+  counted-from : (k : ℕ) (x : Ran) → ((j : ℕ) (q : Plain) (ts : List Taken) → x ≡ ran j q ts → (length (p′ .contents) ≤ length (q .contents)) × (length (p′ .bodies) ≤ length (q .bodies)))
+      → afterRunFrom k s (counted (taken l p′) x) ≡ afterRunFrom (k + 1) s′ x
+  unfolding stackAfter cacheAfter
+  counted-from k (ran j q ts) h =
+      let g = h j q ts refl in
+      λ i. gives (result (q .registers .phase) (sums k j i) (q .registers .value)) (record { registers = q .registers; contents = sym (front-over (q .contents) (p′ .contents) (s .contents) (g .0) (let a = right-p .image .contents in let b = right-p .contents in omega arith)) i; bodies = sym (front-over (q .bodies) (p′ .bodies) (s .bodies) (g .1) (let a = right-p .image .bodies in let b = right-p .bodies in omega arith)) i; stack = stackAfter stack′ ts; cache = cacheAfter cache′ ts })
+    where
+      sums : (a b : ℕ) → a + suc b ≡ a + 1 + b
+      sums a b = omega arith
+  counted-from k stuck h = refl
+
+  grown : (left : ℕ) (x : Ran) → RunGoes room (worlds room) left p′ stack′ cache′ x → (j : ℕ) (q : Plain) (ts : List Taken) → x ≡ ran j q ts → (length (p′ .contents) ≤ length (q .contents)) × (length (p′ .bodies) ≤ length (q .bodies))
+  grown left x g j q ts e = go (subst (RunGoes room (worlds room) left p′ stack′ cache′) e g)
+    where
+      go : RanRight room (worlds room) left p′ stack′ cache′ j q ts → (length (p′ .contents) ≤ length (q .contents)) × (length (p′ .bodies) ≤ length (q .bodies))
+      go y =
+          let a = right-p .image .contents in
+          let b = y .right .image .contents in
+          let c = y .extends .grows in
+          (omega arith, y .extends .longer)
+
+  -- the steps of the run
+  steps-more : (left : ℕ) → steps room (suc left) p ≡ counted (taken l p′) (steps room left p′)
+  unfolding steps plainOf
+  steps-more left =
+      ap (ifRunning (λ q. steps room left q) room p) (eq-eqb (s .registers .phase) running phase) ∙ ap (onward (λ q. steps room left q) p) made
+
+  same-steps : (left : ℕ) → steps room left p′ ≡ steps (roomOf s′) left (plainOf s′)
+  same-steps left = λ i. steps (sym turn-room i) left (sym turn-plain i)
+
+  pub turn-runs : (left k : ℕ) → runsFrom (suc left) k s ≡ runsFrom left (k + 1) s′
+  unfolding runsFrom
+  turn-runs left k =
+      ap (afterRunFrom k s) (steps-more left)
+      ∙ counted-from k (steps room left p′) (grown left (steps room left p′) (runs-right room (worlds room) left p′ stack′ cache′ right-p (length-laid (s .stack) (p′ .registers .top) (p′ .frames)) (length-filled (s .cache) l ∙ right .cacheLength) stood-p cached-p))
+      ∙ ap (afterRunFrom (k + 1) s′) (same-steps left)
+
+  -- and the highest end
+  pub turn-ends : (left h : ℕ) → topEnd p ≤ h → endsFrom (suc left) h s ≡ endsFrom left (max h (topEnd p′)) s′
+  unfolding endsFrom
+  turn-ends left h t =
+      ap (λ (x : Ran). max h (highestOf p x)) (steps-more left)
+      ∙ higher (steps room left p′) (runs-right room (worlds room) left p′ stack′ cache′ right-p (length-laid (s .stack) (p′ .registers .top) (p′ .frames)) (length-filled (s .cache) l ∙ right .cacheLength) stood-p cached-p)
+      ∙ (λ i. max (max h (topEnd p′)) (highestOf (sym turn-plain i) (same-steps left i)))
+    where
+      higher : (x : Ran) → RunGoes room (worlds room) left p′ stack′ cache′ x → max h (highestOf p (counted (taken l p′) x)) ≡ max (max h (topEnd p′)) (highestOf p′ x)
+      higher (ran j q ts) g = unfold highestEnd in (let z = highest-least p′ ts in omega arith)
+      higher stuck g = absurd g
+
+-- A bytecode that halts
+module _ (s : Flat) (right : FlatRight s) (phase : s .registers .phase ≡ running) (c : Cause) (made : step (roomOf s) (plainOf s) ≡ halts c) where
+  halt-steps : (left : ℕ) → steps (roomOf s) (suc left) (plainOf s) ≡ ran 0 (halted (plainOf s) c) []
+  unfolding steps plainOf
+  halt-steps left =
+      ap (ifRunning (λ q. steps (roomOf s) left q) (roomOf s) (plainOf s)) (eq-eqb (s .registers .phase) running phase) ∙ ap (onward (λ q. steps (roomOf s) left q) (plainOf s)) made
+
+  pub halt-runs : (left k : ℕ)
+      → runsFrom (suc left) k s ≡ gives (result (phaseOf c) k 0) (record { registers = withPhase (s .registers) (phaseOf c) (s .registers .top) 0; contents = s .contents; bodies = s .bodies; stack = s .stack; cache = s .cache })
+  unfolding runsFrom stackAfter cacheAfter plainOf
+  halt-runs left k =
+      ap (afterRunFrom k s) (halt-steps left)
+      ∙ (λ i. gives (result (phaseOf c) (none k i) 0) (record { registers = withPhase (s .registers) (phaseOf c) (s .registers .top) 0; contents = plain-same s right i .contents; bodies = plain-same s right i .bodies; stack = s .stack; cache = s .cache }))
+    where
+      none : (k : ℕ) → k + 0 ≡ k
+      none k = omega arith
+
+  pub halt-ends : (left h : ℕ) → topEnd (plainOf s) ≤ h → endsFrom (suc left) h s ≡ h
+  unfolding endsFrom highestEnd
+  halt-ends left h t = ap (λ (x : Ran). max h (highestOf (plainOf s) x)) (halt-steps left) ∙ omega arith
+
+-- A whole run is what is left of it at its start.
+pub whole-run : (n : ℕ) (s : Flat) → runsFrom n 0 s ≡ Rattle.plain.specs.FlatCalls.afterRun s (steps (roomOf s) n (plainOf s))
+unfolding runsFrom
+whole-run n s = go (steps (roomOf s) n (plainOf s))
+  where
+    go : (x : Ran) → afterRunFrom 0 s x ≡ Rattle.plain.specs.FlatCalls.afterRun s x
+    go (ran k p ts) = ap (λ (j : ℕ). gives (result (p .registers .phase) j (p .registers .value)) (withPlain s p (stackAfter (s .stack) ts) (cacheAfter (s .cache) ts))) (zero-plus k)
+      where
+        zero-plus : (k : ℕ) → 0 + k ≡ k
+        zero-plus k = omega arith
+    go stuck = refl

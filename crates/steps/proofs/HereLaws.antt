@@ -1,0 +1,202 @@
+-- Where a running frame stands: numbers, its instruction, its operands.
+use Prim.Native.Nat.{ℕ, zero, suc, _+_, _-_, _*_, _/_, _≤_, _<_}
+use mathlib.Core.Path.{_≡_, refl, sym, ap, ap₂, _∙_, subst}
+use mathlib.Core.Bool.{Bool, true, false}
+use mathlib.Core.List.{List, [], _∷_}
+use mathlib.Core.Option.{Option, none, some}
+use native.Mathlib.Omega.{arith}
+use native.Mathlib.Decide.{decLt}
+use borrow.Author.Tests.{lt-ltb}
+use lib.Dec.{T}
+use lib.ListN.{length, getD, getElem?, take, drop, length-drop}
+use lib.Seq.{length-take-le}
+use Rattle.bytecode.specs.Code.{byteAt, instructionOf, nextAt, decodeAt}
+use Rattle.bytecode.specs.Effect.{usable}
+use Rattle.bytecode.specs.declared.Instruction.{Instruction}
+use Rattle.bytecode.specs.declared.Instruction.the-variants.{Unused}
+use Rattle.bytecode.proofs.Choice.{if-yes}
+use Rattle.bytecode.proofs.TestLaws.{rule, every-at}
+use Rattle.bytecode.proofs.DecodeLaws.{decode-short, decode-whole}
+use Rattle.model.specs.Limits.{methodKind}
+use Rattle.model.specs.Word.{isValid, objectNumber}
+use Rattle.model.specs.Objects.{Objects, objectsAt, start, size, bodyWords}
+use Rattle.model.specs.Method.{header, temporaryCount, literalCount, codeWords, codeSize, frameWords}
+use Rattle.model.specs.Depth.{noteAt, rulesAt, fineAt}
+use Rattle.model.specs.Rules.{allowed, methodTable}
+use Rattle.model.proofs.ChainLaws.{named}
+use Rattle.model.proofs.Facts.{inside, most-words, method-facts, method-words}
+use Rattle.model.proofs.DepthLaws.{Spot, spot, fine-inside}
+use Rattle.plain.specs.State.{Frame}
+use Rattle.plain.specs.Step.{operand}
+use Rattle.plain.specs.Flat.{frameDepth, frameMethod, framePosition, frameReceiver, operandsStart, frameAt}
+use Rattle.plain.specs.Running.{Runs, At, topFrame, restFrames}
+use Rattle.plain.proofs.FrameLaws.{FrameRight, frame-spot}
+use Rattle.plain.proofs.RunningLaws.{stood, all-right, top-right, is-method, TopBounds, top-bounds}
+use Rattle.plain.proofs.WriteLaws.{top-here, operand-here, temporary-here}
+use Rattle.objects.specs.Lent.{Holds, CodeAt, temporariesOf}
+use Rattle.objects.specs.declared.Code.{Code}
+use Rattle.steps.specs.declared.Here.{Here}
+use Rattle.steps.specs.Events.{HereAt}
+
+-- a list's element, as a read that may find nothing
+pub element-is : (l : List ℕ) (i : ℕ) → i < length l → getElem? l i ≡ some (getD l i 0)
+element-is [] i h = absurd (omega arith)
+element-is (x ∷ l) zero h = refl
+element-is (x ∷ l) (suc i) h = element-is l i (omega arith)
+
+never-unused : (q : ℕ) → T (usable q Unused) → ⊥
+unfolding usable
+never-unused q t = t
+
+-- The instruction of a running frame
+module _ {n b top : ℕ} {contents bodies stack : List ℕ} (r : Runs n b top contents bodies stack) where
+  abbrev o : Objects
+  o = objectsAt n b contents bodies
+
+  abbrev f : Frame
+  f = topFrame n b top contents bodies stack
+
+  abbrev m : ℕ
+  m = frameMethod stack top
+
+  abbrev p : ℕ
+  p = framePosition stack top
+
+  pub holds-method : (w : ℕ) → w ≡ m → Holds methodKind n b contents bodies w
+  holds-method w e = record { right = r .right; kinds = subst (λ (x : ℕ). T (Rattle.model.specs.Objects.isKind o methodKind x)) (sym e) (is-method r) }
+
+  spot-here : Spot o m p (frameDepth stack top)
+  unfolding frameAt
+  spot-here = frame-spot o true f (top-right r)
+
+  -- the bytes of the code
+  pub record Coded : Type 0 where
+    pub small : codeSize o m < 65536
+    pub words : codeSize o m ≤ 2 * (bodyWords o (objectNumber m) - (2 + literalCount o m))
+    pub least : 2 + literalCount o m ≤ bodyWords o (objectNumber m)
+    pub ends : start o (objectNumber m) + bodyWords o (objectNumber m) ≤ b
+
+  pub coded : Coded
+  unfolding codeSize
+  coded =
+      let g = named o methodKind m (is-method r) in
+      let w = method-words (r .right) m (is-method r) in
+      let i = inside (r .right) (objectNumber m) (g .least) (g .most) in
+      let k = most-words (r .right) in
+      let f = method-facts (r .right) m (is-method r) .holds in
+      record { small = omega arith; words = omega arith; least = omega arith; ends = i }
+
+  -- a noted position is inside the code
+  pub noted-inside : (q d : ℕ) → noteAt (methodTable o m) q ≡ suc d → q < codeSize o m
+  unfolding fineAt
+  noted-inside q d e = fine-inside (codeWords o m) (codeSize o m) (temporaryCount o m) (frameWords o m) (allowed o m) q d (spot o m q d e .kept)
+
+  pub noted-small : (q d : ℕ) → noteAt (methodTable o m) q ≡ suc d → q < 65536
+  noted-small q d e = let x = noted-inside q d e in let y = coded .small in omega arith
+
+  pub position-inside : p < codeSize o m
+  unfolding fineAt
+  position-inside = fine-inside (codeWords o m) (codeSize o m) (temporaryCount o m) (frameWords o m) (allowed o m) p (frameDepth stack top) (spot-here .kept)
+
+  usable-here : T (usable (nextAt (codeWords o m) p) (decodeAt (codeWords o m) (codeSize o m) p))
+  unfolding rulesAt
+  usable-here = rule (rulesAt (codeWords o m) (codeSize o m) (temporaryCount o m) (frameWords o m) (allowed o m) p (frameDepth stack top)) (spot-here .kept) 0
+
+  pub next-inside : nextAt (codeWords o m) p ≤ codeSize o m
+  next-inside = go (decLt (codeSize o m) (nextAt (codeWords o m) p))
+    where
+      go : Dec (codeSize o m < nextAt (codeWords o m) p) → nextAt (codeWords o m) p ≤ codeSize o m
+      go (yes h) =
+          absurd (never-unused (nextAt (codeWords o m) p) (subst (λ (i : Instruction). T (usable (nextAt (codeWords o m) p) i)) (decode-short (codeWords o m) (codeSize o m) p h) usable-here))
+      go (no h) = omega arith
+
+  pub decode-is : instructionOf (byteAt (codeWords o m) p) (byteAt (codeWords o m) (p + 1)) (byteAt (codeWords o m) (p + 2)) ≡ decodeAt (codeWords o m) (codeSize o m) p
+  decode-is = sym (decode-whole (codeWords o m) (codeSize o m) p next-inside)
+
+-- Numbers of the running frame
+pub record Bounds (top : ℕ) (stack : List ℕ) (h : Here) : Type 0 where
+  pub low : top + 18 ≤ length stack
+  pub small : top + 18 ≤ 65536
+  pub first : top + 6 ≤ h .operands .0
+  pub inside : h .operands .0 + h .depth ≤ length stack
+  pub most : h .operands .0 + h .depth ≤ 65536
+  pub deep : h .depth ≤ 32
+  pub next : h .next .0 < 65536
+
+module _ {n b top : ℕ} {contents bodies stack : List ℕ} {h : Here} {i : Instruction} (a : HereAt n b top contents bodies stack h i) where
+  abbrev oₐ : Objects
+  oₐ = objectsAt n b contents bodies
+
+  abbrev fₐ : Frame
+  fₐ = topFrame n b top contents bodies stack
+
+  abbrev mₐ : ℕ
+  mₐ = frameMethod stack top
+
+  pub bounds : Bounds top stack h
+  bounds =
+      let t = top-bounds (a .at .runs) in
+      let d = a .isDepth in
+      let s = a .isOperands in
+      let x = a .at .behind in
+      let y = next-inside (a .at .runs) in
+      let z = coded (a .at .runs) .small in
+      record { low = omega arith; small = omega arith; first = omega arith; inside = omega arith; most = omega arith; deep = omega arith; next = omega arith }
+
+  pub here-method : Holds methodKind n b contents bodies (h .method .0)
+  here-method = holds-method (a .at .runs) (h .method .0) (a .isMethod)
+
+  top-is : frameAt oₐ stack top ≡ fₐ
+  top-is = refl
+
+  -- the operand under k others
+  pub operand-is : (k at : ℕ) → k < h .depth → at ≡ h .operands .0 + (h .depth - suc k) → operand fₐ k ≡ some (getD stack at 0)
+  unfolding operand frameAt
+  operand-is k at l e =
+      let r = top-right (a .at .runs) in
+      let d = r .depth in
+      let z = a .isDepth in
+      let y = a .isOperands in
+      if-yes (getElem? (fₐ .operands) (fₐ .depth - suc k)) none (lt-ltb k (fₐ .depth) (omega arith))
+      ∙ element-is (fₐ .operands) (fₐ .depth - suc k) (omega arith)
+      ∙ ap some (sym (operand-here oₐ stack top fₐ true refl r (fₐ .depth - suc k) (omega arith)))
+      ∙ ap (λ (x : ℕ). some (getD stack x 0)) (omega arith)
+
+  pub operand-valid : (k at : ℕ) → k < h .depth → at ≡ h .operands .0 + (h .depth - suc k) → T (isValid n (getD stack at 0))
+  unfolding frameAt
+  operand-valid k at l e =
+      let r = top-right (a .at .runs) in
+      let d = r .depth in
+      let z = a .isDepth in
+      let y = a .isOperands in
+      subst (λ (x : ℕ). T (isValid n x)) (sym (operand-here oₐ stack top fₐ true refl r (fₐ .depth - suc k) (omega arith)) ∙ ap (λ (x : ℕ). getD stack x 0) (omega arith))
+      (every-at (isValid n) (fₐ .operands) (r .validOperands) (fₐ .depth - suc k) (omega arith))
+
+-- The bytecode as the code fetches it
+module _ {n b top : ℕ} {contents bodies stack : List ℕ} (r : Runs n b top contents bodies stack) {c : Code} (q : CodeAt n b contents bodies (frameMethod stack top) c) where
+  abbrev lent : List ℕ
+  lent = take (c .end - c .from) (drop (c .from) bodies)
+
+  pub position-lent : (framePosition stack top / 2 < length lent) × (framePosition stack top < 65536)
+  position-lent =
+      let k = coded r in
+      let i = position-inside r in
+      let x = q .from in
+      let y = q .end in
+      let z = q .inside in
+      let d = length-drop (c .from) bodies in
+      let l = length-take-le (c .end - c .from) (drop (c .from) bodies) (omega arith) in
+      (omega arith, omega arith)
+
+  pub fetched-here : (i : Instruction) (next word temporaries : ℕ)
+      → i ≡ instructionOf (byteAt lent (framePosition stack top)) (byteAt lent (framePosition stack top + 1)) (byteAt lent (framePosition stack top + 2))
+      → next ≡ nextAt lent (framePosition stack top) → word ≡ header (objectsAt n b contents bodies) (frameMethod stack top) → temporaries ≡ temporariesOf word
+      → HereAt n b top contents bodies stack (record { method = record { 0 = frameMethod stack top }; operands = record { 0 = top + 6 + temporaries }; depth = frameDepth stack top; next = record { 0 = next } }) i
+  fetched-here i next word temporaries e d w t =
+      let s = q .words in
+      record {
+        at = record { runs = r; behind = d ∙ ap (λ (l : List ℕ). nextAt l (framePosition stack top)) s; decoded = e ∙ ap (λ (l : List ℕ). instructionOf (byteAt l (framePosition stack top)) (byteAt l (framePosition stack top + 1)) (byteAt l (framePosition stack top + 2))) s ∙ decode-is r };
+        isMethod = refl;
+        isOperands = ap (λ (k : ℕ). top + 6 + k) (t ∙ ap (λ (x : ℕ). temporariesOf x) w);
+        isDepth = refl;
+      }

@@ -1,0 +1,245 @@
+-- What each bytecode is to the run loop.
+use Prim.Native.Nat.{ℕ, zero, suc, _+_, _-_, _/_, _%_, _≤_, _<_}
+use mathlib.Core.Path.{_≡_, refl, sym, ap, ap₂, _∙_, subst}
+use mathlib.Core.Bool.{Bool, true, false, _&&_, _||_}
+use mathlib.Core.Logic.{_⊎_, inl, inr, _≢_}
+use mathlib.Core.List.{List, [], _∷_, _++_, List·Memᴰ·head, List·Memᴰ·tail, List·Memᴰ}
+use mathlib.Core.Option.{Option, none, some}
+use native.Mathlib.Omega.{arith}
+use borrow.Author.Tests.{eq-eqb, ne-eqb, eqb-true, lt-ltb, le-ltb}
+use lib.Dec.{T, leb, ltb, eqb, leb→le, ltb→lt, lt→ltb, eqb→eq}
+use lib.ListN.{length, getD, take, drop, set}
+use Rattle.bytecode.specs.Test.{if_then_else_}
+use Rattle.bytecode.specs.Constant.{trueWord, falseWord, nilWord}
+use Rattle.bytecode.specs.Effect.{specialCount, need, leaves, usable, successors}
+use Rattle.bytecode.specs.declared.Place.{Place}
+use Rattle.bytecode.specs.declared.Instruction.{Instruction}
+use Rattle.bytecode.specs.declared.Instruction.the-variants.{Push, Store, PopStore, PushSelf, PushConstant, ReturnSelf, ReturnConstant, ReturnTop, Pop, Duplicate, Jump, JumpOn, Send, SuperSend, SpecialSend, Unused}
+use Rattle.bytecode.proofs.Choice.{if-yes, if-no, if-lt, if-ge}
+use Rattle.bytecode.proofs.TestLaws.{true→T, T→true, and-left, and-right, or-cases}
+use Rattle.model.specs.declared.Computed.{Computed}
+use Rattle.model.specs.declared.Computed.the-variants.{Word, Failed}
+use Rattle.model.specs.Limits.{bytesKind, classKind, methodKind, specialSelectors}
+use Rattle.model.specs.Word.{isValid, booleanWord, objectNumber, integerClass}
+use Rattle.model.specs.Objects.{Objects, objectsAt, isKind, isNilOr, classOf, classWord, superclassWord}
+use Rattle.model.specs.Method.{home, literalCount, literal}
+use Rattle.model.specs.Depth.{noteAt}
+use Rattle.model.specs.Lookup.{found, lookup, inChain}
+use Rattle.model.specs.Rules.{Right, allowed, sendFine, takesCount, methodTable, specialSelector, isSame, isClass}
+use Rattle.model.specs.Image.{Room}
+use Rattle.model.specs.Arithmetic.{arithmetic}
+use Rattle.model.proofs.ChainLaws.{named}
+use Rattle.model.proofs.Facts.{Valid, odd, names, valid-cases, entry-class, integer-class, class-facts, method-facts}
+use Rattle.model.proofs.SendFacts.{lookup-facts}
+use Rattle.model.proofs.Unchanged.{Small, small-at}
+use Rattle.plain.specs.Registers.{noBoolean}
+use Rattle.plain.specs.State.{Frame, Plain, movedTo, objects}
+use Rattle.plain.specs.Step.{Stepped, next, halts, missing, noLookup, _>>=_, provided, operand, without, popped, onTop, pushed, read, returned, jumps, literalOf, sends, aboveHome, afterLookup, triedPrimitive, orSends, arithmeticSends, specialSends, execute}
+use Rattle.plain.specs.Flat.{frameDepth, frameMethod, frameReceiver, operandsStart, frameAt}
+use Rattle.plain.specs.Running.{Runs, Moved, Sending, sendStep, sentReceiver, runningAt, topFrame, restFrames}
+use Rattle.plain.proofs.NowLaws.{Now}
+use Rattle.plain.proofs.RunningLaws.{top-right, is-method, method-is, depth-is, receiver-is, step-is, now-is}
+use Rattle.steps.specs.declared.Here.{Here}
+use Rattle.steps.specs.Events.{HereAt, Sends, Becomes, stepAt}
+use Rattle.steps.proofs.ChainSteps.{chain-joined}
+use Rattle.steps.proofs.HereLaws.{Bounds, bounds, noted-small, operand-is, operand-valid}
+use Rattle.steps.proofs.MoveLaws.{Does, Answers, depth-of, provided-holds, goes-whole, goes-popped, answer-room, answers, pushes}
+use Rattle.steps.proofs.PlaceLaws.{literal-at}
+
+-- ---- what is noted behind an instruction
+
+module _ {n b top : ℕ} {contents bodies stack : List ℕ} {h : Here} {i : Instruction} (a : HereAt n b top contents bodies stack h i) where
+  abbrev o : Objects
+  o = objectsAt n b contents bodies
+
+  abbrev f : Frame
+  f = topFrame n b top contents bodies stack
+
+  abbrev rest : List Frame
+  rest = restFrames n b top contents bodies stack
+
+  abbrev m : ℕ
+  m = frameMethod stack top
+
+  abbrev now : Now o f (h .next .0) i
+  now = now-is (a .at)
+
+  pub noted : (q : ℕ) → List·Memᴰ q (successors (h .next .0) i) → noteAt (methodTable o m) q ≡ suc (h .depth - need i + leaves i)
+  unfolding frameAt
+  noted q t = now .goes q t ∙ ap (λ (d : ℕ). suc (d - need i + leaves i)) (depth-of a)
+
+  pub needed : need i ≤ h .depth
+  needed = let x = now .needs in let y = depth-of a in omega arith
+
+  done : (x : Plain → Room → Stepped) → Does a x → (receiver selector : ℕ) (room : Room) → stepAt room receiver selector n b top contents bodies stack ≡ x (runningAt receiver selector n b top contents bodies stack) room
+  done x d receiver selector room = step-is (a .at) receiver selector room ∙ d receiver selector room
+
+abbrev Returns : ℕ → ℕ → ℕ → List ℕ → List ℕ → List ℕ → ℕ → Type 0
+Returns n b top contents bodies stack w =
+    Becomes n b top contents bodies stack bodies stack
+    (λ room receiver selector.
+    returned (runningAt receiver selector n b top contents bodies stack) (topFrame n b top contents bodies stack) (restFrames n b top contents bodies stack) w)
+
+-- ---- pushes, by the word that is pushed
+
+module _ {n b top : ℕ} {contents bodies stack : List ℕ} {h : Here} where
+  push-noted : {p : Place} → HereAt n b top contents bodies stack h (Push p) → noteAt (methodTable (objectsAt n b contents bodies) (frameMethod stack top)) (h .next .0) ≡ suc (suc (h .depth - 0))
+  unfolding successors need leaves
+  push-noted a = noted a (h .next .0) (List·Memᴰ·head refl) ∙ ap suc (omega arith)
+
+  pub push-room : {p : Place} → HereAt n b top contents bodies stack h (Push p) → Answers top stack h 0
+  push-room a = answer-room a 0 (omega arith) (push-noted a)
+
+  pub push-says : {p : Place} (a : HereAt n b top contents bodies stack h (Push p)) (w : ℕ) (stack′ : List ℕ)
+      → read (objectsAt n b contents bodies) (topFrame n b top contents bodies stack) p ≡ some w
+      → stack′ ≡ set (set (set stack (h .operands .0 + (h .depth - 0)) w) (top + 1) (h .next .0)) (top + 2) (h .depth - 0 + 1) → Moved n b top contents bodies stack bodies stack′
+  unfolding execute
+  push-says a w stack′ e q =
+      subst (λ (l : List ℕ). Moved n b top contents bodies stack bodies l) (sym q)
+      (pushes a w (push-noted a) (λ receiver selector room. ap (λ (x : Option ℕ). x >>= λ y. pushed (runningAt receiver selector n b top contents bodies stack) (topFrame n b top contents bodies stack) (restFrames n b top contents bodies stack) (h .next .0) (topFrame n b top contents bodies stack .operands) y noLookup) e))
+
+  self-noted : HereAt n b top contents bodies stack h PushSelf → noteAt (methodTable (objectsAt n b contents bodies) (frameMethod stack top)) (h .next .0) ≡ suc (suc (h .depth - 0))
+  unfolding successors need leaves
+  self-noted a = noted a (h .next .0) (List·Memᴰ·head refl) ∙ ap suc (omega arith)
+
+  pub self-room : HereAt n b top contents bodies stack h PushSelf → Answers top stack h 0
+  self-room a = answer-room a 0 (omega arith) (self-noted a)
+
+  pub self-says : (a : HereAt n b top contents bodies stack h PushSelf) (stack′ : List ℕ)
+      → stack′ ≡ set (set (set stack (h .operands .0 + (h .depth - 0)) (frameReceiver stack top)) (top + 1) (h .next .0)) (top + 2) (h .depth - 0 + 1) → Moved n b top contents bodies stack bodies stack′
+  unfolding execute
+  self-says a stack′ q =
+      subst (λ (l : List ℕ). Moved n b top contents bodies stack bodies l) (sym q)
+      (pushes a (frameReceiver stack top) (self-noted a) (λ receiver selector room. ap (λ (x : ℕ). pushed (runningAt receiver selector n b top contents bodies stack) (topFrame n b top contents bodies stack) (restFrames n b top contents bodies stack) (h .next .0) (topFrame n b top contents bodies stack .operands) x noLookup) (receiver-is (a .at .runs))))
+
+  constant-noted : {w : ℕ} → HereAt n b top contents bodies stack h (PushConstant w) → noteAt (methodTable (objectsAt n b contents bodies) (frameMethod stack top)) (h .next .0) ≡ suc (suc (h .depth - 0))
+  unfolding successors need leaves
+  constant-noted a = noted a (h .next .0) (List·Memᴰ·head refl) ∙ ap suc (omega arith)
+
+  pub constant-room : {w : ℕ} → HereAt n b top contents bodies stack h (PushConstant w) → Answers top stack h 0
+  constant-room a = answer-room a 0 (omega arith) (constant-noted a)
+
+  pub constant-says : {w : ℕ} (a : HereAt n b top contents bodies stack h (PushConstant w)) (stack′ : List ℕ)
+      → stack′ ≡ set (set (set stack (h .operands .0 + (h .depth - 0)) w) (top + 1) (h .next .0)) (top + 2) (h .depth - 0 + 1) → Moved n b top contents bodies stack bodies stack′
+  unfolding execute
+  constant-says {w} a stack′ q = subst (λ (l : List ℕ). Moved n b top contents bodies stack bodies l) (sym q) (pushes a w (constant-noted a) (λ receiver selector room. refl))
+
+  pub duplicate-needs : HereAt n b top contents bodies stack h Duplicate → 1 ≤ h .depth
+  unfolding need
+  duplicate-needs a = needed a
+
+  duplicate-noted : HereAt n b top contents bodies stack h Duplicate → noteAt (methodTable (objectsAt n b contents bodies) (frameMethod stack top)) (h .next .0) ≡ suc (suc (h .depth - 0))
+  unfolding successors need leaves
+  duplicate-noted a = noted a (h .next .0) (List·Memᴰ·head refl) ∙ ap suc (let x = duplicate-needs a in omega arith)
+
+  pub duplicate-room : HereAt n b top contents bodies stack h Duplicate → Answers top stack h 0
+  duplicate-room a = answer-room a 0 (omega arith) (duplicate-noted a)
+
+  pub duplicate-says : (a : HereAt n b top contents bodies stack h Duplicate) (stack′ : List ℕ)
+      → stack′ ≡ set (set (set stack (h .operands .0 + (h .depth - 0)) (getD stack (h .operands .0 + (h .depth - 1)) 0)) (top + 1) (h .next .0)) (top + 2) (h .depth - 0 + 1) → Moved n b top contents bodies stack bodies stack′
+  unfolding execute
+  duplicate-says a stack′ q =
+      subst (λ (l : List ℕ). Moved n b top contents bodies stack bodies l) (sym q)
+      (pushes a (getD stack (h .operands .0 + (h .depth - 1)) 0) (duplicate-noted a) (λ receiver selector room. ap (λ (x : Option ℕ). x >>= λ y. pushed (runningAt receiver selector n b top contents bodies stack) (topFrame n b top contents bodies stack) (restFrames n b top contents bodies stack) (h .next .0) (topFrame n b top contents bodies stack .operands) y noLookup) (operand-is a 0 (h .operands .0 + (h .depth - 1)) (duplicate-needs a) refl)))
+
+  -- ---- pops and jumps
+
+  pub pop-needs : HereAt n b top contents bodies stack h Pop → 1 ≤ h .depth
+  unfolding need
+  pop-needs a = needed a
+
+  pub pop-says : (a : HereAt n b top contents bodies stack h Pop) (stack′ : List ℕ) → stack′ ≡ set (set stack (top + 1) (h .next .0)) (top + 2) (h .depth - 1) → Moved n b top contents bodies stack bodies stack′
+  unfolding execute
+  pop-says a stack′ q =
+      subst (λ (l : List ℕ). Moved n b top contents bodies stack bodies l) (sym q)
+      (goes-popped a (h .next .0) (λ receiver selector room. ap (λ (x : Option ℕ). x >>= λ y. next (onTop (runningAt receiver selector n b top contents bodies stack) (popped (topFrame n b top contents bodies stack) (h .next .0) 1) (restFrames n b top contents bodies stack)) noLookup) (operand-is a 0 (h .operands .0 + (h .depth - 1)) (pop-needs a) refl)))
+
+  jump-test : {ahead back : ℕ} → HereAt n b top contents bodies stack h (Jump ahead back) → T (leb back (h .next .0 + ahead))
+  unfolding usable
+  jump-test a = now-is (a .at) .usable
+
+  pub jump-back : {ahead back : ℕ} → HereAt n b top contents bodies stack h (Jump ahead back) → back ≤ h .next .0 + ahead
+  jump-back {ahead} {back} a = leb→le back (h .next .0 + ahead) (jump-test a)
+
+  pub jump-small : {ahead back : ℕ} → HereAt n b top contents bodies stack h (Jump ahead back) → h .next .0 + ahead - back < 65536
+  unfolding successors need leaves
+  jump-small {ahead} {back} a =
+      noted-small (a .at .runs) (h .next .0 + ahead - back) (h .depth - 0 + 0)
+      (noted a (h .next .0 + ahead - back) (subst (List·Memᴰ (h .next .0 + ahead - back)) (sym (if-yes ((h .next .0 + ahead - back) ∷ []) [] (T→true (leb back (h .next .0 + ahead)) (jump-test a)))) (List·Memᴰ·head refl)))
+
+  pub jump-says : {ahead back : ℕ} (a : HereAt n b top contents bodies stack h (Jump ahead back)) (stack′ : List ℕ) → stack′ ≡ set (set stack (top + 1) (h .next .0 + ahead - back)) (top + 2) (h .depth) → Moved n b top contents bodies stack bodies stack′
+  unfolding execute
+  jump-says {ahead} {back} a stack′ q =
+      subst (λ (l : List ℕ). Moved n b top contents bodies stack bodies l) (sym q)
+      (goes-whole a (h .next .0 + ahead - back) (λ receiver selector room. provided-holds (leb back (h .next .0 + ahead)) _ (jump-test a)))
+
+  module _ {condition : Bool} {ahead : ℕ} (a : HereAt n b top contents bodies stack h (JumpOn condition ahead)) where
+    pub on-needs : 1 ≤ h .depth
+    unfolding need
+    on-needs = needed a
+
+    pub on-small : h .next .0 + ahead < 65536
+    unfolding successors need leaves
+    on-small = noted-small (a .at .runs) (h .next .0 + ahead) (h .depth - 1 + 0) (noted a (h .next .0 + ahead) (List·Memᴰ·tail (List·Memᴰ·head refl)))
+
+    abbrev tested : ℕ
+    tested = getD stack (h .operands .0 + (h .depth - 1)) 0
+
+    -- what the step does with the boolean
+    abbrev chosen : Plain → ℕ → Stepped
+    chosen s w =
+        if eqb w (booleanWord condition) then next (onTop s (popped (topFrame n b top contents bodies stack) (h .next .0 + ahead) 1) (restFrames n b top contents bodies stack)) noLookup else
+        if eqb w trueWord || eqb w falseWord then next (onTop s (popped (topFrame n b top contents bodies stack) (h .next .0) 1) (restFrames n b top contents bodies stack)) noLookup else
+        halts noBoolean
+
+    chooses : Does a (λ s room. chosen s tested)
+    unfolding execute jumps
+    chooses receiver selector room = ap (λ (x : Option ℕ). x >>= chosen (runningAt receiver selector n b top contents bodies stack)) (operand-is a 0 (h .operands .0 + (h .depth - 1)) on-needs refl)
+
+    pub on-jumps : (w : ℕ) (stack′ : List ℕ) → w ≡ booleanWord condition → tested ≡ w → stack′ ≡ set (set stack (top + 1) (h .next .0 + ahead)) (top + 2) (h .depth - 1) → Moved n b top contents bodies stack bodies stack′
+    on-jumps w stack′ e t q =
+        subst (λ (l : List ℕ). Moved n b top contents bodies stack bodies l) (sym q)
+        (goes-popped a (h .next .0 + ahead) (λ receiver selector room. chooses receiver selector room ∙ if-yes _ _ (eq-eqb tested (booleanWord condition) (t ∙ e))))
+
+    pub on-stays : (w : ℕ) (stack′ : List ℕ) → w ≡ booleanWord condition → (tested ≡ w → ⊥) → (tested ≡ trueWord) ⊎ (tested ≡ falseWord)
+        → stack′ ≡ set (set stack (top + 1) (h .next .0)) (top + 2) (h .depth - 1) → Moved n b top contents bodies stack bodies stack′
+    on-stays w stack′ e t u q =
+        subst (λ (l : List ℕ). Moved n b top contents bodies stack bodies l) (sym q)
+        (goes-popped a (h .next .0) (λ receiver selector room. chooses receiver selector room ∙ if-no _ _ (ne-eqb tested (booleanWord condition) (λ x. t (x ∙ sym e))) ∙ if-yes _ _ (either u)))
+      where
+        either : (tested ≡ trueWord) ⊎ (tested ≡ falseWord) → (eqb tested trueWord || eqb tested falseWord) ≡ true
+        either (inl x) = ap (λ (y : Bool). y || eqb tested falseWord) (eq-eqb tested trueWord x)
+        either (inr x) = ap (λ (y : Bool). eqb tested trueWord || y) (eq-eqb tested falseWord x) ∙ or-true (eqb tested trueWord)
+          where
+            or-true : (y : Bool) → (y || true) ≡ true
+            or-true true = refl
+            or-true false = refl
+
+    pub on-halts : (w : ℕ) → w ≡ booleanWord condition → (tested ≡ w → ⊥) → (tested ≡ trueWord → ⊥) → (tested ≡ falseWord → ⊥)
+        → Becomes n b top contents bodies stack bodies stack (λ room receiver selector. halts noBoolean)
+    on-halts w e t u v =
+        record { words = refl; frames = refl; steps = λ receiver selector room. done a (λ s room. chosen s tested) chooses receiver selector room ∙ if-no _ _ (ne-eqb tested (booleanWord condition) (λ x. t (x ∙ sym e))) ∙ if-no _ _ (ap₂ _||_ (ne-eqb tested trueWord u) (ne-eqb tested falseWord v)) }
+
+  -- ---- returns
+
+  pub self-returns : HereAt n b top contents bodies stack h ReturnSelf → Returns n b top contents bodies stack (frameReceiver stack top)
+  unfolding execute
+  self-returns a =
+      record { words = refl; frames = refl; steps = λ receiver selector room. step-is (a .at) receiver selector room ∙ ap (λ (x : ℕ). returned (runningAt receiver selector n b top contents bodies stack) (topFrame n b top contents bodies stack) (restFrames n b top contents bodies stack) x) (receiver-is (a .at .runs)) }
+
+  pub constant-returns : {w : ℕ} → HereAt n b top contents bodies stack h (ReturnConstant w) → Returns n b top contents bodies stack w
+  unfolding execute
+  constant-returns a = record { words = refl; frames = refl; steps = λ receiver selector room. step-is (a .at) receiver selector room }
+
+  pub top-needs : HereAt n b top contents bodies stack h ReturnTop → 1 ≤ h .depth
+  unfolding need
+  top-needs a = needed a
+
+  pub top-returns : HereAt n b top contents bodies stack h ReturnTop → Returns n b top contents bodies stack (getD stack (h .operands .0 + (h .depth - 1)) 0)
+  unfolding execute
+  top-returns a =
+      record { words = refl; frames = refl; steps = λ receiver selector room. step-is (a .at) receiver selector room ∙ ap (λ (x : Option ℕ). x >>= λ y. returned (runningAt receiver selector n b top contents bodies stack) (topFrame n b top contents bodies stack) (restFrames n b top contents bodies stack) y) (operand-is a 0 (h .operands .0 + (h .depth - 1)) (top-needs a) refl) }
+
+  pub unused-never : HereAt n b top contents bodies stack h Unused → ⊥
+  unfolding usable
+  unused-never a = now-is (a .at) .usable
