@@ -1,1 +1,4 @@
 pub mod Loading
+pub mod Calling
+pub mod Answers
+pub mod Beginning

@@ -4,10 +4,22 @@ use mathlib.Core.List.{List}
 use Rattle.plain.specs.Registers as R
 use Rattle.plain.specs.Flat.{Flat, flat}
 use Rattle.plain.specs.Calls.{Answer, done, refusedBy, result, wrote}
+use Rattle.plain.specs.FlatCalls as A
 use Rattle.plain.specs.FlatCalls.{Given, gives}
 use Rattle.machine.specs.declared.Registers.{Registers}
 use Rattle.machine.specs.declared.Loaded.{Loaded}
 use Rattle.machine.specs.declared.Loaded.the-variants as L
+use Rattle.machine.specs.declared.Checked.{Checked}
+use Rattle.machine.specs.declared.Checked.the-variants as C
+use Rattle.machine.specs.declared.Begun.{Begun}
+use Rattle.machine.specs.declared.Begun.the-variants as B
+use Rattle.machine.specs.declared.Dropped.{Dropped}
+use Rattle.machine.specs.declared.Dropped.the-variants as D
+use Rattle.machine.specs.declared.Forgotten.{Forgotten}
+use Rattle.machine.specs.declared.Forgotten.the-variants as F
+use Rattle.machine.specs.declared.Saved.{Saved}
+use Rattle.machine.specs.declared.Saved.the-variants as S
+use Rattle.model.specs.Image.{Verdict, accepted, refused}
 
 abbrev pub registersOf : Registers → R.Registers
 registersOf r =
@@ -21,3 +33,28 @@ state r contents bodies stack cache = flat (registersOf r) contents bodies stack
 unfoldable pub loadGives : Loaded → List ℕ → List ℕ → List ℕ → List ℕ → Given
 loadGives (L.Accepted r) contents bodies stack cache = gives done (state r contents bodies stack cache)
 loadGives (L.Refused k) contents bodies stack cache = gives (refusedBy k) (flat R.noRegisters contents bodies stack cache)
+
+-- Check: yes, 3 or 11
+unfoldable pub checkGives : Checked → Verdict
+checkGives C.Right = accepted
+checkGives (C.Refused k) = refused k
+
+-- Begin: the registers come back, those of the state that began or as they were.
+unfoldable pub beginGives : Begun → List ℕ → List ℕ → List ℕ → List ℕ → Given
+beginGives (B.Started r) contents bodies stack cache = gives done (state r contents bodies stack cache)
+beginGives (B.Refused k r) contents bodies stack cache = gives (refusedBy k) (state r contents bodies stack cache)
+
+-- Drop: the registers come back, changed or as they were.
+unfoldable pub dropGives : Dropped → List ℕ → List ℕ → List ℕ → List ℕ → Given
+dropGives (D.Dropped r) contents bodies stack cache = gives done (state r contents bodies stack cache)
+dropGives (D.Refused k r) contents bodies stack cache = gives (refusedBy k) (state r contents bodies stack cache)
+
+-- Forget takes the registers and leaves them.
+unfoldable pub forgetGives : Forgotten → Registers → List ℕ → List ℕ → List ℕ → List ℕ → Given
+forgetGives F.Emptied r contents bodies stack cache = gives done (state r contents bodies stack cache)
+forgetGives (F.Refused k) r contents bodies stack cache = gives (refusedBy k) (state r contents bodies stack cache)
+
+-- Save: the image's length, and the output
+unfoldable pub saveGives : Saved → List ℕ → A.Saved
+saveGives (S.Wrote k) output = A.saved (wrote k) output
+saveGives (S.Refused k) output = A.saved (refusedBy k) output

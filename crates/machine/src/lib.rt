@@ -4,8 +4,11 @@ ghost use mathlib.Core.List.{List};
 ghost use Prim.Native.Nat.{ℕ};
 ghost use Rattle.plain.specs.Registers as R;
 ghost use Rattle.plain.specs.Flat.{flat};
-ghost use Rattle.plain.specs.FlatCalls.{flatLoad};
-ghost use Rattle.machine.specs.State.{loadGives};
+ghost use Rattle.plain.specs.Check as K;
+ghost use Rattle.plain.specs.FlatCalls.{flatLoad, flatBegin, flatDrop, flatForget, flatSave};
+ghost use Rattle.machine.specs.State.{state, loadGives, checkGives, beginGives, dropGives, forgetGives, saveGives};
+use begins::Beginning;
+use image::Header;
 use store::Reading;
 
 // `receiver` and `selector` are the start words.
@@ -48,5 +51,193 @@ pub fn load(image: &[u8], contents: &mut [u16], bodies: &mut [u16], cache: &mut 
             })
         }
         Reading::Refused(k) => Loaded::Refused(k),
+    }
+}
+
+// The answer of check.
+pub enum Checked {
+    Right,
+    Refused(u32),
+}
+
+// The answers of begin, drop, forget and save. What passes registers by value gives them back.
+pub enum Begun {
+    Started(Registers),
+    Refused(u32, Registers),
+}
+
+pub enum Dropped {
+    Dropped(Registers),
+    Refused(u32, Registers),
+}
+
+pub enum Forgotten {
+    Emptied,
+    Refused(u32),
+}
+
+pub enum Saved {
+    Wrote(u32),
+    Refused(u32),
+}
+
+// 3, then 11.
+pub fn check(
+    registers: Registers,
+    contents: &[u16],
+    bodies: &[u16],
+    stack: &[u16],
+    cache: &[u16],
+) -> Checked
+    ensures { λ r. ⌜ checkGives r ≡ K.check (state registers (now (contents .entry)) (now (bodies .entry)) (now (stack .entry)) (now (cache .entry))) ⌝ }
+{
+    if !store::buffers_fine(
+        contents.len(),
+        bodies.len(),
+        cache.len(),
+        registers.n,
+        registers.b,
+    ) {
+        return Checked::Refused(3);
+    }
+    if !state::state_fine(
+        contents,
+        bodies,
+        stack,
+        cache,
+        registers.n,
+        registers.b,
+        registers.receiver,
+        registers.selector,
+        registers.phase,
+        registers.top,
+        registers.value,
+    ) {
+        return Checked::Refused(11);
+    }
+    Checked::Right
+}
+
+// The cache emptied.
+pub fn forget(
+    registers: Registers,
+    contents: &[u16],
+    bodies: &[u16],
+    stack: &[u16],
+    cache: &mut [u16],
+) -> Forgotten
+    ensures { λ r. ⌜ forgetGives r registers (now (contents .entry)) (now (bodies .entry)) (now (stack .entry)) (now (cache .exit)) ≡ flatForget (state registers (now (contents .entry)) (now (bodies .entry)) (now (stack .entry)) (now (cache .entry))) ⌝ }
+{
+    match check(registers, contents, bodies, stack, cache) {
+        Checked::Refused(k) => Forgotten::Refused(k),
+        Checked::Right => {
+            image::clear(cache, cache.len());
+            Forgotten::Emptied
+        }
+    }
+}
+
+// The image written at the front of the output. An output too short is 3, before 11.
+pub fn save(
+    registers: Registers,
+    contents: &[u16],
+    bodies: &[u16],
+    stack: &[u16],
+    cache: &[u16],
+    output: &mut [u8],
+) -> Saved
+    ensures { λ r. ⌜ saveGives r (now (output .exit)) ≡ flatSave (state registers (now (contents .entry)) (now (bodies .entry)) (now (stack .entry)) (now (cache .entry))) (now (output .entry)) ⌝ }
+{
+    let n = registers.n;
+    let b = registers.b;
+    if output.len() < image::length_of(n, b) {
+        return Saved::Refused(3);
+    }
+    match check(registers, contents, bodies, stack, cache) {
+        Checked::Refused(k) => Saved::Refused(k),
+        Checked::Right => {
+            let header = Header {
+                edition: 1,
+                n: n,
+                b: b,
+                receiver: registers.receiver,
+                selector: registers.selector,
+            };
+            let bytes = image::write(header, contents, bodies, output);
+            Saved::Wrote(bytes as u32)
+        }
+    }
+}
+
+impl Registers {
+    // A send from no frame, all frames removed: 12 in phase 1, then 8, 9, 10, 13.
+    pub fn begin(
+        self,
+        contents: &mut [u16],
+        bodies: &mut [u16],
+        stack: &mut [u16],
+        cache: &[u16],
+        receiver: u16,
+        selector: u16,
+        arguments: &[u16],
+    ) -> Begun
+        ensures { λ r. ⌜ beginGives r (now (contents .exit)) (now (bodies .exit)) (now (stack .exit)) (now (cache .entry)) ≡ flatBegin (state self (now (contents .entry)) (now (bodies .entry)) (now (stack .entry)) (now (cache .entry))) receiver selector (now (arguments .entry)) ⌝ }
+    {
+        match check(self, contents, bodies, stack, cache) {
+            Checked::Refused(k) => Begun::Refused(k, self),
+            Checked::Right => {
+                if self.phase == 1 {
+                    return Begun::Refused(12, self);
+                }
+                match begins::begin(
+                    contents,
+                    bodies,
+                    stack,
+                    self.n as usize,
+                    self.b as usize,
+                    receiver,
+                    selector,
+                    arguments,
+                ) {
+                    Beginning::Answered { word, n, b } => Begun::Started(Registers {
+                        n: n as u16,
+                        b: b as u16,
+                        receiver: self.receiver,
+                        selector: self.selector,
+                        phase: 2,
+                        top: 0,
+                        value: word,
+                    }),
+                    Beginning::Entered => Begun::Started(Registers {
+                        n: self.n,
+                        b: self.b,
+                        receiver: self.receiver,
+                        selector: self.selector,
+                        phase: 1,
+                        top: 0,
+                        value: 0,
+                    }),
+                    Beginning::Refused(k) => Begun::Refused(k, self),
+                }
+            }
+        }
+    }
+
+    // All frames removed.
+    pub fn drop(self, contents: &[u16], bodies: &[u16], stack: &[u16], cache: &[u16]) -> Dropped
+        ensures { λ r. ⌜ dropGives r (now (contents .entry)) (now (bodies .entry)) (now (stack .entry)) (now (cache .entry)) ≡ flatDrop (state self (now (contents .entry)) (now (bodies .entry)) (now (stack .entry)) (now (cache .entry))) ⌝ }
+    {
+        match check(self, contents, bodies, stack, cache) {
+            Checked::Refused(k) => Dropped::Refused(k, self),
+            Checked::Right => Dropped::Dropped(Registers {
+                n: self.n,
+                b: self.b,
+                receiver: self.receiver,
+                selector: self.selector,
+                phase: 0,
+                top: 0,
+                value: 0,
+            }),
+        }
     }
 }

@@ -1,9 +1,9 @@
 -- Where a running frame stands: numbers, its instruction, its operands.
 use Prim.Native.Nat.{ℕ, zero, suc, _+_, _-_, _*_, _/_, _≤_, _<_}
-use mathlib.Core.Path.{_≡_, refl, sym, ap, ap₂, _∙_, subst}
-use mathlib.Core.Bool.{Bool, true, false}
+use mathlib.Core.Path.{_≡_, refl, sym, ap, _∙_, subst}
+use mathlib.Core.Bool.{true}
 use mathlib.Core.List.{List, [], _∷_}
-use mathlib.Core.Option.{Option, none, some}
+use mathlib.Core.Option.{none, some}
 use native.Mathlib.Omega.{arith}
 use native.Mathlib.Decide.{decLt}
 use borrow.Author.Tests.{lt-ltb}
@@ -19,7 +19,7 @@ use Rattle.bytecode.proofs.TestLaws.{rule, every-at}
 use Rattle.bytecode.proofs.DecodeLaws.{decode-short, decode-whole}
 use Rattle.model.specs.Limits.{methodKind}
 use Rattle.model.specs.Word.{isValid, objectNumber}
-use Rattle.model.specs.Objects.{Objects, objectsAt, start, size, bodyWords}
+use Rattle.model.specs.Objects.{Objects, objectsAt, start, bodyWords}
 use Rattle.model.specs.Method.{header, temporaryCount, literalCount, codeWords, codeSize, frameWords}
 use Rattle.model.specs.Depth.{noteAt, rulesAt, fineAt}
 use Rattle.model.specs.Rules.{allowed, methodTable}
@@ -28,11 +28,11 @@ use Rattle.model.proofs.Facts.{inside, most-words, method-facts, method-words}
 use Rattle.model.proofs.DepthLaws.{Spot, spot, fine-inside}
 use Rattle.plain.specs.State.{Frame}
 use Rattle.plain.specs.Step.{operand}
-use Rattle.plain.specs.Flat.{frameDepth, frameMethod, framePosition, frameReceiver, operandsStart, frameAt}
-use Rattle.plain.specs.Running.{Runs, At, topFrame, restFrames}
-use Rattle.plain.proofs.FrameLaws.{FrameRight, frame-spot}
-use Rattle.plain.proofs.RunningLaws.{stood, all-right, top-right, is-method, TopBounds, top-bounds}
-use Rattle.plain.proofs.WriteLaws.{top-here, operand-here, temporary-here}
+use Rattle.plain.specs.Flat.{frameDepth, frameMethod, framePosition, frameAt}
+use Rattle.plain.specs.Running.{Runs, topFrame}
+use Rattle.plain.proofs.FrameLaws.{frame-spot}
+use Rattle.plain.proofs.RunningLaws.{top-right, is-method, top-bounds}
+use Rattle.plain.proofs.WriteLaws.{operand-here}
 use Rattle.objects.specs.Lent.{Holds, CodeAt, temporariesOf}
 use Rattle.objects.specs.declared.Code.{Code}
 use Rattle.steps.specs.declared.Here.{Here}

@@ -1,15 +1,13 @@
 -- The words that a bytecode writes, and the state that it leads to.
 use Prim.Native.Nat.{ℕ, suc, _+_, _-_, _≤_, _<_}
-use mathlib.Core.Path.{_≡_, refl, sym, ap, ap₂, _∙_, subst}
+use mathlib.Core.Path.{_≡_, refl, sym, ap, _∙_, subst}
 use mathlib.Core.Bool.{Bool, true, false}
 use mathlib.Core.List.{List, [], _∷_, _++_}
-use mathlib.Core.Option.{Option, none, some}
 use native.Mathlib.Omega.{arith}
-use lib.Dec.{T, ltb, ltb→lt}
-use lib.ListN.{length, getD, take, set}
+use lib.Dec.{T, ltb→lt}
+use lib.ListN.{length, take, set}
 use lib.Seq.{take-all}
 use Rattle.bytecode.specs.declared.Instruction.{Instruction}
-use Rattle.bytecode.proofs.TestLaws.{T→true}
 use Rattle.model.specs.Objects.{Objects, objectsAt}
 use Rattle.model.specs.Method.{temporaryCount, frameWords}
 use Rattle.model.specs.Depth.{noteAt}
@@ -18,7 +16,7 @@ use Rattle.model.specs.Primitive.{storeWord}
 use Rattle.model.specs.Image.{Room}
 use Rattle.plain.specs.State.{Frame, Plain, movedTo, withTemporaries, withObjects}
 use Rattle.plain.specs.Step.{Stepped, next, noLookup, provided, onTop, hasWord, pushed, without, popped, execute}
-use Rattle.plain.specs.Flat.{frameDepth, frameMethod, frameAt}
+use Rattle.plain.specs.Flat.{frameMethod, frameAt}
 use Rattle.plain.specs.FlatCalls.{laid, atFront}
 use Rattle.plain.specs.Running.{Moved, runningAt, topFrame, restFrames}
 use Rattle.plain.proofs.FrameLaws.{FrameRight}
@@ -27,8 +25,8 @@ use Rattle.plain.proofs.RunningLaws.{stood, all-right, top-right, top-bounds, m
 use Rattle.plain.proofs.WriteLaws.{moved-writes, pushed-writes, temporary-writes}
 use Rattle.objects.proofs.Buffers.{bodies-room, front-same}
 use Rattle.steps.specs.declared.Here.{Here}
-use Rattle.steps.specs.Events.{HereAt}
-use Rattle.steps.proofs.HereLaws.{Bounds, bounds}
+use Rattle.steps.specs.Events.{HereAt, answered}
+use Rattle.steps.proofs.HereLaws.{bounds}
 
 pub provided-holds : (t : Bool) (x : Stepped) → T t → provided t x ≡ x
 provided-holds true x h = refl
@@ -140,10 +138,10 @@ module _ {n b top : ℕ} {contents bodies stack : List ℕ} {h : Here} {i : Inst
 
   pub answers : (taken w : ℕ) → taken ≤ h .depth → noteAt (methodTable o (frameMethod stack top)) (h .next .0) ≡ suc (suc (h .depth - taken))
       → Does (λ s room. pushed s f rest (h .next .0) (without f taken) w noLookup)
-      → Moved n b top contents bodies stack bodies (set (set (set stack (h .operands .0 + (h .depth - taken)) w) (top + 1) (h .next .0)) (top + 2) (h .depth - taken + 1))
+      → Moved n b top contents bodies stack bodies (answered stack top h taken w)
   unfolding pushed
   answers taken w l e d =
-      moves (movedTo f (h .next .0) (without f taken ++ (w ∷ []))) (set (set (set stack (h .operands .0 + (h .depth - taken)) w) (top + 1) (h .next .0)) (top + 2) (h .depth - taken + 1))
+      moves (movedTo f (h .next .0) (without f taken ++ (w ∷ []))) (answered stack top h taken w)
       (λ receiver selector room. d receiver selector room ∙ provided-holds (hasWord o f (length (without f taken))) (next (onTop (at receiver selector) (movedTo f (h .next .0) (without f taken ++ (w ∷ []))) rest) noLookup) has)
       (same-three stack (let x = first-of in let y = depth-of in omega arith) refl refl refl refl (let y = depth-of in omega arith)
       ∙ sym (pushed-writes o stack top (suc top) f rest (all-right (a .at .runs)) (stood (a .at .runs)) (h .next .0) (f .depth - taken) w (omega arith) room))
@@ -160,7 +158,7 @@ module _ {n b top : ℕ} {contents bodies stack : List ℕ} {h : Here} {i : Inst
 
   -- the same with nothing taken
   pub pushes : (w : ℕ) → noteAt (methodTable o (frameMethod stack top)) (h .next .0) ≡ suc (suc (h .depth - 0)) → Does (λ s room. pushed s f rest (h .next .0) (f .operands) w noLookup)
-      → Moved n b top contents bodies stack bodies (set (set (set stack (h .operands .0 + (h .depth - 0)) w) (top + 1) (h .next .0)) (top + 2) (h .depth - 0 + 1))
+      → Moved n b top contents bodies stack bodies (answered stack top h 0 w)
   pushes w e d =
       answers 0 w (omega arith) e
       (λ receiver selector room. d receiver selector room ∙ ap (λ (l : List ℕ). pushed (at receiver selector) f rest (h .next .0) l w noLookup) (sym (all-operands (f .depth - 0) (let y = depth-of in omega arith))))

@@ -1,8 +1,8 @@
 -- Places: the words that are read there, and the stores into them.
-use Prim.Native.Nat.{ℕ, suc, _+_, _-_, _/_, _≤_, _<_}
+use Prim.Native.Nat.{ℕ, _+_, _-_, _≤_, _<_}
 use mathlib.Core.Path.{_≡_, refl, sym, ap, _∙_, subst}
 use mathlib.Core.Bool.{Bool, true, false, _&&_}
-use mathlib.Core.List.{List, [], _∷_, _++_}
+use mathlib.Core.List.{List}
 use mathlib.Core.Option.{Option, none, some}
 use native.Mathlib.Omega.{arith}
 use lib.Dec.{T, leb, ltb, leb→le, ltb→lt, lt→ltb}
@@ -16,16 +16,15 @@ use Rattle.bytecode.specs.Effect.{need}
 use Rattle.bytecode.proofs.Choice.{if-yes}
 use Rattle.bytecode.proofs.TestLaws.{T→true, and-left, and-right, and-both}
 use Rattle.model.specs.Limits.{fieldsKind, methodKind}
-use Rattle.model.specs.Word.{isValid, objectNumber}
+use Rattle.model.specs.Word.{objectNumber}
 use Rattle.model.specs.Objects.{Objects, objectsAt, isKind, size, bodyWord, fieldCount}
 use Rattle.model.specs.Method.{home, temporaryCount, literalCount, literal}
 use Rattle.model.specs.Rules.{allowed, placeFine, variableFine, isWritable}
 use Rattle.model.specs.Primitive.{storeWord}
-use Rattle.model.specs.Image.{Room}
 use Rattle.model.proofs.SendFacts.{receiver-fields}
-use Rattle.plain.specs.State.{Frame, Plain, movedTo, withTemporaries, withObjects}
-use Rattle.plain.specs.Step.{Stepped, next, missing, noLookup, _>>=_, operand, onTop, popped, fieldOf, literalOf, read, storedField, stored, execute}
-use Rattle.plain.specs.Flat.{frameDepth, frameMethod, frameReceiver, frameAt}
+use Rattle.plain.specs.State.{Frame, movedTo, withObjects}
+use Rattle.plain.specs.Step.{next, noLookup, _>>=_, operand, onTop, popped, fieldOf, literalOf, read, storedField, stored, execute}
+use Rattle.plain.specs.Flat.{frameMethod, frameReceiver, frameAt}
 use Rattle.plain.specs.FlatCalls.{atFront}
 use Rattle.plain.specs.Running.{Runs, Moved, runningAt, topFrame, restFrames}
 use Rattle.plain.proofs.RunningLaws.{top-right, top-bounds, method-is, receiver-is, now-is}
@@ -34,8 +33,8 @@ use Rattle.objects.specs.Lent.{Inside, Holds}
 use Rattle.objects.proofs.Bodies.{field-inside}
 use Rattle.steps.specs.declared.Here.{Here}
 use Rattle.steps.specs.Events.{HereAt, storing, leftBy, Storing}
-use Rattle.steps.proofs.HereLaws.{element-is, holds-method, bounds, operand-is}
-use Rattle.steps.proofs.MoveLaws.{Does, all-operands, depth-of, goes-on, goes-storing, goes-temporary}
+use Rattle.steps.proofs.HereLaws.{element-is, holds-method, operand-is}
+use Rattle.steps.proofs.MoveLaws.{Does, all-operands, depth-of, goes-storing}
 
 -- a word with a field
 pub record HasField (n b : ℕ) (contents bodies : List ℕ) (w j : ℕ) : Type 0 where

@@ -1,50 +1,38 @@
 -- What each bytecode is to the run loop.
-use Prim.Native.Nat.{ℕ, zero, suc, _+_, _-_, _/_, _%_, _≤_, _<_}
+use Prim.Native.Nat.{ℕ, suc, _+_, _-_, _≤_, _<_}
 use mathlib.Core.Path.{_≡_, refl, sym, ap, ap₂, _∙_, subst}
-use mathlib.Core.Bool.{Bool, true, false, _&&_, _||_}
-use mathlib.Core.Logic.{_⊎_, inl, inr, _≢_}
-use mathlib.Core.List.{List, [], _∷_, _++_, List·Memᴰ·head, List·Memᴰ·tail, List·Memᴰ}
-use mathlib.Core.Option.{Option, none, some}
+use mathlib.Core.Bool.{Bool, true, false, _||_}
+use mathlib.Core.Logic.{_⊎_, inl, inr}
+use mathlib.Core.List.{List, [], _∷_, List·Memᴰ·head, List·Memᴰ·tail, List·Memᴰ}
+use mathlib.Core.Option.{Option, some}
 use native.Mathlib.Omega.{arith}
-use borrow.Author.Tests.{eq-eqb, ne-eqb, eqb-true, lt-ltb, le-ltb}
-use lib.Dec.{T, leb, ltb, eqb, leb→le, ltb→lt, lt→ltb, eqb→eq}
-use lib.ListN.{length, getD, take, drop, set}
+use borrow.Author.Tests.{eq-eqb, ne-eqb}
+use lib.Dec.{T, leb, eqb, leb→le}
+use lib.ListN.{getD, set}
 use Rattle.bytecode.specs.Test.{if_then_else_}
-use Rattle.bytecode.specs.Constant.{trueWord, falseWord, nilWord}
-use Rattle.bytecode.specs.Effect.{specialCount, need, leaves, usable, successors}
+use Rattle.bytecode.specs.Constant.{trueWord, falseWord}
+use Rattle.bytecode.specs.Effect.{need, leaves, usable, successors}
 use Rattle.bytecode.specs.declared.Place.{Place}
 use Rattle.bytecode.specs.declared.Instruction.{Instruction}
-use Rattle.bytecode.specs.declared.Instruction.the-variants.{Push, Store, PopStore, PushSelf, PushConstant, ReturnSelf, ReturnConstant, ReturnTop, Pop, Duplicate, Jump, JumpOn, Send, SuperSend, SpecialSend, Unused}
-use Rattle.bytecode.proofs.Choice.{if-yes, if-no, if-lt, if-ge}
-use Rattle.bytecode.proofs.TestLaws.{true→T, T→true, and-left, and-right, or-cases}
-use Rattle.model.specs.declared.Computed.{Computed}
-use Rattle.model.specs.declared.Computed.the-variants.{Word, Failed}
-use Rattle.model.specs.Limits.{bytesKind, classKind, methodKind, specialSelectors}
-use Rattle.model.specs.Word.{isValid, booleanWord, objectNumber, integerClass}
-use Rattle.model.specs.Objects.{Objects, objectsAt, isKind, isNilOr, classOf, classWord, superclassWord}
-use Rattle.model.specs.Method.{home, literalCount, literal}
+use Rattle.bytecode.specs.declared.Instruction.the-variants.{Push, PushSelf, PushConstant, ReturnSelf, ReturnConstant, ReturnTop, Pop, Duplicate, Jump, JumpOn, Unused}
+use Rattle.bytecode.proofs.Choice.{if-yes, if-no}
+use Rattle.bytecode.proofs.TestLaws.{T→true}
+use Rattle.model.specs.Word.{booleanWord}
+use Rattle.model.specs.Objects.{Objects, objectsAt}
 use Rattle.model.specs.Depth.{noteAt}
-use Rattle.model.specs.Lookup.{found, lookup, inChain}
-use Rattle.model.specs.Rules.{Right, allowed, sendFine, takesCount, methodTable, specialSelector, isSame, isClass}
+use Rattle.model.specs.Rules.{methodTable}
 use Rattle.model.specs.Image.{Room}
-use Rattle.model.specs.Arithmetic.{arithmetic}
-use Rattle.model.proofs.ChainLaws.{named}
-use Rattle.model.proofs.Facts.{Valid, odd, names, valid-cases, entry-class, integer-class, class-facts, method-facts}
-use Rattle.model.proofs.SendFacts.{lookup-facts}
-use Rattle.model.proofs.Unchanged.{Small, small-at}
 use Rattle.plain.specs.Registers.{noBoolean}
-use Rattle.plain.specs.State.{Frame, Plain, movedTo, objects}
-use Rattle.plain.specs.Step.{Stepped, next, halts, missing, noLookup, _>>=_, provided, operand, without, popped, onTop, pushed, read, returned, jumps, literalOf, sends, aboveHome, afterLookup, triedPrimitive, orSends, arithmeticSends, specialSends, execute}
-use Rattle.plain.specs.Flat.{frameDepth, frameMethod, frameReceiver, operandsStart, frameAt}
-use Rattle.plain.specs.Running.{Runs, Moved, Sending, sendStep, sentReceiver, runningAt, topFrame, restFrames}
+use Rattle.plain.specs.State.{Frame, Plain}
+use Rattle.plain.specs.Step.{Stepped, next, halts, noLookup, _>>=_, popped, onTop, pushed, read, returned, jumps, execute}
+use Rattle.plain.specs.Flat.{frameMethod, frameReceiver, frameAt}
+use Rattle.plain.specs.Running.{Moved, runningAt, topFrame, restFrames}
 use Rattle.plain.proofs.NowLaws.{Now}
-use Rattle.plain.proofs.RunningLaws.{top-right, is-method, method-is, depth-is, receiver-is, step-is, now-is}
+use Rattle.plain.proofs.RunningLaws.{receiver-is, step-is, now-is}
 use Rattle.steps.specs.declared.Here.{Here}
-use Rattle.steps.specs.Events.{HereAt, Sends, Becomes, stepAt}
-use Rattle.steps.proofs.ChainSteps.{chain-joined}
-use Rattle.steps.proofs.HereLaws.{Bounds, bounds, noted-small, operand-is, operand-valid}
-use Rattle.steps.proofs.MoveLaws.{Does, Answers, depth-of, provided-holds, goes-whole, goes-popped, answer-room, answers, pushes}
-use Rattle.steps.proofs.PlaceLaws.{literal-at}
+use Rattle.steps.specs.Events.{HereAt, answered, Becomes, stepAt}
+use Rattle.steps.proofs.HereLaws.{noted-small, operand-is}
+use Rattle.steps.proofs.MoveLaws.{Does, Answers, depth-of, provided-holds, goes-whole, goes-popped, answer-room, pushes}
 
 -- ---- what is noted behind an instruction
 
@@ -71,6 +59,10 @@ module _ {n b top : ℕ} {contents bodies stack : List ℕ} {h : Here} {i : Inst
   pub needed : need i ≤ h .depth
   needed = let x = now .needs in let y = depth-of a in omega arith
 
+  -- an instruction that leaves one operand more than it needs
+  one-more : List·Memᴰ (h .next .0) (successors (h .next .0) i) → leaves i ≡ suc (need i) → noteAt (methodTable o m) (h .next .0) ≡ suc (suc (h .depth - 0))
+  one-more t e = noted (h .next .0) t ∙ ap suc (let x = needed in omega arith)
+
   done : (x : Plain → Room → Stepped) → Does a x → (receiver selector : ℕ) (room : Room) → stepAt room receiver selector n b top contents bodies stack ≡ x (runningAt receiver selector n b top contents bodies stack) room
   done x d receiver selector room = step-is (a .at) receiver selector room ∙ d receiver selector room
 
@@ -83,64 +75,52 @@ Returns n b top contents bodies stack w =
 -- ---- pushes, by the word that is pushed
 
 module _ {n b top : ℕ} {contents bodies stack : List ℕ} {h : Here} where
-  push-noted : {p : Place} → HereAt n b top contents bodies stack h (Push p) → noteAt (methodTable (objectsAt n b contents bodies) (frameMethod stack top)) (h .next .0) ≡ suc (suc (h .depth - 0))
-  unfolding successors need leaves
-  push-noted a = noted a (h .next .0) (List·Memᴰ·head refl) ∙ ap suc (omega arith)
-
   pub push-room : {p : Place} → HereAt n b top contents bodies stack h (Push p) → Answers top stack h 0
-  push-room a = answer-room a 0 (omega arith) (push-noted a)
+  unfolding successors need leaves
+  push-room a = answer-room a 0 (omega arith) (one-more a (List·Memᴰ·head refl) refl)
 
   pub push-says : {p : Place} (a : HereAt n b top contents bodies stack h (Push p)) (w : ℕ) (stack′ : List ℕ)
       → read (objectsAt n b contents bodies) (topFrame n b top contents bodies stack) p ≡ some w
-      → stack′ ≡ set (set (set stack (h .operands .0 + (h .depth - 0)) w) (top + 1) (h .next .0)) (top + 2) (h .depth - 0 + 1) → Moved n b top contents bodies stack bodies stack′
-  unfolding execute
+      → stack′ ≡ answered stack top h 0 w → Moved n b top contents bodies stack bodies stack′
+  unfolding execute successors need leaves
   push-says a w stack′ e q =
       subst (λ (l : List ℕ). Moved n b top contents bodies stack bodies l) (sym q)
-      (pushes a w (push-noted a) (λ receiver selector room. ap (λ (x : Option ℕ). x >>= λ y. pushed (runningAt receiver selector n b top contents bodies stack) (topFrame n b top contents bodies stack) (restFrames n b top contents bodies stack) (h .next .0) (topFrame n b top contents bodies stack .operands) y noLookup) e))
-
-  self-noted : HereAt n b top contents bodies stack h PushSelf → noteAt (methodTable (objectsAt n b contents bodies) (frameMethod stack top)) (h .next .0) ≡ suc (suc (h .depth - 0))
-  unfolding successors need leaves
-  self-noted a = noted a (h .next .0) (List·Memᴰ·head refl) ∙ ap suc (omega arith)
+      (pushes a w (one-more a (List·Memᴰ·head refl) refl) (λ receiver selector room. ap (λ (x : Option ℕ). x >>= λ y. pushed (runningAt receiver selector n b top contents bodies stack) (topFrame n b top contents bodies stack) (restFrames n b top contents bodies stack) (h .next .0) (topFrame n b top contents bodies stack .operands) y noLookup) e))
 
   pub self-room : HereAt n b top contents bodies stack h PushSelf → Answers top stack h 0
-  self-room a = answer-room a 0 (omega arith) (self-noted a)
+  unfolding successors need leaves
+  self-room a = answer-room a 0 (omega arith) (one-more a (List·Memᴰ·head refl) refl)
 
   pub self-says : (a : HereAt n b top contents bodies stack h PushSelf) (stack′ : List ℕ)
-      → stack′ ≡ set (set (set stack (h .operands .0 + (h .depth - 0)) (frameReceiver stack top)) (top + 1) (h .next .0)) (top + 2) (h .depth - 0 + 1) → Moved n b top contents bodies stack bodies stack′
-  unfolding execute
+      → stack′ ≡ answered stack top h 0 (frameReceiver stack top) → Moved n b top contents bodies stack bodies stack′
+  unfolding execute successors need leaves
   self-says a stack′ q =
       subst (λ (l : List ℕ). Moved n b top contents bodies stack bodies l) (sym q)
-      (pushes a (frameReceiver stack top) (self-noted a) (λ receiver selector room. ap (λ (x : ℕ). pushed (runningAt receiver selector n b top contents bodies stack) (topFrame n b top contents bodies stack) (restFrames n b top contents bodies stack) (h .next .0) (topFrame n b top contents bodies stack .operands) x noLookup) (receiver-is (a .at .runs))))
-
-  constant-noted : {w : ℕ} → HereAt n b top contents bodies stack h (PushConstant w) → noteAt (methodTable (objectsAt n b contents bodies) (frameMethod stack top)) (h .next .0) ≡ suc (suc (h .depth - 0))
-  unfolding successors need leaves
-  constant-noted a = noted a (h .next .0) (List·Memᴰ·head refl) ∙ ap suc (omega arith)
+      (pushes a (frameReceiver stack top) (one-more a (List·Memᴰ·head refl) refl) (λ receiver selector room. ap (λ (x : ℕ). pushed (runningAt receiver selector n b top contents bodies stack) (topFrame n b top contents bodies stack) (restFrames n b top contents bodies stack) (h .next .0) (topFrame n b top contents bodies stack .operands) x noLookup) (receiver-is (a .at .runs))))
 
   pub constant-room : {w : ℕ} → HereAt n b top contents bodies stack h (PushConstant w) → Answers top stack h 0
-  constant-room a = answer-room a 0 (omega arith) (constant-noted a)
+  unfolding successors need leaves
+  constant-room a = answer-room a 0 (omega arith) (one-more a (List·Memᴰ·head refl) refl)
 
   pub constant-says : {w : ℕ} (a : HereAt n b top contents bodies stack h (PushConstant w)) (stack′ : List ℕ)
-      → stack′ ≡ set (set (set stack (h .operands .0 + (h .depth - 0)) w) (top + 1) (h .next .0)) (top + 2) (h .depth - 0 + 1) → Moved n b top contents bodies stack bodies stack′
-  unfolding execute
-  constant-says {w} a stack′ q = subst (λ (l : List ℕ). Moved n b top contents bodies stack bodies l) (sym q) (pushes a w (constant-noted a) (λ receiver selector room. refl))
+      → stack′ ≡ answered stack top h 0 w → Moved n b top contents bodies stack bodies stack′
+  unfolding execute successors need leaves
+  constant-says {w} a stack′ q = subst (λ (l : List ℕ). Moved n b top contents bodies stack bodies l) (sym q) (pushes a w (one-more a (List·Memᴰ·head refl) refl) (λ receiver selector room. refl))
 
   pub duplicate-needs : HereAt n b top contents bodies stack h Duplicate → 1 ≤ h .depth
   unfolding need
   duplicate-needs a = needed a
 
-  duplicate-noted : HereAt n b top contents bodies stack h Duplicate → noteAt (methodTable (objectsAt n b contents bodies) (frameMethod stack top)) (h .next .0) ≡ suc (suc (h .depth - 0))
-  unfolding successors need leaves
-  duplicate-noted a = noted a (h .next .0) (List·Memᴰ·head refl) ∙ ap suc (let x = duplicate-needs a in omega arith)
-
   pub duplicate-room : HereAt n b top contents bodies stack h Duplicate → Answers top stack h 0
-  duplicate-room a = answer-room a 0 (omega arith) (duplicate-noted a)
+  unfolding successors need leaves
+  duplicate-room a = answer-room a 0 (omega arith) (one-more a (List·Memᴰ·head refl) refl)
 
   pub duplicate-says : (a : HereAt n b top contents bodies stack h Duplicate) (stack′ : List ℕ)
-      → stack′ ≡ set (set (set stack (h .operands .0 + (h .depth - 0)) (getD stack (h .operands .0 + (h .depth - 1)) 0)) (top + 1) (h .next .0)) (top + 2) (h .depth - 0 + 1) → Moved n b top contents bodies stack bodies stack′
-  unfolding execute
+      → stack′ ≡ answered stack top h 0 (getD stack (h .operands .0 + (h .depth - 1)) 0) → Moved n b top contents bodies stack bodies stack′
+  unfolding execute successors need leaves
   duplicate-says a stack′ q =
       subst (λ (l : List ℕ). Moved n b top contents bodies stack bodies l) (sym q)
-      (pushes a (getD stack (h .operands .0 + (h .depth - 1)) 0) (duplicate-noted a) (λ receiver selector room. ap (λ (x : Option ℕ). x >>= λ y. pushed (runningAt receiver selector n b top contents bodies stack) (topFrame n b top contents bodies stack) (restFrames n b top contents bodies stack) (h .next .0) (topFrame n b top contents bodies stack .operands) y noLookup) (operand-is a 0 (h .operands .0 + (h .depth - 1)) (duplicate-needs a) refl)))
+      (pushes a (getD stack (h .operands .0 + (h .depth - 1)) 0) (one-more a (List·Memᴰ·head refl) refl) (λ receiver selector room. ap (λ (x : Option ℕ). x >>= λ y. pushed (runningAt receiver selector n b top contents bodies stack) (topFrame n b top contents bodies stack) (restFrames n b top contents bodies stack) (h .next .0) (topFrame n b top contents bodies stack .operands) y noLookup) (operand-is a 0 (h .operands .0 + (h .depth - 1)) (duplicate-needs a) refl)))
 
   -- ---- pops and jumps
 

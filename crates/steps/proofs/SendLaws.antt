@@ -1,49 +1,41 @@
 -- Sends: the class where the search starts, and the step that the send is.
-use Prim.Native.Nat.{ℕ, zero, suc, _+_, _-_, _/_, _%_, _≤_, _<_}
-use mathlib.Core.Path.{_≡_, refl, sym, ap, ap₂, _∙_, subst}
+use Prim.Native.Nat.{ℕ, suc, _+_, _-_, _/_, _%_, _≤_, _<_}
+use mathlib.Core.Path.{_≡_, refl, sym, ap, _∙_, subst}
 use mathlib.Core.Bool.{Bool, true, false, _&&_, _||_}
-use mathlib.Core.Logic.{_⊎_, inl, inr, _≢_}
-use mathlib.Core.List.{List, [], _∷_, _++_, List·Memᴰ·head}
-use mathlib.Core.Option.{Option, none, some}
+use mathlib.Core.Logic.{_⊎_, inl, inr}
+use mathlib.Core.List.{List, List·Memᴰ·head}
+use mathlib.Core.Option.{Option, some}
 use native.Mathlib.Omega.{arith}
-use borrow.Author.Tests.{eq-eqb, ne-eqb, eqb-true, lt-ltb, le-ltb}
+use borrow.Author.Tests.{eq-eqb, ne-eqb, eqb-true}
 use lib.Dec.{T, ltb, eqb, ltb→lt, eqb→eq}
-use lib.ListN.{length, getD, take, drop, set}
-use Rattle.bytecode.specs.Test.{if_then_else_}
+use lib.ListN.{getD, drop}
 use Rattle.bytecode.specs.Constant.{nilWord}
-use Rattle.bytecode.specs.Code.{decodeAt}
-use Rattle.bytecode.specs.Effect.{specialCount, need, leaves, successors}
+use Rattle.bytecode.specs.Effect.{need, leaves, successors}
 use Rattle.bytecode.specs.declared.Instruction.{Instruction}
-use Rattle.bytecode.specs.declared.Instruction.the-variants.{Send, SuperSend, SpecialSend}
-use Rattle.bytecode.proofs.Choice.{if-yes, if-no, if-lt}
-use Rattle.bytecode.proofs.TestLaws.{true→T, T→true, and-left, and-right, or-cases}
-use Rattle.model.specs.declared.Computed.{Computed}
-use Rattle.model.specs.declared.Computed.the-variants.{Word, Failed}
-use Rattle.model.specs.Limits.{bytesKind, classKind, methodKind, specialSelectors}
-use Rattle.model.specs.Word.{isValid, booleanWord, objectNumber, integerClass}
-use Rattle.model.specs.Objects.{Objects, objectsAt, isKind, isNilOr, classOf, classWord, superclassWord}
-use Rattle.model.specs.Method.{home, literalCount, literal, codeWords, codeSize}
+use Rattle.bytecode.specs.declared.Instruction.the-variants.{Send, SuperSend}
+use Rattle.bytecode.proofs.Choice.{if-yes, if-no}
+use Rattle.bytecode.proofs.TestLaws.{and-left, and-right, or-cases}
+use Rattle.model.specs.Limits.{bytesKind, classKind}
+use Rattle.model.specs.Word.{isValid}
+use Rattle.model.specs.Objects.{Objects, objectsAt, isKind, isNilOr, classOf, superclassWord}
+use Rattle.model.specs.Method.{home, literalCount, literal}
 use Rattle.model.specs.Depth.{noteAt}
 use Rattle.model.specs.Lookup.{found, lookup, inChain}
-use Rattle.model.specs.Rules.{Right, allowed, sendFine, takesCount, methodTable, specialSelector, isSame, isClass}
+use Rattle.model.specs.Rules.{Right, allowed, sendFine, takesCount, methodTable}
 use Rattle.model.specs.Image.{Room}
-use Rattle.model.specs.Arithmetic.{arithmetic}
 use Rattle.model.proofs.ChainLaws.{named}
 use Rattle.model.proofs.Facts.{Valid, odd, names, valid-cases, entry-class, integer-class, class-facts, method-facts}
 use Rattle.model.proofs.SendFacts.{lookup-facts}
-use Rattle.model.proofs.Unchanged.{Small, small-at}
-use Rattle.plain.specs.State.{Frame, Plain}
-use Rattle.plain.specs.Step.{Stepped, noLookup, _>>=_, operand, without, popped, pushed, literalOf, sends, afterLookup, triedPrimitive, orSends, arithmeticSends, specialSends, execute}
-use Rattle.plain.specs.Flat.{frameDepth, frameMethod, framePosition, frameReceiver, operandsStart, frameAt}
-use Rattle.plain.specs.Running.{Runs, Moved, Sending, sendStep, sentReceiver, runningAt, topFrame, restFrames}
-use Rattle.plain.proofs.RunningLaws.{top-right, is-method, method-is, receiver-is, step-is, now-is}
-use Rattle.objects.specs.Lent.{Holds, Inside}
-use Rattle.objects.proofs.Bodies.{special-inside}
+use Rattle.plain.specs.State.{Frame}
+use Rattle.plain.specs.Step.{_>>=_, operand, popped, sends, afterLookup, execute}
+use Rattle.plain.specs.Flat.{frameDepth, frameMethod, frameReceiver, operandsStart, frameAt}
+use Rattle.plain.specs.Running.{Sending, sendStep, sentReceiver, runningAt, topFrame, restFrames}
+use Rattle.plain.proofs.RunningLaws.{top-right, is-method, method-is, step-is, now-is}
+use Rattle.objects.specs.Lent.{Holds}
 use Rattle.steps.specs.declared.Here.{Here}
 use Rattle.steps.specs.Events.{HereAt, Sends, Becomes, stepAt}
 use Rattle.steps.proofs.ChainSteps.{chain-joined}
-use Rattle.steps.proofs.HereLaws.{Bounds, bounds, operand-is, operand-valid}
-use Rattle.steps.proofs.MoveLaws.{Does, Answers, answer-room, answers}
+use Rattle.steps.proofs.HereLaws.{operand-is, operand-valid}
 use Rattle.steps.proofs.PlaceLaws.{literal-at}
 use Rattle.steps.proofs.SayLaws.{noted, needed}
 

@@ -1,41 +1,38 @@
 -- Special sends: arithmetic, == and class, and those that are sent.
-use Prim.Native.Nat.{ℕ, zero, suc, _+_, _-_, _/_, _≤_, _<_}
+use Prim.Native.Nat.{ℕ, suc, _+_, _-_, _≤_, _<_}
 use mathlib.Core.Path.{_≡_, refl, sym, ap, _∙_, subst}
 use mathlib.Core.Bool.{Bool, true, false, _||_}
 use mathlib.Core.Logic.{_≢_}
 use mathlib.Core.List.{List, [], _∷_, List·Memᴰ·head}
-use mathlib.Core.Option.{Option, none, some}
+use mathlib.Core.Option.{Option, some}
 use native.Mathlib.Omega.{arith}
-use borrow.Author.Tests.{eq-eqb, ne-eqb, le-ltb}
+use borrow.Author.Tests.{eq-eqb, ne-eqb}
 use lib.Dec.{T, ltb, eqb, ltb→lt}
-use lib.ListN.{length, getD, set}
+use lib.ListN.{getD, set}
 use Rattle.bytecode.specs.Test.{if_then_else_}
 use Rattle.bytecode.specs.Effect.{specialCount, need, leaves, successors}
-use Rattle.bytecode.specs.declared.Instruction.{Instruction}
 use Rattle.bytecode.specs.declared.Instruction.the-variants.{SpecialSend}
 use Rattle.bytecode.proofs.Choice.{if-yes, if-no, if-lt, if-ge}
 use Rattle.bytecode.proofs.TestLaws.{below-at}
 use Rattle.model.specs.declared.Computed.{Computed}
 use Rattle.model.specs.declared.Computed.the-variants.{Word, Failed}
-use Rattle.model.specs.Limits.{specialSelectors}
-use Rattle.model.specs.Word.{isValid, booleanWord}
+use Rattle.model.specs.Word.{booleanWord}
 use Rattle.model.specs.Objects.{Objects, objectsAt, classOf}
 use Rattle.model.specs.Method.{codeWords, codeSize}
 use Rattle.model.specs.Depth.{noteAt}
 use Rattle.model.specs.Rules.{allowed, sendFine, methodTable, specialSelector, isSame, isClass}
-use Rattle.model.specs.Image.{Room}
 use Rattle.model.specs.Arithmetic.{arithmetic}
 use Rattle.model.proofs.Unchanged.{Small, small-at}
 use Rattle.plain.specs.State.{Frame, Plain}
 use Rattle.plain.specs.Step.{Stepped, noLookup, _>>=_, operand, without, pushed, sends, triedPrimitive, orSends, arithmeticSends, specialSends, execute}
-use Rattle.plain.specs.Flat.{frameDepth, frameMethod, framePosition}
-use Rattle.plain.specs.Running.{Runs, Moved, runningAt, topFrame, restFrames}
+use Rattle.plain.specs.Flat.{frameMethod, framePosition}
+use Rattle.plain.specs.Running.{Moved, runningAt, topFrame, restFrames}
 use Rattle.plain.proofs.RunningLaws.{step-is, now-is}
 use Rattle.objects.specs.Lent.{Inside}
 use Rattle.objects.proofs.Bodies.{special-inside}
 use Rattle.steps.specs.declared.Here.{Here}
-use Rattle.steps.specs.Events.{HereAt, Sends}
-use Rattle.steps.proofs.HereLaws.{operand-is, operand-valid}
+use Rattle.steps.specs.Events.{HereAt, answered, Sends}
+use Rattle.steps.proofs.HereLaws.{operand-is}
 use Rattle.steps.proofs.MoveLaws.{Does, Answers, answer-room, answers}
 use Rattle.steps.proofs.SayLaws.{noted, needed}
 
@@ -159,7 +156,7 @@ module _ {n b top : ℕ} {contents bodies stack : List ℕ} {h : Here} {k : ℕ}
         ∙ ap (λ (y : Computed). orSends y (λ w. pushed (at receiver selector) f rest (h .next .0) (without f 2) w noLookup) (sends room (at receiver selector) f rest (h .next .0) (classOf o) (specialSelector o k) 1)) (sym (d ∙ ap (λ (y : ℕ). arithmetic y under last) e))
 
     pub arithmetic-says : (t w : ℕ) (x : Computed) (stack′ : List ℕ) → t ≡ triedPrimitive k → x ≡ arithmetic t under last → x ≡ Word w
-        → stack′ ≡ set (set (set stack (h .operands .0 + (h .depth - 2)) w) (top + 1) (h .next .0)) (top + 2) (h .depth - 2 + 1) → Moved n b top contents bodies stack bodies stack′
+        → stack′ ≡ answered stack top h 2 w → Moved n b top contents bodies stack bodies stack′
     arithmetic-says t w x stack′ e d g q =
         subst (λ (l : List ℕ). Moved n b top contents bodies stack bodies l) (sym q)
         (answers a 2 w arithmetic-two arithmetic-noted (computes t (Word w) e (sym g ∙ d)))
@@ -184,7 +181,7 @@ module _ {n b top : ℕ} {contents bodies stack : List ℕ} {h : Here} {k : ℕ}
     same-room = answer-room a 2 same-two same-noted
 
     pub same-says : (w : ℕ) (stack′ : List ℕ) → w ≡ booleanWord (eqb under last)
-        → stack′ ≡ set (set (set stack (h .operands .0 + (h .depth - 2)) w) (top + 1) (h .next .0)) (top + 2) (h .depth - 2 + 1) → Moved n b top contents bodies stack bodies stack′
+        → stack′ ≡ answered stack top h 2 w → Moved n b top contents bodies stack bodies stack′
     unfolding execute specialSends
     same-says w stack′ e q =
         subst (λ (l : List ℕ). Moved n b top contents bodies stack bodies l) (sym q)
@@ -200,7 +197,7 @@ module _ {n b top : ℕ} {contents bodies stack : List ℕ} {h : Here} {k : ℕ}
     class-room = answer-room a 1 special-needs class-noted
 
     pub class-says : (w : ℕ) (stack′ : List ℕ) → w ≡ classOf o last
-        → stack′ ≡ set (set (set stack (h .operands .0 + (h .depth - 1)) w) (top + 1) (h .next .0)) (top + 2) (h .depth - 1 + 1) → Moved n b top contents bodies stack bodies stack′
+        → stack′ ≡ answered stack top h 1 w → Moved n b top contents bodies stack bodies stack′
     unfolding execute specialSends
     class-says w stack′ e q =
         subst (λ (l : List ℕ). Moved n b top contents bodies stack bodies l) (sym q)

@@ -1,24 +1,22 @@
 -- Stores, by the place.
-use Prim.Native.Nat.{ℕ, suc, _+_, _-_, _≤_, _<_}
+use Prim.Native.Nat.{ℕ, _+_, _-_, _≤_, _<_}
 use mathlib.Core.Path.{_≡_, refl, sym, ap, _∙_, subst}
 use mathlib.Core.Bool.{true, false}
-use mathlib.Core.List.{List, [], _∷_}
-use mathlib.Core.Option.{Option, none, some}
+use mathlib.Core.List.{List}
+use mathlib.Core.Option.{Option}
 use native.Mathlib.Omega.{arith}
-use lib.Dec.{T}
-use lib.ListN.{length, getD, getElem?, take, set}
+use lib.ListN.{length, getD, take, set}
 use Rattle.bytecode.specs.declared.Place.{Place}
 use Rattle.bytecode.specs.declared.Instruction.{Instruction}
 use Rattle.bytecode.specs.declared.Instruction.the-variants.{Store, PopStore}
-use Rattle.bytecode.specs.declared.Place.the-variants.{Field, Temporary, Literal, LiteralVariable}
+use Rattle.bytecode.specs.declared.Place.the-variants.{Field, Temporary, LiteralVariable}
 use Rattle.model.specs.Word.{objectNumber}
-use Rattle.model.specs.Objects.{Objects, objectsAt}
+use Rattle.model.specs.Objects.{objectsAt}
 use Rattle.model.specs.Method.{literal}
 use Rattle.model.specs.Primitive.{storeWord}
-use Rattle.model.specs.Image.{Room}
-use Rattle.plain.specs.State.{Frame, Plain, movedTo, withTemporaries}
-use Rattle.plain.specs.Step.{Stepped, next, noLookup, _>>=_, onTop, storedField, stored}
-use Rattle.plain.specs.Flat.{frameMethod, frameReceiver, frameAt}
+use Rattle.plain.specs.State.{movedTo, withTemporaries}
+use Rattle.plain.specs.Step.{next, noLookup, _>>=_, onTop, storedField, stored}
+use Rattle.plain.specs.Flat.{frameReceiver}
 use Rattle.plain.specs.FlatCalls.{atFront}
 use Rattle.plain.specs.Running.{Moved, runningAt, topFrame, restFrames}
 use Rattle.plain.proofs.RunningLaws.{receiver-is}

@@ -1,9 +1,10 @@
 -- What a bytecode is to the run loop, and where the running frame stands.
-use Prim.Native.Nat.{ℕ, suc, _-_, _≤_}
+use Prim.Native.Nat.{ℕ, suc, _+_, _-_, _≤_}
 use mathlib.Core.Path.{_≡_}
 use mathlib.Core.Bool.{Bool, true, false}
 use mathlib.Core.List.{List}
 use lib.Dec.{T}
+use lib.ListN.{set}
 use Rattle.bytecode.specs.declared.Place.{Place}
 use Rattle.bytecode.specs.declared.Instruction.{Instruction}
 use Rattle.bytecode.specs.declared.Instruction.the-variants.{Store, PopStore}
@@ -29,6 +30,10 @@ pub record HereAt (n b top : ℕ) (contents bodies stack : List ℕ) (h : Here) 
 -- The step that buffers are about to make
 abbrev pub stepAt : Room → ℕ → ℕ → ℕ → ℕ → ℕ → List ℕ → List ℕ → List ℕ → Stepped
 stepAt room receiver selector n b top contents bodies stack = step room (runningAt receiver selector n b top contents bodies stack)
+
+-- The stack in which a word stands in the place of the `taken` uppermost operands and the frame goes on
+abbrev pub answered : List ℕ → ℕ → Here → ℕ → ℕ → List ℕ
+answered stack top h taken w = set (set (set stack (h .operands .0 + (h .depth - taken)) w) (top + 1) (h .next .0)) (top + 2) (h .depth - taken + 1)
 
 -- A store, with or without a pop, and the operands that it leaves
 abbrev pub storing : Bool → Place → Instruction

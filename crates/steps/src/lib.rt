@@ -2,7 +2,7 @@
 ghost use mathlib.Core.Path.{_≡_};
 ghost use mathlib.Core.Option.{some};
 ghost use Prim.Native.Nat.{suc, _+_, _-_, _/_, _<_, _≤_};
-ghost use lib.ListN.{length, set};
+ghost use lib.ListN.{length};
 ghost use Rattle.bytecode.specs.Code.{byteAt, instructionOf, nextAt};
 ghost use Rattle.bytecode.specs.Effect.{specialCount};
 ghost use Rattle.bytecode.specs.declared.Instruction.the-variants.{Push, JumpOn, SuperSend, SpecialSend};
@@ -10,7 +10,7 @@ ghost use Rattle.model.specs.Objects.{objectsAt};
 ghost use Rattle.model.specs.Word.{booleanWord};
 ghost use Rattle.plain.specs.Step.{read, triedPrimitive};
 ghost use Rattle.plain.specs.Running.{Runs, Moved, topFrame};
-ghost use Rattle.steps.specs.Events.{HereAt, Storing, Sends, Says};
+ghost use Rattle.steps.specs.Events.{HereAt, answered, Storing, Sends, Says};
 use bytecode::Instruction;
 use bytecode::Place;
 use model::CodePosition;
@@ -131,7 +131,7 @@ fn read(
 // A word in the place of the `taken` uppermost operands, and the frame goes on.
 fn answer(stack: &mut [u16], top: StackPosition, here: Here, taken: usize, w: u16)
     requires { ⌜ (top .0 + 2 < length (now stack)) × (taken ≤ here .depth) × (here .operands .0 + here .depth ≤ 65536) × (here .operands .0 + (here .depth - taken) < length (now stack)) × (here .depth < 65535) × (here .next .0 < 65536) ⌝ }
-    ensures { λ r. ⌜ now (stack .exit) ≡ set (set (set (now (stack .entry)) (here .operands .0 + (here .depth - taken)) w) (top .0 + 1) (here .next .0)) (top .0 + 2) (here .depth - taken + 1) ⌝ }
+    ensures { λ r. ⌜ now (stack .exit) ≡ answered (now (stack .entry)) (top .0) here taken w ⌝ }
 {
     let left = here.depth - taken;
     let place = StackPosition(here.operands.0 + left);
@@ -169,6 +169,7 @@ fn store(
             let to = StackPosition(base + 6 + i as usize);
             frames::push(stack, top, to, next, left, w);
         }
+        // no reached store goes to a literal
         Place::Literal(i) => {}
         Place::LiteralVariable(i) => {
             let v = objects::literal(contents, bodies, n, b, method, i as usize);
@@ -426,6 +427,7 @@ pub fn step(
             super_sent(contents, bodies, stack, n, b, top, here, literal, arguments)
         }
         Instruction::SpecialSend(k) => special(contents, bodies, stack, n, b, top, here, k),
+        // never reached
         Instruction::Unused => Event::Next,
     }
 }

@@ -1,124 +1,90 @@
-use mathlib.Core.Path.{_∙_, ap, sym, refl}
+-- A reached position is inside the code, and its instruction whole.
+use mathlib.Core.Path.{refl}
 use native.Mathlib.Omega.{arith}
-use Rattle.model.specs.Objects.{objectsAt}
 use Rattle.plain.proofs.RunningLaws.{top-bounds}
 use Rattle.steps.proofs.HereLaws.{holds-method, position-lent, position-inside, coded, fetched-here}
 use borrow.Author.Needs.{needs}
 use Rattle.steps.proofs.fetched.Statement.{statement}
 use Rattle.steps.proofs.fetched.Tie as tie
-use Rattle.steps.proofs.fetched.Reads as reads
-use Rattle.steps.proofs.fetched.Lts as lts
-use Rattle.objects.proofs.code_of.Reads as code-of-reads
-use Rattle.objects.proofs.header.Reads as header-reads
-use Rattle.objects.proofs.temporary_count.Reads as temporary-count-reads
-use Rattle.steps.proofs.instruction_at.Reads as instruction-at-reads
-use Rattle.steps.proofs.next_at.Reads as next-at-reads
 
--- src/lib.rt:80:32
 add-at : tie.Need-add-at
 add-at c = let k = top-bounds (c .before .before .before .pre) in omega arith
 
--- src/lib.rt:80:26
 mul-at : tie.Need-mul-at
 mul-at c = let k = top-bounds (c .before .before .before .pre) in omega arith
 
--- src/lib.rt:80:26
 shared-slice-read-at : tie.Need-shared-slice-read-at
 shared-slice-read-at c = let k = top-bounds (c .before .before .before .before .pre) in omega arith
 
--- src/lib.rt:81:9
 code-of-requires : tie.Need-code-of-requires
 code-of-requires c κs = holds-method (c .before .before .before .before .pre) _ refl
 
--- src/lib.rt:84:20
 add-at-2 : tie.Need-add-at-2
 add-at-2 c = let k = top-bounds (c .before .before .before .before .before .pre) in omega arith
 
--- src/lib.rt:84:14
 mul-at-2 : tie.Need-mul-at-2
 mul-at-2 c = let k = top-bounds (c .before .before .before .before .before .pre) in omega arith
 
--- src/lib.rt:84:14
 shared-slice-read-at-2 : tie.Need-shared-slice-read-at-2
 shared-slice-read-at-2 c = let k = top-bounds (c .before .before .before .before .before .before .pre) in omega arith
 
--- src/lib.rt:84:14
 cast-at : tie.Need-cast-at
 cast-at c = let k = coded (c .before .before .before .before .before .before .pre) .small in let i = position-inside (c .before .before .before .before .before .before .pre) in omega arith
 
--- src/lib.rt:85:38
 mul-instruction-at : tie.Need-mul-instruction-at
 mul-instruction-at c = search needs
 
--- src/lib.rt:85:38
 sub-instruction-at : tie.Need-sub-instruction-at
 sub-instruction-at c = search needs
 
--- src/lib.rt:85:38
 part-instruction-at-start : tie.Need-part-instruction-at-start
 part-instruction-at-start c = search needs
 
--- src/lib.rt:85:38
 part-instruction-at-end : tie.Need-part-instruction-at-end
 part-instruction-at-end c = search needs
 
--- src/lib.rt:85:9
 instruction-at-requires : tie.Need-instruction-at-requires
 instruction-at-requires c κs = position-lent (c .before .before .before .before .before .before .before .pre) (c .before .before .code-of .ensures)
 
--- src/lib.rt:86:24
 mul-next-at : tie.Need-mul-next-at
 mul-next-at c = search needs
 
--- src/lib.rt:86:24
 sub-next-at : tie.Need-sub-next-at
 sub-next-at c = search needs
 
--- src/lib.rt:86:24
 part-next-at-start : tie.Need-part-next-at-start
 part-next-at-start c = search needs
 
--- src/lib.rt:86:24
 part-next-at-end : tie.Need-part-next-at-end
 part-next-at-end c = search needs
 
--- src/lib.rt:86:9
 next-at-requires : tie.Need-next-at-requires
 next-at-requires c κs = position-lent (c .before .before .before .before .before .before .before .before .before .pre) (c .before .before .before .before .code-of .ensures)
 
--- src/lib.rt:87:48
 header-requires : tie.Need-header-requires
 header-requires c κs = holds-method (c .before .before .before .before .before .before .before .before .before .before .pre) _ refl
 
--- src/lib.rt:87:9
 temporary-count-requires : tie.Need-temporary-count-requires
 temporary-count-requires c κs = search needs
 
--- src/lib.rt:88:23
 add-depth : tie.Need-add-depth
 add-depth c = let k = top-bounds (c .before .before .before .before .before .before .before .before .before .before .before .before .pre) in omega arith
 
--- src/lib.rt:88:17
 mul-depth : tie.Need-mul-depth
 mul-depth c = let k = top-bounds (c .before .before .before .before .before .before .before .before .before .before .before .before .pre) in omega arith
 
--- src/lib.rt:88:17
 shared-slice-read-depth : tie.Need-shared-slice-read-depth
 shared-slice-read-depth c = let k = top-bounds (c .before .before .before .before .before .before .before .before .before .before .before .before .before .pre) in omega arith
 
--- src/lib.rt:88:17
 cast-depth : tie.Need-cast-depth
 cast-depth c = let k = top-bounds (c .before .before .before .before .before .before .before .before .before .before .before .before .before .pre) in omega arith
 
--- src/lib.rt:91:33
 add-t19 : tie.Need-add-t19
 add-t19 c = let k = top-bounds (c .before .before .before .before .before .before .before .before .before .before .before .before .before .pre) in omega arith
 
--- src/lib.rt:91:33
 add-t18 : tie.Need-add-t18
 add-t18 c = let k = top-bounds (c .before .before .before .before .before .before .before .before .before .before .before .before .before .pre) in let e = c .before .temporary-count .ensures in omega arith
 
--- src/lib.rt:68:1
 returns : tie.Need-returns
 returns c = fetched-here (c .before .before .before .before .before .before .before .before .before .before .before .before .before .pre) (c .before .before .before .before .before .before .before .before .code-of .ensures) _ _ _ _ (c .before .before .before .before .before .instruction-at .ensures) (c .before .before .before .next-at .ensures) (c .before .before .header .ensures) (c .before .temporary-count .ensures)
 

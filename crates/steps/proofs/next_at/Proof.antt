@@ -1,4 +1,5 @@
-use mathlib.Core.Path.{_∙_, ap, sym, refl}
+-- The length of the byte at the position.
+use mathlib.Core.Path.{_∙_, ap, sym}
 use Prim.Native.Nat.{ℕ, _+_}
 use native.Mathlib.Omega.{arith}
 use Rattle.bytecode.specs.Code.{lengthOf}
@@ -6,24 +7,16 @@ use Rattle.bytecode.proofs.DecodeLaws.{length-range, next-is}
 use borrow.Author.Needs.{needs}
 use Rattle.steps.proofs.next_at.Statement.{statement}
 use Rattle.steps.proofs.next_at.Tie as tie
-use Rattle.steps.proofs.next_at.Reads as reads
-use Rattle.steps.proofs.next_at.Lts as lts
-use Rattle.bytecode.proofs.fetch.Reads as fetch-reads
-use Rattle.bytecode.proofs.length.Reads as length-reads
 
--- src/lib.rt:64:27
 fetch-requires : tie.Need-fetch-requires
 fetch-requires c κs = search needs
 
--- src/lib.rt:64:10
 length-requires : tie.Need-length-requires
 length-requires c κs = search needs
 
--- src/lib.rt:64:5
 add-result : tie.Need-add-result
 add-result c = let k = length-range (c .before .fetch .result) in let e = c .length .ensures in let p = (c .before .before .before .pre) in omega arith
 
--- src/lib.rt:60:1
 returns : tie.Need-returns
 returns c = ap (λ (x : ℕ). c .before .before .before .args .at + x) (c .length .ensures ∙ ap lengthOf (c .before .fetch .ensures)) ∙ sym (next-is _ _)
 

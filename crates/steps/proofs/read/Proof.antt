@@ -1,108 +1,78 @@
-use mathlib.Core.Path.{_∙_, ap, sym, refl, subst}
-use Prim.Native.Nat.{ℕ, _<_}
+-- The place is there, by the rules of a reached push.
 use native.Mathlib.Omega.{arith}
-use Rattle.model.specs.Objects.{objectsAt}
-use Rattle.model.specs.Method.{literalCount}
 use Rattle.bytecode.specs.declared.Place.the-variants.{Field, Temporary, Literal, LiteralVariable}
-use Rattle.steps.proofs.HereLaws.{bounds, here-method}
+use Rattle.steps.proofs.HereLaws.{bounds}
 use Rattle.steps.proofs.PlaceLaws.{place-as, read-as, own-inside, own-read, temporary-inside, temporary-read, literal-here, literal-read, variable-here, variable-inside, variable-read}
 use borrow.Author.Needs.{needs}
 use Rattle.steps.proofs.read.Statement.{statement}
 use Rattle.steps.proofs.read.Tie as tie
-use Rattle.steps.proofs.read.Reads as reads
-use Rattle.steps.proofs.read.Lts as lts
-use Rattle.objects.proofs.literal.Reads as literal-reads
-use Rattle.objects.proofs.word_of.Reads as word-of-reads
 
--- src/lib.rt:118:22
 enum-known-place : tie.Need-enum-known-place
 enum-known-place c = search needs
 
--- src/lib.rt:119:34
 add-receiver : tie.Need-add-receiver
 add-receiver c = search needs
 
--- src/lib.rt:119:28
 mul-receiver : tie.Need-mul-receiver
 mul-receiver c = let k = bounds (c .before .before .before .before .before .before .before .pre) in omega arith
 
--- src/lib.rt:119:28
 shared-slice-read-receiver : tie.Need-shared-slice-read-receiver
 shared-slice-read-receiver c = let k = bounds (c .before .before .before .before .before .before .before .before .pre) in omega arith
 
--- src/lib.rt:120:73
 cast-word-of : tie.Need-cast-word-of
 cast-word-of c = search needs
 
--- src/lib.rt:120:13
 word-of-requires : tie.Need-word-of-requires
 word-of-requires c κs = own-inside (c .before .before .before .before .before .before .before .before .pre .at .runs) _ (place-as (c .before .before .before .before .before .before .before .before .pre) (Field _) (c .before .before .place .given .1))
 
--- src/lib.rt:122:26
 enum-known-place-2 : tie.Need-enum-known-place-2
 enum-known-place-2 c = search needs
 
--- src/lib.rt:122:38
 add-result : tie.Need-add-result
 add-result c = search needs
 
--- src/lib.rt:122:49
 cast-result : tie.Need-cast-result
 cast-result c = search needs
 
--- src/lib.rt:122:38
 add-result-2 : tie.Need-add-result-2
 add-result-2 c = let k = temporary-inside (c .before .before .before .before .before .before .before .pre .at .runs) _ (place-as (c .before .before .before .before .before .before .before .pre) (Temporary _) (c .before .place2 .given .1)) in omega arith
 
--- src/lib.rt:122:32
 mul-result : tie.Need-mul-result
 mul-result c = let k = temporary-inside (c .before .before .before .before .before .before .before .pre .at .runs) _ (place-as (c .before .before .before .before .before .before .before .pre) (Temporary _) (c .before .place2 .given .1)) in omega arith
 
--- src/lib.rt:122:32
 shared-slice-read-result : tie.Need-shared-slice-read-result
 shared-slice-read-result c = temporary-inside (c .before .before .before .before .before .before .before .before .pre .at .runs) _ (place-as (c .before .before .before .before .before .before .before .before .pre) (Temporary _) (c .before .before .place2 .given .1)) .0
 
--- src/lib.rt:123:24
 enum-known-place-3 : tie.Need-enum-known-place-3
 enum-known-place-3 c = search needs
 
--- src/lib.rt:123:79
 cast-literal : tie.Need-cast-literal
 cast-literal c = search needs
 
--- src/lib.rt:123:30
 literal-requires : tie.Need-literal-requires
 literal-requires c κs = literal-here (c .before .before .before .before .before .before .before .pre) _ (place-as (c .before .before .before .before .before .before .before .pre) (Literal _) (c .before .place3 .given .1))
 
--- src/lib.rt:124:32
 enum-known-place-4 : tie.Need-enum-known-place-4
 enum-known-place-4 c = search needs
 
--- src/lib.rt:125:70
 cast-literal-2 : tie.Need-cast-literal-2
 cast-literal-2 c = search needs
 
--- src/lib.rt:125:17
 literal-requires-2 : tie.Need-literal-requires-2
 literal-requires-2 c κs = variable-here (c .before .before .before .before .before .before .before .pre) _ (place-as (c .before .before .before .before .before .before .before .pre) (LiteralVariable _) (c .before .place4 .given .1))
 
--- src/lib.rt:126:13
 word-of-requires-2 : tie.Need-word-of-requires-2
 word-of-requires-2 c κs = variable-inside (c .before .before .before .before .before .before .before .before .pre .at .runs) _ _ _ (c .before .before .before .before .before .before .before .before .pre .isMethod) (place-as (c .before .before .before .before .before .before .before .before .pre) (LiteralVariable _) (c .before .before .place4 .given .1)) (c .literal2 .ensures)
 
--- src/lib.rt:102:1
 returns : tie.Need-returns
 returns c = read-as _ _ (c .before .before .before .place .given .1) (own-read (c .before .before .before .before .before .before .before .before .before .pre .at .runs) _ _ (place-as (c .before .before .before .before .before .before .before .before .before .pre) (Field _) (c .before .before .before .place .given .1)) (c .word-of .ensures))
 
--- src/lib.rt:102:1
 returns-2 : tie.Need-returns-2
 returns-2 c = read-as _ _ (c .before .before .place2 .given .1) (temporary-read (c .before .before .before .before .before .before .before .before .pre .at .runs) _ (place-as (c .before .before .before .before .before .before .before .before .pre) (Temporary _) (c .before .before .place2 .given .1)))
 
--- src/lib.rt:102:1
 returns-3 : tie.Need-returns-3
 returns-3 c = read-as _ _ (c .before .before .place3 .given .1) (literal-read (c .before .before .before .before .before .before .before .before .pre .at .runs) _ _ _ (c .before .before .before .before .before .before .before .before .pre .isMethod) (place-as (c .before .before .before .before .before .before .before .before .pre) (Literal _) (c .before .before .place3 .given .1)) (c .literal .ensures))
 
--- src/lib.rt:102:1
 returns-4 : tie.Need-returns-4
 returns-4 c = read-as _ _ (c .before .before .before .place4 .given .1) (variable-read (c .before .before .before .before .before .before .before .before .before .pre .at .runs) _ _ _ _ (c .before .before .before .before .before .before .before .before .before .pre .isMethod) (place-as (c .before .before .before .before .before .before .before .before .before .pre) (LiteralVariable _) (c .before .before .before .place4 .given .1)) (c .before .literal2 .ensures) (c .word-of2 .ensures))
 

@@ -1,4 +1,5 @@
-use mathlib.Core.Path.{_∙_, ap, sym, refl}
+-- By the number of the send.
+use mathlib.Core.Path.{refl}
 use native.Mathlib.Omega.{arith}
 use Rattle.objects.proofs.Buffers.{contents-room}
 use Rattle.steps.proofs.HereLaws.{bounds, operand-valid}
@@ -6,158 +7,112 @@ use Rattle.steps.proofs.SpecialLaws.{special-small, selector-inside, sp
 use borrow.Author.Needs.{needs}
 use Rattle.steps.proofs.special.Statement.{statement}
 use Rattle.steps.proofs.special.Tie as tie
-use Rattle.steps.proofs.special.Reads as reads
-use Rattle.steps.proofs.special.Lts as lts
-use Rattle.arithmetic.proofs.arithmetic.Reads as arithmetic-reads
-use Rattle.objects.proofs.class_of.Reads as class-of-reads
-use Rattle.objects.proofs.word_of.Reads as word-of-reads
-use Rattle.steps.proofs.answer.Reads as answer-reads
-use Rattle.steps.proofs.boolean.Reads as boolean-reads
-use Rattle.steps.proofs.sent.Reads as sent-reads
-use Rattle.steps.proofs.special_count.Reads as special-count-reads
-use Rattle.steps.proofs.tried.Reads as tried-reads
 
--- src/lib.rt:327:31
 sub-last : tie.Need-sub-last
 sub-last c = special-needs (c .before .before .before .pre)
 
--- src/lib.rt:327:22
 add-last : tie.Need-add-last
 add-last c = let k = bounds (c .before .before .before .pre) in omega arith
 
--- src/lib.rt:327:16
 mul-last : tie.Need-mul-last
 mul-last c = let k = bounds (c .before .before .before .pre) in omega arith
 
--- src/lib.rt:327:16
 slice-read-last : tie.Need-slice-read-last
 slice-read-last c = let k = bounds (c .before .before .before .before .pre) in let d = special-needs (c .before .before .before .before .pre) in omega arith
 
--- src/lib.rt:329:36
 sub-under : tie.Need-sub-under
 sub-under c = arithmetic-two (c .before .before .before .before .before .pre) (c .if1 .taken)
 
--- src/lib.rt:329:27
 add-under : tie.Need-add-under
 add-under c = let k = bounds (c .before .before .before .before .before .pre) in omega arith
 
--- src/lib.rt:329:21
 mul-under : tie.Need-mul-under
 mul-under c = let k = bounds (c .before .before .before .before .before .pre) in omega arith
 
--- src/lib.rt:329:21
 slice-read-under : tie.Need-slice-read-under
 slice-read-under c = let k = bounds (c .before .before .before .before .before .before .pre) in let d = arithmetic-two (c .before .before .before .before .before .before .pre) (c .before .if1 .taken) in omega arith
 
--- src/lib.rt:330:38
 tried-requires : tie.Need-tried-requires
 tried-requires c κs = search needs
 
--- src/lib.rt:330:15
 arithmetic-requires : tie.Need-arithmetic-requires
 arithmetic-requires c κs = search needs
 
--- src/lib.rt:331:28
 enum-known-w : tie.Need-enum-known-w
 enum-known-w c = search needs
 
--- src/lib.rt:332:17
 answer-requires : tie.Need-answer-requires
 answer-requires c κs = arithmetic-room (c .before .before .before .before .before .before .before .before .before .before .before .before .pre) (c .before .before .before .before .before .before .before .if1 .taken)
 
--- src/lib.rt:333:17
 same-length : tie.Need-same-length
 same-length c = search needs
 
--- src/lib.rt:333:17
 returns : tie.Need-returns
 returns c = arithmetic-says (c .before .before .before .before .before .before .before .before .before .before .before .before .before .before .before .pre) (c .before .before .before .before .before .before .before .before .before .before .if1 .taken) _ _ _ _ (c .before .before .before .before .before .before .before .before .tried .ensures) (c .before .before .before .before .before .before .before .arithmetic .ensures) (c .before .before .before .before .before .w .given .1) (c .before .before .answer .ensures)
 
--- src/lib.rt:336:66
 enum-told : tie.Need-enum-told
 enum-told c = search needs
 
--- src/lib.rt:336:21
 word-of-requires : tie.Need-word-of-requires
 word-of-requires c κs = selector-inside (c .before .before .before .before .before .before .before .before .before .before .pre)
 
--- src/lib.rt:337:17
 sent-requires : tie.Need-sent-requires
 sent-requires c κs = arithmetic-sends (c .before .before .before .before .before .before .before .before .before .before .before .before .pre) (c .before .before .before .before .before .before .before .if1 .taken) _ _ _ (c .before .before .before .before .before .tried .ensures) (c .before .before .before .before .arithmetic .ensures) (c .before .before .enum-told .given .1) (c .before .word-of .ensures)
 
--- src/lib.rt:337:17
 same-length-2 : tie.Need-same-length-2
 same-length-2 c = search needs
 
--- src/lib.rt:337:17
 returns-2 : tie.Need-returns-2
 returns-2 c = search needs
 
--- src/lib.rt:342:36
 sub-under-2 : tie.Need-sub-under-2
 sub-under-2 c = same-two (c .before .before .before .before .before .before .pre) (c .if2 .taken)
 
--- src/lib.rt:342:27
 add-under-2 : tie.Need-add-under-2
 add-under-2 c = let k = bounds (c .before .before .before .before .before .before .pre) in omega arith
 
--- src/lib.rt:342:21
 mul-under-2 : tie.Need-mul-under-2
 mul-under-2 c = let k = bounds (c .before .before .before .before .before .before .pre) in omega arith
 
--- src/lib.rt:342:21
 slice-read-under-2 : tie.Need-slice-read-under-2
 slice-read-under-2 c = let k = bounds (c .before .before .before .before .before .before .before .pre) in let d = same-two (c .before .before .before .before .before .before .before .pre) (c .before .if2 .taken) in omega arith
 
--- src/lib.rt:343:37
 boolean-requires : tie.Need-boolean-requires
 boolean-requires c κs = search needs
 
--- src/lib.rt:343:9
 answer-requires-2 : tie.Need-answer-requires-2
 answer-requires-2 c κs = same-room (c .before .before .before .before .before .before .before .before .before .pre) (c .before .before .before .if2 .taken)
 
--- src/lib.rt:344:9
 same-length-3 : tie.Need-same-length-3
 same-length-3 c = search needs
 
--- src/lib.rt:344:9
 returns-3 : tie.Need-returns-3
 returns-3 c = same-says (c .before .before .before .before .before .before .before .before .before .before .before .before .pre) (c .before .before .before .before .before .before .if2 .taken) _ _ (c .before .before .before .boolean .ensures) (c .before .before .answer2 .ensures)
 
--- src/lib.rt:347:13
 class-of-requires : tie.Need-class-of-requires
 class-of-requires c κs = (operand-valid (c .before .before .before .before .before .before .before .pre) 0 _ (special-needs (c .before .before .before .before .before .before .before .pre)) refl, contents-room (c .before .before .before .before .before .before .before .args .n) (c .before .before .before .before .before .before .before .args .b) (c .before .before .before .before .before .before .before .args .contents .now) (c .before .before .before .before .before .before .before .args .bodies .now) (c .before .before .before .before .before .before .before .pre .at .runs .right))
 
--- src/lib.rt:349:9
 answer-requires-3 : tie.Need-answer-requires-3
 answer-requires-3 c κs = class-room (c .before .before .before .before .before .before .before .before .before .pre) (c .before .before .if3 .taken)
 
--- src/lib.rt:350:9
 same-length-4 : tie.Need-same-length-4
 same-length-4 c = search needs
 
--- src/lib.rt:350:9
 returns-4 : tie.Need-returns-4
 returns-4 c = class-says (c .before .before .before .before .before .before .before .before .before .before .before .before .pre) (c .before .before .before .before .before .if3 .taken) _ _ (c .before .before .before .before .class-of .ensures _ _) (c .before .before .answer3 .ensures)
 
--- src/lib.rt:352:9
 word-of-requires-2 : tie.Need-word-of-requires-2
 word-of-requires-2 c κs = selector-inside (c .before .before .before .before .before .before .before .pre)
 
--- src/lib.rt:353:9
 special-count-requires : tie.Need-special-count-requires
 special-count-requires c κs = (c .before .before .before .if1 .left, special-small (c .before .before .before .before .before .before .before .before .pre))
 
--- src/lib.rt:354:5
 sent-requires-2 : tie.Need-sent-requires-2
 sent-requires-2 c κs = special-sends (c .before .before .before .before .before .before .before .before .before .before .pre) _ _ (c .before .before .before .before .before .if1 .left) (c .before .before .before .before .if2 .left) (c .before .before .before .if3 .left) (c .before .before .word-of2 .ensures) (c .before .special-count .ensures)
 
--- src/lib.rt:312:1
 same-length-5 : tie.Need-same-length-5
 same-length-5 c = search needs
 
--- src/lib.rt:312:1
 returns-5 : tie.Need-returns-5
 returns-5 c = search needs
 

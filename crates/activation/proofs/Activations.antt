@@ -1,0 +1,178 @@
+-- Which activation a method's flag leads to, by the tests of the code.
+use Prim.Native.Nat.{ℕ, _*_, _≤_, _<_}
+use mathlib.Core.Path.{_≡_, refl, sym, ap, ap₂, _∙_, subst}
+use mathlib.Core.Logic.{_≢_}
+use mathlib.Core.Bool.{Bool, true, false, _&&_}
+use mathlib.Core.List.{List, [], _∷_}
+use native.Mathlib.Omega.{arith}
+use borrow.Author.Tests.{eq-eqb, ne-eqb, le-leb, lt-ltb, le-ltb}
+use lib.Dec.{T, leb, ltb, leb→le}
+use lib.ListN.{length, getD}
+use Rattle.bytecode.proofs.Choice.{if-yes, if-no}
+use Rattle.bytecode.proofs.TestLaws.{true→T, and-left, and-right}
+use Rattle.model.specs.declared.Computed.{Computed}
+use Rattle.model.specs.declared.Computed.the-variants.{Word, Failed}
+use Rattle.model.specs.Limits.{entryWords, fieldsKind, methodKind, receiverFlag, fieldFlag, primitiveFlag}
+use Rattle.model.specs.Word.{objectNumber}
+use Rattle.model.specs.Objects.{Objects, objectsAt, isKind, size, bodyWord}
+use Rattle.model.specs.Method.{flag, temporaryCount, primitiveNumber, argumentCount}
+use Rattle.model.specs.Arithmetic.{arithmetic}
+use Rattle.model.specs.Image.{Room}
+use Rattle.model.specs.Primitive.{Outcome, answers, fails, computed, perform, primitiveCount, primitive}
+use Rattle.objects.specs.Lent.{Holds}
+use Rattle.objects.proofs.Buffers.{contents-room, bodies-room, front-same}
+use Rattle.primitives.specs.declared.Done.{Done}
+use Rattle.primitives.specs.Outcomes.{answerOf, objectsAfter, roomOf, Does}
+use Rattle.primitives.proofs.Performing.{own-count, other-count, primitive-same}
+use Rattle.plain.specs.Step.{Activation, answered, unfit, entering, fieldOf, fieldAnswered, primitiveAnswered, activate}
+use Rattle.plain.specs.FlatCalls.{atFront}
+use Rattle.activation.specs.Activating.{Activable, Answers, Leaves}
+
+-- ---- 1 to 17
+
+pub arithmetic-range : (k : ℕ) (t : Bool) → t ≡ (leb 1 k && leb k 17) → t ≡ true → (1 ≤ k) × (k ≤ 17)
+arithmetic-range k t e h =
+    let s : T (leb 1 k && leb k 17) = true→T (sym e ∙ h) in
+    (leb→le 1 k (and-left (leb 1 k) (leb k 17) s), leb→le k 17 (and-right (leb 1 k) (leb k 17) s))
+
+pub not-arithmetic : (k : ℕ) (t : Bool) → t ≡ (leb 1 k && leb k 17) → t ≡ false → 1 ≤ k → 17 < k
+not-arithmetic k t e h l = go (native.Mathlib.Decide.decLe k 17)
+  where
+    go : Dec (k ≤ 17) → 17 < k
+    go (no q) = omega arith
+    go (yes q) =
+        let z : (leb 1 k && leb k 17) ≡ true = ap₂ _&&_ (le-leb 1 k l) (le-leb k 17 q) in
+        let w : true ≡ false = sym z ∙ sym e ∙ h in
+        absurd (subst T w tt)
+
+-- they take one argument
+one-argument : (k : ℕ) → k ≤ 17 → primitiveCount k ≡ 1
+one-argument k h =
+    sym (Rattle.primitives.proofs.Performing.count-one k (λ q. omega arith) (λ q. omega arith) (λ q. omega arith) (λ q. omega arith))
+
+pub arithmetic-is : (room : Room) (o : Objects) (k count w x y : ℕ) (r : Computed) → (1 ≤ k) × (k ≤ 17) → count ≡ 1 → r ≡ arithmetic k w x
+    → computed o r ≡ primitive room o k count w (x ∷ y ∷ [])
+unfolding perform
+arithmetic-is room o k count w x y r h c e = ap (computed o) e ∙ here ∙ own-count room o k w x y count (c ∙ sym (one-argument k (h .1)))
+  where
+    here : computed o (arithmetic k w x) ≡ perform room o k w x y
+    here = sym (if-yes _ _ (ap₂ _&&_ (le-leb 1 k (h .0)) (le-leb k 17 (h .1))))
+
+pub arithmetic-other : (room : Room) (o : Objects) (k count w x y : ℕ) → (1 ≤ k) × (k ≤ 17) → count ≢ 1 → fails ≡ primitive room o k count w (x ∷ y ∷ [])
+arithmetic-other room o k count w x y h d = other-count room o k w x y count (λ q. d (q ∙ one-argument k (h .1)))
+
+-- ---- the flags
+
+module _ {n b : ℕ} {contents bodies : List ℕ} {m receiver : ℕ} (a : Activable n b contents bodies m receiver) where
+  abbrev o : Objects
+  o = objectsAt n b contents bodies
+
+  pub holds-method : Holds methodKind n b contents bodies m
+  holds-method = record { right = a .right; kinds = a .method }
+
+  pub entries-room : entryWords * n ≤ length contents
+  entries-room = contents-room n b contents bodies (a .right)
+
+  -- an answer that leaves the objects
+  pub answers-same : (x : Activation) (w : ℕ) → x ≡ answered w o → Answers x w n b contents bodies contents bodies
+  answers-same x w e =
+      record {
+        after = o;
+        answer = e;
+        count = refl;
+        size = refl;
+        entries = sym (front-same (entryWords * n) contents (contents-room n b contents bodies (a .right)));
+        words = sym (front-same b bodies (bodies-room n b contents bodies (a .right)));
+      }
+
+  -- the primitive that was performed is the method's, on its arguments
+  pub performed : {r : Done} {k count x y : ℕ} {contents′ bodies′ : List ℕ} (arguments : List ℕ) → k ≡ primitiveNumber o m → count ≡ argumentCount o m → x ≡ getD arguments 0 0 → y ≡ getD arguments 1 0
+      → Does o (primitive (roomOf contents bodies) o k count receiver (x ∷ y ∷ [])) r contents bodies contents′ bodies′
+      → Does o (primitive (roomOf contents bodies) o (primitiveNumber o m) (argumentCount o m) receiver (getD arguments 0 0 ∷ getD arguments 1 0 ∷ [])) r contents bodies contents′ bodies′
+  performed {r} {k} {count} {x} {y} {contents′} {bodies′} arguments p q s t d =
+      subst (λ (z : Outcome). Does o z r contents bodies contents′ bodies′)
+      (λ i. primitive (roomOf contents bodies) o (p i) (q i) receiver (s i ∷ t i ∷ [])) d
+
+  module _ (room : Room) (arguments : List ℕ) (f : ℕ) (e : f ≡ flag o m) where
+    pub by-receiver : f ≡ 5 → activate room o m receiver arguments ≡ answered receiver o
+    unfolding activate
+    by-receiver h = if-yes _ _ (eq-eqb (flag o m) receiverFlag (sym e ∙ h))
+
+    by-field : f ≡ 6 → activate room o m receiver arguments ≡ fieldAnswered o (fieldOf o receiver (temporaryCount o m))
+    unfolding activate
+    by-field h =
+        let g : flag o m ≡ 6 = sym e ∙ h in
+        if-no _ _ (ne-eqb (flag o m) receiverFlag (λ q. omega arith)) ∙ if-yes _ _ (eq-eqb (flag o m) fieldFlag g)
+
+    by-primitive : f ≢ 5 → f ≢ 6 → f ≡ 7 → activate room o m receiver arguments ≡ primitiveAnswered o m receiver (primitive room o (primitiveNumber o m) (argumentCount o m) receiver arguments)
+    unfolding activate
+    by-primitive p q h =
+        if-no _ _ (ne-eqb (flag o m) receiverFlag (λ z. p (e ∙ z))) ∙ if-no _ _ (ne-eqb (flag o m) fieldFlag (λ z. q (e ∙ z))) ∙ if-yes _ _ (eq-eqb (flag o m) primitiveFlag (sym e ∙ h))
+
+    pub by-code : f ≢ 5 → f ≢ 6 → f ≢ 7 → activate room o m receiver arguments ≡ entering o m receiver
+    unfolding activate
+    by-code p q h =
+        if-no _ _ (ne-eqb (flag o m) receiverFlag (λ z. p (e ∙ z))) ∙ if-no _ _ (ne-eqb (flag o m) fieldFlag (λ z. q (e ∙ z))) ∙ if-no _ _ (ne-eqb (flag o m) primitiveFlag (λ z. h (e ∙ z)))
+
+    -- flag 6
+    pub no-fields : f ≡ 6 → isKind o fieldsKind receiver ≡ false → activate room o m receiver arguments ≡ unfit
+    unfolding fieldOf
+    no-fields h k = by-field h ∙ ap (fieldAnswered o) (if-no _ _ (ap (λ (t : Bool). t && ltb (temporaryCount o m) (size o (objectNumber receiver))) k))
+
+    pub no-field : f ≡ 6 → isKind o fieldsKind receiver ≡ true → size o (objectNumber receiver) ≤ temporaryCount o m → activate room o m receiver arguments ≡ unfit
+    unfolding fieldOf
+    no-field h k l =
+        by-field h ∙ ap (fieldAnswered o) (if-no _ _ (ap₂ _&&_ k (le-ltb (temporaryCount o m) (size o (objectNumber receiver)) l)))
+
+    pub the-field : f ≡ 6 → isKind o fieldsKind receiver ≡ true → (i : ℕ) → i ≡ temporaryCount o m → (w : ℕ) → w ≡ bodyWord o (objectNumber receiver) i
+        → temporaryCount o m < size o (objectNumber receiver) → activate room o m receiver arguments ≡ answered w o
+    unfolding fieldOf
+    the-field h k i g w q l =
+        by-field h ∙ ap (fieldAnswered o) (if-yes _ _ (ap₂ _&&_ k (lt-ltb (temporaryCount o m) (size o (objectNumber receiver)) l)))
+        ∙ ap (λ (v : ℕ). answered v o) (sym (q ∙ ap (bodyWord o (objectNumber receiver)) g))
+
+    -- flag 7
+    module _ (p : f ≢ 5) (q : f ≢ 6) (h : f ≡ 7) (s : room .contents ≡ length contents) (t : room .bodies ≡ length bodies) (r : Done) (contents′ bodies′ : List ℕ) where
+      abbrev done : Outcome
+      done = primitive (roomOf contents bodies) o (primitiveNumber o m) (argumentCount o m) receiver (getD arguments 0 0 ∷ getD arguments 1 0 ∷ [])
+
+      is-outcome : activate room o m receiver arguments ≡ primitiveAnswered o m receiver done
+      is-outcome = by-primitive p q h ∙ ap (primitiveAnswered o m receiver) (sym (primitive-same room contents bodies o (primitiveNumber o m) (argumentCount o m) receiver arguments s t))
+
+      module _ (d : Does o done r contents bodies contents′ bodies′) where
+        pub primitive-word : (w : ℕ) → r .answer ≡ Word w → Answers (activate room o m receiver arguments) w (r .n) (r .b) contents bodies contents′ bodies′
+        unfolding answerOf objectsAfter
+        primitive-word w g = go done refl (sym g ∙ d .answer)
+          where
+            go : (z : Outcome) → done ≡ z → Word w ≡ answerOf done → Answers (activate room o m receiver arguments) w (r .n) (r .b) contents bodies contents′ bodies′
+            go (answers v o′) z y =
+                let u : Word w ≡ answerOf (answers v o′) = y ∙ ap answerOf z in
+                let after : objectsAfter o done ≡ o′ = ap (objectsAfter o) z in
+                let wv : v ≡ w = cc in
+                record {
+                  after = o′;
+                  answer = is-outcome ∙ ap (primitiveAnswered o m receiver) z ∙ ap (λ (k : ℕ). answered k o′) wv;
+                  count = sym (d .count ∙ ap (λ (k : Objects). k .n) after);
+                  size = sym (d .size ∙ ap (λ (k : Objects). k .b) after);
+                  entries = d .entries ∙ ap (λ (k : Objects). atFront (k .contents) contents) after;
+                  words = d .words ∙ ap (λ (k : Objects). atFront (k .bodies) bodies) after;
+                }
+            go fails z y =
+                let u : Word w ≡ answerOf fails = y ∙ ap answerOf z in
+                let bad : _≡_ {A = ℕ} 0 1 = cc in absurd (omega arith)
+
+        pub primitive-failed : r .answer ≡ Failed → Leaves (activate room o m receiver arguments) (entering o m receiver) contents bodies contents′ bodies′
+        unfolding answerOf objectsAfter
+        primitive-failed g = go done refl (sym g ∙ d .answer)
+          where
+            go : (z : Outcome) → done ≡ z → Failed ≡ answerOf done → Leaves (activate room o m receiver arguments) (entering o m receiver) contents bodies contents′ bodies′
+            go (answers v o′) z y =
+                let u : Failed ≡ answerOf (answers v o′) = y ∙ ap answerOf z in
+                let bad : _≡_ {A = ℕ} 0 1 = cc in absurd (omega arith)
+            go fails z y =
+                let after : objectsAfter o done ≡ o = ap (objectsAfter o) z in
+                record {
+                  leads = is-outcome ∙ ap (primitiveAnswered o m receiver) z;
+                  entries = d .entries ∙ ap (λ (k : Objects). atFront (k .contents) contents) after ∙ front-same (entryWords * n) contents (contents-room n b contents bodies (a .right));
+                  words = d .words ∙ ap (λ (k : Objects). atFront (k .bodies) bodies) after ∙ front-same b bodies (bodies-room n b contents bodies (a .right));
+                }

@@ -1,0 +1,51 @@
+use borrow.Author.Tests.{not-true, not-false}
+use native.Mathlib.Omega.{arith}
+use Rattle.model.specs.Objects.{objectsAt}
+use Rattle.primitives.specs.Outcomes.{roomOf}
+use Rattle.primitives.proofs.Growing.{does-none}
+use Rattle.primitives.proofs.Performing.{does-computed}
+use Rattle.activation.proofs.Activations.{arithmetic-range, not-arithmetic, arithmetic-is, arithmetic-other}
+use borrow.Author.Needs.{needs}
+use Rattle.activation.proofs.perform.Statement.{statement}
+use Rattle.activation.proofs.perform.Tie as tie
+
+is-arithmetic-requires : tie.Need-is-arithmetic-requires
+is-arithmetic-requires c κs = search needs
+
+primitive-requires : tie.Need-primitive-requires
+primitive-requires c κs = ((c .before .before .before .before .before .before .pre), not-arithmetic _ _ (c .before .before .before .is-arithmetic .ensures) (not-true _ (c .before .before .if1 .taken)))
+
+same-length : tie.Need-same-length
+same-length c = search needs
+
+same-length-2 : tie.Need-same-length-2
+same-length-2 c = search needs
+
+returns : tie.Need-returns
+returns c = search needs
+
+returns-2 : tie.Need-returns-2
+returns-2 c = does-none (c .before .before .before .before .before .args .n) (c .before .before .before .before .before .args .b) (c .before .before .before .before .before .args .contents .now) (c .before .before .before .before .before .args .bodies .now) (c .before .before .before .before .before .pre .right) (arithmetic-other (roomOf (c .before .before .before .before .before .args .contents .now) (c .before .before .before .before .before .args .bodies .now)) (objectsAt (c .before .before .before .before .before .args .n) (c .before .before .before .before .before .args .b) (c .before .before .before .before .before .args .contents .now) (c .before .before .before .before .before .args .bodies .now)) (c .before .before .before .before .before .args .k) (c .before .before .before .before .before .args .count) (c .before .before .before .before .before .args .w) (c .before .before .before .before .before .args .x) (c .before .before .before .before .before .args .y) (arithmetic-range _ _ (c .before .before .is-arithmetic .ensures) (not-false _ (c .before .if1 .left))) (c .if2 .taken))
+
+cast-arithmetic : tie.Need-cast-arithmetic
+cast-arithmetic c = let r = arithmetic-range (c .before .before .before .before .before .args .k) _ (c .before .before .is-arithmetic .ensures) (not-false _ (c .before .if1 .left)) in omega arith
+
+arithmetic-requires : tie.Need-arithmetic-requires
+arithmetic-requires c κs = search needs
+
+returns-3 : tie.Need-returns-3
+returns-3 c = does-computed (c .before .before .before .before .before .before .args .n) (c .before .before .before .before .before .before .args .b) (c .before .before .before .before .before .before .args .contents .now) (c .before .before .before .before .before .before .args .bodies .now) (c .arithmetic .result) (c .before .before .before .before .before .before .pre .right) (arithmetic-is (roomOf (c .before .before .before .before .before .before .args .contents .now) (c .before .before .before .before .before .before .args .bodies .now)) (objectsAt (c .before .before .before .before .before .before .args .n) (c .before .before .before .before .before .before .args .b) (c .before .before .before .before .before .before .args .contents .now) (c .before .before .before .before .before .before .args .bodies .now)) (c .before .before .before .before .before .before .args .k) (c .before .before .before .before .before .before .args .count) (c .before .before .before .before .before .before .args .w) (c .before .before .before .before .before .before .args .x) (c .before .before .before .before .before .before .args .y) (c .arithmetic .result) (arithmetic-range _ _ (c .before .before .before .is-arithmetic .ensures) (not-false _ (c .before .before .if1 .left))) (c .before .if2 .left) (c .arithmetic .ensures))
+
+pub perform-spec : {M : Type 1} → statement M
+perform-spec =
+    tie.close
+    (tie.spec
+    is-arithmetic-requires
+    primitive-requires
+    same-length
+    same-length-2
+    returns
+    returns-2
+    cast-arithmetic
+    arithmetic-requires
+    returns-3)

@@ -1,0 +1,115 @@
+// What a method does on a receiver and arguments: it answers without a frame, or runs in a new one. The definition is plain's
+// specs/Step.antt; what does not answer changes nothing.
+ghost use mathlib.Core.Path.{_≡_};
+ghost use mathlib.Core.Bool.{_&&_};
+ghost use mathlib.Core.List.{[], _∷_};
+ghost use lib.Dec.{leb};
+ghost use Rattle.model.specs.Objects.{objectsAt};
+ghost use Rattle.model.specs.Primitive.{primitive};
+ghost use Rattle.primitives.specs.Outcomes.{roomOf, Receives, Does};
+ghost use Rattle.activation.specs.Activating.{Activable, Activates};
+use model::Computed;
+use model::Pointer;
+use primitives::Done;
+
+// An answer, and how many objects and body words there are then; or a frame is needed; or the receiver has no such field.
+pub enum Activated {
+    Answer { word: u16, n: usize, b: usize },
+    Frame,
+    Unfit,
+}
+
+fn is_arithmetic(k: usize) -> bool
+    ensures { λ r. ⌜ r ≡ (leb 1 k && leb k 17) ⌝ }
+{
+    (1 <= k) & (k <= 17)
+}
+
+// A primitive on a receiver and two arguments, those that it takes: 1 to 17 only compute.
+pub fn perform(
+    contents: &mut [u16],
+    bodies: &mut [u16],
+    n: usize,
+    b: usize,
+    k: usize,
+    count: usize,
+    w: u16,
+    x: u16,
+    y: u16,
+) -> Done
+    requires { ⌜ Receives n b (now contents) (now bodies) w ⌝ }
+    ensures { λ r. ⌜ Does (objectsAt n b (now (contents .entry)) (now (bodies .entry))) (primitive (roomOf (now (contents .entry)) (now (bodies .entry))) (objectsAt n b (now (contents .entry)) (now (bodies .entry))) k count w (x ∷ y ∷ [])) r (now (contents .entry)) (now (bodies .entry)) (now (contents .exit)) (now (bodies .exit)) ⌝ }
+{
+    if !is_arithmetic(k) {
+        return primitives::primitive(contents, bodies, n, b, k, count, w, x, y);
+    }
+    if count != 1 {
+        return Done {
+            answer: Computed::Failed,
+            n: n,
+            b: b,
+        };
+    }
+    let answer = arithmetic::arithmetic(k as u8, w, x);
+    Done {
+        answer: answer,
+        n: n,
+        b: b,
+    }
+}
+
+// Flag 5 answers the receiver, flag 6 its field T, flag 7 tries a primitive.
+pub fn activate(
+    contents: &mut [u16],
+    bodies: &mut [u16],
+    n: usize,
+    b: usize,
+    method: Pointer,
+    receiver: u16,
+    x: u16,
+    y: u16,
+) -> Activated
+    requires { ⌜ Activable n b (now contents) (now bodies) (method .0) receiver ⌝ }
+    ensures { λ r. ⌜ Activates n b (now (contents .entry)) (now (bodies .entry)) (method .0) receiver x y (now (contents .exit)) (now (bodies .exit)) r ⌝ }
+{
+    let header = objects::header(contents, bodies, n, b, method);
+    let flag = objects::flag(header);
+    if flag == 5 {
+        return Activated::Answer {
+            word: receiver,
+            n: n,
+            b: b,
+        };
+    }
+    if flag == 6 {
+        let i = objects::temporary_count(header);
+        if !objects::is_kind(contents, n, 0, receiver) {
+            return Activated::Unfit;
+        }
+        let size = objects::size_of(contents, n, Pointer(receiver));
+        if size <= i {
+            return Activated::Unfit;
+        }
+        let field = objects::word_of(contents, bodies, n, b, Pointer(receiver), i);
+        return Activated::Answer {
+            word: field,
+            n: n,
+            b: b,
+        };
+    }
+    if flag != 7 {
+        return Activated::Frame;
+    }
+    let k = objects::primitive_number(contents, bodies, n, b, method);
+    let count = objects::argument_count(contents, bodies, n, b, method);
+    let done = perform(contents, bodies, n, b, k, count, receiver, x, y);
+    let answer = done.answer;
+    match answer {
+        Computed::Word(w) => Activated::Answer {
+            word: w,
+            n: done.n,
+            b: done.b,
+        },
+        Computed::Failed => Activated::Frame,
+    }
+}

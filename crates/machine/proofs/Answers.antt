@@ -1,0 +1,92 @@
+-- The calls' answers, after a check.
+use Prim.Native.Nat.{ℕ, _*_, _≤_, _<_}
+use mathlib.Core.Path.{_≡_, refl, sym, ap, ap₂, _∙_, subst}
+use mathlib.Core.Bool.{Bool, true, false}
+use mathlib.Core.List.{List, _++_}
+use lib.Dec.{T}
+use lib.ListN.{length, drop, replicate}
+use Rattle.bytecode.proofs.TestLaws.{true→T}
+use Rattle.model.specs.Limits.{entryWords}
+use Rattle.model.specs.Objects.{objectsAt}
+use Rattle.model.specs.Image.{Verdict, accepted, refused, buffersFine, imageBytes, imageOf}
+use Rattle.store.specs.Answer.{roomFor}
+use Rattle.plain.specs.Flat.{roomOf}
+use Rattle.plain.specs.Check.{check, stateFine}
+use Rattle.plain.specs.FlatCalls.{flatDrop, flatForget, flatSave}
+use Rattle.plain.specs.Running.{roomAt}
+use Rattle.machine.specs.declared.Registers.{Registers}
+use Rattle.machine.specs.declared.Checked.{Checked}
+use Rattle.machine.specs.State.{registersOf, state, checkGives, dropGives, forgetGives, saveGives}
+use Rattle.machine.proofs.Calling.{check-3, check-11, check-yes, drop-refused, drop-done, forget-refused, forget-done, save-short, save-refused, save-done, save-room}
+use Rattle.machine.specs.declared.Checked.the-variants as C
+use Rattle.machine.specs.declared.Dropped.the-variants as D
+use Rattle.machine.specs.declared.Forgotten.the-variants as F
+use Rattle.machine.specs.declared.Saved.the-variants as S
+
+module _ (r : Registers) (contents bodies stack cache : List ℕ) where
+  -- check, by its two tests
+  same-buffers : buffersFine (roomOf (state r contents bodies stack cache)) (r .n) (r .b) ≡ buffersFine (roomFor (length contents) (length bodies) (length cache)) (r .n) (r .b)
+  unfolding buffersFine
+  same-buffers = refl
+
+  module _ (x : Bool) (e : x ≡ buffersFine (roomFor (length contents) (length bodies) (length cache)) (r .n) (r .b)) where
+    pub answers-3 : x ≡ false → checkGives (C.Refused 3) ≡ check (state r contents bodies stack cache)
+    unfolding checkGives
+    answers-3 q = check-3 (state r contents bodies stack cache) (same-buffers ∙ sym e ∙ q)
+
+    pub buffers-pass : x ≡ true → T (buffersFine (roomAt contents bodies stack cache) (r .n) (r .b))
+    buffers-pass q = true→T (same-buffers ∙ sym e ∙ q)
+
+    module _ (y : Bool) (f : y ≡ stateFine (state r contents bodies stack cache)) (q : x ≡ true) where
+      pub answers-11 : y ≡ false → checkGives (C.Refused 11) ≡ check (state r contents bodies stack cache)
+      unfolding checkGives
+      answers-11 p = check-11 (state r contents bodies stack cache) (same-buffers ∙ sym e ∙ q) (sym f ∙ p)
+
+      pub answers-yes : y ≡ true → checkGives C.Right ≡ check (state r contents bodies stack cache)
+      unfolding checkGives
+      answers-yes p = check-yes (state r contents bodies stack cache) (same-buffers ∙ sym e ∙ q) (sym f ∙ p)
+
+  -- what check answered
+  module _ (x : Checked) (e : checkGives x ≡ check (state r contents bodies stack cache)) where
+    pub was-refused : (k : ℕ) → x ≡ C.Refused k → refused k ≡ check (state r contents bodies stack cache)
+    unfolding checkGives
+    was-refused k q = ap checkGives (sym q) ∙ e
+
+    pub was-right : x ≡ C.Right → accepted ≡ check (state r contents bodies stack cache)
+    unfolding checkGives
+    was-right q = ap checkGives (sym q) ∙ e
+
+    pub drops-not : (k : ℕ) → x ≡ C.Refused k → dropGives (D.Refused k r) contents bodies stack cache ≡ flatDrop (state r contents bodies stack cache)
+    unfolding dropGives
+    drops-not k q = drop-refused (state r contents bodies stack cache) k (was-refused k q)
+
+    pub drops : x ≡ C.Right
+        → dropGives (D.Dropped (record { n = r .n; b = r .b; receiver = r .receiver; selector = r .selector; phase = 0; top = 0; value = 0 })) contents bodies stack cache ≡ flatDrop (state r contents bodies stack cache)
+    unfolding dropGives
+    drops q = drop-done (registersOf r) contents bodies stack cache (was-right q)
+
+    pub forgets-not : (k : ℕ) → x ≡ C.Refused k → forgetGives (F.Refused k) r contents bodies stack cache ≡ flatForget (state r contents bodies stack cache)
+    unfolding forgetGives
+    forgets-not k q = forget-refused (state r contents bodies stack cache) k (was-refused k q)
+
+    pub forgets : x ≡ C.Right → (cache′ : List ℕ) → cache′ ≡ replicate (length cache) 0 ++ drop (length cache) cache → forgetGives F.Emptied r contents bodies stack cache′ ≡ flatForget (state r contents bodies stack cache)
+    unfolding forgetGives
+    forgets q cache′ c = forget-done (registersOf r) contents bodies stack cache cache′ (was-right q) c
+
+    module _ (output : List ℕ) (long : imageBytes (r .n) (r .b) ≤ length output) where
+      pub saves-not : (k : ℕ) → x ≡ C.Refused k → saveGives (S.Refused k) output ≡ flatSave (state r contents bodies stack cache) output
+      unfolding saveGives
+      saves-not k q = save-refused (registersOf r) contents bodies stack cache output long k (was-refused k q)
+
+      pub saves-room : x ≡ C.Right → (entryWords * r .n ≤ length contents) × (r .b ≤ length bodies)
+      saves-room q = save-room (registersOf r) contents bodies stack cache output long (was-right q)
+
+      pub saves : x ≡ C.Right → (k : ℕ) (output′ : List ℕ) → k ≡ imageBytes (r .n) (r .b)
+          → output′ ≡ imageOf (record { edition = 1; n = r .n; b = r .b; receiver = r .receiver; selector = r .selector }) (objectsAt (r .n) (r .b) contents bodies) ++ drop (imageBytes (r .n) (r .b)) output
+          → saveGives (S.Wrote k) output′ ≡ flatSave (state r contents bodies stack cache) output
+      unfolding saveGives
+      saves q k output′ p w = save-done (registersOf r) contents bodies stack cache output long k output′ (was-right q) p w
+
+  pub saves-short : (output : List ℕ) → length output < imageBytes (r .n) (r .b) → saveGives (S.Refused 3) output ≡ flatSave (state r contents bodies stack cache) output
+  unfolding saveGives
+  saves-short output h = save-short (registersOf r) contents bodies stack cache output h

@@ -1,0 +1,111 @@
+-- Begin, after a check.
+use Prim.Native.Nat.{ℕ, suc, _*_, _≤_}
+use mathlib.Core.Path.{_≡_, refl, sym, ap, ap₂, _∙_, subst}
+use mathlib.Core.Bool.{Bool, true, false}
+use mathlib.Core.List.{List, [], _∷_}
+use native.Mathlib.Omega.{arith}
+use borrow.Author.Tests.{eq-eqb, ne-eqb}
+use lib.Dec.{T, eqb}
+use lib.ListN.{length}
+use Rattle.bytecode.proofs.Choice.{if-yes}
+use Rattle.model.specs.Limits.{entryWords}
+use Rattle.model.specs.Objects.{Objects, objectsAt}
+use Rattle.model.specs.Rules.{Right}
+use Rattle.model.specs.Image.{Room, Verdict, accepted, refused}
+use Rattle.model.proofs.Facts.{most, most-words}
+use Rattle.plain.specs.Registers.{running, finished, hasFrames}
+use Rattle.plain.specs.State.{Frame, Plain, withObjects, withFrames}
+use Rattle.plain.specs.Flat.{Flat, flat, roomOf, flatObjects, framesFrom, ifFrames, plainOf}
+use Rattle.plain.specs.Check.{check}
+use Rattle.plain.specs.Calls as P
+use Rattle.plain.specs.FlatCalls.{Given, gives, checked, atFront, withPlain, laid, afterBegin, flatBegin}
+use Rattle.plain.proofs.StateLaws.{PlainRight}
+use Rattle.plain.proofs.FlatLaws.{FlatRight, check-right}
+use Rattle.plain.proofs.BeginLaws.{BegunRight, BeginGoes, begins}
+use Rattle.plain.proofs.Worlds.{worlds}
+use Rattle.plain.proofs.ReturnLaws.{front-same}
+use Rattle.begins.specs.Begins.{stateOver, Answers, Enters, Refuses, BeginIs, Begins}
+use Rattle.begins.specs.declared.Beginning.{Beginning}
+use Rattle.machine.specs.declared.Registers.{Registers}
+use Rattle.machine.specs.declared.Checked.{Checked}
+use Rattle.machine.specs.State.{registersOf, state, checkGives, beginGives}
+use Rattle.machine.proofs.Answers.{was-refused, was-right}
+use Rattle.machine.specs.declared.Checked.the-variants as C
+use Rattle.machine.specs.declared.Begun.the-variants as B
+
+module _ (r : Registers) (contents bodies stack cache : List ℕ) (w selector : ℕ) (arguments : List ℕ) where
+  abbrev s : Flat
+  s = state r contents bodies stack cache
+
+  passes : (g : Given) → accepted ≡ check s → g ≡ checked s (check s) g
+  passes g e = ap (λ (v : Verdict). checked s v g) e
+
+  module _ (x : Checked) (e : checkGives x ≡ check s) where
+    pub begins-not : (k : ℕ) → x ≡ C.Refused k → beginGives (B.Refused k r) contents bodies stack cache ≡ flatBegin s w selector arguments
+    unfolding beginGives flatBegin
+    begins-not k q = ap (λ (v : Verdict). checked s v (afterBegin s (P.begin (roomOf s) (plainOf s) w selector arguments))) (was-refused r contents bodies stack cache x e k q)
+
+    module _ (q : x ≡ C.Right) where
+      yes : accepted ≡ check s
+      yes = was-right r contents bodies stack cache x e q
+
+      right : FlatRight s
+      right = check-right s (sym yes)
+
+      pub begins-right : Right 1 (objectsAt (r .n) (r .b) contents bodies)
+      unfolding plainOf
+      begins-right = right .plain .image
+
+      begun-is : (y : P.Begun) → P.begin (roomOf s) (plainOf s) w selector arguments ≡ y → afterBegin s y ≡ flatBegin s w selector arguments
+      unfolding flatBegin
+      begun-is y p = ap (afterBegin s) (sym p) ∙ passes (afterBegin s (P.begin (roomOf s) (plainOf s) w selector arguments)) yes
+
+      pub begins-12 : r .phase ≡ 1 → beginGives (B.Refused 12 r) contents bodies stack cache ≡ flatBegin s w selector arguments
+      unfolding beginGives
+      begins-12 p = begun-is (P.declined 12) busy
+        where
+          busy : P.begin (roomOf s) (plainOf s) w selector arguments ≡ P.declined 12
+          busy = unfold P.begin plainOf in if-yes _ _ (eq-eqb (r .phase) running p)
+
+      module _ (idle : (r .phase ≡ 1 → ⊥)) (contents′ bodies′ stack′ : List ℕ) (y : Beginning) (z : Begins (r .n) (r .b) contents bodies stack w selector arguments contents′ bodies′ stack′ y) where
+        -- the plain state is one over these objects
+        own : (y′ : Beginning) → y ≡ y′ → BeginIs (P.begin (roomOf s) (plainOf s) w selector arguments) (plainOf s) contents bodies stack contents′ bodies′ stack′ y′
+        unfolding plainOf
+        own y′ p =
+            subst (BeginIs (P.begin (roomOf s) (plainOf s) w selector arguments) (plainOf s) contents bodies stack contents′ bodies′ stack′) p
+            (z (r .receiver) (r .selector) (r .phase) (r .top) (r .value) (length cache) (ifFrames (hasFrames (r .phase)) (framesFrom (suc (r .top)) (flatObjects s) stack (r .top))) (ne-eqb (r .phase) running idle))
+
+        pub begins-refused : (k : ℕ) → y ≡ Rattle.begins.specs.declared.Beginning.the-variants.Refused k → beginGives (B.Refused k r) contents′ bodies′ stack′ cache ≡ flatBegin s w selector arguments
+        unfolding beginGives
+        begins-refused k p =
+            let v = own (Rattle.begins.specs.declared.Beginning.the-variants.Refused k) p in
+            (λ i. gives (P.refusedBy k) (state r (v .entries i) (v .words i) (v .frames i) cache)) ∙ begun-is (P.declined k) (v .leads)
+
+        pub begins-entered : y ≡ Rattle.begins.specs.declared.Beginning.the-variants.Entered
+            → beginGives (B.Started (record { n = r .n; b = r .b; receiver = r .receiver; selector = r .selector; phase = 1; top = 0; value = 0 })) contents′ bodies′ stack′ cache ≡ flatBegin s w selector arguments
+        unfolding beginGives plainOf
+        begins-entered p =
+            let v = own Rattle.begins.specs.declared.Beginning.the-variants.Entered p in
+            (λ i. gives P.done (state (record { n = r .n; b = r .b; receiver = r .receiver; selector = r .selector; phase = 1; top = 0; value = 0 }) ((v .entries ∙ sym (front-same (entryWords * r .n) contents (right .contents))) i) ((v .words ∙ sym (front-same (r .b) bodies (right .bodies))) i) (v .frames i) cache))
+            ∙ begun-is (P.begun (withFrames (plainOf s) (v .first ∷ []) running 0 0)) (v .leads)
+
+        module _ (u n b : ℕ) (p : y ≡ Rattle.begins.specs.declared.Beginning.the-variants.Answered u n b) where
+          v : Answers (P.begin (roomOf s) (plainOf s) w selector arguments) (plainOf s) u n b contents bodies stack contents′ bodies′ stack′
+          v = own (Rattle.begins.specs.declared.Beginning.the-variants.Answered u n b) p
+
+          -- N and B of the state that began are in range
+          pub begins-small : (n ≤ 2047) × (b ≤ 24000)
+          begins-small =
+              let g : BegunRight (roomOf s) (plainOf s) (withFrames (withObjects (plainOf s) (v .after)) [] finished 0 u) =
+              subst (BeginGoes (roomOf s) (plainOf s)) (v .leads) (begins (roomOf s) (worlds (roomOf s)) (plainOf s) (right .plain) w selector arguments) in
+              let a = most (g .right .image) in
+              let c = most-words (g .right .image) in
+              let e = v .count in
+              let f = v .size in
+              (omega arith, omega arith)
+
+          pub begins-answered : beginGives (B.Started (record { n = n; b = b; receiver = r .receiver; selector = r .selector; phase = 2; top = 0; value = u })) contents′ bodies′ stack′ cache ≡ flatBegin s w selector arguments
+          unfolding beginGives laid plainOf
+          begins-answered =
+              (λ i. gives P.done (flat (record { n = sym (v .count) i; b = sym (v .size) i; startReceiver = r .receiver; startSelector = r .selector; phase = 2; top = 0; value = u }) (v .entries i) (v .words i) (v .frames i) cache))
+              ∙ begun-is (P.begun (withFrames (withObjects (plainOf s) (v .after)) [] finished 0 u)) (v .leads)

@@ -1,0 +1,96 @@
+-- What the functions of a send ask of the buffers, and what their answers say.
+use Prim.Native.Nat.{ℕ, suc, _+_, _-_, _≤_, _<_}
+use mathlib.Core.Path.{_≡_}
+use mathlib.Core.Bool.{Bool, true, false}
+use mathlib.Core.List.{List}
+use lib.Dec.{T}
+use lib.ListN.{length, getD}
+use Rattle.model.specs.Limits.{cacheWords, classKind, methodKind}
+use Rattle.model.specs.Word.{isValid}
+use Rattle.model.specs.Objects.{Objects, objectsAt, classOf, isKind, isNilOr, part}
+use Rattle.model.specs.Method.{home, temporaryCount, frameSize}
+use Rattle.model.specs.Lookup.{inChain}
+use Rattle.model.specs.Rules.{Right}
+use Rattle.plain.specs.Registers.{notUnderstood, noStackRoom}
+use Rattle.plain.specs.State.{fitsStack}
+use Rattle.plain.specs.Step.{Stepped, halts}
+use Rattle.plain.specs.Flat.{frameDepth, frameMethod, operandsStart}
+use Rattle.plain.specs.Cache.{cacheFine}
+use Rattle.plain.specs.Running.{runningWith, Made, Stays, sentReceiver}
+use Rattle.sends.specs.declared.Message.{Message}
+use Rattle.sends.specs.declared.Base.{Base}
+use Rattle.sends.specs.declared.Base.the-variants.{At, Full, Unfit}
+use Rattle.sends.specs.declared.Sent.{Sent}
+use Rattle.sends.specs.declared.Sent.the-variants.{Answered, Entered, NotUnderstood, NoRoom}
+
+-- A cache of the lookups of these objects
+pub record Caches (n b : ℕ) (contents bodies cache : List ℕ) : Type 0 where
+  pub long : length cache ≡ cacheWords
+  pub fine : T (cacheFine (objectsAt n b contents bodies) cache)
+
+-- A lookup that can be asked for
+pub record Asks (n b : ℕ) (contents bodies cache : List ℕ) (selector class : ℕ) : Type 0 where
+  pub right : Right 1 (objectsAt n b contents bodies)
+  pub starts : T (isNilOr (objectsAt n b contents bodies) classKind class)
+  pub caches : Caches n b contents bodies cache
+  pub named : 1 ≤ selector
+
+-- Receiver and arguments of a send, the uppermost operands of the top frame
+pub record MessageIs (n b top : ℕ) (contents bodies stack : List ℕ) (count : ℕ) (r : Message) : Type 0 where
+  pub running : r .running ≡ frameMethod stack top
+  pub left : r .left ≡ frameDepth stack top - suc count
+  pub place : r .place ≡ operandsStart (objectsAt n b contents bodies) (frameMethod stack top) top + (frameDepth stack top - suc count)
+  pub receiver : r .receiver ≡ sentReceiver n b top contents bodies stack count
+  pub first : r .first ≡ getD (part stack (r .place + 1) count) 0 0
+  pub second : r .second ≡ getD (part stack (r .place + 1) count) 1 0
+
+-- A method that may get a frame: where it is `sure`, the receiver is one that the method can run on.
+pub record Guarded (n b : ℕ) (contents bodies : List ℕ) (m receiver : ℕ) (sure : Bool) : Type 0 where
+  pub right : Right 1 (objectsAt n b contents bodies)
+  pub method : T (isKind (objectsAt n b contents bodies) methodKind m)
+  pub valid : T (isValid n receiver)
+  pub homes : sure ≡ true → T (inChain (objectsAt n b contents bodies) (home (objectsAt n b contents bodies) m) (classOf (objectsAt n b contents bodies) receiver))
+
+-- A frame of it above that of the running method
+pub record Framing (n b top : ℕ) (contents bodies : List ℕ) (running m receiver : ℕ) (sure : Bool) : Type 0 where
+  pub guarded : Guarded n b contents bodies m receiver sure
+  pub below : T (isKind (objectsAt n b contents bodies) methodKind running)
+  pub low : top < 65536
+
+-- Where it stands, and its temporaries; or it does not fit; or the receiver is none for it
+pub record FrameAt (o : Objects) (room top running m receiver base temporaries : ℕ) : Type 0 where
+  pub chain : inChain o (home o m) (classOf o receiver) ≡ true
+  pub above : base ≡ top + frameSize o running
+  pub holds : temporaries ≡ temporaryCount o m
+  pub fits : fitsStack room (top + frameSize o running) (frameSize o m) ≡ true
+
+pub record NoFrame (o : Objects) (room top running m receiver : ℕ) : Type 0 where
+  pub chain : inChain o (home o m) (classOf o receiver) ≡ true
+  pub fits : fitsStack room (top + frameSize o running) (frameSize o m) ≡ false
+
+abbrev pub BaseIs : Objects → ℕ → ℕ → ℕ → ℕ → ℕ → Base → Type 0
+BaseIs o room top running m receiver (At base temporaries) = FrameAt o room top running m receiver base temporaries
+BaseIs o room top running m receiver Full = NoFrame o room top running m receiver
+BaseIs o room top running m receiver Unfit = inChain o (home o m) (classOf o receiver) ≡ false
+
+-- The stack with room for the frame
+pub record Enters (stack : List ℕ) (top next left base temporaries from count : ℕ) : Type 0 where
+  pub below : top + 2 < length stack
+  pub least : top < 65536
+  pub position : next < 65536
+  pub depth : left < 65536
+  pub arguments : from + count ≤ length stack
+  pub fits : base + (6 + temporaries) ≤ length stack
+  pub few : count ≤ temporaries
+  pub most : temporaries ≤ 32
+
+-- What a send leads to, of which x is the step
+abbrev pub SentIs : Stepped → ℕ → ℕ → ℕ → ℕ → ℕ → List ℕ → List ℕ → List ℕ → List ℕ → List ℕ → List ℕ → List ℕ → List ℕ → Sent → Type 0
+SentIs x receiver selector n b top contents bodies stack cache contents′ bodies′ stack′ cache′ (Answered n′ b′) =
+    Made x (runningWith receiver selector n′ b′ top) contents bodies stack cache contents′ bodies′ stack′ cache′
+SentIs x receiver selector n b top contents bodies stack cache contents′ bodies′ stack′ cache′ (Entered t) =
+    Made x (runningWith receiver selector n b (t .0)) contents bodies stack cache contents′ bodies′ stack′ cache′
+SentIs x receiver selector n b top contents bodies stack cache contents′ bodies′ stack′ cache′ NotUnderstood =
+    (x ≡ halts notUnderstood) × Stays contents bodies stack cache contents′ bodies′ stack′ cache′
+SentIs x receiver selector n b top contents bodies stack cache contents′ bodies′ stack′ cache′ NoRoom =
+    (x ≡ halts noStackRoom) × Stays contents bodies stack cache contents′ bodies′ stack′ cache′

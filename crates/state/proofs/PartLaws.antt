@@ -1,0 +1,168 @@
+-- The parts of check's test, as the code goes through them.
+use Prim.Native.Nat.{ℕ, suc, _*_, _≤_, _<_}
+use mathlib.Core.Path.{_≡_, refl, sym, ap, ap₂, _∙_, subst}
+use mathlib.Core.Logic.{_≢_, _⊎_, inl, inr}
+use mathlib.Core.Bool.{Bool, true, false, _&&_, _||_, not}
+use mathlib.Core.List.{List, [], _∷_}
+use native.Mathlib.Omega.{arith}
+use borrow.Author.Tests.{eq-eqb, ne-eqb, le-leb, lt-leb}
+use lib.Dec.{T, leb, eqb, leb→le, eqb→eq}
+use lib.ListN.{length}
+use lib.Seq.{length-take-le}
+use Rattle.bytecode.specs.Test.{if_then_else_, allOf}
+use Rattle.bytecode.proofs.Choice.{if-yes, if-no}
+use Rattle.bytecode.proofs.TestLaws.{true→T, T→true, and-left, and-right}
+use Rattle.model.specs.Limits.{entryWords, cacheWords, mostObjects, mostBodyWords}
+use Rattle.model.specs.Word.{isValid}
+use Rattle.model.specs.Objects.{Objects, objectsAt}
+use Rattle.model.specs.Rules.{Right, sizesFine, headerFine, rule4, rule5, rule6, rule7, rule8}
+use Rattle.model.specs.Image.{Room, Verdict, accepted, refused, unless, _then_, buffersFine, objectsVerdict}
+use Rattle.model.specs.Notes.{NotedBefore}
+use Rattle.rules.specs.Lent.{Lent}
+use Rattle.store.specs.Answer.{numberOf, roomFor}
+use Rattle.store.specs.Judged.{Judged}
+use Rattle.store.proofs.Settled.{lent-by}
+use Rattle.checks.specs.Frame.{Noted}
+use Rattle.plain.specs.Registers.{finished, idle, lastPhase, hasFrames}
+use Rattle.plain.specs.Cache.{cacheFine}
+use Rattle.plain.specs.Flat.{Flat, framesFrom}
+use Rattle.plain.specs.Check.{imageRules, framesFine, stateFine}
+use Rattle.plain.specs.Running.{roomAt}
+use Rattle.plain.proofs.StateLaws.{image-right, right-image}
+use Rattle.plain.proofs.CheckParts.{imagePart, phasePart, valuePart, framesPart, cachePart, state-parts}
+use Rattle.state.specs.Parts.{stateAt, registersFine, standingFine}
+
+-- ---- phase and value
+pub late-phase : (n phase value : ℕ) → 5 < phase → false ≡ registersFine n phase value
+unfolding registersFine
+late-phase n phase value h = sym (ap (λ (x : Bool). x && (if eqb phase finished then isValid n value else eqb value 0)) (lt-leb phase lastPhase h))
+
+pub finished-value : (n phase value : ℕ) (r : Bool) → phase ≤ 5 → phase ≡ 2 → r ≡ isValid n value → r ≡ registersFine n phase value
+unfolding registersFine
+finished-value n phase value r h e q = q ∙ sym (ap₂ _&&_ (le-leb phase lastPhase h) (if-yes _ _ (eq-eqb phase finished e)))
+
+pub other-value : (n phase value : ℕ) → phase ≤ 5 → (phase ≡ 2 → ⊥) → eqb value 0 ≡ registersFine n phase value
+unfolding registersFine
+other-value n phase value h e = sym (ap₂ _&&_ (le-leb phase lastPhase h) (if-no _ _ (ne-eqb phase finished e)))
+
+-- ---- frames
+no-frames : (phase : ℕ) → (phase ≡ 0) ⊎ (phase ≡ 2) → hasFrames phase ≡ false
+no-frames phase (inl e) = ap hasFrames e
+no-frames phase (inr e) = ap hasFrames e
+
+pub none-standing : (o : Objects) (stack : List ℕ) (phase top : ℕ) → (phase ≡ 0) ⊎ (phase ≡ 2) → eqb top 0 ≡ standingFine o stack phase top
+unfolding standingFine
+none-standing o stack phase top e = sym (if-no _ _ (no-frames phase e))
+
+pub all-standing : (o : Objects) (stack : List ℕ) (phase top : ℕ) (r : Bool) → (phase ≡ 0 → ⊥) → (phase ≡ 2 → ⊥) → r ≡ framesFine o (length stack) true top (framesFrom (suc top) o stack top)
+    → r ≡ standingFine o stack phase top
+unfolding standingFine
+all-standing o stack phase top r a b q =
+    q ∙ sym (if-yes _ _ (ap₂ (λ (x y : Bool). not (x || y)) (ne-eqb phase idle a) (ne-eqb phase finished b)))
+
+-- ---- the whole
+module _ (n b receiver selector phase top value : ℕ) (contents bodies stack cache : List ℕ) where
+  abbrev s : Flat
+  s = stateAt n b receiver selector phase top value contents bodies stack cache
+
+  abbrev o : Objects
+  o = objectsAt n b contents bodies
+
+  parts : stateFine s ≡ (imagePart s && (phasePart s && (valuePart s && (framesPart s && cachePart s))))
+  parts = state-parts s
+
+  -- a part that fails
+  image-no : imagePart s ≡ false → false ≡ stateFine s
+  image-no e = sym (parts ∙ ap (λ (x : Bool). x && (phasePart s && (valuePart s && (framesPart s && cachePart s)))) e)
+
+  and-no : (b : Bool) → (b && false) ≡ false
+  and-no true = refl
+  and-no false = refl
+
+  pub registers-no : registersFine n phase value ≡ false → false ≡ stateFine s
+  unfolding registersFine
+  registers-no e = sym (parts ∙ regroup (imagePart s) (phasePart s) (valuePart s) (framesPart s && cachePart s) e)
+    where
+      regroup : (a b c d : Bool) → (b && c) ≡ false → (a && (b && (c && d))) ≡ false
+      regroup true true true d q = absurd (subst T q tt)
+      regroup true true false d q = refl
+      regroup true false c d q = refl
+      regroup false b c d q = refl
+
+  -- the image's part is rule 2 and the verdict on the objects
+  sizes-no : sizesFine 1 n b ≡ false → imagePart s ≡ false
+  unfolding imageRules
+  sizes-no e = ap (λ (x : Bool). allOf (x ∷ rule4 1 o ∷ rule5 1 o ∷ rule6 1 o ∷ rule7 1 o ∷ rule8 o receiver selector [] ∷ [])) e
+
+  verdict-no : numberOf (objectsVerdict 1 o receiver selector) ≢ 0 → imagePart s ≡ false
+  unfolding imageRules objectsVerdict numberOf
+  verdict-no h = go (sizesFine 1 n b) (rule4 1 o) (rule5 1 o) (rule6 1 o) (rule7 1 o) (rule8 o receiver selector []) h
+    where
+      go : (z a b c d e : Bool) → numberOf (unless a 4 then (unless b 5 then (unless c 6 then (unless d 7 then unless e 8)))) ≢ 0 → allOf (z ∷ a ∷ b ∷ c ∷ d ∷ e ∷ []) ≡ false
+      go false a b c d e h = refl
+      go true false b c d e h = refl
+      go true true false c d e h = refl
+      go true true true false d e h = refl
+      go true true true true false e h = refl
+      go true true true true true false h = refl
+      go true true true true true true h = absurd (h refl)
+
+  verdict-yes : sizesFine 1 n b ≡ true → numberOf (objectsVerdict 1 o receiver selector) ≡ 0 → imagePart s ≡ true
+  unfolding imageRules objectsVerdict numberOf
+  verdict-yes z h = go (sizesFine 1 n b) (rule4 1 o) (rule5 1 o) (rule6 1 o) (rule7 1 o) (rule8 o receiver selector []) z h
+    where
+      go : (z a b c d e : Bool) → z ≡ true → numberOf (unless a 4 then (unless b 5 then (unless c 6 then (unless d 7 then unless e 8)))) ≡ 0 → allOf (z ∷ a ∷ b ∷ c ∷ d ∷ e ∷ []) ≡ true
+      go false a b c d e z h = z
+      go true false b c d e z h = absurd (omega arith)
+      go true true false c d e z h = absurd (omega arith)
+      go true true true false d e z h = absurd (omega arith)
+      go true true true true false e z h = absurd (omega arith)
+      go true true true true true false z h = absurd (omega arith)
+      go true true true true true true z h = refl
+
+  pub header-no : headerFine 1 n b ≡ false → false ≡ stateFine s
+  header-no e = image-no (sizes-no e)
+
+  pub judged-no : (notes : List ℕ) (k : ℕ) → Judged o receiver selector notes k → (k ≡ 0 → ⊥) → false ≡ stateFine s
+  judged-no notes k j h = image-no (verdict-no (λ e. h (j .answer ∙ e)))
+
+  module _ (two : headerFine 1 n b ≡ true) (three : T (buffersFine (roomAt contents bodies stack cache) n b)) where
+    pub lent : Lent n b contents bodies
+    unfolding buffersFine
+    lent = lent-by 1 n b (length cache) contents bodies two (T→true (buffersFine (roomFor (length contents) (length bodies) (length cache)) n b) three)
+
+    pub cache-long : length cache ≡ cacheWords
+    unfolding buffersFine
+    cache-long = eqb→eq (length cache) cacheWords (and-right (leb b (length bodies)) (eqb (length cache) cacheWords) (and-right (leb (entryWords * n) (length contents)) (leb b (length bodies) && eqb (length cache) cacheWords) three))
+
+    pub notes-room : 2 * b ≤ 48000
+    notes-room = let h = lent .most-words in omega arith
+
+    module _ (notes : List ℕ) (k : ℕ) (j : Judged o receiver selector notes k) (zero : k ≡ 0) where
+      yes : imagePart s ≡ true
+      yes = verdict-yes two (sym (j .answer) ∙ zero)
+
+      pub rights : Right 1 o
+      rights = image-right 1 o receiver selector (length-take-le (entryWords * n) contents (lent .entries)) (length-take-le b bodies (lent .words)) (true→T yes) .0
+
+      pub all-noted : 48000 ≤ length notes → Noted n b contents bodies notes
+      all-noted h = record { right = rights; noted = j .noted zero; room = let l = notes-room in omega arith }
+
+      module _ (regs : registersFine n phase value ≡ true) where
+        unpack : (a b c d : Bool) → a ≡ true → (b && c) ≡ true → (a && (b && (c && d))) ≡ d
+        unpack true true true d p q = refl
+        unpack true true false d p q = absurd (subst T (sym q) tt)
+        unpack true false c d p q = absurd (subst T (sym q) tt)
+        unpack false b c d p q = absurd (subst T (sym p) tt)
+
+        left : stateFine s ≡ (framesPart s && cachePart s)
+        unfolding registersFine
+        left = parts ∙ unpack (imagePart s) (phasePart s) (valuePart s) (framesPart s && cachePart s) yes regs
+
+        pub standing-no : standingFine o stack phase top ≡ false → false ≡ stateFine s
+        unfolding standingFine
+        standing-no e = sym (left ∙ ap (λ (x : Bool). x && cachePart s) e)
+
+        pub cache-left : (r : Bool) → standingFine o stack phase top ≡ true → r ≡ cacheFine o cache → r ≡ stateFine s
+        unfolding standingFine
+        cache-left r e q = q ∙ sym (left ∙ ap (λ (x : Bool). x && cachePart s) e)
