@@ -3,3 +3,4 @@ pub mod Calling
 pub mod Answers
 pub mod Beginning
 pub mod Looping
+pub mod RunCalls

@@ -123,7 +123,7 @@ module _ (s₀ : Flat) (grant receiver selector n b top : ℕ) (contents bodies 
         let x = h .stays in
         record {
           gave = (λ i. Rattle.plain.specs.FlatCalls.gives (Rattle.plain.specs.Calls.result (h .phase i) count 0) (flat (record { n = n; b = b; startReceiver = receiver; startSelector = selector; phase = h .phase i; top = top; value = 0 }) (x .entries i) (x .words i) (x .frames i) (x .cached i)))
-            ∙ loop-halts s₀ grant sₗ count reach (l .turn) more (h .cause) (same-step ∙ h .steps);
+              ∙ loop-halts s₀ grant sₗ count reach (l .turn) more (h .cause) (same-step ∙ h .steps);
           ends = loop-halts-ends s₀ grant sₗ count reach (l .turn) more (h .cause) (same-step ∙ h .steps);
           small = l .low;
         }
