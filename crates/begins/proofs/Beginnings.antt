@@ -22,10 +22,9 @@ use Rattle.model.specs.Method.{header, home, temporaryCount, frameWords, frameS
 use Rattle.model.specs.Lookup.{found, lookup, inChain}
 use Rattle.model.specs.Rules.{Right, rule8}
 use Rattle.model.specs.Image.{Room}
-use Rattle.model.proofs.SendFacts.{lookup-facts}
-use Rattle.model.proofs.Facts.{method-facts, valid-cases, odd, names, integer-class, entry-class}
+use Rattle.model.proofs.SendFacts.{lookup-facts, class-kind}
+use Rattle.model.proofs.Facts.{method-facts}
 use Rattle.model.proofs.Parts.{or-right}
-use Rattle.objects.specs.Lent.{frameOf}
 use Rattle.model.proofs.DepthLaws.{spot-start}
 use Rattle.plain.specs.Registers.{running, finished}
 use Rattle.plain.specs.State.{Frame, Plain, withObjects, withFrames, newFrame, fitsStack}
@@ -36,7 +35,7 @@ use Rattle.plain.proofs.Preserve.{Activates, activates}
 use Rattle.plain.proofs.Worlds.{worlds}
 use Rattle.plain.proofs.After.{After}
 use Rattle.plain.proofs.StepLaws.{Valid}
-use Rattle.plain.proofs.ReturnLaws.{contents-room, bodies-room}
+use Rattle.model.proofs.Lent.{contents-room, bodies-room}
 use Rattle.plain.proofs.FramedLaws.{temporaries-fit}
 use Rattle.plain.proofs.RunningLaws.{words-cases}
 use Rattle.frames.specs.Words.{newWords}
@@ -201,20 +200,7 @@ module _ (n b : ℕ) (contents bodies stack : List ℕ) (right : Right 1 (object
   receiver-valid e = and-left (isValid n w) (isKind (objectsAt n b contents bodies) bytesKind s && every (isValid n) arguments) (true→T e)
 
   pub class-starts : rule8 (objectsAt n b contents bodies) w s arguments ≡ true → (c : ℕ) → c ≡ classOf (objectsAt n b contents bodies) w → T (isNilOr (objectsAt n b contents bodies) classKind c)
-  class-starts e c q = or-right (eqb c nilWord) (isKind (objectsAt n b contents bodies) classKind c) (subst (λ (k : ℕ). T (isKind (objectsAt n b contents bodies) classKind k)) (sym q) (class-kind (valid-cases n w (receiver-valid e))))
-    where
-      class-kind : Rattle.model.proofs.Facts.Valid n w → T (isKind (objectsAt n b contents bodies) classKind (classOf (objectsAt n b contents bodies) w))
-      class-kind (odd h) = unfold classOf in subst (λ (x : ℕ). T (isKind (objectsAt n b contents bodies) classKind x)) (sym (if-yes _ _ (eq-eqb (w % 2) 1 h))) (integer-class right)
-      class-kind (names x d g) = unfold classOf in subst (λ (y : ℕ). T (isKind (objectsAt n b contents bodies) classKind y)) (sym (if-no _ _ (ne-eqb (w % 2) 1 (omega arith)))) (entry-class right (w / 2) d g)
-
--- A method's frame, by its header
-pub frame-is : (o : Objects) (m h k : ℕ) → h ≡ header o m → k ≡ frameOf h → k ≡ frameWords o m
-unfolding frameOf frameWords
-frame-is o m h k e q = q ∙ ap (λ (x : ℕ). if eqb (x / 128 % 2) 1 then 32 else 12) e
-
-pub small-frame : (h k : ℕ) → k ≡ frameOf h → k ≤ 32
-unfolding frameOf
-small-frame h k q = subst (λ (x : ℕ). x ≤ 32) (sym q) (if-cases (λ (x : ℕ). x ≤ 32) (eqb (h / 128 % 2) 1) 32 12 (λ e. omega arith) (λ e. omega arith))
+  class-starts e c q = or-right (eqb c nilWord) (isKind (objectsAt n b contents bodies) classKind c) (subst (λ (k : ℕ). T (isKind (objectsAt n b contents bodies) classKind k)) (sym q) (class-kind right w (receiver-valid e)))
 
 -- The words of the first frame, as they are written
 pub first-words : (stack : List ℕ) (m w t t′ k : ℕ) (arguments : List ℕ) → t ≡ t′ → k ≡ length arguments → sets stack 0 (newWords 0 m w t (take k arguments)) ≡ sets stack 0 (newWords 0 m w t′ arguments)

@@ -23,7 +23,8 @@ use Rattle.model.specs.Notes.{MethodNoted}
 use Rattle.model.proofs.Parts.{same-test, or-right, length-part, part-at}
 use Rattle.model.proofs.ChainLaws.{named}
 use Rattle.model.proofs.DepthLaws.{spot, fine-inside}
-use Rattle.model.proofs.Facts.{Valid, odd, names, valid-cases, inside, method-words, method-facts, entry-class, integer-class}
+use Rattle.model.proofs.Facts.{inside, method-words, method-facts}
+use Rattle.model.proofs.SendFacts.{class-kind}
 use Rattle.rules.proofs.Loops.{never, failed}
 use Rattle.objects.specs.Lent.{Holds, CodeAt, temporariesOf}
 use Rattle.objects.specs.declared.Code.{Code}
@@ -47,12 +48,8 @@ valid-read n w x p q = true→T (sym p ∙ not-false x q)
 
 -- a valid word's class is a class
 pub class-named : {e : ℕ} {o : Objects} → Right e o → (w c : ℕ) (x : Bool) → x ≡ isValid (o .n) w → not x ≡ false → c ≡ classOf o w → T (isNilOr o classKind c)
-unfolding classOf
-class-named {e} {o} r w c x p n q = let v = valid-read (o .n) w x p n in or-right (eqb c nilWord) (isKind o classKind c) (subst (λ (x : ℕ). T (isKind o classKind x)) (sym q) (go (valid-cases (o .n) w v)))
-  where
-    go : Valid (o .n) w → T (isKind o classKind (classOf o w))
-    go (odd h) = subst (λ (x : ℕ). T (isKind o classKind x)) (sym (if-yes _ _ (eq-eqb (w % 2) 1 h))) (integer-class r)
-    go (names h a b) = subst (λ (x : ℕ). T (isKind o classKind x)) (sym (if-no _ _ (ne-eqb (w % 2) 1 (λ q. absurd (omega arith))))) (entry-class r (w / 2) a b)
+class-named {e} {o} r w c x p n q =
+    or-right (eqb c nilWord) (isKind o classKind c) (subst (λ (k : ℕ). T (isKind o classKind k)) (sym q) (class-kind r w (valid-read (o .n) w x p n)))
 
 -- a note is inside the code
 module _ (o : Objects) (m p : ℕ) where

@@ -23,7 +23,7 @@ use Rattle.plain.proofs.StateLaws.{PlainRight}
 use Rattle.plain.proofs.FlatLaws.{FlatRight, check-right}
 use Rattle.plain.proofs.BeginLaws.{BegunRight, BeginGoes, begins}
 use Rattle.plain.proofs.Worlds.{worlds}
-use Rattle.plain.proofs.ReturnLaws.{front-same}
+use Rattle.model.proofs.Lent.{front-same}
 use Rattle.begins.specs.Begins.{stateOver, Answers, Enters, Refuses, BeginIs, Begins}
 use Rattle.begins.specs.declared.Beginning.{Beginning}
 use Rattle.machine.specs.declared.Registers.{Registers}

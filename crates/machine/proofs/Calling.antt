@@ -20,7 +20,7 @@ use Rattle.plain.specs.Check.{check, stateFine}
 use Rattle.plain.specs.Calls.{dropped, Answer, done, refusedBy, wrote}
 use Rattle.plain.specs.FlatCalls.{Given, gives, checked, atFront, withPlain, flatDrop, flatForget, savedImage, saveVerdict, afterSave, flatSave, saved}
 use Rattle.plain.proofs.FlatLaws.{FlatRight, check-right}
-use Rattle.plain.proofs.ReturnLaws.{front-same}
+use Rattle.model.proofs.Lent.{front-same}
 
 -- ---- check: 3, then 11
 pub check-3 : (s : Flat) → buffersFine (roomOf s) (s .registers .n) (s .registers .b) ≡ false → refused 3 ≡ check s

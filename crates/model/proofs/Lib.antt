@@ -11,3 +11,4 @@ pub mod StoreLaws
 pub mod AppendLaws
 pub mod PrimitiveLaws
 pub mod SendFacts
+pub mod Lent

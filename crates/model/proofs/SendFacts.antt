@@ -201,12 +201,14 @@ module _ {e : ℕ} {o : Objects} (r : Right e o) where
       let b = in-words o (w / 2) nb nm in
       word-valid r (w / 2) i (h .least) (h .most) nb nm (omega arith)
 
-  pub class-valid : (w : ℕ) → T (isValid (o .n) w) → T (isValid (o .n) (classOf o w))
+  -- a valid word's class is one
+  pub class-kind : (w : ℕ) → T (isValid (o .n) w) → T (isKind o classKind (classOf o w))
   unfolding classOf
-  class-valid w v = go (valid-cases (o .n) w v)
+  class-kind w v = go (valid-cases (o .n) w v)
     where
-      go : Valid (o .n) w → T (isValid (o .n) (classOf o w))
-      go (odd h) =
-          subst (λ (x : ℕ). T (isValid (o .n) x)) (sym (if-yes _ _ (eq-eqb (w % 2) 1 h))) (valid-kind o classKind integerClass (integer-class r))
-      go (names b d g) =
-          subst (λ (x : ℕ). T (isValid (o .n) x)) (sym (if-no _ _ (ne-eqb (w % 2) 1 (omega arith)))) (valid-kind o classKind (classWord o (w / 2)) (entry-class r (w / 2) d g))
+      go : Valid (o .n) w → T (isKind o classKind (classOf o w))
+      go (odd h) = subst (λ (x : ℕ). T (isKind o classKind x)) (sym (if-yes _ _ (eq-eqb (w % 2) 1 h))) (integer-class r)
+      go (names b d g) = subst (λ (x : ℕ). T (isKind o classKind x)) (sym (if-no _ _ (ne-eqb (w % 2) 1 (omega arith)))) (entry-class r (w / 2) d g)
+
+  pub class-valid : (w : ℕ) → T (isValid (o .n) w) → T (isValid (o .n) (classOf o w))
+  class-valid w v = valid-kind o classKind (classOf o w) (class-kind w v)

@@ -14,15 +14,8 @@ use Rattle.model.specs.Word.{isPointer, isValid}
 use Rattle.model.specs.Objects.{Objects, objectsAt, entryWord, kind, start, bodyWord, classOf, isKind}
 use Rattle.model.specs.Rules.{Right}
 use Rattle.model.specs.Primitive.{storeWord, storeByte}
+pub use Rattle.model.proofs.Lent.{contents-room, bodies-room, front-same}
 use Rattle.objects.specs.Lent.{front}
-
--- Right objects lie inside the buffers.
-module _ {e : ℕ} (n b : ℕ) (contents bodies : List ℕ) (r : Right e (objectsAt n b contents bodies)) where
-  pub contents-room : entryWords * n ≤ length contents
-  contents-room = let q = r .contents in let l = length-take (entryWords * n) contents in omega arith
-
-  pub bodies-room : b ≤ length bodies
-  bodies-room = let q = r .bodies in let l = length-take b bodies in omega arith
 
 module _ (n b : ℕ) (contents bodies : List ℕ) where
   pub entry-at : (k i at : ℕ) → 1 ≤ k → k ≤ n → i < entryWords → at ≡ entryWords * (k - 1) + i → getD contents at 0 ≡ entryWord (objectsAt n b contents bodies) k i
@@ -58,7 +51,7 @@ module _ (n b : ℕ) (contents bodies : List ℕ) where
       ∙ set-append-left (take b bodies) (drop b bodies) at w (omega arith)
       ∙ ap₂ (λ (x y : ℕ). set (take b bodies) x w ++ drop y bodies) e (sym (length-set (take b bodies) (start (objectsAt n b contents bodies) k + i) w ∙ t))
 
--- Objects put at the front of buffers are the objects there, and those that stand are at the front.
+-- Objects put at the front of buffers are the objects there.
 objects-eq : {n n′ b b′ : ℕ} {c c′ d d′ : List ℕ} → n ≡ n′ → b ≡ b′ → c ≡ c′ → d ≡ d′
     → _≡_ {A = Objects} (record { n = n; b = b; contents = c; bodies = d }) (record { n = n′; b = b′; contents = c′; bodies = d′ })
 objects-eq p q r s = λ i. record { n = p i; b = q i; contents = r i; bodies = s i }
@@ -67,9 +60,6 @@ pub objects-front : (o : Objects) (contents bodies : List ℕ) → length (o .co
     → objectsAt (o .n) (o .b) (front (o .contents) contents) (front (o .bodies) bodies) ≡ o
 objects-front o contents bodies p q =
     objects-eq refl refl (take-at (o .contents) (drop (length (o .contents)) contents) (entryWords * o .n) p) (take-at (o .bodies) (drop (length (o .bodies)) bodies) (o .b) q)
-
-pub front-same : (k : ℕ) (buffer : List ℕ) → k ≤ length buffer → front (take k buffer) buffer ≡ buffer
-front-same k buffer h = ap (λ (x : ℕ). take k buffer ++ drop x buffer) (length-take-le k buffer h) ∙ take-append-drop k buffer
 
 -- what a store leaves is what is defined
 pub stored-objects : (n b : ℕ) (contents bodies : List ℕ) (k i w : ℕ) → b ≤ length bodies

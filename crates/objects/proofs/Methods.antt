@@ -1,12 +1,13 @@
 -- A method's header by the tests of the code, and the place of its code.
 use Prim.Native.Nat.{ℕ, _+_, _*_, _-_, _/_, _%_, _≤_, _<_}
-use mathlib.Core.Path.{_≡_, refl, sym, ap, ap₂, _∙_}
+use mathlib.Core.Path.{_≡_, refl, sym, ap, ap₂, _∙_, subst}
 use mathlib.Core.List.{List}
 use native.Mathlib.Omega.{arith}
+use lib.Dec.{eqb}
 use lib.ListN.{length, take, drop, length-take}
 use lib.Seq.{ext-getD, getD-take}
 use borrow.Author.Tests.{eq-eqb, ne-eqb, le-leb, lt-leb}
-use Rattle.bytecode.proofs.Choice.{if-yes, if-no}
+use Rattle.bytecode.proofs.Choice.{if-yes, if-no, if-cases}
 use Rattle.model.specs.Limits.{methodKind, lastCountFlag, primitiveFlag}
 use Rattle.model.specs.Word.{objectNumber}
 use Rattle.model.specs.Objects.{Objects, objectsAt, start, size, bodyWords, part}
@@ -16,6 +17,11 @@ use Rattle.model.proofs.Parts.{length-part, part-at}
 use Rattle.model.proofs.Facts.{inside, method-words, method-facts}
 use Rattle.objects.specs.Lent.{Holds, CodeAt, flagOf, temporariesOf, literalsOf, frameOf}
 use Rattle.objects.proofs.Buffers.{bodies-room}
+
+-- no frame has more words
+pub small-frame : (h k : ℕ) → k ≡ frameOf h → k ≤ 32
+unfolding frameOf
+small-frame h k q = subst (λ (x : ℕ). x ≤ 32) (sym q) (if-cases (λ (x : ℕ). x ≤ 32) (eqb (h / 128 % 2) 1) 32 12 (λ e. omega arith) (λ e. omega arith))
 
 -- the bits of a header are those of its method
 module _ (o : Objects) (m : ℕ) where
@@ -31,6 +37,9 @@ module _ (o : Objects) (m : ℕ) where
   pub frame-of : frameOf (header o m) ≡ frameWords o m
   unfolding frameOf frameWords
   frame-of = refl
+
+  pub frame-is : (h k : ℕ) → h ≡ header o m → k ≡ frameOf h → k ≡ frameWords o m
+  frame-is h k e q = q ∙ ap frameOf e ∙ frame-of
 
   pub count-by-flag : (f : ℕ) → f ≡ flag o m → f ≤ 4 → f ≡ argumentCount o m
   unfolding argumentCount

@@ -23,6 +23,7 @@ use Rattle.model.specs.Image.{Room}
 use Rattle.model.proofs.Facts.{method-facts}
 use Rattle.model.proofs.DepthLaws.{spot, spot-start}
 use Rattle.model.proofs.SendFacts.{FoundFacts, lookup-facts}
+use Rattle.model.proofs.Lent.{contents-room, bodies-room, front-same}
 use Rattle.plain.specs.Registers.{running, notUnderstood, noStackRoom}
 use Rattle.plain.specs.State.{Frame, Plain, withObjects, withFrames, movedTo, newFrame, fitsStack}
 use Rattle.plain.specs.Step.{looked, Stepped, next, halts, provided, without, hasWord, onTop, pushed, answered, entered, unfit, activate, framed, changed, activated, afterLookup, popped}
@@ -48,9 +49,6 @@ valid-at : (n : ℕ) (ws : List ℕ) (i : ℕ) → Valid n ws → i < length ws 
 valid-at n [] i v h = absurd (omega arith)
 valid-at n (w ∷ ws) zero v h = and-left (isValid n w) (every (isValid n) ws) v
 valid-at n (w ∷ ws) (suc i) v h = valid-at n ws i (and-right (isValid n w) (every (isValid n) ws) v) (omega arith)
-
-front-same : (k : ℕ) (buffer : List ℕ) → k ≤ length buffer → buffer ≡ atFront (take k buffer) buffer
-front-same k buffer h = sym (ap (λ (x : ℕ). take k buffer ++ drop x buffer) (length-take-le k buffer h) ∙ take-append-drop k buffer)
 
 -- The last words of a part are a part.
 part-end : (l : List ℕ) (from d k : ℕ) → k ≤ d → from + d ≤ length l → part l (from + (d - k)) k ≡ drop (d - k) (part l from d)
@@ -159,10 +157,10 @@ module _ {n b top : ℕ} {contents bodies stack : List ℕ} {selector count clas
   -- ---- the words that are written
 
   pub own-contents : contents ≡ atFront (take (entryWords * n) contents) contents
-  own-contents = front-same (entryWords * n) contents (let q = s .runs .right .contents in let l = length-take (entryWords * n) contents in omega arith)
+  own-contents = sym (front-same (entryWords * n) contents (contents-room n b contents bodies (s .runs .right)))
 
   pub own-bodies : bodies ≡ atFront (take b bodies) bodies
-  own-bodies = front-same b bodies (let q = s .runs .right .bodies in let l = length-take b bodies in omega arith)
+  own-bodies = sym (front-same b bodies (bodies-room n b contents bodies (s .runs .right)))
 
   answer-written : (w : ℕ)
       → set (set (set stack (operandsStart o (frameMethod stack top) top + (depth - suc count)) w) (top + 1) position) (top + 2) (depth - suc count + 1)

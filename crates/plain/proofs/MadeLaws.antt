@@ -19,7 +19,7 @@ use Rattle.plain.proofs.FrameLaws.{right-frames}
 use Rattle.plain.proofs.Preserve.{Shape, runs, ends}
 use Rattle.plain.proofs.StateLaws.{Stands, goes, rests, waits}
 use Rattle.plain.proofs.FlatLaws.{FlatRight}
-use Rattle.plain.proofs.ReturnLaws.{front-same, contents-room}
+use Rattle.model.proofs.Lent.{front-same, contents-room}
 use native.Mathlib.Omega.{arith}
 
 -- a bytecode that moves the top frame on, as one that was made

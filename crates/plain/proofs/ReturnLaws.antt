@@ -6,12 +6,13 @@ use mathlib.Core.List.{List, [], _∷_, _++_}
 use native.Mathlib.Omega.{arith}
 use borrow.Author.Tests.{lt-ltb}
 use lib.Dec.{T, ltb}
-use lib.ListN.{length, getD, take, drop, set, take-append-drop}
-use lib.Seq.{set-getD, length-take-le, getD-set-other}
+use lib.ListN.{length, getD, take, set}
+use lib.Seq.{set-getD, getD-set-other}
 use Rattle.model.specs.Limits.{entryWords, methodKind}
 use Rattle.model.specs.Objects.{Objects, objectsAt, isKind}
 use Rattle.model.specs.Method.{temporaryCount, frameWords, frameSize}
 use Rattle.model.specs.Rules.{Right}
+use Rattle.model.proofs.Lent.{contents-room, bodies-room, front-same}
 use Rattle.plain.specs.Registers.{Registers, finished}
 use Rattle.plain.specs.State.{Frame, Plain, movedTo, withFrames}
 use Rattle.plain.specs.Step.{Stepped, next, noLookup, provided, returned}
@@ -22,21 +23,6 @@ use Rattle.plain.specs.Running.{Runs, runningWith, runningAt, finishedWi
 use Rattle.plain.proofs.FrameLaws.{FrameRight, FramesRight, Fits, within}
 use Rattle.plain.proofs.WriteLaws.{frame-right-at, frame-here-at, pushed-at}
 use Rattle.plain.proofs.RunningLaws.{all-right, words-cases}
-
--- the words that stand in a buffer, at its front
-pub front-same : (k : ℕ) (buffer : List ℕ) → k ≤ length buffer → atFront (take k buffer) buffer ≡ buffer
-front-same k buffer h = ap (λ (x : ℕ). take k buffer ++ drop x buffer) (length-take-le k buffer h) ∙ take-append-drop k buffer
-
-length-take-most : (k : ℕ) (l : List ℕ) → length (take k l) ≤ length l
-length-take-most zero l = omega arith
-length-take-most (suc k) [] = omega arith
-length-take-most (suc k) (x ∷ l) = let h = length-take-most k l in omega arith
-
-pub contents-room : (n b : ℕ) (contents bodies : List ℕ) → Right 1 (objectsAt n b contents bodies) → entryWords * n ≤ length contents
-contents-room n b contents bodies r = let h = length-take-most (entryWords * n) contents in let x = r .contents in omega arith
-
-pub bodies-room : (n b : ℕ) (contents bodies : List ℕ) → Right 1 (objectsAt n b contents bodies) → b ≤ length bodies
-bodies-room n b contents bodies r = let h = length-take-most b bodies in let x = r .bodies in omega arith
 
 -- Numbers of the frame below the top one
 pub record SenderBounds (o : Objects) (top sender : ℕ) (stack : List ℕ) : Type 0 where

@@ -28,7 +28,7 @@ use Rattle.plain.proofs.After.{kept-right}
 use Rattle.plain.proofs.RunLaws.{Stood, RanRight, RunGoes, step-goes, shape-stood, runs-right}
 use Rattle.plain.proofs.FlatLaws.{FlatRight, plain-back, room-back, flat-back}
 use Rattle.plain.proofs.Worlds.{worlds}
-use Rattle.plain.proofs.ReturnLaws.{front-same}
+use Rattle.model.proofs.Lent.{front-same}
 
 -- words at the front, over other words at the front that are no more
 front-over : (ws us buffer : List ℕ) → length us ≤ length ws → length us ≤ length buffer → atFront ws (atFront us buffer) ≡ atFront ws buffer

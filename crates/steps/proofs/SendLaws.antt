@@ -25,7 +25,7 @@ use Rattle.model.specs.Rules.{Right, allowed, sendFine, takesCount, methodTable
 use Rattle.model.specs.Image.{Room}
 use Rattle.model.proofs.ChainLaws.{named}
 use Rattle.model.proofs.Facts.{Valid, odd, names, valid-cases, entry-class, integer-class, class-facts, method-facts}
-use Rattle.model.proofs.SendFacts.{lookup-facts}
+use Rattle.model.proofs.SendFacts.{lookup-facts, class-kind}
 use Rattle.plain.specs.State.{Frame}
 use Rattle.plain.specs.Step.{_>>=_, operand, popped, sends, afterLookup, execute}
 use Rattle.plain.specs.Flat.{frameDepth, frameMethod, frameReceiver, operandsStart, frameAt}
@@ -33,6 +33,7 @@ use Rattle.plain.specs.Running.{Sending, sendStep, sentReceiver, runningAt, top
 use Rattle.plain.proofs.RunningLaws.{top-right, is-method, method-is, step-is, now-is}
 use Rattle.objects.specs.Lent.{Holds}
 use Rattle.steps.specs.declared.Here.{Here}
+use Rattle.model.proofs.Parts.{or-right}
 use Rattle.steps.specs.Events.{HereAt, Sends, Becomes, stepAt}
 use Rattle.steps.proofs.ChainSteps.{chain-joined}
 use Rattle.steps.proofs.HereLaws.{operand-is, operand-valid}
@@ -40,18 +41,6 @@ use Rattle.steps.proofs.PlaceLaws.{literal-at}
 use Rattle.steps.proofs.SayLaws.{noted, needed}
 
 -- ---- classes and selectors
-
-class-kind : {e : ℕ} {o : Objects} → Right e o → (w : ℕ) → T (isValid (o .n) w) → T (isKind o classKind (classOf o w))
-unfolding classOf
-class-kind {o = o} r w v = go (valid-cases (o .n) w v)
-  where
-    go : Valid (o .n) w → T (isKind o classKind (classOf o w))
-    go (odd h) = subst (λ (x : ℕ). T (isKind o classKind x)) (sym (if-yes _ _ (eq-eqb (w % 2) 1 h))) (integer-class r)
-    go (names p q s) = subst (λ (x : ℕ). T (isKind o classKind x)) (sym (if-no _ _ (ne-eqb (w % 2) 1 (omega arith)))) (entry-class r (w / 2) q s)
-
-or-right : (a b : Bool) → T b → T (a || b)
-or-right true b t = tt
-or-right false b t = t
 
 selector-named : (o : Objects) (s count : ℕ) → T (sendFine o s count) → 1 ≤ s
 unfolding sendFine

@@ -7,9 +7,9 @@ use Rattle.model.specs.Limits.{methodKind, classKind}
 use Rattle.model.specs.Objects.{objectsAt, isKind, classOf}
 use Rattle.model.specs.Lookup.{lookup}
 use Rattle.model.proofs.SendFacts.{lookup-facts}
-use Rattle.plain.proofs.ReturnLaws.{contents-room}
-use Rattle.objects.specs.Lent.{frameOf}
-use Rattle.begins.proofs.Beginnings.{refused-8, refused-9, refused-10, receiver-valid, class-starts, begun-answer, begun-unfit, begun-full, begun-room, begun-enters, frame-is, small-frame}
+use Rattle.model.proofs.Lent.{contents-room}
+use Rattle.objects.proofs.Methods.{frame-is, small-frame}
+use Rattle.begins.proofs.Beginnings.{refused-8, refused-9, refused-10, receiver-valid, class-starts, begun-answer, begun-unfit, begun-full, begun-room, begun-enters}
 use lib.Seq.{take-all}
 use lib.ListN.{length, take}
 use Rattle.begins.proofs.Beginnings.{first-words}

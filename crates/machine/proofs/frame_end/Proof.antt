@@ -3,7 +3,7 @@ use mathlib.Core.Path.{ap, _∙_, sym}
 use Prim.Native.Nat.{ℕ, _+_}
 use Rattle.model.specs.Objects.{objectsAt}
 use Rattle.plain.proofs.RunningLaws.{top-bounds, is-method}
-use Rattle.begins.proofs.Beginnings.{frame-is, small-frame}
+use Rattle.objects.proofs.Methods.{frame-is, small-frame}
 use borrow.Author.Needs.{needs}
 use Rattle.machine.proofs.frame_end.Statement.{statement}
 use Rattle.machine.proofs.frame_end.Tie as tie

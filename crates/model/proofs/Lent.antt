@@ -1,0 +1,21 @@
+-- Right objects lie inside the buffers that hold them, at their fronts.
+use Prim.Native.Nat.{ℕ, _*_, _≤_}
+use mathlib.Core.Path.{_≡_, ap, _∙_}
+use mathlib.Core.List.{List, _++_}
+use native.Mathlib.Omega.{arith}
+use lib.ListN.{length, take, drop, length-take, take-append-drop}
+use lib.Seq.{length-take-le}
+use Rattle.model.specs.Limits.{entryWords}
+use Rattle.model.specs.Objects.{objectsAt}
+use Rattle.model.specs.Rules.{Right}
+
+module _ {e : ℕ} (n b : ℕ) (contents bodies : List ℕ) (r : Right e (objectsAt n b contents bodies)) where
+  pub contents-room : entryWords * n ≤ length contents
+  contents-room = let q = r .contents in let l = length-take (entryWords * n) contents in omega arith
+
+  pub bodies-room : b ≤ length bodies
+  bodies-room = let q = r .bodies in let l = length-take b bodies in omega arith
+
+-- words that stand at the front, put there again
+pub front-same : (k : ℕ) (buffer : List ℕ) → k ≤ length buffer → take k buffer ++ drop (length (take k buffer)) buffer ≡ buffer
+front-same k buffer h = ap (λ (x : ℕ). take k buffer ++ drop x buffer) (length-take-le k buffer h) ∙ take-append-drop k buffer
