@@ -4,3 +4,4 @@ pub mod Answers
 pub mod Beginning
 pub mod Looping
 pub mod RunCalls
+pub mod SavedLoaded

@@ -47,7 +47,7 @@ pub fn load(image: &[u8], contents: &mut [u16], bodies: &mut [u16], cache: &mut 
             receiver,
             selector,
         } => {
-            image::clear(cache, cache.len());
+            image::clear(cache, cache.len()); // lookups of what stood here before
             Loaded::Accepted(Registers {
                 n: n,
                 b: b,
@@ -148,7 +148,7 @@ pub fn forget(
     match check(registers, contents, bodies, stack, cache) {
         Checked::Refused(k) => Forgotten::Refused(k),
         Checked::Right => {
-            image::clear(cache, cache.len());
+            image::clear(cache, cache.len()); // every entry
             Forgotten::Emptied
         }
     }
@@ -408,7 +408,7 @@ impl Registers {
                 b: self.b,
                 receiver: self.receiver,
                 selector: self.selector,
-                phase: 0,
+                phase: 0, // idle
                 top: 0,
                 value: 0,
             }),
