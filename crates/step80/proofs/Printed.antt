@@ -1,6 +1,6 @@
 -- From the promises of load, begin and run to the line that is written.
 use Prim.Native.Nat.{ℕ}
-use mathlib.Core.Path.{_≡_, refl, sym, ap, _∙_, subst}
+use mathlib.Core.Path.{_≡_, sym, ap, _∙_, subst}
 use mathlib.Core.List.{List, [], _++_}
 use lib.ListN.{length, drop}
 use Rattle.io.specs.Counts.{Counts}
@@ -70,7 +70,8 @@ module _ (image contents bodies stack cache : List ℕ) (lengths : (length conte
             of-run r₃ count reach o =
                 run-done image s₂ begins h (r₃ .phase) count (r₃ .value) (state r₃ contents₃ bodies₃ stack₃ cache₃) (ap (λ (w : Ran). runGives w contents₃ bodies₃ stack₃ cache₃) (sym o) ∙ n)
 
-            pub of-none-run : (k : ℕ) (r₃ : Registers) → z ≡ N.Refused k r₃ → refusal k ≡ step80 image
+            -- which never comes
+            pub of-refused-run : (k : ℕ) (r₃ : Registers) → z ≡ N.Refused k r₃ → refusal k ≡ step80 image
             unfolding runGives
-            of-none-run k r₃ o =
+            of-refused-run k r₃ o =
                 run-refused image s₂ begins h k (state r₃ contents₃ bodies₃ stack₃ cache₃) (ap (λ (w : Ran). runGives w contents₃ bodies₃ stack₃ cache₃) (sym o) ∙ n)

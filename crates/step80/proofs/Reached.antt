@@ -2,10 +2,9 @@
 -- the flat states on the way stand for those of the plain machine.
 use Prim.Native.Nat.{ℕ}
 use mathlib.Core.Path.{_≡_, refl, sym, ap, ap₂, _∙_, subst}
-use mathlib.Core.Bool.{Bool, true, false}
+use mathlib.Core.Bool.{Bool}
 use mathlib.Core.List.{List, [], _∷_}
 use borrow.Author.Tests.{eq-eqb, ne-eqb}
-use lib.Dec.{eqb}
 use Rattle.model.specs.Image.{Room, Verdict, accepted, refused, loadVerdict}
 use Rattle.plain.specs.Registers.{running}
 use Rattle.plain.specs.State.{Plain}
@@ -161,7 +160,7 @@ module _ (image : List ℕ) (s : Flat) (b : Began image s) where
         go (ran k p′ ts) t = ap lineOf (t .0 .answer)
         go stuck t = absurd t
 
-    -- refused it never is
+    -- a refusal, which never comes
     pub run-refused : (k : ℕ) (s′ : Flat) → gives (refusedBy k) s′ ≡ flatRun s 1000 → refusal k ≡ step80 image
     run-refused k s′ q = go (steps step80Room 1000 (b .plain)) (both-run (gives (refusedBy k) s′) q) ∙ b .prints
       where
