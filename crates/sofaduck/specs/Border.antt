@@ -1,0 +1,46 @@
+-- What C sees: registers as seven words, an answer as a number.
+use Prim.Native.Nat.{ℕ, zero, suc}
+use mathlib.Core.Path.{_≡_}
+use mathlib.Core.Bool.{true}
+use mathlib.Core.List.{List}
+use lib.ListN.{getD}
+use Rattle.model.specs.Image.{Verdict, accepted, refused}
+use Rattle.plain.specs.Registers.{Registers}
+use Rattle.plain.specs.Flat.{Flat, flat}
+use Rattle.plain.specs.Calls.{Answer, done, refusedBy, result, wrote}
+use Rattle.plain.specs.FlatCalls.{Given, gives, Saved, saved, reachFine}
+
+-- N, B, start receiver, start selector, phase, top, value
+unfoldable pub sevenWords : List ℕ → Registers
+sevenWords words =
+    record { n = getD words 0 0; b = getD words 1 0; startReceiver = getD words 2 0; startSelector = getD words 3 0; phase = getD words 4 0; top = getD words 5 0; value = getD words 6 0 }
+
+abbrev pub stateOf : List ℕ → List ℕ → List ℕ → List ℕ → List ℕ → Flat
+stateOf words contents bodies stack cache = flat (sevenWords words) contents bodies stack cache
+
+-- 0, or the number of the refusal
+abbrev pub answerOf : ℕ → Answer
+answerOf zero = done
+answerOf (suc k) = refusedBy (suc k)
+
+abbrev pub verdictOf : ℕ → Verdict
+verdictOf zero = accepted
+verdictOf (suc k) = refused (suc k)
+
+-- Run: where it is not refused, phase and value are in the registers, and count and reach are written.
+abbrev pub runAnswer : ℕ → Registers → ℕ → Answer
+runAnswer zero r count = result (r .phase) count (r .value)
+runAnswer (suc k) r count = refusedBy (suc k)
+
+abbrev pub RunWrites : ℕ → Flat → ℕ → ℕ → ℕ → ℕ → ℕ → Type 0
+RunWrites zero s n count reach count′ reach′ = reachFine s n reach′ ≡ true
+RunWrites (suc k) s n count reach count′ reach′ = (count′ ≡ count) × (reach′ ≡ reach)
+
+-- Save: where it is not refused, the length is written.
+abbrev pub saveAnswer : ℕ → ℕ → Answer
+saveAnswer zero length = wrote length
+saveAnswer (suc k) length = refusedBy (suc k)
+
+abbrev pub SaveWrites : ℕ → ℕ → ℕ → Type 0
+SaveWrites zero length length′ = Unit {0}
+SaveWrites (suc k) length length′ = length′ ≡ length

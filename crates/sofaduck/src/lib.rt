@@ -1,0 +1,217 @@
+// The calls as C makes them: a slice is a pointer and a length, registers are seven words, and every function returns 0 or the number of the
+// refusal. include/sofaduck.h is the same for a C programmer.
+ghost use mathlib.Core.Path.{_≡_};
+ghost use mathlib.Core.List.{List};
+ghost use Prim.Native.Nat.{ℕ};
+ghost use Rattle.plain.specs.Registers as R;
+ghost use Rattle.plain.specs.Flat.{flat};
+ghost use Rattle.plain.specs.Check as K;
+ghost use Rattle.plain.specs.FlatCalls.{gives, saved, flatLoad, flatBegin, flatRun, flatDrop, flatForget, flatSave};
+ghost use Rattle.machine.specs.State.{registersOf};
+ghost use Rattle.sofaduck.specs.Border.{sevenWords, stateOf, answerOf, verdictOf, runAnswer, RunWrites, saveAnswer, SaveWrites};
+use machine::Begun;
+use machine::Checked;
+use machine::Dropped;
+use machine::Forgotten;
+use machine::Loaded;
+use machine::Ran;
+use machine::Registers;
+use machine::Saved;
+
+fn put(registers: &mut [u16; 7], r: Registers)
+    ensures { λ _. ⌜ sevenWords (now (registers .exit)) ≡ registersOf r ⌝ }
+{
+    *registers = [r.n, r.b, r.receiver, r.selector, r.phase, r.top, r.value];
+}
+
+fn taken(registers: &[u16; 7]) -> Registers
+    ensures { λ r. ⌜ registersOf r ≡ sevenWords (now (registers .entry)) ⌝ }
+{
+    Registers {
+        n: registers[0],
+        b: registers[1],
+        receiver: registers[2],
+        selector: registers[3],
+        phase: registers[4],
+        top: registers[5],
+        value: registers[6],
+    }
+}
+
+fn none() -> Registers
+    ensures { λ r. ⌜ registersOf r ≡ R.noRegisters ⌝ }
+{
+    Registers {
+        n: 0,
+        b: 0,
+        receiver: 0,
+        selector: 0,
+        phase: 0,
+        top: 0,
+        value: 0,
+    }
+}
+
+#[no_mangle]
+pub extern "C" fn sofaduck_load(
+    image: &[u8],
+    contents: &mut [u16],
+    bodies: &mut [u16],
+    cache: &mut [u16],
+    registers: &mut [u16; 7],
+) -> u32
+    ensures { λ r. ⌜ ((g : R.Registers) (stack : List ℕ) → gives (answerOf r) (stateOf (now (registers .exit)) (now (contents .exit)) (now (bodies .exit)) stack (now (cache .exit))) ≡ flatLoad (flat g (now (contents .entry)) (now (bodies .entry)) stack (now (cache .entry))) (now (image .entry))) ⌝ }
+{
+    match machine::load(image, contents, bodies, cache) {
+        Loaded::Accepted(r) => {
+            put(registers, r);
+            0
+        }
+        Loaded::Refused(k) => {
+            put(registers, none());
+            k
+        }
+    }
+}
+
+#[no_mangle]
+pub extern "C" fn sofaduck_begin(
+    contents: &mut [u16],
+    bodies: &mut [u16],
+    stack: &mut [u16],
+    cache: &[u16],
+    registers: &mut [u16; 7],
+    receiver: u16,
+    selector: u16,
+    arguments: &[u16],
+) -> u32
+    ensures { λ r. ⌜ gives (answerOf r) (stateOf (now (registers .exit)) (now (contents .exit)) (now (bodies .exit)) (now (stack .exit)) (now (cache .entry))) ≡ flatBegin (stateOf (now (registers .entry)) (now (contents .entry)) (now (bodies .entry)) (now (stack .entry)) (now (cache .entry))) receiver selector (now (arguments .entry)) ⌝ }
+{
+    let before = taken(registers);
+    match before.begin(
+        contents,
+        bodies,
+        stack,
+        cache,
+        receiver,
+        selector,
+        arguments,
+    ) {
+        Begun::Started(r) => {
+            put(registers, r);
+            0
+        }
+        Begun::Refused(k, r) => {
+            put(registers, r);
+            k
+        }
+    }
+}
+
+#[no_mangle]
+pub extern "C" fn sofaduck_run(
+    contents: &mut [u16],
+    bodies: &mut [u16],
+    stack: &mut [u16],
+    cache: &mut [u16],
+    registers: &mut [u16; 7],
+    n: u32,
+    count: &mut u32,
+    reach: &mut u32,
+) -> u32
+    ensures { λ r. ⌜ (gives (runAnswer r (sevenWords (now (registers .exit))) (now (count .exit))) (stateOf (now (registers .exit)) (now (contents .exit)) (now (bodies .exit)) (now (stack .exit)) (now (cache .exit))) ≡ flatRun (stateOf (now (registers .entry)) (now (contents .entry)) (now (bodies .entry)) (now (stack .entry)) (now (cache .entry))) n) × RunWrites r (stateOf (now (registers .entry)) (now (contents .entry)) (now (bodies .entry)) (now (stack .entry)) (now (cache .entry))) n (now (count .entry)) (now (reach .entry)) (now (count .exit)) (now (reach .exit)) ⌝ }
+{
+    let before = taken(registers);
+    match before.run(contents, bodies, stack, cache, n) {
+        Ran::Done {
+            registers: r,
+            count: made,
+            reach: highest,
+        } => {
+            put(registers, r);
+            *count = made;
+            *reach = highest;
+            0
+        }
+        Ran::Refused(k, r) => {
+            put(registers, r);
+            k
+        }
+    }
+}
+
+#[no_mangle]
+pub extern "C" fn sofaduck_drop(
+    contents: &[u16],
+    bodies: &[u16],
+    stack: &[u16],
+    cache: &[u16],
+    registers: &mut [u16; 7],
+) -> u32
+    ensures { λ r. ⌜ gives (answerOf r) (stateOf (now (registers .exit)) (now (contents .entry)) (now (bodies .entry)) (now (stack .entry)) (now (cache .entry))) ≡ flatDrop (stateOf (now (registers .entry)) (now (contents .entry)) (now (bodies .entry)) (now (stack .entry)) (now (cache .entry))) ⌝ }
+{
+    let before = taken(registers);
+    match before.drop(contents, bodies, stack, cache) {
+        Dropped::Dropped(r) => {
+            put(registers, r);
+            0
+        }
+        Dropped::Refused(k, r) => {
+            put(registers, r);
+            k
+        }
+    }
+}
+
+#[no_mangle]
+pub extern "C" fn sofaduck_forget(
+    contents: &[u16],
+    bodies: &[u16],
+    stack: &[u16],
+    cache: &mut [u16],
+    registers: &[u16; 7],
+) -> u32
+    ensures { λ r. ⌜ gives (answerOf r) (stateOf (now (registers .entry)) (now (contents .entry)) (now (bodies .entry)) (now (stack .entry)) (now (cache .exit))) ≡ flatForget (stateOf (now (registers .entry)) (now (contents .entry)) (now (bodies .entry)) (now (stack .entry)) (now (cache .entry))) ⌝ }
+{
+    match machine::forget(taken(registers), contents, bodies, stack, cache) {
+        Forgotten::Emptied => 0,
+        Forgotten::Refused(k) => k,
+    }
+}
+
+#[no_mangle]
+pub extern "C" fn sofaduck_check(
+    contents: &[u16],
+    bodies: &[u16],
+    stack: &[u16],
+    cache: &[u16],
+    registers: &[u16; 7],
+) -> u32
+    ensures { λ r. ⌜ verdictOf r ≡ K.check (stateOf (now (registers .entry)) (now (contents .entry)) (now (bodies .entry)) (now (stack .entry)) (now (cache .entry))) ⌝ }
+{
+    match machine::check(taken(registers), contents, bodies, stack, cache) {
+        Checked::Right => 0,
+        Checked::Refused(k) => k,
+    }
+}
+
+#[no_mangle]
+pub extern "C" fn sofaduck_save(
+    contents: &[u16],
+    bodies: &[u16],
+    stack: &[u16],
+    cache: &[u16],
+    registers: &[u16; 7],
+    output: &mut [u8],
+    length: &mut u32,
+) -> u32
+    ensures { λ r. ⌜ (saved (saveAnswer r (now (length .exit))) (now (output .exit)) ≡ flatSave (stateOf (now (registers .entry)) (now (contents .entry)) (now (bodies .entry)) (now (stack .entry)) (now (cache .entry))) (now (output .entry))) × SaveWrites r (now (length .entry)) (now (length .exit)) ⌝ }
+{
+    match machine::save(taken(registers), contents, bodies, stack, cache, output) {
+        Saved::Wrote(bytes) => {
+            *length = bytes;
+            0
+        }
+        Saved::Refused(k) => k,
+    }
+}
