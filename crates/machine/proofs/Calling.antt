@@ -22,6 +22,11 @@ use Rattle.plain.specs.FlatCalls.{Given, gives, checked, atFront, withPlain, fl
 use Rattle.plain.proofs.FlatLaws.{FlatRight, check-right}
 use Rattle.model.proofs.Lent.{front-same}
 
+-- A cache of its length, cleared
+pub emptied : (cache : List ℕ) → length cache ≡ cacheWords → replicate (length cache) 0 ++ drop (length cache) cache ≡ emptyCache
+emptied cache y =
+    ap (λ (l : List ℕ). replicate (length cache) 0 ++ l) (drop-length cache) ∙ append-nil (replicate (length cache) 0) ∙ ap (λ (k : ℕ). replicate {A = ℕ} k 0) y
+
 -- ---- check: 3, then 11
 pub check-3 : (s : Flat) → buffersFine (roomOf s) (s .registers .n) (s .registers .b) ≡ false → refused 3 ≡ check s
 unfolding check
@@ -63,10 +68,7 @@ pub forget-done : (r : Registers) (contents bodies stack cache cache′ : List �
 unfolding flatForget
 forget-done r contents bodies stack cache cache′ e c =
     let f = check-right (flat r contents bodies stack cache) (sym e) in
-    (λ i. gives done (flat r contents bodies stack ((c ∙ emptied (f .cacheLength)) i))) ∙ passes (flat r contents bodies stack cache) _ e
-  where
-    emptied : length cache ≡ cacheWords → replicate (length cache) 0 ++ drop (length cache) cache ≡ emptyCache
-    emptied y = ap (λ (l : List ℕ). replicate (length cache) 0 ++ l) (drop-length cache) ∙ append-nil (replicate (length cache) 0) ∙ ap (λ (k : ℕ). replicate {A = ℕ} k 0) y
+    (λ i. gives done (flat r contents bodies stack ((c ∙ emptied cache (f .cacheLength)) i))) ∙ passes (flat r contents bodies stack cache) _ e
 
 -- ---- save
 module _ (r : Registers) (contents bodies stack cache output : List ℕ) where

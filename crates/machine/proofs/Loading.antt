@@ -5,7 +5,6 @@ use mathlib.Core.Bool.{Bool, true, false}
 use mathlib.Core.List.{List, [], _∷_, _++_}
 use lib.Dec.{T, leb, eqb, le→leb}
 use lib.ListN.{length, drop, replicate, length-replicate}
-use lib.Seq.{drop-length}
 use native.Mathlib.Omega.{arith}
 use borrow.Author.Tests.{eq-eqb}
 use Rattle.bytecode.proofs.TestLaws.{and-both, true→T}
@@ -26,6 +25,7 @@ use Rattle.plain.proofs.LoadLaws.{accepts}
 use Rattle.machine.specs.declared.Registers.{Registers}
 use Rattle.machine.specs.declared.Loaded.the-variants as L
 use Rattle.machine.specs.State.{loadGives}
+use Rattle.machine.proofs.Calling.{emptied}
 
 -- parts of a reading
 abbrev hOf : Reading → Header
@@ -39,10 +39,6 @@ is-accepted (Refused k) = ⊥
 given-eq : {k k′ : Rattle.plain.specs.Calls.Answer} {r r′ : R.Registers} {c c′ b b′ s s′ x x′ : List ℕ} → k ≡ k′ → r ≡ r′ → c ≡ c′ → b ≡ b′ → s ≡ s′ → x ≡ x′
     → gives k (flat r c b s x) ≡ gives k′ (flat r′ c′ b′ s′ x′)
 given-eq p q r s t u = λ i. gives (p i) (flat (q i) (r i) (s i) (t i) (u i))
-
-append-none : (l : List ℕ) → l ++ [] ≡ l
-append-none [] = refl
-append-none (x ∷ l) = ap (λ (ys : List ℕ). x ∷ ys) (append-none l)
 
 -- an accepted image has the length that its header asks for
 long : (room : Room) (image : List ℕ) → Rattle.plain.proofs.LoadLaws.Accepted room image → T (lengthFine image)
@@ -87,11 +83,8 @@ module _ (image contents bodies cache contents′ bodies′ : List ℕ) where
             given-eq refl (λ i. record { n = x i .n; b = x i .b; startReceiver = x i .receiver; startSelector = x i .selector; phase = 0; top = 0; value = 0 })
             (ap (λ (z : Stored). z .contents) q ∙ ap (λ (k : ℕ). imageObjects image .contents ++ drop k contents) (sym (f .contents)))
             (ap (λ (z : Stored). z .bodies) q ∙ ap (λ (k : ℕ). imageObjects image .bodies ++ drop k bodies) (sym (f .bodies)))
-            refl (c ∙ emptied (a .cache))
+            refl (c ∙ emptied cache (a .cache))
             ∙ sym (load-is accepted p))
-          where
-            emptied : length cache ≡ cacheWords → replicate (length cache) 0 ++ drop (length cache) cache ≡ emptyCache
-            emptied y = ap (λ (l : List ℕ). replicate (length cache) 0 ++ l) (drop-length cache) ∙ append-none (replicate (length cache) 0) ∙ ap (λ (k : ℕ). replicate {A = ℕ} k 0) y
 
     load-refused : (k : ℕ) → Refused k ≡ readingOf verdict h → stored k contents′ bodies′ ≡ storedBy verdict image contents bodies
         → loadGives (L.Refused k) contents′ bodies′ stack cache ≡ flatLoad s image
