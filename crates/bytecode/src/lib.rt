@@ -142,7 +142,7 @@ fn byte_after(words: &[u16], at: usize, k: usize) -> u8
 }
 
 // How many bytes the instruction has that begins with b. It is found by tests, since the table would be built here at each call.
-pub fn length(b: u8) -> usize
+fn length(b: u8) -> usize
     ensures { λ r. ⌜ r ≡ lengthOf b ⌝ }
 {
     if b < 128 {
@@ -168,7 +168,8 @@ pub fn length(b: u8) -> usize
     }
 }
 
-fn place_of(x: u8) -> Place
+// The byte of 128, 129 and 130 that names a place.
+pub fn place_of(x: u8) -> Place
     ensures { λ r. ⌜ r ≡ placeOf x ⌝ }
 {
     match x / 64 {
@@ -304,34 +305,8 @@ fn send(b: u8) -> Instruction
     }
 }
 
-// The instruction of a byte and the two that follow it, by rows of 16 bytes. It is for the run loop alone: a function with one caller is
-// compiled into it. Everyone else decodes by `decode`.
-pub fn instruction_of(b: u8, x: u8, y: u8) -> Instruction
-    ensures { λ r. ⌜ r ≡ instructionOf b x y ⌝ }
-{
-    match b / 16 {
-        0 => Instruction::Push(Place::Field(b % 16)),
-        1 => Instruction::Push(Place::Temporary(b % 16)),
-        2 => Instruction::Push(Place::Literal(b % 32)),
-        3 => Instruction::Push(Place::Literal(b % 32)),
-        4 => Instruction::Push(Place::LiteralVariable(b % 32)),
-        5 => Instruction::Push(Place::LiteralVariable(b % 32)),
-        6 => {
-            if b < 104 {
-                return Instruction::PopStore(Place::Field(b % 8));
-            }
-            Instruction::PopStore(Place::Temporary(b % 8))
-        }
-        7 => constant(b),
-        8 => extended(b, x, y),
-        9 => jump(b, x),
-        10 => jump(b, x),
-        _ => send(b),
-    }
-}
-
-// The same by ranges, for `decode`.
-fn by_range(b: u8, x: u8, y: u8) -> Instruction
+// The instruction of a byte and the two that follow it.
+fn instruction_of(b: u8, x: u8, y: u8) -> Instruction
     ensures { λ r. ⌜ r ≡ instructionOf b x y ⌝ }
 {
     if b < 112 {
@@ -361,5 +336,5 @@ pub fn decode(words: &[u16], size: usize, at: usize) -> Instruction
     if size - at < n {
         return Instruction::Unused;
     }
-    by_range(b, byte_after(words, at, 1), byte_after(words, at, 2))
+    instruction_of(b, byte_after(words, at, 1), byte_after(words, at, 2))
 }

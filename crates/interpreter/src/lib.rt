@@ -8,16 +8,19 @@ ghost use Rattle.plain.specs.Flat.{frameSender, frameDepth, frameMethod};
 ghost use Rattle.plain.specs.Step.{step};
 ghost use Rattle.plain.specs.Running.{Runs, roomAt, runningAt};
 ghost use Rattle.sends.specs.Sends.{Caches};
+ghost use Rattle.steps.specs.Events.{written, IsActive};
 ghost use Rattle.interpreter.specs.Advances.{AdvancedIs};
 use model::Pointer;
 use model::StackPosition;
 use sends::Sent;
+use steps::Active;
 use steps::Event;
 
-// What a bytecode leads to: the number of objects and body words and the top frame then; or the value that the run finishes with; or
-// a halt, with the phase that says why (3, 4 or 5).
+// What a bytecode leads to: the running frame goes on; or another frame is on top or a send was answered, with the number of objects and
+// body words then; or the value that the run finishes with; or a halt, with the phase that says why (3, 4 or 5).
 pub enum Advanced {
-    Went {
+    Next(Active),
+    Top {
         n: usize,
         b: usize,
         top: StackPosition,
@@ -51,7 +54,7 @@ fn return_to(
     StackPosition(sender)
 }
 
-// A whole bytecode.
+// A whole bytecode. The frame's words for position and depth are written but where it goes on.
 pub fn advance(
     contents: &mut [u16],
     bodies: &mut [u16],
@@ -59,26 +62,30 @@ pub fn advance(
     cache: &mut [u16],
     n: usize,
     b: usize,
-    top: StackPosition,
+    active: Active,
 ) -> Advanced
-    requires { ⌜ Runs n b (top .0) (now contents) (now bodies) (now stack) × Caches n b (now contents) (now bodies) (now cache) ⌝ }
-    ensures { λ r. ⌜ ((receiver selector : ℕ) → AdvancedIs (step (roomAt (now (contents .entry)) (now (bodies .entry)) (now (stack .entry)) (now (cache .entry))) (runningAt receiver selector n b (top .0) (now (contents .entry)) (now (bodies .entry)) (now (stack .entry)))) receiver selector n b (now (contents .entry)) (now (bodies .entry)) (now (stack .entry)) (now (cache .entry)) (now (contents .exit)) (now (bodies .exit)) (now (stack .exit)) (now (cache .exit)) r) ⌝ }
+    requires { ⌜ IsActive n b (now contents) (now bodies) (now stack) active × Caches n b (now contents) (now bodies) (now cache) ⌝ }
+    ensures { λ r. ⌜ ((receiver selector : ℕ) → AdvancedIs (step (roomAt (now (contents .entry)) (now (bodies .entry)) (now (stack .entry)) (now (cache .entry))) (runningAt receiver selector n b (active .base .0) (now (contents .entry)) (now (bodies .entry)) (written active (now (stack .entry))))) receiver selector n b (now (contents .entry)) (now (bodies .entry)) (written active (now (stack .entry))) (now (cache .entry)) (now (contents .exit)) (now (bodies .exit)) (now (stack .exit)) (now (cache .exit)) r) ⌝ }
 {
-    let event = steps::step(contents, bodies, stack, n, b, top);
-    match event {
-        Event::Next => Advanced::Went {
-            n: n,
-            b: b,
-            top: top,
-        },
+    let top = active.base;
+    let operands = active.operands;
+    match steps::step(contents, bodies, stack, n, b, active) {
+        Event::Next { position, end } => Advanced::Next(Active {
+            base: top,
+            code: active.code,
+            operands: operands,
+            position: position,
+            end: end,
+        }),
         Event::Send {
-            selector: selector,
-            count: count,
-            class: class,
-            next: next,
-            sure: sure,
+            selector,
+            count,
+            class,
+            next,
+            sure,
         } => {
-            let sent = sends::send(
+            steps::leave(stack, active);
+            match sends::send(
                 contents,
                 bodies,
                 stack,
@@ -91,17 +98,16 @@ pub fn advance(
                 class,
                 next,
                 sure,
-            );
-            match sent {
+            ) {
                 Sent::Answered {
                     n: objects,
                     b: words,
-                } => Advanced::Went {
+                } => Advanced::Top {
                     n: objects,
                     b: words,
                     top: top,
                 },
-                Sent::Entered(base) => Advanced::Went {
+                Sent::Entered(base) => Advanced::Top {
                     n: n,
                     b: b,
                     top: base,
@@ -111,17 +117,21 @@ pub fn advance(
             }
         }
         Event::Return(w) => {
+            steps::leave(stack, active);
             let base = top.0;
             if base == 0 {
                 return Advanced::Finished(w);
             }
             let below = return_to(contents, bodies, stack, n, b, top, w);
-            Advanced::Went {
+            Advanced::Top {
                 n: n,
                 b: b,
                 top: below,
             }
         }
-        Event::NoBoolean => Advanced::Halted(4),
+        Event::NoBoolean => {
+            steps::leave(stack, active);
+            Advanced::Halted(4)
+        }
     }
 }

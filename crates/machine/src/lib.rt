@@ -301,23 +301,27 @@ impl Registers {
         requires { ⌜ (K.check (state self (now contents) (now bodies) (now stack) (now cache)) ≡ accepted) × (self .phase ≡ 1) ⌝ }
         ensures { λ r. ⌜ RunsTo (state self (now (contents .entry)) (now (bodies .entry)) (now (stack .entry)) (now (cache .entry))) grant (now (contents .exit)) (now (bodies .exit)) (now (stack .exit)) (now (cache .exit)) r ⌝ }
     {
+        let start = StackPosition(self.top as usize);
         let mut n = self.n as usize;
         let mut b = self.b as usize;
-        let mut top = self.top as usize;
         let mut count: u32 = 0;
-        let mut reach = frame_end(contents, bodies, stack, n, b, StackPosition(top));
+        let mut reach = frame_end(contents, bodies, stack, n, b, start);
+        let mut active = steps::enter(contents, bodies, stack, n, b, start);
         while count < grant {
-            match interpreter::advance(contents, bodies, stack, cache, n, b, StackPosition(top)) {
-                Advanced::Went {
+            match interpreter::advance(contents, bodies, stack, cache, n, b, active) {
+                Advanced::Next(to) => {
+                    active = to;
+                    count += 1;
+                }
+                Advanced::Top {
                     n: objects,
                     b: words,
-                    top: base,
+                    top,
                 } => {
-                    let to = base.0;
                     n = objects;
                     b = words;
-                    reach = raised(contents, bodies, stack, n, b, top, to, reach);
-                    top = to;
+                    reach = raised(contents, bodies, stack, n, b, active.base.0, top.0, reach);
+                    active = steps::enter(contents, bodies, stack, n, b, top);
                     count += 1;
                 }
                 Advanced::Finished(w) => {
@@ -343,7 +347,7 @@ impl Registers {
                             receiver: self.receiver,
                             selector: self.selector,
                             phase: k,
-                            top: top as u16,
+                            top: active.base.0 as u16,
                             value: 0,
                         },
                         count: count,
@@ -352,6 +356,7 @@ impl Registers {
                 }
             }
         }
+        steps::leave(stack, active);
         Outcome {
             registers: Registers {
                 n: n as u16,
@@ -359,7 +364,7 @@ impl Registers {
                 receiver: self.receiver,
                 selector: self.selector,
                 phase: 1,
-                top: top as u16,
+                top: active.base.0 as u16,
                 value: 0,
             },
             count: count,

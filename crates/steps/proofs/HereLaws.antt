@@ -35,8 +35,7 @@ use Rattle.plain.proofs.RunningLaws.{top-right, is-method, top-bounds}
 use Rattle.plain.proofs.WriteLaws.{operand-here}
 use Rattle.objects.specs.Lent.{Holds, CodeAt, temporariesOf}
 use Rattle.objects.specs.declared.Code.{Code}
-use Rattle.steps.specs.declared.Here.{Here}
-use Rattle.steps.specs.Events.{HereAt}
+use Rattle.steps.specs.Events.{Here, HereAt}
 
 -- a list's element, as a read that may find nothing
 pub element-is : (l : List ℕ) (i : ℕ) → i < length l → getElem? l i ≡ some (getD l i 0)
@@ -117,11 +116,11 @@ module _ {n b top : ℕ} {contents bodies stack : List ℕ} (r : Runs n b top co
 pub record Bounds (top : ℕ) (stack : List ℕ) (h : Here) : Type 0 where
   pub low : top + 18 ≤ length stack
   pub small : top + 18 ≤ 65536
-  pub first : top + 6 ≤ h .operands .0
-  pub inside : h .operands .0 + h .depth ≤ length stack
-  pub most : h .operands .0 + h .depth ≤ 65536
+  pub first : top + 6 ≤ h .operands
+  pub inside : h .operands + h .depth ≤ length stack
+  pub most : h .operands + h .depth ≤ 65536
   pub deep : h .depth ≤ 32
-  pub next : h .next .0 < 65536
+  pub next : h .next < 65536
 
 module _ {n b top : ℕ} {contents bodies stack : List ℕ} {h : Here} {i : Instruction} (a : HereAt n b top contents bodies stack h i) where
   abbrev oₐ : Objects
@@ -143,14 +142,14 @@ module _ {n b top : ℕ} {contents bodies stack : List ℕ} {h : Here} {i : Inst
       let z = coded (a .at .runs) .small in
       record { low = omega arith; small = omega arith; first = omega arith; inside = omega arith; most = omega arith; deep = omega arith; next = omega arith }
 
-  pub here-method : Holds methodKind n b contents bodies (h .method .0)
-  here-method = holds-method (a .at .runs) (h .method .0) (a .isMethod)
+  pub here-method : Holds methodKind n b contents bodies (h .method)
+  here-method = holds-method (a .at .runs) (h .method) (a .isMethod)
 
   top-is : frameAt oₐ stack top ≡ fₐ
   top-is = refl
 
   -- the operand under k others
-  pub operand-is : (k at : ℕ) → k < h .depth → at ≡ h .operands .0 + (h .depth - suc k) → operand fₐ k ≡ some (getD stack at 0)
+  pub operand-is : (k at : ℕ) → k < h .depth → at ≡ h .operands + (h .depth - suc k) → operand fₐ k ≡ some (getD stack at 0)
   unfolding operand frameAt
   operand-is k at l e =
       let r = top-right (a .at .runs) in
@@ -162,7 +161,7 @@ module _ {n b top : ℕ} {contents bodies stack : List ℕ} {h : Here} {i : Inst
       ∙ ap some (sym (operand-here oₐ stack top fₐ true refl r (fₐ .depth - suc k) (omega arith)))
       ∙ ap (λ (x : ℕ). some (getD stack x 0)) (omega arith)
 
-  pub operand-valid : (k at : ℕ) → k < h .depth → at ≡ h .operands .0 + (h .depth - suc k) → T (isValid n (getD stack at 0))
+  pub operand-valid : (k at : ℕ) → k < h .depth → at ≡ h .operands + (h .depth - suc k) → T (isValid n (getD stack at 0))
   unfolding frameAt
   operand-valid k at l e =
       let r = top-right (a .at .runs) in
@@ -171,32 +170,3 @@ module _ {n b top : ℕ} {contents bodies stack : List ℕ} {h : Here} {i : Inst
       let y = a .isOperands in
       subst (λ (x : ℕ). T (isValid n x)) (sym (operand-here oₐ stack top fₐ true refl r (fₐ .depth - suc k) (omega arith)) ∙ ap (λ (x : ℕ). getD stack x 0) (omega arith))
       (every-at (isValid n) (fₐ .operands) (r .validOperands) (fₐ .depth - suc k) (omega arith))
-
--- The bytecode as the code fetches it
-module _ {n b top : ℕ} {contents bodies stack : List ℕ} (r : Runs n b top contents bodies stack) {c : Code} (q : CodeAt n b contents bodies (frameMethod stack top) c) where
-  abbrev lent : List ℕ
-  lent = take (c .end - c .from) (drop (c .from) bodies)
-
-  pub position-lent : (framePosition stack top / 2 < length lent) × (framePosition stack top < 65536)
-  position-lent =
-      let k = coded r in
-      let i = position-inside r in
-      let x = q .from in
-      let y = q .end in
-      let z = q .inside in
-      let d = length-drop (c .from) bodies in
-      let l = length-take-le (c .end - c .from) (drop (c .from) bodies) (omega arith) in
-      (omega arith, omega arith)
-
-  pub fetched-here : (i : Instruction) (next word temporaries : ℕ)
-      → i ≡ instructionOf (byteAt lent (framePosition stack top)) (byteAt lent (framePosition stack top + 1)) (byteAt lent (framePosition stack top + 2))
-      → next ≡ nextAt lent (framePosition stack top) → word ≡ header (objectsAt n b contents bodies) (frameMethod stack top) → temporaries ≡ temporariesOf word
-      → HereAt n b top contents bodies stack (record { method = record { 0 = frameMethod stack top }; operands = record { 0 = top + 6 + temporaries }; depth = frameDepth stack top; next = record { 0 = next } }) i
-  fetched-here i next word temporaries e d w t =
-      let s = q .words in
-      record {
-        at = record { runs = r; behind = d ∙ ap (λ (l : List ℕ). nextAt l (framePosition stack top)) s; decoded = e ∙ ap (λ (l : List ℕ). instructionOf (byteAt l (framePosition stack top)) (byteAt l (framePosition stack top + 1)) (byteAt l (framePosition stack top + 2))) s ∙ decode-is r };
-        isMethod = refl;
-        isOperands = ap (λ (k : ℕ). top + 6 + k) (t ∙ ap (λ (x : ℕ). temporariesOf x) w);
-        isDepth = refl;
-      }

@@ -1,8 +1,10 @@
 pub mod ChainSteps
 pub mod HereLaws
 pub mod MoveLaws
+pub mod ActiveLaws
 pub mod PlaceLaws
 pub mod StoreLaws
 pub mod SayLaws
 pub mod SendLaws
 pub mod SpecialLaws
+pub mod DoingLaws

@@ -24,8 +24,7 @@ use Rattle.plain.proofs.StepLaws.{has-word, without-length}
 use Rattle.plain.proofs.RunningLaws.{stood, all-right, top-right, top-bounds, method-is, step-is}
 use Rattle.plain.proofs.WriteLaws.{moved-writes, pushed-writes, temporary-writes}
 use Rattle.objects.proofs.Buffers.{bodies-room, front-same}
-use Rattle.steps.specs.declared.Here.{Here}
-use Rattle.steps.specs.Events.{HereAt, answered}
+use Rattle.steps.specs.Events.{Here, HereAt, answered}
 use Rattle.steps.proofs.HereLaws.{bounds}
 
 pub provided-holds : (t : Bool) (x : Stepped) → T t → provided t x ≡ x
@@ -43,7 +42,7 @@ same-three l p t q r s x = λ j. set (set (set l (p j) (t j)) (q j) (r j)) (s j)
 -- what a bytecode asks that writes a word over the `taken` uppermost operands
 abbrev pub Answers : ℕ → List ℕ → Here → ℕ → Type 0
 Answers top stack h taken =
-    (top + 2 < length stack) × (taken ≤ h .depth) × (h .operands .0 + h .depth ≤ 65536) × (h .operands .0 + (h .depth - taken) < length stack) × (h .depth < 65535) × (h .next .0 < 65536)
+    (top + 2 < length stack) × (taken ≤ h .depth) × (h .operands + h .depth ≤ 65536) × (h .operands + (h .depth - taken) < length stack) × (h .depth < 65535) × (h .next < 65536)
 
 module _ {n b top : ℕ} {contents bodies stack : List ℕ} {h : Here} {i : Instruction} (a : HereAt n b top contents bodies stack h i) where
   abbrev o : Objects
@@ -60,7 +59,7 @@ module _ {n b top : ℕ} {contents bodies stack : List ℕ} {h : Here} {i : Inst
 
   -- what the instruction does
   abbrev pub Does : (Plain → Room → Stepped) → Type 0
-  Does x = (receiver selector : ℕ) (room : Room) → execute room (at receiver selector) f rest (h .next .0) i ≡ x (at receiver selector) room
+  Does x = (receiver selector : ℕ) (room : Room) → execute room (at receiver selector) f rest (h .next) i ≡ x (at receiver selector) room
 
   -- the top frame becomes another one
   pub moves : (f′ : Frame) (stack′ : List ℕ) → Does (λ s room. next (onTop s f′ rest) noLookup) → stack′ ≡ laid stack top (f′ ∷ rest)
@@ -82,7 +81,7 @@ module _ {n b top : ℕ} {contents bodies stack : List ℕ} {h : Here} {i : Inst
   unfolding frameAt
   depth-of = sym (a .isDepth)
 
-  first-of : top + (6 + temporaryCount o (f .method)) ≡ h .operands .0
+  first-of : top + (6 + temporaryCount o (f .method)) ≡ h .operands
   unfolding frameAt
   first-of = let x = a .isOperands in omega arith
 
@@ -125,10 +124,10 @@ module _ {n b top : ℕ} {contents bodies stack : List ℕ} {h : Here} {i : Inst
       ∙ sym (temporary-writes o stack top (suc top) f rest (all-right (a .at .runs)) (stood (a .at .runs)) q k j w (let y = depth-of in omega arith) (subst (λ (x : ℕ). j < temporaryCount o x) (sym (method-is (a .at .runs))) t)))
 
   -- A word in the place of the `taken` uppermost operands
-  room-for : (taken : ℕ) → noteAt (methodTable o (frameMethod stack top)) (h .next .0) ≡ suc (suc (h .depth - taken)) → temporaryCount o (frameMethod stack top) + (h .depth - taken) < frameWords o (frameMethod stack top)
-  room-for taken e = ltb→lt (temporaryCount o (frameMethod stack top) + (h .depth - taken)) (frameWords o (frameMethod stack top)) (has-word o (frameMethod stack top) (h .next .0) (h .depth - taken) e)
+  room-for : (taken : ℕ) → noteAt (methodTable o (frameMethod stack top)) (h .next) ≡ suc (suc (h .depth - taken)) → temporaryCount o (frameMethod stack top) + (h .depth - taken) < frameWords o (frameMethod stack top)
+  room-for taken e = ltb→lt (temporaryCount o (frameMethod stack top) + (h .depth - taken)) (frameWords o (frameMethod stack top)) (has-word o (frameMethod stack top) (h .next) (h .depth - taken) e)
 
-  pub answer-room : (taken : ℕ) → taken ≤ h .depth → noteAt (methodTable o (frameMethod stack top)) (h .next .0) ≡ suc (suc (h .depth - taken)) → Answers top stack h taken
+  pub answer-room : (taken : ℕ) → taken ≤ h .depth → noteAt (methodTable o (frameMethod stack top)) (h .next) ≡ suc (suc (h .depth - taken)) → Answers top stack h taken
   answer-room taken l e =
       let w = room-for taken e in
       let t = top-bounds (a .at .runs) in
@@ -136,15 +135,15 @@ module _ {n b top : ℕ} {contents bodies stack : List ℕ} {h : Here} {i : Inst
       let k = bounds a in
       (omega arith, l, omega arith, omega arith, omega arith, omega arith)
 
-  pub answers : (taken w : ℕ) → taken ≤ h .depth → noteAt (methodTable o (frameMethod stack top)) (h .next .0) ≡ suc (suc (h .depth - taken))
-      → Does (λ s room. pushed s f rest (h .next .0) (without f taken) w noLookup)
+  pub answers : (taken w : ℕ) → taken ≤ h .depth → noteAt (methodTable o (frameMethod stack top)) (h .next) ≡ suc (suc (h .depth - taken))
+      → Does (λ s room. pushed s f rest (h .next) (without f taken) w noLookup)
       → Moved n b top contents bodies stack bodies (answered stack top h taken w)
   unfolding pushed
   answers taken w l e d =
-      moves (movedTo f (h .next .0) (without f taken ++ (w ∷ []))) (answered stack top h taken w)
-      (λ receiver selector room. d receiver selector room ∙ provided-holds (hasWord o f (length (without f taken))) (next (onTop (at receiver selector) (movedTo f (h .next .0) (without f taken ++ (w ∷ []))) rest) noLookup) has)
+      moves (movedTo f (h .next) (without f taken ++ (w ∷ []))) (answered stack top h taken w)
+      (λ receiver selector room. d receiver selector room ∙ provided-holds (hasWord o f (length (without f taken))) (next (onTop (at receiver selector) (movedTo f (h .next) (without f taken ++ (w ∷ []))) rest) noLookup) has)
       (same-three stack (let x = first-of in let y = depth-of in omega arith) refl refl refl refl (let y = depth-of in omega arith)
-      ∙ sym (pushed-writes o stack top (suc top) f rest (all-right (a .at .runs)) (stood (a .at .runs)) (h .next .0) (f .depth - taken) w (omega arith) room))
+      ∙ sym (pushed-writes o stack top (suc top) f rest (all-right (a .at .runs)) (stood (a .at .runs)) (h .next) (f .depth - taken) w (omega arith) room))
     where
       room : temporaryCount o (f .method) + (f .depth - taken) < frameWords o (f .method)
       room =
@@ -157,8 +156,8 @@ module _ {n b top : ℕ} {contents bodies stack : List ℕ} {h : Here} {i : Inst
           lib.Dec.lt→ltb (temporaryCount o (f .method) + length (without f taken)) (frameWords o (f .method)) (let y = room in omega arith)
 
   -- the same with nothing taken
-  pub pushes : (w : ℕ) → noteAt (methodTable o (frameMethod stack top)) (h .next .0) ≡ suc (suc (h .depth - 0)) → Does (λ s room. pushed s f rest (h .next .0) (f .operands) w noLookup)
+  pub pushes : (w : ℕ) → noteAt (methodTable o (frameMethod stack top)) (h .next) ≡ suc (suc (h .depth - 0)) → Does (λ s room. pushed s f rest (h .next) (f .operands) w noLookup)
       → Moved n b top contents bodies stack bodies (answered stack top h 0 w)
   pushes w e d =
       answers 0 w (omega arith) e
-      (λ receiver selector room. d receiver selector room ∙ ap (λ (l : List ℕ). pushed (at receiver selector) f rest (h .next .0) l w noLookup) (sym (all-operands (f .depth - 0) (let y = depth-of in omega arith))))
+      (λ receiver selector room. d receiver selector room ∙ ap (λ (l : List ℕ). pushed (at receiver selector) f rest (h .next) l w noLookup) (sym (all-operands (f .depth - 0) (let y = depth-of in omega arith))))

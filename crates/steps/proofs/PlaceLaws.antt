@@ -31,8 +31,7 @@ use Rattle.plain.proofs.RunningLaws.{top-right, top-bounds, method-is, receiver
 use Rattle.plain.proofs.WriteLaws.{temporary-here}
 use Rattle.objects.specs.Lent.{Inside, Holds}
 use Rattle.objects.proofs.Bodies.{field-inside}
-use Rattle.steps.specs.declared.Here.{Here}
-use Rattle.steps.specs.Events.{HereAt, storing, leftBy, Storing}
+use Rattle.steps.specs.Events.{Here, HereAt, storing, leftBy, StoringAt}
 use Rattle.steps.proofs.HereLaws.{element-is, holds-method, operand-is}
 use Rattle.steps.proofs.MoveLaws.{Does, all-operands, depth-of, goes-storing}
 
@@ -144,23 +143,23 @@ abbrev pub ReadsLiteral : ℕ → ℕ → List ℕ → List ℕ → ℕ → ℕ 
 ReadsLiteral n b contents bodies w j = Holds methodKind n b contents bodies w × (j < literalCount (objectsAt n b contents bodies) w)
 
 pub literal-there : {n b top : ℕ} {contents bodies stack : List ℕ} {h : Here} {i : Instruction} → HereAt n b top contents bodies stack h i → (j : ℕ)
-    → j < literalCount (objectsAt n b contents bodies) (frameMethod stack top) → ReadsLiteral n b contents bodies (h .method .0) j
+    → j < literalCount (objectsAt n b contents bodies) (frameMethod stack top) → ReadsLiteral n b contents bodies (h .method) j
 literal-there {n} {b} {contents = contents} {bodies = bodies} a j l =
     (holds-method (a .at .runs) _ (a .isMethod), subst (λ (x : ℕ). j < literalCount (objectsAt n b contents bodies) x) (sym (a .isMethod)) l)
 
 pub literal-here : {n b top : ℕ} {contents bodies stack : List ℕ} {h : Here} {i : Instruction} → HereAt n b top contents bodies stack h i → (j : ℕ)
-    → T (placeFine (objectsAt n b contents bodies) (frameMethod stack top) (Literal j)) → ReadsLiteral n b contents bodies (h .method .0) j
+    → T (placeFine (objectsAt n b contents bodies) (frameMethod stack top) (Literal j)) → ReadsLiteral n b contents bodies (h .method) j
 literal-here a j t = literal-there a j (literal-below (a .at .runs) j t)
 
 pub variable-here : {n b top : ℕ} {contents bodies stack : List ℕ} {h : Here} {i : Instruction} → HereAt n b top contents bodies stack h i → (j : ℕ)
-    → T (placeFine (objectsAt n b contents bodies) (frameMethod stack top) (LiteralVariable j)) → ReadsLiteral n b contents bodies (h .method .0) j
+    → T (placeFine (objectsAt n b contents bodies) (frameMethod stack top) (LiteralVariable j)) → ReadsLiteral n b contents bodies (h .method) j
 variable-here a j t = literal-there a j (variable-below (a .at .runs) j t)
 
 pub read-as : (o : Objects) (f : Frame) {p p′ : Place} {w : ℕ} → p ≡ p′ → read o f p′ ≡ some w → read o f p ≡ some w
 read-as o f e q = ap (read o f) e ∙ q
 
 -- A store of the top operand
-module _ {n b top : ℕ} {contents bodies stack : List ℕ} {h : Here} {p : Place} {left : ℕ} (z : Storing n b top contents bodies stack h p left) where
+module _ {n b top : ℕ} {contents bodies stack : List ℕ} {h : Here} {p : Place} {left : ℕ} (z : StoringAt n b top contents bodies stack h p left) where
   abbrev oₛ : Objects
   oₛ = objectsAt n b contents bodies
 
@@ -200,31 +199,31 @@ module _ {n b top : ℕ} {contents bodies stack : List ℕ} {h : Here} {p : Plac
   store-left = left-cases (z .pop) (z .after)
 
   abbrev top-word : ℕ
-  top-word = getD stack (h .operands .0 + (h .depth - 1)) 0
+  top-word = getD stack (h .operands + (h .depth - 1)) 0
 
   one-less : {i : Instruction} → HereAt n b top contents bodies stack h i → left ≡ h .depth - 1 → fₛ .depth - 1 ≡ left
   one-less a e = let y = depth-of a in omega arith
 
   -- the step is the store of a word by the frame moved on
-  pub stores : Does (z .here) (λ s room. stored s (movedTo fₛ (h .next .0) (take left (fₛ .operands))) restₛ p top-word)
+  pub stores : Does (z .here) (λ s room. stored s (movedTo fₛ (h .next) (take left (fₛ .operands))) restₛ p top-word)
   unfolding execute
   stores receiver selector room = go (z .pop) (z .here) (z .after)
     where
       go : (pop : Bool) (a : HereAt n b top contents bodies stack h (storing pop p)) → left ≡ leftBy pop (h .depth)
-          → execute room (runningAt receiver selector n b top contents bodies stack) fₛ restₛ (h .next .0) (storing pop p) ≡ stored (runningAt receiver selector n b top contents bodies stack) (movedTo fₛ (h .next .0) (take left (fₛ .operands))) restₛ p top-word
+          → execute room (runningAt receiver selector n b top contents bodies stack) fₛ restₛ (h .next) (storing pop p) ≡ stored (runningAt receiver selector n b top contents bodies stack) (movedTo fₛ (h .next) (take left (fₛ .operands))) restₛ p top-word
       go true a e =
-          ap (λ (x : Option ℕ). x >>= λ w. stored (runningAt receiver selector n b top contents bodies stack) (popped fₛ (h .next .0) 1) restₛ p w) (operand-is a 0 (h .operands .0 + (h .depth - 1)) store-needs refl)
-          ∙ ap (λ (k : ℕ). stored (runningAt receiver selector n b top contents bodies stack) (movedTo fₛ (h .next .0) (take k (fₛ .operands))) restₛ p top-word) (one-less a e)
+          ap (λ (x : Option ℕ). x >>= λ w. stored (runningAt receiver selector n b top contents bodies stack) (popped fₛ (h .next) 1) restₛ p w) (operand-is a 0 (h .operands + (h .depth - 1)) store-needs refl)
+          ∙ ap (λ (k : ℕ). stored (runningAt receiver selector n b top contents bodies stack) (movedTo fₛ (h .next) (take k (fₛ .operands))) restₛ p top-word) (one-less a e)
       go false a e =
-          ap (λ (x : Option ℕ). x >>= λ w. stored (runningAt receiver selector n b top contents bodies stack) (movedTo fₛ (h .next .0) (fₛ .operands)) restₛ p w) (operand-is a 0 (h .operands .0 + (h .depth - 1)) store-needs refl)
-          ∙ ap (λ (l : List ℕ). stored (runningAt receiver selector n b top contents bodies stack) (movedTo fₛ (h .next .0) l) restₛ p top-word) (sym (all-operands a left e))
+          ap (λ (x : Option ℕ). x >>= λ w. stored (runningAt receiver selector n b top contents bodies stack) (movedTo fₛ (h .next) (fₛ .operands)) restₛ p w) (operand-is a 0 (h .operands + (h .depth - 1)) store-needs refl)
+          ∙ ap (λ (l : List ℕ). stored (runningAt receiver selector n b top contents bodies stack) (movedTo fₛ (h .next) l) restₛ p top-word) (sym (all-operands a left e))
 
   -- a word that has the field
   pub stores-in : (v j : ℕ) (bodies′ : List ℕ) → HasField n b contents bodies v j
-      → Does (z .here) (λ s room. storedField s (movedTo fₛ (h .next .0) (take left (fₛ .operands))) restₛ v j top-word)
+      → Does (z .here) (λ s room. storedField s (movedTo fₛ (h .next) (take left (fₛ .operands))) restₛ v j top-word)
       → bodies′ ≡ atFront (storeWord oₛ (objectNumber v) j top-word .bodies) bodies
-      → Moved n b top contents bodies stack bodies′ (set (set stack (top + 1) (h .next .0)) (top + 2) left)
+      → Moved n b top contents bodies stack bodies′ (set (set stack (top + 1) (h .next)) (top + 2) left)
   unfolding storedField
   stores-in v j bodies′ q d e =
-      goes-storing (z .here) (h .next .0) left (objectNumber v) j top-word bodies′ store-left
-      (λ receiver selector room. d receiver selector room ∙ ap (λ (x : Option ℕ). x >>= λ old. next (withObjects (onTop (runningAt receiver selector n b top contents bodies stack) (movedTo fₛ (h .next .0) (take left (fₛ .operands))) restₛ) (storeWord oₛ (objectNumber v) j top-word)) noLookup) (field-is store-runs q)) e
+      goes-storing (z .here) (h .next) left (objectNumber v) j top-word bodies′ store-left
+      (λ receiver selector room. d receiver selector room ∙ ap (λ (x : Option ℕ). x >>= λ old. next (withObjects (onTop (runningAt receiver selector n b top contents bodies stack) (movedTo fₛ (h .next) (take left (fₛ .operands))) restₛ) (storeWord oₛ (objectNumber v) j top-word)) noLookup) (field-is store-runs q)) e

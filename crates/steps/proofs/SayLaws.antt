@@ -29,8 +29,7 @@ use Rattle.plain.specs.Flat.{frameMethod, frameReceiver, frameAt}
 use Rattle.plain.specs.Running.{Moved, runningAt, topFrame, restFrames}
 use Rattle.plain.proofs.NowLaws.{Now}
 use Rattle.plain.proofs.RunningLaws.{receiver-is, step-is, now-is}
-use Rattle.steps.specs.declared.Here.{Here}
-use Rattle.steps.specs.Events.{HereAt, answered, Becomes, stepAt}
+use Rattle.steps.specs.Events.{Here, HereAt, answered, Becomes, stepAt}
 use Rattle.steps.proofs.HereLaws.{noted-small, operand-is}
 use Rattle.steps.proofs.MoveLaws.{Does, Answers, depth-of, provided-holds, goes-whole, goes-popped, answer-room, pushes}
 
@@ -49,10 +48,10 @@ module _ {n b top : ℕ} {contents bodies stack : List ℕ} {h : Here} {i : Inst
   abbrev m : ℕ
   m = frameMethod stack top
 
-  abbrev now : Now o f (h .next .0) i
+  abbrev now : Now o f (h .next) i
   now = now-is (a .at)
 
-  pub noted : (q : ℕ) → List·Memᴰ q (successors (h .next .0) i) → noteAt (methodTable o m) q ≡ suc (h .depth - need i + leaves i)
+  pub noted : (q : ℕ) → List·Memᴰ q (successors (h .next) i) → noteAt (methodTable o m) q ≡ suc (h .depth - need i + leaves i)
   unfolding frameAt
   noted q t = now .goes q t ∙ ap (λ (d : ℕ). suc (d - need i + leaves i)) (depth-of a)
 
@@ -60,8 +59,8 @@ module _ {n b top : ℕ} {contents bodies stack : List ℕ} {h : Here} {i : Inst
   needed = let x = now .needs in let y = depth-of a in omega arith
 
   -- an instruction that leaves one operand more than it needs
-  one-more : List·Memᴰ (h .next .0) (successors (h .next .0) i) → leaves i ≡ suc (need i) → noteAt (methodTable o m) (h .next .0) ≡ suc (suc (h .depth - 0))
-  one-more t e = noted (h .next .0) t ∙ ap suc (let x = needed in omega arith)
+  one-more : List·Memᴰ (h .next) (successors (h .next) i) → leaves i ≡ suc (need i) → noteAt (methodTable o m) (h .next) ≡ suc (suc (h .depth - 0))
+  one-more t e = noted (h .next) t ∙ ap suc (let x = needed in omega arith)
 
   done : (x : Plain → Room → Stepped) → Does a x → (receiver selector : ℕ) (room : Room) → stepAt room receiver selector n b top contents bodies stack ≡ x (runningAt receiver selector n b top contents bodies stack) room
   done x d receiver selector room = step-is (a .at) receiver selector room ∙ d receiver selector room
@@ -85,7 +84,7 @@ module _ {n b top : ℕ} {contents bodies stack : List ℕ} {h : Here} where
   unfolding execute successors need leaves
   push-says a w stack′ e q =
       subst (λ (l : List ℕ). Moved n b top contents bodies stack bodies l) (sym q)
-      (pushes a w (one-more a (List·Memᴰ·head refl) refl) (λ receiver selector room. ap (λ (x : Option ℕ). x >>= λ y. pushed (runningAt receiver selector n b top contents bodies stack) (topFrame n b top contents bodies stack) (restFrames n b top contents bodies stack) (h .next .0) (topFrame n b top contents bodies stack .operands) y noLookup) e))
+      (pushes a w (one-more a (List·Memᴰ·head refl) refl) (λ receiver selector room. ap (λ (x : Option ℕ). x >>= λ y. pushed (runningAt receiver selector n b top contents bodies stack) (topFrame n b top contents bodies stack) (restFrames n b top contents bodies stack) (h .next) (topFrame n b top contents bodies stack .operands) y noLookup) e))
 
   pub self-room : HereAt n b top contents bodies stack h PushSelf → Answers top stack h 0
   unfolding successors need leaves
@@ -96,7 +95,7 @@ module _ {n b top : ℕ} {contents bodies stack : List ℕ} {h : Here} where
   unfolding execute successors need leaves
   self-says a stack′ q =
       subst (λ (l : List ℕ). Moved n b top contents bodies stack bodies l) (sym q)
-      (pushes a (frameReceiver stack top) (one-more a (List·Memᴰ·head refl) refl) (λ receiver selector room. ap (λ (x : ℕ). pushed (runningAt receiver selector n b top contents bodies stack) (topFrame n b top contents bodies stack) (restFrames n b top contents bodies stack) (h .next .0) (topFrame n b top contents bodies stack .operands) x noLookup) (receiver-is (a .at .runs))))
+      (pushes a (frameReceiver stack top) (one-more a (List·Memᴰ·head refl) refl) (λ receiver selector room. ap (λ (x : ℕ). pushed (runningAt receiver selector n b top contents bodies stack) (topFrame n b top contents bodies stack) (restFrames n b top contents bodies stack) (h .next) (topFrame n b top contents bodies stack .operands) x noLookup) (receiver-is (a .at .runs))))
 
   pub constant-room : {w : ℕ} → HereAt n b top contents bodies stack h (PushConstant w) → Answers top stack h 0
   unfolding successors need leaves
@@ -116,11 +115,11 @@ module _ {n b top : ℕ} {contents bodies stack : List ℕ} {h : Here} where
   duplicate-room a = answer-room a 0 (omega arith) (one-more a (List·Memᴰ·head refl) refl)
 
   pub duplicate-says : (a : HereAt n b top contents bodies stack h Duplicate) (stack′ : List ℕ)
-      → stack′ ≡ answered stack top h 0 (getD stack (h .operands .0 + (h .depth - 1)) 0) → Moved n b top contents bodies stack bodies stack′
+      → stack′ ≡ answered stack top h 0 (getD stack (h .operands + (h .depth - 1)) 0) → Moved n b top contents bodies stack bodies stack′
   unfolding execute successors need leaves
   duplicate-says a stack′ q =
       subst (λ (l : List ℕ). Moved n b top contents bodies stack bodies l) (sym q)
-      (pushes a (getD stack (h .operands .0 + (h .depth - 1)) 0) (one-more a (List·Memᴰ·head refl) refl) (λ receiver selector room. ap (λ (x : Option ℕ). x >>= λ y. pushed (runningAt receiver selector n b top contents bodies stack) (topFrame n b top contents bodies stack) (restFrames n b top contents bodies stack) (h .next .0) (topFrame n b top contents bodies stack .operands) y noLookup) (operand-is a 0 (h .operands .0 + (h .depth - 1)) (duplicate-needs a) refl)))
+      (pushes a (getD stack (h .operands + (h .depth - 1)) 0) (one-more a (List·Memᴰ·head refl) refl) (λ receiver selector room. ap (λ (x : Option ℕ). x >>= λ y. pushed (runningAt receiver selector n b top contents bodies stack) (topFrame n b top contents bodies stack) (restFrames n b top contents bodies stack) (h .next) (topFrame n b top contents bodies stack .operands) y noLookup) (operand-is a 0 (h .operands + (h .depth - 1)) (duplicate-needs a) refl)))
 
   -- ---- pops and jumps
 
@@ -128,64 +127,64 @@ module _ {n b top : ℕ} {contents bodies stack : List ℕ} {h : Here} where
   unfolding need
   pop-needs a = needed a
 
-  pub pop-says : (a : HereAt n b top contents bodies stack h Pop) (stack′ : List ℕ) → stack′ ≡ set (set stack (top + 1) (h .next .0)) (top + 2) (h .depth - 1) → Moved n b top contents bodies stack bodies stack′
+  pub pop-says : (a : HereAt n b top contents bodies stack h Pop) (stack′ : List ℕ) → stack′ ≡ set (set stack (top + 1) (h .next)) (top + 2) (h .depth - 1) → Moved n b top contents bodies stack bodies stack′
   unfolding execute
   pop-says a stack′ q =
       subst (λ (l : List ℕ). Moved n b top contents bodies stack bodies l) (sym q)
-      (goes-popped a (h .next .0) (λ receiver selector room. ap (λ (x : Option ℕ). x >>= λ y. next (onTop (runningAt receiver selector n b top contents bodies stack) (popped (topFrame n b top contents bodies stack) (h .next .0) 1) (restFrames n b top contents bodies stack)) noLookup) (operand-is a 0 (h .operands .0 + (h .depth - 1)) (pop-needs a) refl)))
+      (goes-popped a (h .next) (λ receiver selector room. ap (λ (x : Option ℕ). x >>= λ y. next (onTop (runningAt receiver selector n b top contents bodies stack) (popped (topFrame n b top contents bodies stack) (h .next) 1) (restFrames n b top contents bodies stack)) noLookup) (operand-is a 0 (h .operands + (h .depth - 1)) (pop-needs a) refl)))
 
-  jump-test : {ahead back : ℕ} → HereAt n b top contents bodies stack h (Jump ahead back) → T (leb back (h .next .0 + ahead))
+  jump-test : {ahead back : ℕ} → HereAt n b top contents bodies stack h (Jump ahead back) → T (leb back (h .next + ahead))
   unfolding usable
   jump-test a = now-is (a .at) .usable
 
-  pub jump-back : {ahead back : ℕ} → HereAt n b top contents bodies stack h (Jump ahead back) → back ≤ h .next .0 + ahead
-  jump-back {ahead} {back} a = leb→le back (h .next .0 + ahead) (jump-test a)
+  pub jump-back : {ahead back : ℕ} → HereAt n b top contents bodies stack h (Jump ahead back) → back ≤ h .next + ahead
+  jump-back {ahead} {back} a = leb→le back (h .next + ahead) (jump-test a)
 
-  pub jump-small : {ahead back : ℕ} → HereAt n b top contents bodies stack h (Jump ahead back) → h .next .0 + ahead - back < 65536
+  pub jump-small : {ahead back : ℕ} → HereAt n b top contents bodies stack h (Jump ahead back) → h .next + ahead - back < 65536
   unfolding successors need leaves
   jump-small {ahead} {back} a =
-      noted-small (a .at .runs) (h .next .0 + ahead - back) (h .depth - 0 + 0)
-      (noted a (h .next .0 + ahead - back) (subst (List·Memᴰ (h .next .0 + ahead - back)) (sym (if-yes ((h .next .0 + ahead - back) ∷ []) [] (T→true (leb back (h .next .0 + ahead)) (jump-test a)))) (List·Memᴰ·head refl)))
+      noted-small (a .at .runs) (h .next + ahead - back) (h .depth - 0 + 0)
+      (noted a (h .next + ahead - back) (subst (List·Memᴰ (h .next + ahead - back)) (sym (if-yes ((h .next + ahead - back) ∷ []) [] (T→true (leb back (h .next + ahead)) (jump-test a)))) (List·Memᴰ·head refl)))
 
-  pub jump-says : {ahead back : ℕ} (a : HereAt n b top contents bodies stack h (Jump ahead back)) (stack′ : List ℕ) → stack′ ≡ set (set stack (top + 1) (h .next .0 + ahead - back)) (top + 2) (h .depth) → Moved n b top contents bodies stack bodies stack′
+  pub jump-says : {ahead back : ℕ} (a : HereAt n b top contents bodies stack h (Jump ahead back)) (stack′ : List ℕ) → stack′ ≡ set (set stack (top + 1) (h .next + ahead - back)) (top + 2) (h .depth) → Moved n b top contents bodies stack bodies stack′
   unfolding execute
   jump-says {ahead} {back} a stack′ q =
       subst (λ (l : List ℕ). Moved n b top contents bodies stack bodies l) (sym q)
-      (goes-whole a (h .next .0 + ahead - back) (λ receiver selector room. provided-holds (leb back (h .next .0 + ahead)) _ (jump-test a)))
+      (goes-whole a (h .next + ahead - back) (λ receiver selector room. provided-holds (leb back (h .next + ahead)) _ (jump-test a)))
 
   module _ {condition : Bool} {ahead : ℕ} (a : HereAt n b top contents bodies stack h (JumpOn condition ahead)) where
     pub on-needs : 1 ≤ h .depth
     unfolding need
     on-needs = needed a
 
-    pub on-small : h .next .0 + ahead < 65536
+    pub on-small : h .next + ahead < 65536
     unfolding successors need leaves
-    on-small = noted-small (a .at .runs) (h .next .0 + ahead) (h .depth - 1 + 0) (noted a (h .next .0 + ahead) (List·Memᴰ·tail (List·Memᴰ·head refl)))
+    on-small = noted-small (a .at .runs) (h .next + ahead) (h .depth - 1 + 0) (noted a (h .next + ahead) (List·Memᴰ·tail (List·Memᴰ·head refl)))
 
     abbrev tested : ℕ
-    tested = getD stack (h .operands .0 + (h .depth - 1)) 0
+    tested = getD stack (h .operands + (h .depth - 1)) 0
 
     -- what the step does with the boolean
     abbrev chosen : Plain → ℕ → Stepped
     chosen s w =
-        if eqb w (booleanWord condition) then next (onTop s (popped (topFrame n b top contents bodies stack) (h .next .0 + ahead) 1) (restFrames n b top contents bodies stack)) noLookup else
-        if eqb w trueWord || eqb w falseWord then next (onTop s (popped (topFrame n b top contents bodies stack) (h .next .0) 1) (restFrames n b top contents bodies stack)) noLookup else
+        if eqb w (booleanWord condition) then next (onTop s (popped (topFrame n b top contents bodies stack) (h .next + ahead) 1) (restFrames n b top contents bodies stack)) noLookup else
+        if eqb w trueWord || eqb w falseWord then next (onTop s (popped (topFrame n b top contents bodies stack) (h .next) 1) (restFrames n b top contents bodies stack)) noLookup else
         halts noBoolean
 
     chooses : Does a (λ s room. chosen s tested)
     unfolding execute jumps
-    chooses receiver selector room = ap (λ (x : Option ℕ). x >>= chosen (runningAt receiver selector n b top contents bodies stack)) (operand-is a 0 (h .operands .0 + (h .depth - 1)) on-needs refl)
+    chooses receiver selector room = ap (λ (x : Option ℕ). x >>= chosen (runningAt receiver selector n b top contents bodies stack)) (operand-is a 0 (h .operands + (h .depth - 1)) on-needs refl)
 
-    pub on-jumps : (w : ℕ) (stack′ : List ℕ) → w ≡ booleanWord condition → tested ≡ w → stack′ ≡ set (set stack (top + 1) (h .next .0 + ahead)) (top + 2) (h .depth - 1) → Moved n b top contents bodies stack bodies stack′
+    pub on-jumps : (w : ℕ) (stack′ : List ℕ) → w ≡ booleanWord condition → tested ≡ w → stack′ ≡ set (set stack (top + 1) (h .next + ahead)) (top + 2) (h .depth - 1) → Moved n b top contents bodies stack bodies stack′
     on-jumps w stack′ e t q =
         subst (λ (l : List ℕ). Moved n b top contents bodies stack bodies l) (sym q)
-        (goes-popped a (h .next .0 + ahead) (λ receiver selector room. chooses receiver selector room ∙ if-yes _ _ (eq-eqb tested (booleanWord condition) (t ∙ e))))
+        (goes-popped a (h .next + ahead) (λ receiver selector room. chooses receiver selector room ∙ if-yes _ _ (eq-eqb tested (booleanWord condition) (t ∙ e))))
 
     pub on-stays : (w : ℕ) (stack′ : List ℕ) → w ≡ booleanWord condition → (tested ≡ w → ⊥) → (tested ≡ trueWord) ⊎ (tested ≡ falseWord)
-        → stack′ ≡ set (set stack (top + 1) (h .next .0)) (top + 2) (h .depth - 1) → Moved n b top contents bodies stack bodies stack′
+        → stack′ ≡ set (set stack (top + 1) (h .next)) (top + 2) (h .depth - 1) → Moved n b top contents bodies stack bodies stack′
     on-stays w stack′ e t u q =
         subst (λ (l : List ℕ). Moved n b top contents bodies stack bodies l) (sym q)
-        (goes-popped a (h .next .0) (λ receiver selector room. chooses receiver selector room ∙ if-no _ _ (ne-eqb tested (booleanWord condition) (λ x. t (x ∙ sym e))) ∙ if-yes _ _ (either u)))
+        (goes-popped a (h .next) (λ receiver selector room. chooses receiver selector room ∙ if-no _ _ (ne-eqb tested (booleanWord condition) (λ x. t (x ∙ sym e))) ∙ if-yes _ _ (either u)))
       where
         either : (tested ≡ trueWord) ⊎ (tested ≡ falseWord) → (eqb tested trueWord || eqb tested falseWord) ≡ true
         either (inl x) = ap (λ (y : Bool). y || eqb tested falseWord) (eq-eqb tested trueWord x)
@@ -215,10 +214,10 @@ module _ {n b top : ℕ} {contents bodies stack : List ℕ} {h : Here} where
   unfolding need
   top-needs a = needed a
 
-  pub top-returns : HereAt n b top contents bodies stack h ReturnTop → Returns n b top contents bodies stack (getD stack (h .operands .0 + (h .depth - 1)) 0)
+  pub top-returns : HereAt n b top contents bodies stack h ReturnTop → Returns n b top contents bodies stack (getD stack (h .operands + (h .depth - 1)) 0)
   unfolding execute
   top-returns a =
-      record { words = refl; frames = refl; steps = λ receiver selector room. step-is (a .at) receiver selector room ∙ ap (λ (x : Option ℕ). x >>= λ y. returned (runningAt receiver selector n b top contents bodies stack) (topFrame n b top contents bodies stack) (restFrames n b top contents bodies stack) y) (operand-is a 0 (h .operands .0 + (h .depth - 1)) (top-needs a) refl) }
+      record { words = refl; frames = refl; steps = λ receiver selector room. step-is (a .at) receiver selector room ∙ ap (λ (x : Option ℕ). x >>= λ y. returned (runningAt receiver selector n b top contents bodies stack) (topFrame n b top contents bodies stack) (restFrames n b top contents bodies stack) y) (operand-is a 0 (h .operands + (h .depth - 1)) (top-needs a) refl) }
 
   pub unused-never : HereAt n b top contents bodies stack h Unused → ⊥
   unfolding usable

@@ -32,9 +32,8 @@ use Rattle.plain.specs.Flat.{frameDepth, frameMethod, frameReceiver, operandsSt
 use Rattle.plain.specs.Running.{Sending, sendStep, sentReceiver, runningAt, topFrame, restFrames}
 use Rattle.plain.proofs.RunningLaws.{top-right, is-method, method-is, step-is, now-is}
 use Rattle.objects.specs.Lent.{Holds}
-use Rattle.steps.specs.declared.Here.{Here}
 use Rattle.model.proofs.Parts.{or-right}
-use Rattle.steps.specs.Events.{HereAt, Sends, Becomes, stepAt}
+use Rattle.steps.specs.Events.{Here, HereAt, SendsAt, Becomes, stepAt}
 use Rattle.steps.proofs.ChainSteps.{chain-joined}
 use Rattle.steps.proofs.HereLaws.{operand-is, operand-valid}
 use Rattle.steps.proofs.PlaceLaws.{literal-at}
@@ -72,7 +71,7 @@ module _ {n b top : ℕ} {contents bodies stack : List ℕ} {h : Here} {i : Inst
   abbrev own : ℕ → ℕ
   own count = sentReceiver n b top contents bodies stack count
 
-  pub place-of : (count at : ℕ) → suc count ≤ frameDepth stack top → at ≡ h .operands .0 + (h .depth - 1 - count) → getD stack at 0 ≡ own count
+  pub place-of : (count at : ℕ) → suc count ≤ frameDepth stack top → at ≡ h .operands + (h .depth - 1 - count) → getD stack at 0 ≡ own count
   place-of count at l e = ap (λ (x : ℕ). getD stack x 0) (let x = a .isOperands in let y = a .isDepth in omega arith)
 
   receiver-valid : (count : ℕ) → suc count ≤ frameDepth stack top → T (isValid n (own count))
@@ -84,29 +83,29 @@ module _ {n b top : ℕ} {contents bodies stack : List ℕ} {h : Here} {i : Inst
       operand-is a count (operandsStart o m top + (frameDepth stack top - suc count)) (let y = a .isDepth in omega arith) (let x = a .isOperands in let y = a .isDepth in omega arith)
 
   becomes-send : (from : ℕ → ℕ) (s count class : ℕ) → suc count ≤ frameDepth stack top → class ≡ from (own count)
-      → ((receiver selector : ℕ) (room : Room) → stepAt room receiver selector n b top contents bodies stack ≡ sends room (runningAt receiver selector n b top contents bodies stack) f rest (h .next .0) from s count)
-      → Becomes n b top contents bodies stack bodies stack (λ room receiver selector. sendStep room receiver selector n b top contents bodies stack s count class (h .next .0))
+      → ((receiver selector : ℕ) (room : Room) → stepAt room receiver selector n b top contents bodies stack ≡ sends room (runningAt receiver selector n b top contents bodies stack) f rest (h .next) from s count)
+      → Becomes n b top contents bodies stack bodies stack (λ room receiver selector. sendStep room receiver selector n b top contents bodies stack s count class (h .next))
   unfolding sends
   becomes-send from s count class l c e =
       record {
         words = refl;
         frames = refl;
         steps = λ receiver selector room. e receiver selector room
-            ∙ ap (λ (x : Option ℕ). x >>= λ w. afterLookup room (runningAt receiver selector n b top contents bodies stack) (popped f (h .next .0) (suc count)) rest s (from w) w (drop (f .depth - count) (f .operands)) (lookup o s (from w))) (receiver-found count l)
-            ∙ ap (λ (x : ℕ). afterLookup room (runningAt receiver selector n b top contents bodies stack) (popped f (h .next .0) (suc count)) rest s x (own count) (drop (f .depth - count) (f .operands)) (lookup o s x)) (sym c);
+            ∙ ap (λ (x : Option ℕ). x >>= λ w. afterLookup room (runningAt receiver selector n b top contents bodies stack) (popped f (h .next) (suc count)) rest s (from w) w (drop (f .depth - count) (f .operands)) (lookup o s (from w))) (receiver-found count l)
+            ∙ ap (λ (x : ℕ). afterLookup room (runningAt receiver selector n b top contents bodies stack) (popped f (h .next) (suc count)) rest s x (own count) (drop (f .depth - count) (f .operands)) (lookup o s x)) (sym c);
       }
 
 -- The receiver's class
-module _ {n b top : ℕ} {contents bodies stack : List ℕ} {h : Here} {s count : ℕ} (z : Sends n b top contents bodies stack h s count) where
+module _ {n b top : ℕ} {contents bodies stack : List ℕ} {h : Here} {s count : ℕ} (z : SendsAt n b top contents bodies stack h s count) where
   pub sent-depth : suc count ≤ h .depth
   sent-depth = let x = z .needs in let y = z .here .isDepth in omega arith
 
-  pub sent-valid : (at : ℕ) → at ≡ h .operands .0 + (h .depth - 1 - count) → T (isValid n (getD stack at 0))
+  pub sent-valid : (at : ℕ) → at ≡ h .operands + (h .depth - 1 - count) → T (isValid n (getD stack at 0))
   sent-valid at e = operand-valid (z .here) count at sent-depth (omega arith)
 
-  pub sent-says : (at class : ℕ) → at ≡ h .operands .0 + (h .depth - 1 - count) → class ≡ classOf (objectsAt n b contents bodies) (getD stack at 0)
-      → Sending n b top contents bodies stack s count class (h .next .0) true
-      × Becomes n b top contents bodies stack bodies stack (λ room receiver selector. sendStep room receiver selector n b top contents bodies stack s count class (h .next .0))
+  pub sent-says : (at class : ℕ) → at ≡ h .operands + (h .depth - 1 - count) → class ≡ classOf (objectsAt n b contents bodies) (getD stack at 0)
+      → Sending n b top contents bodies stack s count class (h .next) true
+      × Becomes n b top contents bodies stack bodies stack (λ room receiver selector. sendStep room receiver selector n b top contents bodies stack s count class (h .next))
   sent-says at class e c =
       let r = z .here .at .runs .right in
       let v = receiver-valid (z .here) count (z .needs) in
@@ -130,11 +129,11 @@ module _ {n b top : ℕ} {contents bodies stack : List ℕ} {h : Here} {l k : �
   unfolding need
   send-needs = let x = needed a in omega arith
 
-  send-noted : noteAt (methodTable (objectsAt n b contents bodies) (frameMethod stack top)) (h .next .0) ≡ suc (h .depth - (1 + k) + 1)
+  send-noted : noteAt (methodTable (objectsAt n b contents bodies) (frameMethod stack top)) (h .next) ≡ suc (h .depth - (1 + k) + 1)
   unfolding successors need leaves
-  send-noted = noted a (h .next .0) (List·Memᴰ·head refl)
+  send-noted = noted a (h .next) (List·Memᴰ·head refl)
 
-  pub send-sends : (s : ℕ) → s ≡ literal (objectsAt n b contents bodies) (h .method .0) l → Sends n b top contents bodies stack h s k
+  pub send-sends : (s : ℕ) → s ≡ literal (objectsAt n b contents bodies) (h .method) l → SendsAt n b top contents bodies stack h s k
   unfolding execute
   send-sends s e =
       record {
@@ -144,8 +143,8 @@ module _ {n b top : ℕ} {contents bodies stack : List ℕ} {h : Here} {l k : �
         noted = send-noted ∙ ap suc (let y = a .isDepth in omega arith);
         fine = subst (λ (x : ℕ). T (sendFine (objectsAt n b contents bodies) x k)) (sym (e ∙ ap (λ (x : ℕ). literal (objectsAt n b contents bodies) x l) (a .isMethod))) (and-right (ltb l (literalCount (objectsAt n b contents bodies) (frameMethod stack top))) _ send-allowed);
         steps = λ receiver selector room. step-is (a .at) receiver selector room
-            ∙ ap (λ (x : Option ℕ). x >>= λ w. sends room (runningAt receiver selector n b top contents bodies stack) (topFrame n b top contents bodies stack) (restFrames n b top contents bodies stack) (h .next .0) (classOf (objectsAt n b contents bodies)) w k)
-            (literal-at (a .at .runs) l s (h .method .0) (a .isMethod) send-below e);
+            ∙ ap (λ (x : Option ℕ). x >>= λ w. sends room (runningAt receiver selector n b top contents bodies stack) (topFrame n b top contents bodies stack) (restFrames n b top contents bodies stack) (h .next) (classOf (objectsAt n b contents bodies)) w k)
+            (literal-at (a .at .runs) l s (h .method) (a .isMethod) send-below e);
       }
 
 -- ---- above the home
@@ -155,16 +154,16 @@ module _ {n b top : ℕ} {contents bodies stack : List ℕ} {h : Here} {l k : �
   unfolding allowed frameAt
   super-allowed = now-is (a .at) .allowed
 
-  pub super-below : l < literalCount (objectsAt n b contents bodies) (h .method .0)
+  pub super-below : l < literalCount (objectsAt n b contents bodies) (h .method)
   super-below = subst (λ (x : ℕ). l < literalCount (objectsAt n b contents bodies) x) (sym (a .isMethod)) (ltb→lt l (literalCount (objectsAt n b contents bodies) (frameMethod stack top)) (and-left (ltb l (literalCount (objectsAt n b contents bodies) (frameMethod stack top))) _ super-allowed))
 
   pub super-needs : suc k ≤ h .depth
   unfolding need
   super-needs = let x = needed a in omega arith
 
-  super-noted : noteAt (methodTable (objectsAt n b contents bodies) (frameMethod stack top)) (h .next .0) ≡ suc (h .depth - (1 + k) + 1)
+  super-noted : noteAt (methodTable (objectsAt n b contents bodies) (frameMethod stack top)) (h .next) ≡ suc (h .depth - (1 + k) + 1)
   unfolding successors need leaves
-  super-noted = noted a (h .next .0) (List·Memᴰ·head refl)
+  super-noted = noted a (h .next) (List·Memᴰ·head refl)
 
   super-depth : suc k ≤ frameDepth stack top
   super-depth = let x = super-needs in let y = a .isDepth in omega arith
@@ -172,7 +171,7 @@ module _ {n b top : ℕ} {contents bodies stack : List ℕ} {h : Here} {l k : �
   home-class : T (isKind (objectsAt n b contents bodies) classKind (home (objectsAt n b contents bodies) (frameMethod stack top)))
   home-class = method-facts (a .at .runs .right) (frameMethod stack top) (is-method (a .at .runs)) .homes
 
-  pub holds-home : (c : ℕ) → c ≡ home (objectsAt n b contents bodies) (h .method .0) → Holds classKind n b contents bodies c
+  pub holds-home : (c : ℕ) → c ≡ home (objectsAt n b contents bodies) (h .method) → Holds classKind n b contents bodies c
   holds-home c e =
       record { right = a .at .runs .right; kinds = subst (λ (x : ℕ). T (isKind (objectsAt n b contents bodies) classKind x)) (sym (e ∙ ap (home (objectsAt n b contents bodies)) (a .isMethod))) home-class }
 
@@ -187,17 +186,17 @@ module _ {n b top : ℕ} {contents bodies stack : List ℕ} {h : Here} {l k : �
       (class-kind r (frameReceiver stack top) (t .receiver))
       (subst (λ (x : ℕ). T (inChain (objectsAt n b contents bodies) (home (objectsAt n b contents bodies) m) x)) c (lookup-facts r s class m q .homes)) (t .chain)
 
-  pub super-says : (at s c class : ℕ) → at ≡ h .operands .0 + (h .depth - 1 - k) → s ≡ literal (objectsAt n b contents bodies) (h .method .0) l
-      → c ≡ home (objectsAt n b contents bodies) (h .method .0) → class ≡ superclassWord (objectsAt n b contents bodies) c
-      → Sending n b top contents bodies stack s k class (h .next .0) (eqb (getD stack at 0) (frameReceiver stack top))
-      × Becomes n b top contents bodies stack bodies stack (λ room receiver selector. sendStep room receiver selector n b top contents bodies stack s k class (h .next .0))
+  pub super-says : (at s c class : ℕ) → at ≡ h .operands + (h .depth - 1 - k) → s ≡ literal (objectsAt n b contents bodies) (h .method) l
+      → c ≡ home (objectsAt n b contents bodies) (h .method) → class ≡ superclassWord (objectsAt n b contents bodies) c
+      → Sending n b top contents bodies stack s k class (h .next) (eqb (getD stack at 0) (frameReceiver stack top))
+      × Becomes n b top contents bodies stack bodies stack (λ room receiver selector. sendStep room receiver selector n b top contents bodies stack s k class (h .next))
   unfolding execute
   super-says at s c class e p q d = (
     record { runs = a .at .runs; needs = super-depth; noted = super-noted ∙ ap suc (let y = a .isDepth in omega arith); named = selector-named (objectsAt n b contents bodies) s k fine; starts = subst (λ (x : ℕ). T (isNilOr (objectsAt n b contents bodies) classKind x)) (sym same) (class-facts (a .at .runs .right) (home (objectsAt n b contents bodies) (frameMethod stack top)) home-class .superclass); takes = selector-takes (objectsAt n b contents bodies) s k fine; homes = λ t m u. subst (λ (x : ℕ). T (inChain (objectsAt n b contents bodies) (home (objectsAt n b contents bodies) m) (classOf (objectsAt n b contents bodies) x))) (sym (eqb-true (getD stack at 0) (frameReceiver stack top) t) ∙ place-of a k at super-depth e) (own-chain s class m same u) },
     becomes-send a (λ x. superclassWord (objectsAt n b contents bodies) (home (objectsAt n b contents bodies) (topFrame n b top contents bodies stack .method))) s k class super-depth (same ∙ ap (λ (x : ℕ). superclassWord (objectsAt n b contents bodies) (home (objectsAt n b contents bodies) x)) (sym (method-is (a .at .runs))))
         (λ receiver selector room. step-is (a .at) receiver selector room
-        ∙ ap (λ (x : Option ℕ). x >>= λ w. sends room (runningAt receiver selector n b top contents bodies stack) (topFrame n b top contents bodies stack) (restFrames n b top contents bodies stack) (h .next .0) (λ x. superclassWord (objectsAt n b contents bodies) (home (objectsAt n b contents bodies) (topFrame n b top contents bodies stack .method))) w k)
-        (literal-at (a .at .runs) l s (h .method .0) (a .isMethod) (subst (λ (x : ℕ). l < literalCount (objectsAt n b contents bodies) x) (a .isMethod) super-below) p)),
+        ∙ ap (λ (x : Option ℕ). x >>= λ w. sends room (runningAt receiver selector n b top contents bodies stack) (topFrame n b top contents bodies stack) (restFrames n b top contents bodies stack) (h .next) (λ x. superclassWord (objectsAt n b contents bodies) (home (objectsAt n b contents bodies) (topFrame n b top contents bodies stack .method))) w k)
+        (literal-at (a .at .runs) l s (h .method) (a .isMethod) (subst (λ (x : ℕ). l < literalCount (objectsAt n b contents bodies) x) (a .isMethod) super-below) p)),
   )
     where
       same : class ≡ superclassWord (objectsAt n b contents bodies) (home (objectsAt n b contents bodies) (frameMethod stack top))

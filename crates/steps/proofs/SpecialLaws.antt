@@ -30,8 +30,7 @@ use Rattle.plain.specs.Running.{Moved, runningAt, topFrame, restFrames}
 use Rattle.plain.proofs.RunningLaws.{step-is, now-is}
 use Rattle.objects.specs.Lent.{Inside}
 use Rattle.objects.proofs.Bodies.{special-inside}
-use Rattle.steps.specs.declared.Here.{Here}
-use Rattle.steps.specs.Events.{HereAt, answered, Sends}
+use Rattle.steps.specs.Events.{Here, HereAt, answered, SendsAt}
 use Rattle.steps.proofs.HereLaws.{operand-is}
 use Rattle.steps.proofs.MoveLaws.{Does, Answers, answer-room, answers}
 use Rattle.steps.proofs.SayLaws.{noted, needed}
@@ -76,10 +75,10 @@ module _ {n b top : ℕ} {contents bodies stack : List ℕ} {h : Here} {k : ℕ}
   at receiver selector = runningAt receiver selector n b top contents bodies stack
 
   abbrev last : ℕ
-  last = getD stack (h .operands .0 + (h .depth - 1)) 0
+  last = getD stack (h .operands + (h .depth - 1)) 0
 
   abbrev under : ℕ
-  under = getD stack (h .operands .0 + (h .depth - 2)) 0
+  under = getD stack (h .operands + (h .depth - 2)) 0
 
   pub special-small : k < 32
   special-small =
@@ -99,15 +98,15 @@ module _ {n b top : ℕ} {contents bodies stack : List ℕ} {h : Here} {k : ℕ}
   pub special-needs : 1 ≤ h .depth
   special-needs = let x = special-depth in omega arith
 
-  special-noted : noteAt (methodTable o (frameMethod stack top)) (h .next .0) ≡ suc (h .depth - (1 + specialCount k) + 1)
+  special-noted : noteAt (methodTable o (frameMethod stack top)) (h .next) ≡ suc (h .depth - (1 + specialCount k) + 1)
   unfolding successors need leaves
-  special-noted = noted a (h .next .0) (List·Memᴰ·head refl)
+  special-noted = noted a (h .next) (List·Memᴰ·head refl)
 
-  noted-as : (c : ℕ) → specialCount k ≡ c → noteAt (methodTable o (frameMethod stack top)) (h .next .0) ≡ suc (suc (h .depth - suc c))
+  noted-as : (c : ℕ) → specialCount k ≡ c → noteAt (methodTable o (frameMethod stack top)) (h .next) ≡ suc (suc (h .depth - suc c))
   noted-as c e = special-noted ∙ ap suc (omega arith)
 
   sent-when : (s count : ℕ) → s ≡ specialSelector o k → count ≡ specialCount k → k ≢ 22 → k ≢ 23
-      → Does a (λ p room. sends room p f rest (h .next .0) (classOf o) (specialSelector o k) (specialCount k)) → Sends n b top contents bodies stack h s count
+      → Does a (λ p room. sends room p f rest (h .next) (classOf o) (specialSelector o k) (specialCount k)) → SendsAt n b top contents bodies stack h s count
   sent-when s count e c p q d =
       record {
         instruction = SpecialSend k;
@@ -116,11 +115,11 @@ module _ {n b top : ℕ} {contents bodies stack : List ℕ} {h : Here} {k : ℕ}
         noted = noted-as count (sym c) ∙ ap (λ (x : ℕ). suc (suc (x - suc count))) (a .isDepth);
         fine = subst (λ (x : ℕ). T (sendFine o x count)) (sym e) (subst (λ (x : ℕ). T (sendFine o (specialSelector o k) x)) (sym c) (neither (isSame k) (isClass k) (sendFine o (specialSelector o k) (specialCount k)) (ne-eqb k 22 p) (ne-eqb k 23 q) rule-of));
         steps = λ receiver selector room. step-is (a .at) receiver selector room ∙ d receiver selector room
-            ∙ ap (λ (x : ℕ). sends room (at receiver selector) f rest (h .next .0) (classOf o) x (specialCount k)) (sym e)
-            ∙ ap (λ (x : ℕ). sends room (at receiver selector) f rest (h .next .0) (classOf o) s x) (sym c);
+            ∙ ap (λ (x : ℕ). sends room (at receiver selector) f rest (h .next) (classOf o) x (specialCount k)) (sym e)
+            ∙ ap (λ (x : ℕ). sends room (at receiver selector) f rest (h .next) (classOf o) s x) (sym c);
       }
 
-  pub special-sends : (s count : ℕ) → 16 ≤ k → k ≢ 22 → k ≢ 23 → s ≡ specialSelector o k → count ≡ specialCount k → Sends n b top contents bodies stack h s count
+  pub special-sends : (s count : ℕ) → 16 ≤ k → k ≢ 22 → k ≢ 23 → s ≡ specialSelector o k → count ≡ specialCount k → SendsAt n b top contents bodies stack h s count
   unfolding execute specialSends
   special-sends s count g p q e c =
       sent-when s count e c p q (λ receiver selector room. if-ge k 16 _ _ g ∙ if-no _ _ (ne-eqb k 22 p) ∙ if-no _ _ (ne-eqb k 23 q))
@@ -128,10 +127,10 @@ module _ {n b top : ℕ} {contents bodies stack : List ℕ} {h : Here} {k : ℕ}
   -- the two uppermost operands
   module _ (two : 2 ≤ h .depth) where
     under-is : operand f 1 ≡ some under
-    under-is = operand-is a 1 (h .operands .0 + (h .depth - 2)) two refl
+    under-is = operand-is a 1 (h .operands + (h .depth - 2)) two refl
 
     last-is : operand f 0 ≡ some last
-    last-is = operand-is a 0 (h .operands .0 + (h .depth - 1)) special-needs refl
+    last-is = operand-is a 0 (h .operands + (h .depth - 1)) special-needs refl
 
     both : (x : ℕ → ℕ → Stepped) → (operand f 1 >>= λ u. operand f 0 >>= λ v. x u v) ≡ x under last
     both x = ap (λ (y : Option ℕ). y >>= λ u. operand f 0 >>= λ v. x u v) under-is ∙ ap (λ (y : Option ℕ). y >>= λ v. x under v) last-is
@@ -141,19 +140,19 @@ module _ {n b top : ℕ} {contents bodies stack : List ℕ} {h : Here} {k : ℕ}
     pub arithmetic-two : 2 ≤ h .depth
     arithmetic-two = let x = special-depth in let y = special-one k small in omega arith
 
-    arithmetic-noted : noteAt (methodTable o (frameMethod stack top)) (h .next .0) ≡ suc (suc (h .depth - 2))
+    arithmetic-noted : noteAt (methodTable o (frameMethod stack top)) (h .next) ≡ suc (suc (h .depth - 2))
     arithmetic-noted = noted-as 1 (special-one k small)
 
     pub arithmetic-room : Answers top stack h 2
     arithmetic-room = answer-room a 2 arithmetic-two arithmetic-noted
 
     computes : (t : ℕ) (x : Computed) → t ≡ triedPrimitive k → x ≡ arithmetic t under last
-        → Does a (λ p room. orSends x (λ w. pushed p f rest (h .next .0) (without f 2) w noLookup) (sends room p f rest (h .next .0) (classOf o) (specialSelector o k) 1))
+        → Does a (λ p room. orSends x (λ w. pushed p f rest (h .next) (without f 2) w noLookup) (sends room p f rest (h .next) (classOf o) (specialSelector o k) 1))
     unfolding execute specialSends arithmeticSends
     computes t x e d receiver selector room =
         if-lt k 16 _ _ small
-        ∙ both arithmetic-two (λ u v. orSends (arithmetic (triedPrimitive k) u v) (λ w. pushed (at receiver selector) f rest (h .next .0) (without f 2) w noLookup) (sends room (at receiver selector) f rest (h .next .0) (classOf o) (specialSelector o k) 1))
-        ∙ ap (λ (y : Computed). orSends y (λ w. pushed (at receiver selector) f rest (h .next .0) (without f 2) w noLookup) (sends room (at receiver selector) f rest (h .next .0) (classOf o) (specialSelector o k) 1)) (sym (d ∙ ap (λ (y : ℕ). arithmetic y under last) e))
+        ∙ both arithmetic-two (λ u v. orSends (arithmetic (triedPrimitive k) u v) (λ w. pushed (at receiver selector) f rest (h .next) (without f 2) w noLookup) (sends room (at receiver selector) f rest (h .next) (classOf o) (specialSelector o k) 1))
+        ∙ ap (λ (y : Computed). orSends y (λ w. pushed (at receiver selector) f rest (h .next) (without f 2) w noLookup) (sends room (at receiver selector) f rest (h .next) (classOf o) (specialSelector o k) 1)) (sym (d ∙ ap (λ (y : ℕ). arithmetic y under last) e))
 
     pub arithmetic-says : (t w : ℕ) (x : Computed) (stack′ : List ℕ) → t ≡ triedPrimitive k → x ≡ arithmetic t under last → x ≡ Word w
         → stack′ ≡ answered stack top h 2 w → Moved n b top contents bodies stack bodies stack′
@@ -161,10 +160,10 @@ module _ {n b top : ℕ} {contents bodies stack : List ℕ} {h : Here} {k : ℕ}
         subst (λ (l : List ℕ). Moved n b top contents bodies stack bodies l) (sym q)
         (answers a 2 w arithmetic-two arithmetic-noted (computes t (Word w) e (sym g ∙ d)))
 
-    pub arithmetic-sends : (t s : ℕ) (x : Computed) → t ≡ triedPrimitive k → x ≡ arithmetic t under last → x ≡ Failed → s ≡ specialSelector o k → Sends n b top contents bodies stack h s 1
+    pub arithmetic-sends : (t s : ℕ) (x : Computed) → t ≡ triedPrimitive k → x ≡ arithmetic t under last → x ≡ Failed → s ≡ specialSelector o k → SendsAt n b top contents bodies stack h s 1
     arithmetic-sends t s x e d g q =
         sent-when s 1 q (sym (special-one k small)) (λ y. omega arith) (λ y. omega arith)
-        (λ receiver selector room. computes t Failed e (sym g ∙ d) receiver selector room ∙ ap (λ (c : ℕ). sends room (at receiver selector) f rest (h .next .0) (classOf o) (specialSelector o k) c) (sym (special-one k small)))
+        (λ receiver selector room. computes t Failed e (sym g ∙ d) receiver selector room ∙ ap (λ (c : ℕ). sends room (at receiver selector) f rest (h .next) (classOf o) (specialSelector o k) c) (sym (special-one k small)))
 
   -- 198
   module _ (same : k ≡ 22) where
@@ -174,7 +173,7 @@ module _ {n b top : ℕ} {contents bodies stack : List ℕ} {h : Here} {k : ℕ}
     pub same-two : 2 ≤ h .depth
     same-two = let x = special-depth in let y = same-count in omega arith
 
-    same-noted : noteAt (methodTable o (frameMethod stack top)) (h .next .0) ≡ suc (suc (h .depth - 2))
+    same-noted : noteAt (methodTable o (frameMethod stack top)) (h .next) ≡ suc (suc (h .depth - 2))
     same-noted = noted-as 1 same-count
 
     pub same-room : Answers top stack h 2
@@ -186,11 +185,11 @@ module _ {n b top : ℕ} {contents bodies stack : List ℕ} {h : Here} {k : ℕ}
     same-says w stack′ e q =
         subst (λ (l : List ℕ). Moved n b top contents bodies stack bodies l) (sym q)
         (answers a 2 w same-two same-noted
-        (λ receiver selector room. if-ge k 16 _ _ (omega arith) ∙ if-yes _ _ (eq-eqb k 22 same) ∙ both same-two (λ u v. pushed (at receiver selector) f rest (h .next .0) (without f 2) (booleanWord (eqb u v)) noLookup) ∙ ap (λ (x : ℕ). pushed (at receiver selector) f rest (h .next .0) (without f 2) x noLookup) (sym e)))
+        (λ receiver selector room. if-ge k 16 _ _ (omega arith) ∙ if-yes _ _ (eq-eqb k 22 same) ∙ both same-two (λ u v. pushed (at receiver selector) f rest (h .next) (without f 2) (booleanWord (eqb u v)) noLookup) ∙ ap (λ (x : ℕ). pushed (at receiver selector) f rest (h .next) (without f 2) x noLookup) (sym e)))
 
   -- 199
   module _ (class : k ≡ 23) where
-    class-noted : noteAt (methodTable o (frameMethod stack top)) (h .next .0) ≡ suc (suc (h .depth - 1))
+    class-noted : noteAt (methodTable o (frameMethod stack top)) (h .next) ≡ suc (suc (h .depth - 1))
     class-noted = noted-as 0 (ap specialCount class ∙ special-class)
 
     pub class-room : Answers top stack h 1
@@ -203,5 +202,5 @@ module _ {n b top : ℕ} {contents bodies stack : List ℕ} {h : Here} {k : ℕ}
         subst (λ (l : List ℕ). Moved n b top contents bodies stack bodies l) (sym q)
         (answers a 1 w special-needs class-noted
         (λ receiver selector room. if-ge k 16 _ _ (omega arith) ∙ if-no _ _ (ne-eqb k 22 (λ y. omega arith)) ∙ if-yes _ _ (eq-eqb k 23 class)
-        ∙ ap (λ (x : Option ℕ). x >>= λ u. pushed (at receiver selector) f rest (h .next .0) (without f 1) (classOf o u) noLookup) (operand-is a 0 (h .operands .0 + (h .depth - 1)) special-needs refl)
-        ∙ ap (λ (x : ℕ). pushed (at receiver selector) f rest (h .next .0) (without f 1) x noLookup) (sym e)))
+        ∙ ap (λ (x : Option ℕ). x >>= λ u. pushed (at receiver selector) f rest (h .next) (without f 1) (classOf o u) noLookup) (operand-is a 0 (h .operands + (h .depth - 1)) special-needs refl)
+        ∙ ap (λ (x : ℕ). pushed (at receiver selector) f rest (h .next) (without f 1) x noLookup) (sym e)))

@@ -20,14 +20,13 @@ use Rattle.plain.specs.Flat.{frameReceiver}
 use Rattle.plain.specs.FlatCalls.{atFront}
 use Rattle.plain.specs.Running.{Moved, runningAt, topFrame, restFrames}
 use Rattle.plain.proofs.RunningLaws.{receiver-is}
-use Rattle.steps.specs.declared.Here.{Here}
-use Rattle.steps.specs.Events.{HereAt, Storing}
+use Rattle.steps.specs.Events.{Here, HereAt, StoringAt}
 use Rattle.steps.proofs.HereLaws.{bounds}
 use Rattle.steps.proofs.MoveLaws.{goes-temporary}
 use Rattle.steps.proofs.PlaceLaws.{own-field, temporary-below, temporary-inside, temporary-at, literal-at, variable-below, variable-field, store-runs, store-place, store-left, stores, stores-in}
 
-pub store-as : {n b top : ℕ} {contents bodies stack : List ℕ} {h : Here} {p : Place} {left : ℕ} → Storing n b top contents bodies stack h p left → (p′ : Place) → p ≡ p′ → Storing n b top contents bodies stack h p′ left
-store-as {n} {b} {top} {contents} {bodies} {stack} {h} {p} {left} z p′ e = subst (λ (x : Place). Storing n b top contents bodies stack h x left) e z
+pub store-as : {n b top : ℕ} {contents bodies stack : List ℕ} {h : Here} {p : Place} {left : ℕ} → StoringAt n b top contents bodies stack h p left → (p′ : Place) → p ≡ p′ → StoringAt n b top contents bodies stack h p′ left
+store-as {n} {b} {top} {contents} {bodies} {stack} {h} {p} {left} z p′ e = subst (λ (x : Place). StoringAt n b top contents bodies stack h x left) e z
 
 -- what moving the frame on asks
 abbrev pub Goes : ℕ → List ℕ → ℕ → ℕ → Type 0
@@ -36,11 +35,11 @@ Goes top stack q k = (top + 2 < length stack) × (q < 65536) × (k < 65536)
 pub goes-there : {n b top : ℕ} {contents bodies stack : List ℕ} {h : Here} {i : Instruction} → HereAt n b top contents bodies stack h i → (q k : ℕ) → q < 65536 → k ≤ h .depth → Goes top stack q k
 goes-there a q k l t = let x = bounds a in (omega arith, l, omega arith)
 
-pub store-goes : {n b top : ℕ} {contents bodies stack : List ℕ} {h : Here} {p : Place} {left : ℕ} → Storing n b top contents bodies stack h p left → Goes top stack (h .next .0) left
+pub store-goes : {n b top : ℕ} {contents bodies stack : List ℕ} {h : Here} {p : Place} {left : ℕ} → StoringAt n b top contents bodies stack h p left → Goes top stack (h .next) left
 store-goes z = let x = bounds (z .here) in let y = store-left z in (omega arith, omega arith, omega arith)
 
-pub store-puts : {n b top : ℕ} {contents bodies stack : List ℕ} {h : Here} {j left : ℕ} → Storing n b top contents bodies stack h (Temporary j) left
-    → (top + 2 < length stack) × (top + 6 + j < length stack) × (h .next .0 < 65536) × (left < 65536)
+pub store-puts : {n b top : ℕ} {contents bodies stack : List ℕ} {h : Here} {j left : ℕ} → StoringAt n b top contents bodies stack h (Temporary j) left
+    → (top + 2 < length stack) × (top + 6 + j < length stack) × (h .next < 65536) × (left < 65536)
 store-puts {j = j} z =
     let x = bounds (z .here) in
     let y = store-left z in
@@ -48,39 +47,39 @@ store-puts {j = j} z =
     (omega arith, t .0, omega arith, omega arith)
 
 module _ {n b top : ℕ} {contents bodies stack : List ℕ} {h : Here} {left : ℕ} where
-  pub store-field : {j : ℕ} (z : Storing n b top contents bodies stack h (Field j) left) (bodies′ stack′ : List ℕ)
-      → bodies′ ≡ atFront (storeWord (objectsAt n b contents bodies) (objectNumber (frameReceiver stack top)) j (getD stack (h .operands .0 + (h .depth - 1)) 0) .bodies) bodies
-      → stack′ ≡ set (set stack (top + 1) (h .next .0)) (top + 2) left → Moved n b top contents bodies stack bodies′ stack′
+  pub store-field : {j : ℕ} (z : StoringAt n b top contents bodies stack h (Field j) left) (bodies′ stack′ : List ℕ)
+      → bodies′ ≡ atFront (storeWord (objectsAt n b contents bodies) (objectNumber (frameReceiver stack top)) j (getD stack (h .operands + (h .depth - 1)) 0) .bodies) bodies
+      → stack′ ≡ set (set stack (top + 1) (h .next)) (top + 2) left → Moved n b top contents bodies stack bodies′ stack′
   unfolding stored
   store-field {j} z bodies′ stack′ e q =
       subst (λ (l : List ℕ). Moved n b top contents bodies stack bodies′ l) (sym q)
       (stores-in z (frameReceiver stack top) j bodies′ (own-field (store-runs z) j (store-place z))
-      (λ receiver selector room. stores z receiver selector room ∙ ap (λ (x : ℕ). storedField (runningAt receiver selector n b top contents bodies stack) (movedTo (topFrame n b top contents bodies stack) (h .next .0) (take left (topFrame n b top contents bodies stack .operands))) (restFrames n b top contents bodies stack) x j (getD stack (h .operands .0 + (h .depth - 1)) 0)) (receiver-is (store-runs z))) e)
+      (λ receiver selector room. stores z receiver selector room ∙ ap (λ (x : ℕ). storedField (runningAt receiver selector n b top contents bodies stack) (movedTo (topFrame n b top contents bodies stack) (h .next) (take left (topFrame n b top contents bodies stack .operands))) (restFrames n b top contents bodies stack) x j (getD stack (h .operands + (h .depth - 1)) 0)) (receiver-is (store-runs z))) e)
 
-  pub store-temporary : {j : ℕ} (z : Storing n b top contents bodies stack h (Temporary j) left) (stack′ : List ℕ)
-      → stack′ ≡ set (set (set stack (top + 6 + j) (getD stack (h .operands .0 + (h .depth - 1)) 0)) (top + 1) (h .next .0)) (top + 2) left → Moved n b top contents bodies stack bodies stack′
+  pub store-temporary : {j : ℕ} (z : StoringAt n b top contents bodies stack h (Temporary j) left) (stack′ : List ℕ)
+      → stack′ ≡ set (set (set stack (top + 6 + j) (getD stack (h .operands + (h .depth - 1)) 0)) (top + 1) (h .next)) (top + 2) left → Moved n b top contents bodies stack bodies stack′
   unfolding stored
   store-temporary {j} z stack′ q =
       subst (λ (l : List ℕ). Moved n b top contents bodies stack bodies l) (sym q)
-      (goes-temporary (z .here) (h .next .0) left j (getD stack (h .operands .0 + (h .depth - 1)) 0) (store-left z) (temporary-below (store-runs z) j (store-place z))
-      (λ receiver selector room. stores z receiver selector room ∙ ap (λ (x : Option ℕ). x >>= λ old. next (onTop (runningAt receiver selector n b top contents bodies stack) (withTemporaries (movedTo (topFrame n b top contents bodies stack) (h .next .0) (take left (topFrame n b top contents bodies stack .operands))) (set (topFrame n b top contents bodies stack .temporaries) j (getD stack (h .operands .0 + (h .depth - 1)) 0))) (restFrames n b top contents bodies stack)) noLookup) (temporary-at (store-runs z) j (store-place z))))
+      (goes-temporary (z .here) (h .next) left j (getD stack (h .operands + (h .depth - 1)) 0) (store-left z) (temporary-below (store-runs z) j (store-place z))
+      (λ receiver selector room. stores z receiver selector room ∙ ap (λ (x : Option ℕ). x >>= λ old. next (onTop (runningAt receiver selector n b top contents bodies stack) (withTemporaries (movedTo (topFrame n b top contents bodies stack) (h .next) (take left (topFrame n b top contents bodies stack .operands))) (set (topFrame n b top contents bodies stack .temporaries) j (getD stack (h .operands + (h .depth - 1)) 0))) (restFrames n b top contents bodies stack)) noLookup) (temporary-at (store-runs z) j (store-place z))))
 
-  pub store-variable : {j : ℕ} (z : Storing n b top contents bodies stack h (LiteralVariable j) left) (v : ℕ) (bodies′ stack′ : List ℕ)
-      → v ≡ literal (objectsAt n b contents bodies) (h .method .0) j → bodies′ ≡ atFront (storeWord (objectsAt n b contents bodies) (objectNumber v) 1 (getD stack (h .operands .0 + (h .depth - 1)) 0) .bodies) bodies
-      → stack′ ≡ set (set stack (top + 1) (h .next .0)) (top + 2) left → Moved n b top contents bodies stack bodies′ stack′
+  pub store-variable : {j : ℕ} (z : StoringAt n b top contents bodies stack h (LiteralVariable j) left) (v : ℕ) (bodies′ stack′ : List ℕ)
+      → v ≡ literal (objectsAt n b contents bodies) (h .method) j → bodies′ ≡ atFront (storeWord (objectsAt n b contents bodies) (objectNumber v) 1 (getD stack (h .operands + (h .depth - 1)) 0) .bodies) bodies
+      → stack′ ≡ set (set stack (top + 1) (h .next)) (top + 2) left → Moved n b top contents bodies stack bodies′ stack′
   unfolding stored
   store-variable {j} z v bodies′ stack′ p e q =
       subst (λ (l : List ℕ). Moved n b top contents bodies stack bodies′ l) (sym q)
-      (stores-in z v 1 bodies′ (variable-field (store-runs z) j v (h .method .0) (z .here .isMethod) (store-place z) p)
-      (λ receiver selector room. stores z receiver selector room ∙ ap (λ (x : Option ℕ). x >>= λ y. storedField (runningAt receiver selector n b top contents bodies stack) (movedTo (topFrame n b top contents bodies stack) (h .next .0) (take left (topFrame n b top contents bodies stack .operands))) (restFrames n b top contents bodies stack) y 1 (getD stack (h .operands .0 + (h .depth - 1)) 0))
-      (literal-at (store-runs z) j v (h .method .0) (z .here .isMethod) (variable-below (store-runs z) j (store-place z)) p)) e)
+      (stores-in z v 1 bodies′ (variable-field (store-runs z) j v (h .method) (z .here .isMethod) (store-place z) p)
+      (λ receiver selector room. stores z receiver selector room ∙ ap (λ (x : Option ℕ). x >>= λ y. storedField (runningAt receiver selector n b top contents bodies stack) (movedTo (topFrame n b top contents bodies stack) (h .next) (take left (topFrame n b top contents bodies stack .operands))) (restFrames n b top contents bodies stack) y 1 (getD stack (h .operands + (h .depth - 1)) 0))
+      (literal-at (store-runs z) j v (h .method) (z .here .isMethod) (variable-below (store-runs z) j (store-place z)) p)) e)
 
 -- the instruction by another name
 pub here-as : {n b top : ℕ} {contents bodies stack : List ℕ} {h : Here} {i : Instruction} → HereAt n b top contents bodies stack h i → (i′ : Instruction) → i ≡ i′ → HereAt n b top contents bodies stack h i′
 here-as {n} {b} {top} {contents} {bodies} {stack} {h} a i′ e = subst (λ (x : Instruction). HereAt n b top contents bodies stack h x) e a
 
-pub stores-kept : {n b top : ℕ} {contents bodies stack : List ℕ} {h : Here} {p : Place} → HereAt n b top contents bodies stack h (Store p) → Storing n b top contents bodies stack h p (h .depth)
+pub stores-kept : {n b top : ℕ} {contents bodies stack : List ℕ} {h : Here} {p : Place} → HereAt n b top contents bodies stack h (Store p) → StoringAt n b top contents bodies stack h p (h .depth)
 stores-kept a = record { pop = false; here = a; after = refl }
 
-pub stores-popped : {n b top : ℕ} {contents bodies stack : List ℕ} {h : Here} {p : Place} → HereAt n b top contents bodies stack h (PopStore p) → Storing n b top contents bodies stack h p (h .depth - 1)
+pub stores-popped : {n b top : ℕ} {contents bodies stack : List ℕ} {h : Here} {p : Place} → HereAt n b top contents bodies stack h (PopStore p) → StoringAt n b top contents bodies stack h p (h .depth - 1)
 stores-popped a = record { pop = true; here = a; after = refl }

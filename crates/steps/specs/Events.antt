@@ -1,31 +1,82 @@
 -- What a bytecode is to the run loop, and where the running frame stands.
-use Prim.Native.Nat.{ℕ, suc, _+_, _-_, _≤_}
+use Prim.Native.Nat.{ℕ, suc, _+_, _-_, _≤_, _<_}
 use mathlib.Core.Path.{_≡_}
 use mathlib.Core.Bool.{Bool, true, false}
 use mathlib.Core.List.{List}
 use lib.Dec.{T}
-use lib.ListN.{set}
+use lib.ListN.{length, set}
+use Rattle.bytecode.specs.Code.{byteAt}
 use Rattle.bytecode.specs.declared.Place.{Place}
 use Rattle.bytecode.specs.declared.Instruction.{Instruction}
 use Rattle.bytecode.specs.declared.Instruction.the-variants.{Store, PopStore}
-use Rattle.model.specs.Objects.{objectsAt, classOf}
+use Rattle.model.specs.Word.{objectNumber}
+use Rattle.model.specs.Objects.{objectsAt, classOf, start}
+use Rattle.model.specs.Method.{literalCount, codeWords}
+use Rattle.model.specs.declared.CodePosition.{CodePosition}
+use Rattle.model.specs.declared.StackPosition.{StackPosition}
 use Rattle.model.specs.Depth.{noteAt}
 use Rattle.model.specs.Rules.{sendFine, methodTable}
 use Rattle.model.specs.Image.{Room}
 use Rattle.plain.specs.Registers.{noBoolean}
 use Rattle.plain.specs.Step.{Stepped, halts, returned, sends, step}
 use Rattle.plain.specs.Flat.{frameDepth, frameMethod, operandsStart}
-use Rattle.plain.specs.Running.{At, Moved, Sending, sendStep, runningAt, topFrame, restFrames}
-use Rattle.steps.specs.declared.Here.{Here}
+use Rattle.plain.specs.Running.{Runs, At, Moved, Sending, sendStep, runningAt, topFrame, restFrames}
+use Rattle.steps.specs.declared.Active.{Active}
 use Rattle.steps.specs.declared.Event.{Event}
 use Rattle.steps.specs.declared.Event.the-variants.{Next, Send, Return, NoBoolean}
 
--- The running frame, about to do instruction i
+-- A running frame about to do an instruction, in the numbers that the laws speak of: its method, its first operand, how many there are, and
+-- the position behind the instruction
+pub record Here : Type 0 where
+  pub method : ℕ
+  pub operands : ℕ
+  pub depth : ℕ
+  pub next : ℕ
+
 pub record HereAt (n b top : ℕ) (contents bodies stack : List ℕ) (h : Here) (i : Instruction) : Type 0 where
-  pub at : At n b top contents bodies stack (h .next .0) i
-  pub isMethod : h .method .0 ≡ frameMethod stack top
-  pub isOperands : h .operands .0 ≡ operandsStart (objectsAt n b contents bodies) (frameMethod stack top) top
+  pub at : At n b top contents bodies stack (h .next) i
+  pub isMethod : h .method ≡ frameMethod stack top
+  pub isOperands : h .operands ≡ operandsStart (objectsAt n b contents bodies) (frameMethod stack top) top
   pub isDepth : h .depth ≡ frameDepth stack top
+
+-- The stack with the frame's position and depth in its words: what the stack stands for while the loop holds the frame
+abbrev pub written : Active → List ℕ → List ℕ
+written a stack = set (set stack (a .base .0 + 1) (a .position .0)) (a .base .0 + 2) (a .end .0 - a .operands .0)
+
+-- Where its code and its operands start
+pub record Stands (n b : ℕ) (contents bodies stack : List ℕ) (a : Active) : Type 0 where
+  pub code : a .code ≡ start (objectsAt n b contents bodies) (objectNumber (frameMethod stack (a .base .0))) + (2 + literalCount (objectsAt n b contents bodies) (frameMethod stack (a .base .0)))
+  pub operands : a .operands .0 ≡ operandsStart (objectsAt n b contents bodies) (frameMethod stack (a .base .0)) (a .base .0)
+  pub above : a .operands .0 ≤ a .end .0
+
+pub record IsActive (n b : ℕ) (contents bodies stack : List ℕ) (a : Active) : Type 0 where
+  pub runs : Runs n b (a .base .0) contents bodies (written a stack)
+  pub stands : Stands n b contents bodies stack a
+
+-- and its instruction, with the position behind it; or only the byte at its position
+pub record Doing (n b : ℕ) (contents bodies stack : List ℕ) (a : Active) (next : ℕ) (i : Instruction) : Type 0 where
+  pub active : IsActive n b contents bodies stack a
+  pub at : At n b (a .base .0) contents bodies (written a stack) next i
+
+pub record Fetched (n b : ℕ) (contents bodies stack : List ℕ) (a : Active) (op : ℕ) : Type 0 where
+  pub active : IsActive n b contents bodies stack a
+  pub byte : op ≡ byteAt (codeWords (objectsAt n b contents bodies) (frameMethod stack (a .base .0))) (a .position .0)
+
+-- What writing its words asks
+abbrev pub Leaving : List ℕ → Active → Type 0
+Leaving stack a = (a .base .0 + 2 < length stack) × (a .position .0 < 65536) × (a .operands .0 ≤ a .end .0) × (a .end .0 - a .operands .0 < 65536)
+
+-- The frame at another position, with its operands up to another end
+abbrev pub movedOn : Active → CodePosition → StackPosition → Active
+movedOn a q e = record { base = a .base; code = a .code; operands = a .operands; position = q; end = e }
+
+-- A push: what it asks, and what it does
+abbrev pub Pushing : List ℕ → Active → Type 0
+Pushing stack a = (a .end .0 < length stack) × (a .end .0 ≤ 65536)
+
+pub record Pushed (stack : List ℕ) (a : Active) (next w : ℕ) (stack′ : List ℕ) (r : Event) : Type 0 where
+  pub event : r ≡ Next (record { 0 = next }) (record { 0 = a .end .0 + 1 })
+  pub words : stack′ ≡ set stack (a .end .0) w
 
 -- The step that buffers are about to make
 abbrev pub stepAt : Room → ℕ → ℕ → ℕ → ℕ → ℕ → List ℕ → List ℕ → List ℕ → Stepped
@@ -33,7 +84,7 @@ stepAt room receiver selector n b top contents bodies stack = step room (running
 
 -- The stack in which a word stands in the place of the `taken` uppermost operands and the frame goes on
 abbrev pub answered : List ℕ → ℕ → Here → ℕ → ℕ → List ℕ
-answered stack top h taken w = set (set (set stack (h .operands .0 + (h .depth - taken)) w) (top + 1) (h .next .0)) (top + 2) (h .depth - taken + 1)
+answered stack top h taken w = set (set (set stack (h .operands + (h .depth - taken)) w) (top + 1) (h .next)) (top + 2) (h .depth - taken + 1)
 
 -- A store, with or without a pop, and the operands that it leaves
 abbrev pub storing : Bool → Place → Instruction
@@ -44,21 +95,35 @@ abbrev pub leftBy : Bool → ℕ → ℕ
 leftBy true depth = depth - 1
 leftBy false depth = depth
 
-pub record Storing (n b top : ℕ) (contents bodies stack : List ℕ) (h : Here) (p : Place) (left : ℕ) : Type 0 where
+pub record StoringAt (n b top : ℕ) (contents bodies stack : List ℕ) (h : Here) (p : Place) (left : ℕ) : Type 0 where
   pub pop : Bool
   pub here : HereAt n b top contents bodies stack h (storing pop p)
   pub after : left ≡ leftBy pop (h .depth)
 
+-- the same of the frame that the loop holds, with the end of its operands after it
+pub record Storing (n b : ℕ) (contents bodies stack : List ℕ) (a : Active) (next : ℕ) (p : Place) (end : ℕ) : Type 0 where
+  pub pop : Bool
+  pub doing : Doing n b contents bodies stack a next (storing pop p)
+  pub after : end ≡ leftBy pop (a .end .0)
+
 -- A send whose search starts at the receiver's class
-pub record Sends (n b top : ℕ) (contents bodies stack : List ℕ) (h : Here) (s count : ℕ) : Type 0 where
+pub record SendsAt (n b top : ℕ) (contents bodies stack : List ℕ) (h : Here) (s count : ℕ) : Type 0 where
   pub instruction : Instruction
   pub here : HereAt n b top contents bodies stack h instruction
   pub needs : suc count ≤ frameDepth stack top
-  pub noted : noteAt (methodTable (objectsAt n b contents bodies) (frameMethod stack top)) (h .next .0) ≡ suc (suc (frameDepth stack top - suc count))
+  pub noted : noteAt (methodTable (objectsAt n b contents bodies) (frameMethod stack top)) (h .next) ≡ suc (suc (frameDepth stack top - suc count))
   pub fine : T (sendFine (objectsAt n b contents bodies) s count)
   pub steps : (receiver selector : ℕ) (room : Room)
       → stepAt room receiver selector n b top contents bodies stack
-      ≡ sends room (runningAt receiver selector n b top contents bodies stack) (topFrame n b top contents bodies stack) (restFrames n b top contents bodies stack) (h .next .0) (classOf (objectsAt n b contents bodies)) s count
+      ≡ sends room (runningAt receiver selector n b top contents bodies stack) (topFrame n b top contents bodies stack) (restFrames n b top contents bodies stack) (h .next) (classOf (objectsAt n b contents bodies)) s count
+
+-- The numbers of the frame that the loop holds
+abbrev pub hereOf : List ℕ → Active → ℕ → Here
+hereOf stack a next = record { method = frameMethod stack (a .base .0); operands = a .operands .0; depth = a .end .0 - a .operands .0; next = next }
+
+pub record Sends (n b : ℕ) (contents bodies stack : List ℕ) (a : Active) (next s count : ℕ) : Type 0 where
+  pub active : IsActive n b contents bodies stack a
+  pub sends : SendsAt n b (a .base .0) contents bodies (written a stack) (hereOf stack a next) s count
 
 -- Nothing is written, and the step is another one.
 pub record Becomes (n b top : ℕ) (contents bodies stack bodies′ stack′ : List ℕ) (x : Room → ℕ → ℕ → Stepped) : Type 0 where
@@ -67,14 +132,16 @@ pub record Becomes (n b top : ℕ) (contents bodies stack bodies′ stack′ : L
   pub steps : (receiver selector : ℕ) (room : Room) → stepAt room receiver selector n b top contents bodies stack ≡ x room receiver selector
 
 -- What an event says: the bytecode is done, or it is a send that is to be made, or a return of a word, or it halts.
-abbrev pub Says : ℕ → ℕ → ℕ → List ℕ → List ℕ → List ℕ → List ℕ → List ℕ → Event → Type 0
-Says n b top contents bodies stack bodies′ stack′ Next = Moved n b top contents bodies stack bodies′ stack′
-Says n b top contents bodies stack bodies′ stack′ (Send s k c q sure) =
-    Sending n b top contents bodies stack s k (c .0) (q .0) sure
-    × Becomes n b top contents bodies stack bodies′ stack′ (λ room receiver selector. sendStep room receiver selector n b top contents bodies stack s k (c .0) (q .0))
-Says n b top contents bodies stack bodies′ stack′ (Return w) =
-    Becomes n b top contents bodies stack bodies′ stack′
+abbrev pub Says : ℕ → ℕ → List ℕ → Active → List ℕ → List ℕ → List ℕ → List ℕ → Event → Type 0
+Says n b contents a bodies stack bodies′ stack′ (Next q e) =
+    Moved n b (a .base .0) contents bodies (written a stack) bodies′ (written (movedOn a q e) stack′)
+    × Stands n b contents bodies′ stack′ (movedOn a q e)
+Says n b contents a bodies stack bodies′ stack′ (Send s k c q sure) =
+    Sending n b (a .base .0) contents bodies (written a stack) s k (c .0) (q .0) sure
+    × Becomes n b (a .base .0) contents bodies (written a stack) bodies′ (written a stack′) (λ room receiver selector. sendStep room receiver selector n b (a .base .0) contents bodies (written a stack) s k (c .0) (q .0))
+Says n b contents a bodies stack bodies′ stack′ (Return w) =
+    Becomes n b (a .base .0) contents bodies (written a stack) bodies′ (written a stack′)
     (λ room receiver selector.
-    returned (runningAt receiver selector n b top contents bodies stack) (topFrame n b top contents bodies stack) (restFrames n b top contents bodies stack) w)
-Says n b top contents bodies stack bodies′ stack′ NoBoolean =
-    Becomes n b top contents bodies stack bodies′ stack′ (λ room receiver selector. halts noBoolean)
+    returned (runningAt receiver selector n b (a .base .0) contents bodies (written a stack)) (topFrame n b (a .base .0) contents bodies (written a stack)) (restFrames n b (a .base .0) contents bodies (written a stack)) w)
+Says n b contents a bodies stack bodies′ stack′ NoBoolean =
+    Becomes n b (a .base .0) contents bodies (written a stack) bodies′ (written a stack′) (λ room receiver selector. halts noBoolean)

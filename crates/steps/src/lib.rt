@@ -1,40 +1,41 @@
-// One bytecode of a running frame, but for the making of sends and returns, which the run loop does: they leave here as events.
+// One bytecode of the running frame, but for the making of sends and returns, which the run loop does: they leave here as events.
+// The bytecode is found by its row of 16, and its instruction is never built: see docs/DECISIONS.md, "The run loop".
 ghost use mathlib.Core.Path.{_≡_};
 ghost use mathlib.Core.Option.{some};
-ghost use Prim.Native.Nat.{suc, _+_, _-_, _/_, _<_, _≤_};
-ghost use lib.ListN.{length};
-ghost use Rattle.bytecode.specs.Code.{byteAt, instructionOf, nextAt};
+ghost use Prim.Native.Nat.{suc, _+_, _-_, _*_, _/_, _%_, _<_, _≤_};
+ghost use lib.ListN.{length, set};
+ghost use Rattle.bytecode.specs.Code.{byteAt};
 ghost use Rattle.bytecode.specs.Effect.{specialCount};
-ghost use Rattle.bytecode.specs.declared.Instruction.the-variants.{Push, JumpOn, SuperSend, SpecialSend};
+ghost use Rattle.bytecode.specs.declared.Instruction.the-variants.{Push, JumpOn, Send, SuperSend, SpecialSend};
 ghost use Rattle.model.specs.Objects.{objectsAt};
 ghost use Rattle.model.specs.Word.{booleanWord};
+ghost use Rattle.model.specs.Method.{codeWords, codeSize};
+ghost use Rattle.plain.specs.Flat.{frameMethod};
 ghost use Rattle.plain.specs.Step.{read, triedPrimitive};
-ghost use Rattle.plain.specs.Running.{Runs, Moved, topFrame};
-ghost use Rattle.steps.specs.Events.{HereAt, answered, Storing, Sends, Says};
-use bytecode::Instruction;
+ghost use Rattle.plain.specs.Running.{Runs, topFrame};
+ghost use Rattle.steps.specs.Events.{written, Stands, IsActive, Doing, Fetched, Leaving, Pushing, Pushed, Storing, Sends, Says};
 use bytecode::Place;
 use model::CodePosition;
 use model::Computed;
 use model::Pointer;
 use model::StackPosition;
 
-// Where the running frame stands: its method, its first operand and how many there are, and the position behind the bytecode.
-pub struct Here {
-    pub method: Pointer,
+// The running frame as the run loop holds it: its base, where its method's code starts in bodies, its first operand, the position of its
+// next bytecode and the place behind its last operand. Its own words for position and depth are written when the loop leaves it.
+pub struct Active {
+    pub base: StackPosition,
+    pub code: usize,
     pub operands: StackPosition,
-    pub depth: usize,
-    pub next: CodePosition,
-}
-
-// The bytecode that is about to be done.
-struct Current {
-    here: Here,
-    instruction: Instruction,
+    pub position: CodePosition,
+    pub end: StackPosition,
 }
 
 // What a bytecode is to the run loop. `sure` says that a method that is found can run on the receiver.
 pub enum Event {
-    Next,
+    Next {
+        position: CodePosition,
+        end: StackPosition,
+    },
     Send {
         selector: u16,
         count: usize,
@@ -46,56 +47,63 @@ pub enum Event {
     NoBoolean,
 }
 
-// The instruction at a position of the code.
-fn instruction_at(words: &[u16], at: usize) -> Instruction
-    requires { ⌜ (at / 2 < length (now words)) × (at < 65536) ⌝ }
-    ensures { λ r. ⌜ r ≡ instructionOf (byteAt (now (words .entry)) at) (byteAt (now (words .entry)) (at + 1)) (byteAt (now (words .entry)) (at + 2)) ⌝ }
-{
-    let b = bytecode::fetch(words, at);
-    let x = bytecode::byte(words, at + 1);
-    let y = bytecode::byte(words, at + 2);
-    bytecode::instruction_of(b, x, y)
-}
-
-fn next_at(words: &[u16], at: usize) -> usize
-    requires { ⌜ (at / 2 < length (now words)) × (at < 65536) ⌝ }
-    ensures { λ r. ⌜ r ≡ nextAt (now (words .entry)) at ⌝ }
-{
-    at + bytecode::length(bytecode::fetch(words, at))
-}
-
-// The bytecode of the frame at the top.
-fn fetched(
+// The top frame, taken from its words.
+pub fn enter(
     contents: &[u16],
     bodies: &[u16],
     stack: &[u16],
     n: usize,
     b: usize,
     top: StackPosition,
-) -> Current
+) -> Active
     requires { ⌜ Runs n b (top .0) (now contents) (now bodies) (now stack) ⌝ }
-    ensures { λ r. ⌜ HereAt n b (top .0) (now (contents .entry)) (now (bodies .entry)) (now (stack .entry)) (r .here) (r .instruction) ⌝ }
+    ensures { λ r. ⌜ (r .base .0 ≡ top .0) × (written r (now (stack .entry)) ≡ now (stack .entry)) × Stands n b (now (contents .entry)) (now (bodies .entry)) (now (stack .entry)) r ⌝ }
 {
     let base = top.0;
     let method = Pointer(stack[base + 3]);
     let code = objects::code_of(contents, bodies, n, b, method);
-    let from = code.from;
-    let end = code.end;
-    let at = stack[base + 1] as usize;
-    let instruction = instruction_at(&bodies[from..end], at);
-    let next = next_at(&bodies[from..end], at);
     let temporaries = objects::temporary_count(objects::header(contents, bodies, n, b, method));
+    let operands = base + 6 + temporaries;
+    let position = stack[base + 1] as usize;
     let depth = stack[base + 2] as usize;
-    let here = Here {
-        method: method,
-        operands: StackPosition(base + 6 + temporaries),
-        depth: depth,
-        next: CodePosition(next),
-    };
-    Current {
-        here: here,
-        instruction: instruction,
+    Active {
+        base: top,
+        code: code.from,
+        operands: StackPosition(operands),
+        position: CodePosition(position),
+        end: StackPosition(operands + depth),
     }
+}
+
+// Its position and depth, written to its words.
+pub fn leave(stack: &mut [u16], active: Active)
+    requires { ⌜ Leaving (now stack) active ⌝ }
+    ensures { λ r. ⌜ now (stack .exit) ≡ written active (now (stack .entry)) ⌝ }
+{
+    let depth = active.end.0 - active.operands.0;
+    frames::move_to(stack, active.base, active.position, depth);
+}
+
+// The byte of the code that stands k bytes behind the position.
+fn code_byte(
+    contents: &[u16],
+    bodies: &[u16],
+    stack: &[u16],
+    n: usize,
+    b: usize,
+    active: Active,
+    k: usize,
+) -> u8
+    requires { ⌜ IsActive n b (now contents) (now bodies) (now stack) active × (active .position .0 + k < codeSize (objectsAt n b (now contents) (now bodies)) (frameMethod (now stack) (active .base .0))) ⌝ }
+    ensures { λ r. ⌜ r ≡ byteAt (codeWords (objectsAt n b (now (contents .entry)) (now (bodies .entry))) (frameMethod (now (stack .entry)) (active .base .0))) (active .position .0 + k) ⌝ }
+{
+    let base = active.base.0;
+    let method = Pointer(stack[base + 3]);
+    let code = objects::code_of(contents, bodies, n, b, method);
+    let from = active.code; // as code.from is, without reading the method
+    let end = code.end;
+    let at = active.position.0 + k;
+    bytecode::fetch(&bodies[from..end], at)
 }
 
 // The word of a place.
@@ -105,77 +113,99 @@ fn read(
     stack: &[u16],
     n: usize,
     b: usize,
-    top: StackPosition,
-    here: Here,
+    active: Active,
+    next: CodePosition,
     place: Place,
 ) -> u16
-    requires { ⌜ HereAt n b (top .0) (now contents) (now bodies) (now stack) here (Push place) ⌝ }
-    ensures { λ r. ⌜ read (objectsAt n b (now (contents .entry)) (now (bodies .entry))) (topFrame n b (top .0) (now (contents .entry)) (now (bodies .entry)) (now (stack .entry))) place ≡ some r ⌝ }
+    requires { ⌜ Doing n b (now contents) (now bodies) (now stack) active (next .0) (Push place) ⌝ }
+    ensures { λ r. ⌜ read (objectsAt n b (now (contents .entry)) (now (bodies .entry))) (topFrame n b (active .base .0) (now (contents .entry)) (now (bodies .entry)) (written active (now (stack .entry)))) place ≡ some r ⌝ }
 {
-    let base = top.0;
-    let method = here.method;
+    let base = active.base.0;
     match place {
         Place::Field(i) => {
             let receiver = stack[base + 5];
             objects::word_of(contents, bodies, n, b, Pointer(receiver), i as usize)
         }
         Place::Temporary(i) => stack[base + 6 + i as usize],
-        Place::Literal(i) => objects::literal(contents, bodies, n, b, method, i as usize),
+        Place::Literal(i) => {
+            let method = Pointer(stack[base + 3]);
+            objects::literal(contents, bodies, n, b, method, i as usize)
+        }
         Place::LiteralVariable(i) => {
+            let method = Pointer(stack[base + 3]);
             let v = objects::literal(contents, bodies, n, b, method, i as usize);
             objects::word_of(contents, bodies, n, b, Pointer(v), 1)
         }
     }
 }
 
-// A word in the place of the `taken` uppermost operands, and the frame goes on.
-fn answer(stack: &mut [u16], top: StackPosition, here: Here, taken: usize, w: u16)
-    requires { ⌜ (top .0 + 2 < length (now stack)) × (taken ≤ here .depth) × (here .operands .0 + here .depth ≤ 65536) × (here .operands .0 + (here .depth - taken) < length (now stack)) × (here .depth < 65535) × (here .next .0 < 65536) ⌝ }
-    ensures { λ r. ⌜ now (stack .exit) ≡ answered (now (stack .entry)) (top .0) here taken w ⌝ }
+// A word pushed, and the frame goes on.
+fn push_word(stack: &mut [u16], active: Active, next: CodePosition, w: u16) -> Event
+    requires { ⌜ Pushing (now stack) active ⌝ }
+    ensures { λ r. ⌜ Pushed (now (stack .entry)) active (next .0) w (now (stack .exit)) r ⌝ }
 {
-    let left = here.depth - taken;
-    let place = StackPosition(here.operands.0 + left);
-    let next = here.next;
-    frames::push(stack, top, place, next, left + 1, w);
+    let end = active.end.0;
+    stack[end] = w;
+    Event::Next {
+        position: next,
+        end: StackPosition(end + 1),
+    }
 }
 
-// The top operand stored in a place; `left` operands stay.
+fn push(
+    contents: &[u16],
+    bodies: &[u16],
+    stack: &mut [u16],
+    n: usize,
+    b: usize,
+    active: Active,
+    next: CodePosition,
+    place: Place,
+) -> Event
+    requires { ⌜ Doing n b (now contents) (now bodies) (now stack) active (next .0) (Push place) ⌝ }
+    ensures { λ r. ⌜ Says n b (now (contents .entry)) active (now (bodies .entry)) (now (stack .entry)) (now (bodies .entry)) (now (stack .exit)) r ⌝ }
+{
+    let w = read(contents, bodies, stack, n, b, active, next, place);
+    push_word(stack, active, next, w)
+}
+
+// The top operand stored in a place; the operands end at `end` then.
 fn store(
     contents: &[u16],
     bodies: &mut [u16],
     stack: &mut [u16],
     n: usize,
     b: usize,
-    top: StackPosition,
-    here: Here,
+    active: Active,
+    next: CodePosition,
     place: Place,
-    left: usize,
-)
-    requires { ⌜ Storing n b (top .0) (now contents) (now bodies) (now stack) here place left ⌝ }
-    ensures { λ r. ⌜ Moved n b (top .0) (now (contents .entry)) (now (bodies .entry)) (now (stack .entry)) (now (bodies .exit)) (now (stack .exit)) ⌝ }
+    end: StackPosition,
+) -> Event
+    requires { ⌜ Storing n b (now contents) (now bodies) (now stack) active (next .0) place (end .0) ⌝ }
+    ensures { λ r. ⌜ Says n b (now (contents .entry)) active (now (bodies .entry)) (now (stack .entry)) (now (bodies .exit)) (now (stack .exit)) r ⌝ }
 {
-    let base = top.0;
-    let method = here.method;
-    let next = here.next;
-    let at = here.operands.0 + (here.depth - 1);
+    let base = active.base.0;
+    let at = active.end.0 - 1;
     let w = stack[at];
     match place {
         Place::Field(i) => {
             let receiver = stack[base + 5];
             objects::store_word(contents, bodies, n, b, Pointer(receiver), i as usize, w);
-            frames::move_to(stack, top, next, left);
         }
         Place::Temporary(i) => {
-            let to = StackPosition(base + 6 + i as usize);
-            frames::push(stack, top, to, next, left, w);
+            stack[base + 6 + i as usize] = w;
         }
         // no reached store goes to a literal
-        Place::Literal(i) => {}
+        Place::Literal(_) => {}
         Place::LiteralVariable(i) => {
+            let method = Pointer(stack[base + 3]);
             let v = objects::literal(contents, bodies, n, b, method, i as usize);
             objects::store_word(contents, bodies, n, b, Pointer(v), 1, w);
-            frames::move_to(stack, top, next, left);
         }
+    }
+    Event::Next {
+        position: next,
+        end: end,
     }
 }
 
@@ -192,33 +222,36 @@ fn boolean(b: bool) -> u16
 fn jump_on(
     contents: &[u16],
     bodies: &[u16],
-    stack: &mut [u16],
+    stack: &[u16],
     n: usize,
     b: usize,
-    top: StackPosition,
-    here: Here,
+    active: Active,
+    next: CodePosition,
     condition: bool,
-    ahead: u16,
+    ahead: usize,
 ) -> Event
-    requires { ⌜ HereAt n b (top .0) (now contents) (now bodies) (now stack) here (JumpOn condition ahead) ⌝ }
-    ensures { λ r. ⌜ Says n b (top .0) (now (contents .entry)) (now (bodies .entry)) (now (stack .entry)) (now (bodies .entry)) (now (stack .exit)) r ⌝ }
+    requires { ⌜ Doing n b (now contents) (now bodies) (now stack) active (next .0) (JumpOn condition ahead) ⌝ }
+    ensures { λ r. ⌜ Says n b (now (contents .entry)) active (now (bodies .entry)) (now (stack .entry)) (now (bodies .entry)) (now (stack .entry)) r ⌝ }
 {
-    let next = here.next;
-    let left = here.depth - 1;
-    let at = here.operands.0 + left;
-    let w = stack[at];
+    let end = active.end.0 - 1;
+    let w = stack[end];
     if w == boolean(condition) {
-        let to = CodePosition(next.0 + ahead as usize);
-        frames::move_to(stack, top, to, left);
-        return Event::Next;
+        return Event::Next {
+            position: CodePosition(next.0 + ahead),
+            end: StackPosition(end),
+        };
     }
     if w == 6 {
-        frames::move_to(stack, top, next, left);
-        return Event::Next;
+        return Event::Next {
+            position: next,
+            end: StackPosition(end),
+        };
     }
     if w == 4 {
-        frames::move_to(stack, top, next, left);
-        return Event::Next;
+        return Event::Next {
+            position: next,
+            end: StackPosition(end),
+        };
     }
     Event::NoBoolean
 }
@@ -230,16 +263,15 @@ fn sent(
     stack: &[u16],
     n: usize,
     b: usize,
-    top: StackPosition,
-    here: Here,
+    active: Active,
+    next: CodePosition,
     selector: u16,
     count: usize,
 ) -> Event
-    requires { ⌜ Sends n b (top .0) (now contents) (now bodies) (now stack) here selector count ⌝ }
-    ensures { λ r. ⌜ Says n b (top .0) (now (contents .entry)) (now (bodies .entry)) (now (stack .entry)) (now (bodies .entry)) (now (stack .entry)) r ⌝ }
+    requires { ⌜ Sends n b (now contents) (now bodies) (now stack) active (next .0) selector count ⌝ }
+    ensures { λ r. ⌜ Says n b (now (contents .entry)) active (now (bodies .entry)) (now (stack .entry)) (now (bodies .entry)) (now (stack .entry)) r ⌝ }
 {
-    let next = here.next;
-    let at = here.operands.0 + (here.depth - 1 - count);
+    let at = active.end.0 - 1 - count;
     let receiver = stack[at];
     let class = objects::class_of(contents, n, receiver);
     Event::Send {
@@ -251,26 +283,47 @@ fn sent(
     }
 }
 
-// The search starts above the method's home. Only the frame's own receiver is sure to have the home of what is found.
-fn super_sent(
+// A send of a literal.
+fn send(
     contents: &[u16],
     bodies: &[u16],
     stack: &[u16],
     n: usize,
     b: usize,
-    top: StackPosition,
-    here: Here,
+    active: Active,
+    next: CodePosition,
     literal: u8,
     arguments: u8,
 ) -> Event
-    requires { ⌜ HereAt n b (top .0) (now contents) (now bodies) (now stack) here (SuperSend literal arguments) ⌝ }
-    ensures { λ r. ⌜ Says n b (top .0) (now (contents .entry)) (now (bodies .entry)) (now (stack .entry)) (now (bodies .entry)) (now (stack .entry)) r ⌝ }
+    requires { ⌜ Doing n b (now contents) (now bodies) (now stack) active (next .0) (Send literal arguments) ⌝ }
+    ensures { λ r. ⌜ Says n b (now (contents .entry)) active (now (bodies .entry)) (now (stack .entry)) (now (bodies .entry)) (now (stack .entry)) r ⌝ }
 {
-    let base = top.0;
-    let method = here.method;
-    let next = here.next;
+    let base = active.base.0;
+    let method = Pointer(stack[base + 3]);
+    let s = objects::literal(contents, bodies, n, b, method, literal as usize);
     let count = arguments as usize;
-    let at = here.operands.0 + (here.depth - 1 - count);
+    sent(contents, bodies, stack, n, b, active, next, s, count)
+}
+
+// The search starts above the method's home. Only the frame's own receiver is sure to have the home of what is found.
+fn super_send(
+    contents: &[u16],
+    bodies: &[u16],
+    stack: &[u16],
+    n: usize,
+    b: usize,
+    active: Active,
+    next: CodePosition,
+    literal: u8,
+    arguments: u8,
+) -> Event
+    requires { ⌜ Doing n b (now contents) (now bodies) (now stack) active (next .0) (SuperSend literal arguments) ⌝ }
+    ensures { λ r. ⌜ Says n b (now (contents .entry)) active (now (bodies .entry)) (now (stack .entry)) (now (bodies .entry)) (now (stack .entry)) r ⌝ }
+{
+    let base = active.base.0;
+    let method = Pointer(stack[base + 3]);
+    let count = arguments as usize;
+    let at = active.end.0 - 1 - count;
     let receiver = stack[at];
     let own = stack[base + 5];
     let selector = objects::literal(contents, bodies, n, b, method, literal as usize);
@@ -297,6 +350,38 @@ fn tried(k: u8) -> u8
     table[i]
 }
 
+// 176 to 191: arithmetic, and a send where it fails.
+fn arithmetic_send(
+    contents: &[u16],
+    bodies: &[u16],
+    stack: &mut [u16],
+    n: usize,
+    b: usize,
+    active: Active,
+    next: CodePosition,
+    k: u8,
+) -> Event
+    requires { ⌜ Doing n b (now contents) (now bodies) (now stack) active (next .0) (SpecialSend k) × (k < 16) ⌝ }
+    ensures { λ r. ⌜ Says n b (now (contents .entry)) active (now (bodies .entry)) (now (stack .entry)) (now (bodies .entry)) (now (stack .exit)) r ⌝ }
+{
+    let end = active.end.0;
+    let last = stack[end - 1];
+    let under = stack[end - 2];
+    match arithmetic::arithmetic(tried(k), under, last) {
+        Computed::Word(w) => {
+            stack[end - 2] = w;
+            Event::Next {
+                position: next,
+                end: StackPosition(end - 1),
+            }
+        }
+        Computed::Failed => {
+            let s = objects::word_of(contents, bodies, n, b, Pointer(10), k as usize);
+            sent(contents, bodies, stack, n, b, active, next, s, 1)
+        }
+    }
+}
+
 // The arguments of 192 to 207.
 const COUNTS: [u8; 16] = [1, 2, 0, 0, 1, 0, 1, 0, 1, 0, 1, 1, 0, 1, 0, 0];
 
@@ -309,50 +394,286 @@ fn special_count(k: u8) -> usize
     table[i] as usize
 }
 
-// A special send: arithmetic first for 176 to 191; 198 and 199 send nothing.
-fn special(
+// 192 to 207: 198 and 199 send nothing.
+fn special_send(
     contents: &[u16],
     bodies: &[u16],
     stack: &mut [u16],
     n: usize,
     b: usize,
-    top: StackPosition,
-    here: Here,
+    active: Active,
+    next: CodePosition,
     k: u8,
 ) -> Event
-    requires { ⌜ HereAt n b (top .0) (now contents) (now bodies) (now stack) here (SpecialSend k) ⌝ }
-    ensures { λ r. ⌜ Says n b (top .0) (now (contents .entry)) (now (bodies .entry)) (now (stack .entry)) (now (bodies .entry)) (now (stack .exit)) r ⌝ }
+    requires { ⌜ Doing n b (now contents) (now bodies) (now stack) active (next .0) (SpecialSend k) × (16 ≤ k) ⌝ }
+    ensures { λ r. ⌜ Says n b (now (contents .entry)) active (now (bodies .entry)) (now (stack .entry)) (now (bodies .entry)) (now (stack .exit)) r ⌝ }
 {
-    let first = here.operands.0;
-    let depth = here.depth;
-    let last = stack[first + (depth - 1)];
-    if k < 16 {
-        let under = stack[first + (depth - 2)];
-        match arithmetic::arithmetic(tried(k), under, last) {
-            Computed::Word(w) => {
-                answer(stack, top, here, 2, w);
-                return Event::Next;
-            }
-            Computed::Failed => {
-                let s = objects::word_of(contents, bodies, n, b, Pointer(10), k as usize);
-                return sent(contents, bodies, stack, n, b, top, here, s, 1);
-            }
-        }
-    }
+    let end = active.end.0;
+    let last = stack[end - 1];
     if k == 22 {
-        let under = stack[first + (depth - 2)];
-        answer(stack, top, here, 2, boolean(under == last));
-        return Event::Next;
+        let under = stack[end - 2];
+        stack[end - 2] = boolean(under == last);
+        return Event::Next {
+            position: next,
+            end: StackPosition(end - 1),
+        };
     }
     if k == 23 {
         let class = objects::class_of(contents, n, last);
-        let w = class.0;
-        answer(stack, top, here, 1, w);
-        return Event::Next;
+        stack[end - 1] = class.0;
+        return Event::Next {
+            position: next,
+            end: StackPosition(end),
+        };
     }
     let s = objects::word_of(contents, bodies, n, b, Pointer(10), k as usize);
     let count = special_count(k);
-    sent(contents, bodies, stack, n, b, top, here, s, count)
+    sent(contents, bodies, stack, n, b, active, next, s, count)
+}
+
+// 112 to 127.
+fn constant(
+    contents: &[u16],
+    bodies: &[u16],
+    stack: &mut [u16],
+    n: usize,
+    b: usize,
+    active: Active,
+    next: CodePosition,
+    op: u8,
+) -> Event
+    requires { ⌜ Fetched n b (now contents) (now bodies) (now stack) active op × (op / 16 ≡ 7) × (next .0 ≡ active .position .0 + 1) ⌝ }
+    ensures { λ r. ⌜ Says n b (now (contents .entry)) active (now (bodies .entry)) (now (stack .entry)) (now (bodies .entry)) (now (stack .exit)) r ⌝ }
+{
+    let base = active.base.0;
+    match op {
+        112 => {
+            let w = stack[base + 5];
+            push_word(stack, active, next, w)
+        }
+        113 => push_word(stack, active, next, 6),
+        114 => push_word(stack, active, next, 4),
+        115 => push_word(stack, active, next, 2),
+        116 => push_word(stack, active, next, 65535),
+        117 => push_word(stack, active, next, 1),
+        118 => push_word(stack, active, next, 3),
+        119 => push_word(stack, active, next, 5),
+        120 => Event::Return(stack[base + 5]),
+        121 => Event::Return(6),
+        122 => Event::Return(4),
+        123 => Event::Return(2),
+        124 => {
+            let at = active.end.0 - 1;
+            Event::Return(stack[at])
+        }
+        // never reached
+        _ => Event::NoBoolean,
+    }
+}
+
+// 128 to 143.
+fn extended(
+    contents: &[u16],
+    bodies: &mut [u16],
+    stack: &mut [u16],
+    n: usize,
+    b: usize,
+    active: Active,
+    op: u8,
+) -> Event
+    requires { ⌜ Fetched n b (now contents) (now bodies) (now stack) active op × (op / 16 ≡ 8) ⌝ }
+    ensures { λ r. ⌜ Says n b (now (contents .entry)) active (now (bodies .entry)) (now (stack .entry)) (now (bodies .exit)) (now (stack .exit)) r ⌝ }
+{
+    let at = active.position.0;
+    let end = active.end.0;
+    match op {
+        128 => {
+            let x = code_byte(contents, bodies, stack, n, b, active, 1);
+            let place = bytecode::place_of(x);
+            push(
+                contents,
+                bodies,
+                stack,
+                n,
+                b,
+                active,
+                CodePosition(at + 2),
+                place,
+            )
+        }
+        129 => {
+            let x = code_byte(contents, bodies, stack, n, b, active, 1);
+            let place = bytecode::place_of(x);
+            let next = CodePosition(at + 2);
+            store(
+                contents,
+                bodies,
+                stack,
+                n,
+                b,
+                active,
+                next,
+                place,
+                StackPosition(end),
+            )
+        }
+        130 => {
+            let x = code_byte(contents, bodies, stack, n, b, active, 1);
+            let place = bytecode::place_of(x);
+            let next = CodePosition(at + 2);
+            store(
+                contents,
+                bodies,
+                stack,
+                n,
+                b,
+                active,
+                next,
+                place,
+                StackPosition(end - 1),
+            )
+        }
+        131 => {
+            let x = code_byte(contents, bodies, stack, n, b, active, 1);
+            send(
+                contents,
+                bodies,
+                stack,
+                n,
+                b,
+                active,
+                CodePosition(at + 2),
+                x % 32,
+                x / 32,
+            )
+        }
+        132 => {
+            let x = code_byte(contents, bodies, stack, n, b, active, 1);
+            let y = code_byte(contents, bodies, stack, n, b, active, 2);
+            send(
+                contents,
+                bodies,
+                stack,
+                n,
+                b,
+                active,
+                CodePosition(at + 3),
+                y,
+                x,
+            )
+        }
+        133 => {
+            let x = code_byte(contents, bodies, stack, n, b, active, 1);
+            super_send(
+                contents,
+                bodies,
+                stack,
+                n,
+                b,
+                active,
+                CodePosition(at + 2),
+                x % 32,
+                x / 32,
+            )
+        }
+        134 => {
+            let x = code_byte(contents, bodies, stack, n, b, active, 1);
+            let y = code_byte(contents, bodies, stack, n, b, active, 2);
+            super_send(
+                contents,
+                bodies,
+                stack,
+                n,
+                b,
+                active,
+                CodePosition(at + 3),
+                y,
+                x,
+            )
+        }
+        135 => Event::Next {
+            position: CodePosition(at + 1),
+            end: StackPosition(end - 1),
+        },
+        136 => {
+            let w = stack[end - 1];
+            push_word(stack, active, CodePosition(at + 1), w)
+        }
+        // never reached
+        _ => Event::NoBoolean,
+    }
+}
+
+// 144 to 159.
+fn near(
+    contents: &[u16],
+    bodies: &[u16],
+    stack: &[u16],
+    n: usize,
+    b: usize,
+    active: Active,
+    op: u8,
+) -> Event
+    requires { ⌜ Fetched n b (now contents) (now bodies) (now stack) active op × (op / 16 ≡ 9) ⌝ }
+    ensures { λ r. ⌜ Says n b (now (contents .entry)) active (now (bodies .entry)) (now (stack .entry)) (now (bodies .entry)) (now (stack .entry)) r ⌝ }
+{
+    let end = active.end;
+    let next = active.position.0 + 1;
+    let ahead = (op % 8) as usize + 1;
+    if op < 152 {
+        return Event::Next {
+            position: CodePosition(next + ahead),
+            end: end,
+        };
+    }
+    jump_on(
+        contents,
+        bodies,
+        stack,
+        n,
+        b,
+        active,
+        CodePosition(next),
+        false,
+        ahead,
+    )
+}
+
+// 160 to 175.
+fn far(
+    contents: &[u16],
+    bodies: &[u16],
+    stack: &[u16],
+    n: usize,
+    b: usize,
+    active: Active,
+    op: u8,
+) -> Event
+    requires { ⌜ Fetched n b (now contents) (now bodies) (now stack) active op × (op / 16 ≡ 10) ⌝ }
+    ensures { λ r. ⌜ Says n b (now (contents .entry)) active (now (bodies .entry)) (now (stack .entry)) (now (bodies .entry)) (now (stack .entry)) r ⌝ }
+{
+    let x = code_byte(contents, bodies, stack, n, b, active, 1) as usize;
+    let end = active.end;
+    let next = active.position.0 + 2;
+    if op < 168 {
+        let ahead = (op % 8) as usize * 256 + x;
+        return Event::Next {
+            position: CodePosition(next + ahead - 1024),
+            end: end,
+        };
+    }
+    let ahead = (op % 4) as usize * 256 + x;
+    jump_on(
+        contents,
+        bodies,
+        stack,
+        n,
+        b,
+        active,
+        CodePosition(next),
+        op < 172,
+        ahead,
+    )
 }
 
 // One bytecode. The run loop alone calls it: a function with one caller is compiled into it.
@@ -362,72 +683,117 @@ pub fn step(
     stack: &mut [u16],
     n: usize,
     b: usize,
-    top: StackPosition,
+    active: Active,
 ) -> Event
-    requires { ⌜ Runs n b (top .0) (now contents) (now bodies) (now stack) ⌝ }
-    ensures { λ r. ⌜ Says n b (top .0) (now (contents .entry)) (now (bodies .entry)) (now (stack .entry)) (now (bodies .exit)) (now (stack .exit)) r ⌝ }
+    requires { ⌜ IsActive n b (now contents) (now bodies) (now stack) active ⌝ }
+    ensures { λ r. ⌜ Says n b (now (contents .entry)) active (now (bodies .entry)) (now (stack .entry)) (now (bodies .exit)) (now (stack .exit)) r ⌝ }
 {
-    let current = fetched(contents, bodies, stack, n, b, top);
-    let here = current.here;
-    let instruction = current.instruction;
-    let base = top.0;
-    let first = here.operands.0;
-    let depth = here.depth;
-    let next = here.next;
-    let method = here.method;
-    match instruction {
-        Instruction::Push(place) => {
-            let w = read(contents, bodies, stack, n, b, top, here, place);
-            answer(stack, top, here, 0, w);
-            Event::Next
+    let op = code_byte(contents, bodies, stack, n, b, active, 0);
+    let next = CodePosition(active.position.0 + 1);
+    match op / 16 {
+        0 => push(
+            contents,
+            bodies,
+            stack,
+            n,
+            b,
+            active,
+            next,
+            Place::Field(op % 16),
+        ),
+        1 => push(
+            contents,
+            bodies,
+            stack,
+            n,
+            b,
+            active,
+            next,
+            Place::Temporary(op % 16),
+        ),
+        2 => push(
+            contents,
+            bodies,
+            stack,
+            n,
+            b,
+            active,
+            next,
+            Place::Literal(op % 32),
+        ),
+        3 => push(
+            contents,
+            bodies,
+            stack,
+            n,
+            b,
+            active,
+            next,
+            Place::Literal(op % 32),
+        ),
+        4 => push(
+            contents,
+            bodies,
+            stack,
+            n,
+            b,
+            active,
+            next,
+            Place::LiteralVariable(op % 32),
+        ),
+        5 => push(
+            contents,
+            bodies,
+            stack,
+            n,
+            b,
+            active,
+            next,
+            Place::LiteralVariable(op % 32),
+        ),
+        6 => {
+            let end = StackPosition(active.end.0 - 1);
+            if op < 104 {
+                return store(
+                    contents,
+                    bodies,
+                    stack,
+                    n,
+                    b,
+                    active,
+                    next,
+                    Place::Field(op % 8),
+                    end,
+                );
+            }
+            store(
+                contents,
+                bodies,
+                stack,
+                n,
+                b,
+                active,
+                next,
+                Place::Temporary(op % 8),
+                end,
+            )
         }
-        Instruction::Store(place) => {
-            store(contents, bodies, stack, n, b, top, here, place, depth);
-            Event::Next
-        }
-        Instruction::PopStore(place) => {
-            store(contents, bodies, stack, n, b, top, here, place, depth - 1);
-            Event::Next
-        }
-        Instruction::PushSelf => {
-            let w = stack[base + 5];
-            answer(stack, top, here, 0, w);
-            Event::Next
-        }
-        Instruction::PushConstant(w) => {
-            answer(stack, top, here, 0, w);
-            Event::Next
-        }
-        Instruction::ReturnSelf => Event::Return(stack[base + 5]),
-        Instruction::ReturnConstant(w) => Event::Return(w),
-        Instruction::ReturnTop => Event::Return(stack[first + (depth - 1)]),
-        Instruction::Pop => {
-            frames::move_to(stack, top, next, depth - 1);
-            Event::Next
-        }
-        Instruction::Duplicate => {
-            let w = stack[first + (depth - 1)];
-            answer(stack, top, here, 0, w);
-            Event::Next
-        }
-        Instruction::Jump { ahead, back } => {
-            let to = CodePosition(next.0 + ahead as usize - back as usize);
-            frames::move_to(stack, top, to, depth);
-            Event::Next
-        }
-        Instruction::JumpOn { condition, ahead } => {
-            jump_on(contents, bodies, stack, n, b, top, here, condition, ahead)
-        }
-        Instruction::Send { literal, arguments } => {
-            let s = objects::literal(contents, bodies, n, b, method, literal as usize);
-            let count = arguments as usize;
-            sent(contents, bodies, stack, n, b, top, here, s, count)
-        }
-        Instruction::SuperSend { literal, arguments } => {
-            super_sent(contents, bodies, stack, n, b, top, here, literal, arguments)
-        }
-        Instruction::SpecialSend(k) => special(contents, bodies, stack, n, b, top, here, k),
-        // never reached
-        Instruction::Unused => Event::Next,
+        7 => constant(contents, bodies, stack, n, b, active, next, op),
+        8 => extended(contents, bodies, stack, n, b, active, op),
+        9 => near(contents, bodies, stack, n, b, active, op),
+        10 => far(contents, bodies, stack, n, b, active, op),
+        11 => arithmetic_send(contents, bodies, stack, n, b, active, next, op - 176),
+        12 => special_send(contents, bodies, stack, n, b, active, next, op - 176),
+        _ => send(
+            contents,
+            bodies,
+            stack,
+            n,
+            b,
+            active,
+            next,
+            op % 16,
+            (op - 208) / 16,
+        ),
     }
 }

@@ -32,15 +32,15 @@ byte-after-requires c κs = search needs
 byte-after-requires-2 : tie.Need-byte-after-requires-2
 byte-after-requires-2 c κs = search needs
 
-by-range-requires : tie.Need-by-range-requires
-by-range-requires c κs = search needs
+instruction-of-requires : tie.Need-instruction-of-requires
+instruction-of-requires c κs = search needs
 
 returns-3 : tie.Need-returns-3
 returns-3 c =
     let words = c .before .before .before .before .before .before .before .before .args .words .now in
     let at = c .before .before .before .before .before .before .before .before .args .at in
     let e = c .before .before .before .before .length .ensures ∙ ap lengthOf (c .before .before .before .before .before .byte .ensures) in
-    c .by-range .ensures
+    c .instruction-of .ensures
     ∙ rw (c .before .before .before .before .before .byte .ensures, c .before .before .byte-after .ensures, c .before .byte-after2 .ensures)
     (sym (decode-whole words _ at (omega (arith, next-is words at, e))))
 
@@ -55,5 +55,5 @@ decode-spec =
     returns-2
     byte-after-requires
     byte-after-requires-2
-    by-range-requires
+    instruction-of-requires
     returns-3)

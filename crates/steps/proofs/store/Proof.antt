@@ -1,112 +1,139 @@
--- The place is there, by the rules of a reached store; none goes to a literal.
 use native.Mathlib.Omega.{arith}
+use mathlib.Core.Path.{refl}
 use Rattle.bytecode.specs.declared.Place.the-variants.{Field, Temporary, Literal, LiteralVariable}
-use Rattle.steps.proofs.HereLaws.{bounds}
-use Rattle.steps.proofs.PlaceLaws.{store-needs, store-runs, store-place, store-writable, own-inside, variable-inside, variable-here}
-use Rattle.steps.proofs.StoreLaws.{store-as, store-goes, store-puts, store-field, store-temporary, store-variable}
+use Rattle.steps.proofs.DoingLaws.{store-as, store-ends, store-one, own-there, own-stored, temporary-room, temporary-stored, literal-never, variable-holds, variable-room, variable-stored}
 use borrow.Author.Needs.{needs}
 use Rattle.steps.proofs.store.Statement.{statement}
 use Rattle.steps.proofs.store.Tie as tie
+use Rattle.steps.proofs.store.Reads as reads
+use Rattle.steps.proofs.store.Lts as lts
+use Rattle.objects.proofs.literal.Reads as literal-reads
+use Rattle.objects.proofs.store_word.Reads as store-word-reads
 
+-- src/lib.rt:188:14
 sub-at : tie.Need-sub-at
-sub-at c = store-needs (c .before .before .before .before .before .before .pre)
+sub-at c = let k = store-one (c .before .before .before .before .pre) in omega arith
 
-add-at : tie.Need-add-at
-add-at c = let k = bounds (c .before .before .before .before .before .before .before .pre .here) in omega arith
-
+-- src/lib.rt:189:13
 mul-w : tie.Need-mul-w
-mul-w c = let k = bounds (c .before .before .before .before .before .before .before .pre .here) in omega arith
+mul-w c = let k = store-ends (c .before .before .before .before .pre) in omega arith
 
+-- src/lib.rt:189:13
 slice-read-w : tie.Need-slice-read-w
-slice-read-w c = let k = bounds (c .before .before .before .before .before .before .before .before .pre .here) in let d = store-needs (c .before .before .before .before .before .before .before .before .pre) in omega arith
+slice-read-w c = let k = store-ends (c .before .before .before .before .before .pre) in let o = store-one (c .before .before .before .before .before .pre) in omega arith
 
+-- src/lib.rt:191:22
 enum-known-place : tie.Need-enum-known-place
 enum-known-place c = search needs
 
+-- src/lib.rt:192:34
 add-receiver : tie.Need-add-receiver
 add-receiver c = search needs
 
+-- src/lib.rt:192:28
 mul-receiver : tie.Need-mul-receiver
-mul-receiver c = let k = bounds (c .before .before .before .before .before .before .before .before .before .before .before .pre .here) in omega arith
+mul-receiver c = let k = store-ends (c .before .before .before .before .before .before .before .before .pre) in omega arith
 
+-- src/lib.rt:192:28
 slice-read-receiver : tie.Need-slice-read-receiver
-slice-read-receiver c = let k = bounds (c .before .before .before .before .before .before .before .before .before .before .before .before .pre .here) in omega arith
+slice-read-receiver c = let k = store-ends (c .before .before .before .before .before .before .before .before .before .pre) in omega arith
 
+-- src/lib.rt:193:76
 cast-store-word : tie.Need-cast-store-word
 cast-store-word c = search needs
 
+-- src/lib.rt:193:13
 store-word-requires : tie.Need-store-word-requires
-store-word-requires c κs = own-inside (store-runs (c .before .before .before .before .before .before .before .before .before .before .before .before .before .pre)) _ (store-place (store-as (c .before .before .before .before .before .before .before .before .before .before .before .before .before .pre) (Field _) (c .before .before .before .place .given .1)))
+store-word-requires c κs = own-there (store-as (c .before .before .before .before .before .before .before .before .before .before .pre) (Field _) (c .before .before .before .place .given .1))
 
-move-to-requires : tie.Need-move-to-requires
-move-to-requires c κs = store-goes (c .before .before .before .before .before .before .before .before .before .before .before .before .before .before .before .before .before .pre)
-
+-- src/lib.rt:195:26
 enum-known-place-2 : tie.Need-enum-known-place-2
 enum-known-place-2 c = search needs
 
-add-t35 : tie.Need-add-t35
-add-t35 c = search needs
+-- src/lib.rt:196:19
+add-stack : tie.Need-add-stack
+add-stack c = search needs
 
-cast-t36 : tie.Need-cast-t36
-cast-t36 c = search needs
+-- src/lib.rt:196:30
+cast-stack : tie.Need-cast-stack
+cast-stack c = search needs
 
-add-t37 : tie.Need-add-t37
-add-t37 c = let k = store-puts (store-as (c .before .before .before .before .before .before .before .before .before .before .before .pre) (Temporary _) (c .before .place2 .given .1)) in let j = bounds (c .before .before .before .before .before .before .before .before .before .before .before .pre .here) in omega arith
+-- src/lib.rt:196:19
+add-stack-2 : tie.Need-add-stack-2
+add-stack-2 c = let k = temporary-room (store-as (c .before .before .before .before .before .before .before .before .pre) (Temporary _) (c .before .place2 .given .1)) in omega arith
 
-push-requires : tie.Need-push-requires
-push-requires c κs = store-puts (store-as (c .before .before .before .before .before .before .before .before .before .before .before .before .pre) (Temporary _) (c .before .before .place2 .given .1))
+-- src/lib.rt:196:13
+mul-stack : tie.Need-mul-stack
+mul-stack c = let k = temporary-room (store-as (c .before .before .before .before .before .before .before .before .pre) (Temporary _) (c .before .place2 .given .1)) in omega arith
 
+-- src/lib.rt:196:13
+slice-write-stack : tie.Need-slice-write-stack
+slice-write-stack c = temporary-room (store-as (c .before .before .before .before .before .before .before .before .pre) (Temporary _) (c .before .place2 .given .1)) .0
+
+enum-told : tie.Need-enum-told
+enum-told c = search needs
+
+-- src/lib.rt:200:32
 enum-known-place-3 : tie.Need-enum-known-place-3
 enum-known-place-3 c = search needs
 
-enum-known-place-4 : tie.Need-enum-known-place-4
-enum-known-place-4 c = search needs
+-- src/lib.rt:201:40
+add-t35 : tie.Need-add-t35
+add-t35 c = search needs
 
+-- src/lib.rt:201:34
+mul-t36 : tie.Need-mul-t36
+mul-t36 c = let k = store-ends (c .before .before .before .before .before .before .before .before .pre) in omega arith
+
+-- src/lib.rt:201:34
+slice-read-t38 : tie.Need-slice-read-t38
+slice-read-t38 c = let k = store-ends (c .before .before .before .before .before .before .before .before .before .pre) in omega arith
+
+-- src/lib.rt:202:70
 cast-literal : tie.Need-cast-literal
 cast-literal c = search needs
 
+-- src/lib.rt:202:17
 literal-requires : tie.Need-literal-requires
-literal-requires c κs = variable-here (c .before .before .before .before .before .before .before .before .before .before .before .before .pre .here) _ (store-place (store-as (c .before .before .before .before .before .before .before .before .before .before .before .before .pre) (LiteralVariable _) (c .before .before .place4 .given .1)))
+literal-requires c κs = variable-holds (store-as (c .before .before .before .before .before .before .before .before .before .before .pre) (LiteralVariable _) (c .before .before .before .place3 .given .1))
 
+-- src/lib.rt:203:13
 store-word-requires-2 : tie.Need-store-word-requires-2
-store-word-requires-2 c κs = variable-inside (store-runs (c .before .before .before .before .before .before .before .before .before .before .before .before .before .before .pre)) _ _ _ (c .before .before .before .before .before .before .before .before .before .before .before .before .before .before .pre .here .isMethod) (store-place (store-as (c .before .before .before .before .before .before .before .before .before .before .before .before .before .before .pre) (LiteralVariable _) (c .before .before .before .before .place4 .given .1))) (c .before .literal .ensures)
+store-word-requires-2 c κs = variable-room (store-as (c .before .before .before .before .before .before .before .before .before .before .before .before .pre) (LiteralVariable _) (c .before .before .before .before .before .place3 .given .1)) _ (c .before .literal .ensures)
 
-move-to-requires-2 : tie.Need-move-to-requires-2
-move-to-requires-2 c κs = store-goes (c .before .before .before .before .before .before .before .before .before .before .before .before .before .before .before .before .before .before .pre)
-
+-- src/lib.rt:173:1
 same-length : tie.Need-same-length
 same-length c = search needs
 
+-- src/lib.rt:173:1
+returns : tie.Need-returns
+returns c = own-stored (store-as (c .before .before .before .before .before .before .before .before .before .before .before .before .before .pre) (Field _) (c .before .before .before .before .before .before .place .given .1)) _ _ refl (c .before .before .store-word .ensures)
+
+-- src/lib.rt:173:1
 same-length-2 : tie.Need-same-length-2
 same-length-2 c = search needs
 
-returns : tie.Need-returns
-returns c = store-field (store-as (c .before .before .before .before .before .before .before .before .before .before .before .before .before .before .before .before .before .before .before .before .pre) (Field _) (c .before .before .before .before .before .before .before .before .before .before .place .given .1)) _ _ (c .before .before .before .before .before .before .store-word .ensures) (c .before .before .move-to .ensures)
+-- src/lib.rt:173:1
+returns-2 : tie.Need-returns-2
+returns-2 c = temporary-stored (store-as (c .before .before .before .before .before .before .before .before .pre) (Temporary _) (c .before .place2 .given .1)) _ _ refl refl
 
+-- src/lib.rt:173:1
+returns-3 : tie.Need-returns-3
+returns-3 c = absurd (literal-never (store-as (c .before .before .before .before .before .before .before .pre) (Literal _) (c .enum-told .given .1)))
+
+-- src/lib.rt:173:1
 same-length-3 : tie.Need-same-length-3
 same-length-3 c = search needs
 
-returns-2 : tie.Need-returns-2
-returns-2 c = store-temporary (store-as (c .before .before .before .before .before .before .before .before .before .before .before .before .before .before .before .pre) (Temporary _) (c .before .before .before .before .before .place2 .given .1)) _ (c .before .before .push .ensures)
-
-returns-3 : tie.Need-returns-3
-returns-3 c = absurd (store-writable (store-as (c .before .before .before .before .before .before .before .before .before .before .before .pre) (Literal _) (c .before .place3 .given .1)))
-
-same-length-4 : tie.Need-same-length-4
-same-length-4 c = search needs
-
-same-length-5 : tie.Need-same-length-5
-same-length-5 c = search needs
-
+-- src/lib.rt:173:1
 returns-4 : tie.Need-returns-4
-returns-4 c = store-variable (store-as (c .before .before .before .before .before .before .before .before .before .before .before .before .before .before .before .before .before .before .before .before .before .pre) (LiteralVariable _) (c .before .before .before .before .before .before .before .before .before .before .before .place4 .given .1)) _ _ _ (c .before .before .before .before .before .before .before .before .literal .ensures) (c .before .before .before .before .before .before .store-word2 .ensures) (c .before .before .move-to2 .ensures)
+returns-4 c = variable-stored (store-as (c .before .before .before .before .before .before .before .before .before .before .before .before .before .before .before .pre) (LiteralVariable _) (c .before .before .before .before .before .before .before .before .place3 .given .1)) _ _ _ refl (c .before .before .before .before .literal .ensures) (c .before .before .store-word2 .ensures)
 
 pub store-spec : {M : Type 1} → statement M
 store-spec =
     tie.close
     (tie.spec
     sub-at
-    add-at
     mul-w
     slice-read-w
     enum-known-place
@@ -115,24 +142,24 @@ store-spec =
     slice-read-receiver
     cast-store-word
     store-word-requires
-    move-to-requires
     enum-known-place-2
-    add-t35
-    cast-t36
-    add-t37
-    push-requires
+    add-stack
+    cast-stack
+    add-stack-2
+    mul-stack
+    slice-write-stack
+    enum-told
     enum-known-place-3
-    enum-known-place-4
+    add-t35
+    mul-t36
+    slice-read-t38
     cast-literal
     literal-requires
     store-word-requires-2
-    move-to-requires-2
     same-length
-    same-length-2
     returns
-    same-length-3
+    same-length-2
     returns-2
     returns-3
-    same-length-4
-    same-length-5
+    same-length-3
     returns-4)

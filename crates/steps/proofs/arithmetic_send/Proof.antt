@@ -1,0 +1,114 @@
+use borrow.Author.Needs.{needs}
+use Rattle.steps.proofs.arithmetic_send.Statement.{statement}
+use Rattle.steps.proofs.arithmetic_send.Tie as tie
+use Rattle.steps.proofs.arithmetic_send.Reads as reads
+use Rattle.steps.proofs.arithmetic_send.Lts as lts
+use Rattle.arithmetic.proofs.arithmetic.Reads as arithmetic-reads
+use Rattle.objects.proofs.word_of.Reads as word-of-reads
+use Rattle.steps.proofs.sent.Reads as sent-reads
+use Rattle.steps.proofs.tried.Reads as tried-reads
+
+-- src/lib.rt:368:22
+sub-last : tie.Need-sub-last
+sub-last c = search needs
+
+-- src/lib.rt:368:16
+mul-last : tie.Need-mul-last
+mul-last c = ?
+
+-- src/lib.rt:368:16
+slice-read-last : tie.Need-slice-read-last
+slice-read-last c = ?
+
+-- src/lib.rt:369:23
+sub-under : tie.Need-sub-under
+sub-under c = search needs
+
+-- src/lib.rt:369:17
+mul-under : tie.Need-mul-under
+mul-under c = ?
+
+-- src/lib.rt:369:17
+slice-read-under : tie.Need-slice-read-under
+slice-read-under c = ?
+
+-- src/lib.rt:370:34
+tried-requires : tie.Need-tried-requires
+tried-requires c κs = search needs
+
+-- src/lib.rt:370:11
+arithmetic-requires : tie.Need-arithmetic-requires
+arithmetic-requires c κs = search needs
+
+-- src/lib.rt:371:24
+enum-known-w : tie.Need-enum-known-w
+enum-known-w c = search needs
+
+-- src/lib.rt:372:19
+sub-stack : tie.Need-sub-stack
+sub-stack c = search needs
+
+-- src/lib.rt:372:13
+mul-stack : tie.Need-mul-stack
+mul-stack c = ?
+
+-- src/lib.rt:372:13
+slice-write-stack : tie.Need-slice-write-stack
+slice-write-stack c = ?
+
+-- src/lib.rt:375:36
+sub-t22 : tie.Need-sub-t22
+sub-t22 c = search needs
+
+-- src/lib.rt:379:62
+enum-told : tie.Need-enum-told
+enum-told c = search needs
+
+-- src/lib.rt:379:17
+word-of-requires : tie.Need-word-of-requires
+word-of-requires c κs = ?
+
+-- src/lib.rt:380:13
+sent-requires : tie.Need-sent-requires
+sent-requires c κs = ?
+
+-- src/lib.rt:354:1
+same-length : tie.Need-same-length
+same-length c = search needs
+
+-- src/lib.rt:354:1
+returns : tie.Need-returns
+returns c = ?
+
+-- src/lib.rt:354:1
+same-length-2 : tie.Need-same-length-2
+same-length-2 c = search needs
+
+-- src/lib.rt:354:1
+returns-2 : tie.Need-returns-2
+returns-2 c = search needs
+
+pub arithmetic-send-spec : {M : Type 1} → statement M
+arithmetic-send-spec =
+    tie.close
+    (tie.spec
+    sub-last
+    mul-last
+    slice-read-last
+    sub-under
+    mul-under
+    slice-read-under
+    tried-requires
+    arithmetic-requires
+    enum-known-w
+    sub-stack
+    mul-stack
+    slice-write-stack
+    sub-t22
+    enum-told
+    word-of-requires
+    sent-requires
+    same-length
+    returns
+    same-length-2
+    returns-2)

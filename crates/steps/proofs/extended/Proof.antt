@@ -1,0 +1,312 @@
+use borrow.Author.Needs.{needs}
+use Rattle.steps.proofs.extended.Statement.{statement}
+use Rattle.steps.proofs.extended.Tie as tie
+use Rattle.steps.proofs.extended.Reads as reads
+use Rattle.steps.proofs.extended.Lts as lts
+use Rattle.bytecode.proofs.place_of.Reads as place-of-reads
+use Rattle.steps.proofs.code_byte.Reads as code-byte-reads
+use Rattle.steps.proofs.push.Reads as push-reads
+use Rattle.steps.proofs.push_word.Reads as push-word-reads
+use Rattle.steps.proofs.send.Reads as send-reads
+use Rattle.steps.proofs.store.Reads as store-reads
+use Rattle.steps.proofs.super_send.Reads as super-send-reads
+
+-- src/lib.rt:491:17
+code-byte-requires : tie.Need-code-byte-requires
+code-byte-requires c κs = ?
+
+-- src/lib.rt:492:17
+place-of-requires : tie.Need-place-of-requires
+place-of-requires c κs = search needs
+
+-- src/lib.rt:500:30
+add-t34 : tie.Need-add-t34
+add-t34 c = ?
+
+-- src/lib.rt:493:13
+push-requires : tie.Need-push-requires
+push-requires c κs = ?
+
+-- src/lib.rt:505:17
+code-byte-requires-2 : tie.Need-code-byte-requires-2
+code-byte-requires-2 c κs = ?
+
+-- src/lib.rt:506:17
+place-of-requires-2 : tie.Need-place-of-requires-2
+place-of-requires-2 c κs = search needs
+
+-- src/lib.rt:507:37
+add-t40 : tie.Need-add-t40
+add-t40 c = ?
+
+-- src/lib.rt:508:13
+store-requires : tie.Need-store-requires
+store-requires c κs = ?
+
+-- src/lib.rt:521:17
+code-byte-requires-3 : tie.Need-code-byte-requires-3
+code-byte-requires-3 c κs = ?
+
+-- src/lib.rt:522:17
+place-of-requires-3 : tie.Need-place-of-requires-3
+place-of-requires-3 c κs = search needs
+
+-- src/lib.rt:523:37
+add-t50 : tie.Need-add-t50
+add-t50 c = ?
+
+-- src/lib.rt:533:31
+sub-t50 : tie.Need-sub-t50
+sub-t50 c = search needs
+
+-- src/lib.rt:524:13
+store-requires-2 : tie.Need-store-requires-2
+store-requires-2 c κs = ?
+
+-- src/lib.rt:537:17
+code-byte-requires-4 : tie.Need-code-byte-requires-4
+code-byte-requires-4 c κs = ?
+
+-- src/lib.rt:545:30
+add-t64 : tie.Need-add-t64
+add-t64 c = ?
+
+-- src/lib.rt:538:13
+send-requires : tie.Need-send-requires
+send-requires c κs = ?
+
+-- src/lib.rt:551:17
+code-byte-requires-5 : tie.Need-code-byte-requires-5
+code-byte-requires-5 c κs = ?
+
+-- src/lib.rt:552:17
+code-byte-requires-6 : tie.Need-code-byte-requires-6
+code-byte-requires-6 c κs = ?
+
+-- src/lib.rt:560:30
+add-t80 : tie.Need-add-t80
+add-t80 c = ?
+
+-- src/lib.rt:553:13
+send-requires-2 : tie.Need-send-requires-2
+send-requires-2 c κs = ?
+
+-- src/lib.rt:566:17
+code-byte-requires-7 : tie.Need-code-byte-requires-7
+code-byte-requires-7 c κs = ?
+
+-- src/lib.rt:574:30
+add-t90 : tie.Need-add-t90
+add-t90 c = ?
+
+-- src/lib.rt:567:13
+super-send-requires : tie.Need-super-send-requires
+super-send-requires c κs = ?
+
+-- src/lib.rt:580:17
+code-byte-requires-8 : tie.Need-code-byte-requires-8
+code-byte-requires-8 c κs = ?
+
+-- src/lib.rt:581:17
+code-byte-requires-9 : tie.Need-code-byte-requires-9
+code-byte-requires-9 c κs = ?
+
+-- src/lib.rt:589:30
+add-t106 : tie.Need-add-t106
+add-t106 c = ?
+
+-- src/lib.rt:582:13
+super-send-requires-2 : tie.Need-super-send-requires-2
+super-send-requires-2 c κs = ?
+
+-- src/lib.rt:595:36
+add-t108 : tie.Need-add-t108
+add-t108 c = ?
+
+-- src/lib.rt:596:32
+sub-t110 : tie.Need-sub-t110
+sub-t110 c = search needs
+
+-- src/lib.rt:599:27
+sub-w : tie.Need-sub-w
+sub-w c = search needs
+
+-- src/lib.rt:599:21
+mul-w : tie.Need-mul-w
+mul-w c = ?
+
+-- src/lib.rt:599:21
+slice-read-w : tie.Need-slice-read-w
+slice-read-w c = ?
+
+-- src/lib.rt:600:51
+add-t112 : tie.Need-add-t112
+add-t112 c = ?
+
+-- src/lib.rt:600:13
+push-word-requires : tie.Need-push-word-requires
+push-word-requires c κs = ?
+
+-- src/lib.rt:475:1
+same-length : tie.Need-same-length
+same-length c = search needs
+
+-- src/lib.rt:475:1
+same-length-2 : tie.Need-same-length-2
+same-length-2 c = search needs
+
+-- src/lib.rt:475:1
+returns : tie.Need-returns
+returns c = search needs
+
+-- src/lib.rt:475:1
+same-length-3 : tie.Need-same-length-3
+same-length-3 c = search needs
+
+-- src/lib.rt:475:1
+same-length-4 : tie.Need-same-length-4
+same-length-4 c = search needs
+
+-- src/lib.rt:475:1
+returns-2 : tie.Need-returns-2
+returns-2 c = search needs
+
+-- src/lib.rt:475:1
+same-length-5 : tie.Need-same-length-5
+same-length-5 c = search needs
+
+-- src/lib.rt:475:1
+same-length-6 : tie.Need-same-length-6
+same-length-6 c = search needs
+
+-- src/lib.rt:475:1
+returns-3 : tie.Need-returns-3
+returns-3 c = search needs
+
+-- src/lib.rt:475:1
+same-length-7 : tie.Need-same-length-7
+same-length-7 c = search needs
+
+-- src/lib.rt:475:1
+same-length-8 : tie.Need-same-length-8
+same-length-8 c = search needs
+
+-- src/lib.rt:475:1
+returns-4 : tie.Need-returns-4
+returns-4 c = search needs
+
+-- src/lib.rt:475:1
+same-length-9 : tie.Need-same-length-9
+same-length-9 c = search needs
+
+-- src/lib.rt:475:1
+same-length-10 : tie.Need-same-length-10
+same-length-10 c = search needs
+
+-- src/lib.rt:475:1
+returns-5 : tie.Need-returns-5
+returns-5 c = search needs
+
+-- src/lib.rt:475:1
+same-length-11 : tie.Need-same-length-11
+same-length-11 c = search needs
+
+-- src/lib.rt:475:1
+same-length-12 : tie.Need-same-length-12
+same-length-12 c = search needs
+
+-- src/lib.rt:475:1
+returns-6 : tie.Need-returns-6
+returns-6 c = search needs
+
+-- src/lib.rt:475:1
+same-length-13 : tie.Need-same-length-13
+same-length-13 c = search needs
+
+-- src/lib.rt:475:1
+same-length-14 : tie.Need-same-length-14
+same-length-14 c = search needs
+
+-- src/lib.rt:475:1
+returns-7 : tie.Need-returns-7
+returns-7 c = search needs
+
+-- src/lib.rt:475:1
+returns-8 : tie.Need-returns-8
+returns-8 c = ?
+
+-- src/lib.rt:475:1
+same-length-15 : tie.Need-same-length-15
+same-length-15 c = search needs
+
+-- src/lib.rt:475:1
+returns-9 : tie.Need-returns-9
+returns-9 c = ?
+
+-- src/lib.rt:475:1
+returns-10 : tie.Need-returns-10
+returns-10 c = ?
+
+pub extended-spec : {M : Type 1} → statement M
+extended-spec =
+    tie.close
+    (tie.spec
+    code-byte-requires
+    place-of-requires
+    add-t34
+    push-requires
+    code-byte-requires-2
+    place-of-requires-2
+    add-t40
+    store-requires
+    code-byte-requires-3
+    place-of-requires-3
+    add-t50
+    sub-t50
+    store-requires-2
+    code-byte-requires-4
+    add-t64
+    send-requires
+    code-byte-requires-5
+    code-byte-requires-6
+    add-t80
+    send-requires-2
+    code-byte-requires-7
+    add-t90
+    super-send-requires
+    code-byte-requires-8
+    code-byte-requires-9
+    add-t106
+    super-send-requires-2
+    add-t108
+    sub-t110
+    sub-w
+    mul-w
+    slice-read-w
+    add-t112
+    push-word-requires
+    same-length
+    same-length-2
+    returns
+    same-length-3
+    same-length-4
+    returns-2
+    same-length-5
+    same-length-6
+    returns-3
+    same-length-7
+    same-length-8
+    returns-4
+    same-length-9
+    same-length-10
+    returns-5
+    same-length-11
+    same-length-12
+    returns-6
+    same-length-13
+    same-length-14
+    returns-7
+    returns-8
+    same-length-15
+    returns-9
+    returns-10)

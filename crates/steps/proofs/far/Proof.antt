@@ -1,0 +1,82 @@
+use borrow.Author.Needs.{needs}
+use Rattle.steps.proofs.far.Statement.{statement}
+use Rattle.steps.proofs.far.Tie as tie
+use Rattle.steps.proofs.far.Reads as reads
+use Rattle.steps.proofs.far.Lts as lts
+use Rattle.steps.proofs.code_byte.Reads as code-byte-reads
+use Rattle.steps.proofs.jump_on.Reads as jump-on-reads
+
+-- src/lib.rt:655:13
+code-byte-requires : tie.Need-code-byte-requires
+code-byte-requires c κs = ?
+
+-- src/lib.rt:655:13
+cast-x : tie.Need-cast-x
+cast-x c = search needs
+
+-- src/lib.rt:657:16
+add-next : tie.Need-add-next
+add-next c = ?
+
+-- src/lib.rt:659:21
+cast-ahead : tie.Need-cast-ahead
+cast-ahead c = search needs
+
+-- src/lib.rt:659:21
+mul-ahead : tie.Need-mul-ahead
+mul-ahead c = search needs
+
+-- src/lib.rt:659:21
+add-ahead : tie.Need-add-ahead
+add-ahead c = search needs
+
+-- src/lib.rt:661:36
+add-t16 : tie.Need-add-t16
+add-t16 c = ?
+
+-- src/lib.rt:661:36
+sub-t17 : tie.Need-sub-t17
+sub-t17 c = ?
+
+-- src/lib.rt:660:9
+returns : tie.Need-returns
+returns c = ?
+
+-- src/lib.rt:665:17
+cast-ahead-2 : tie.Need-cast-ahead-2
+cast-ahead-2 c = search needs
+
+-- src/lib.rt:665:17
+mul-ahead-2 : tie.Need-mul-ahead-2
+mul-ahead-2 c = search needs
+
+-- src/lib.rt:665:17
+add-ahead-2 : tie.Need-add-ahead-2
+add-ahead-2 c = search needs
+
+-- src/lib.rt:666:5
+jump-on-requires : tie.Need-jump-on-requires
+jump-on-requires c κs = ?
+
+-- src/lib.rt:643:1
+returns-2 : tie.Need-returns-2
+returns-2 c = search needs
+
+pub far-spec : {M : Type 1} → statement M
+far-spec =
+    tie.close
+    (tie.spec
+    code-byte-requires
+    cast-x
+    add-next
+    cast-ahead
+    mul-ahead
+    add-ahead
+    add-t16
+    sub-t17
+    returns
+    cast-ahead-2
+    mul-ahead-2
+    add-ahead-2
+    jump-on-requires
+    returns-2)

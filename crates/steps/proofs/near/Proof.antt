@@ -1,0 +1,38 @@
+use borrow.Author.Needs.{needs}
+use Rattle.steps.proofs.near.Statement.{statement}
+use Rattle.steps.proofs.near.Tie as tie
+use Rattle.steps.proofs.near.Reads as reads
+use Rattle.steps.proofs.near.Lts as lts
+use Rattle.steps.proofs.jump_on.Reads as jump-on-reads
+
+-- src/lib.rt:621:16
+add-next : tie.Need-add-next
+add-next c = ?
+
+-- src/lib.rt:622:17
+cast-ahead : tie.Need-cast-ahead
+cast-ahead c = search needs
+
+-- src/lib.rt:622:17
+add-ahead : tie.Need-add-ahead
+add-ahead c = search needs
+
+-- src/lib.rt:625:36
+add-t14 : tie.Need-add-t14
+add-t14 c = ?
+
+-- src/lib.rt:624:9
+returns : tie.Need-returns
+returns c = ?
+
+-- src/lib.rt:629:5
+jump-on-requires : tie.Need-jump-on-requires
+jump-on-requires c κs = ?
+
+-- src/lib.rt:608:1
+returns-2 : tie.Need-returns-2
+returns-2 c = search needs
+
+pub near-spec : {M : Type 1} → statement M
+near-spec =
+    tie.close (tie.spec add-next cast-ahead add-ahead add-t14 returns jump-on-requires returns-2)

@@ -1,0 +1,27 @@
+use Rattle.steps.proofs.DoingLaws.{push-pushing, push-done}
+use borrow.Author.Needs.{needs}
+use Rattle.steps.proofs.push.Statement.{statement}
+use Rattle.steps.proofs.push.Tie as tie
+use Rattle.steps.proofs.push.Reads as reads
+use Rattle.steps.proofs.push.Lts as lts
+use Rattle.steps.proofs.push_word.Reads as push-word-reads
+use Rattle.steps.proofs.read.Reads as read-reads
+
+-- src/lib.rt:168:9
+read-requires : tie.Need-read-requires
+read-requires c κs = search needs
+
+-- src/lib.rt:169:5
+push-word-requires : tie.Need-push-word-requires
+push-word-requires c κs = push-pushing (c .before .before .before .before .before .before .pre)
+
+-- src/lib.rt:155:1
+same-length : tie.Need-same-length
+same-length c = search needs
+
+-- src/lib.rt:155:1
+returns : tie.Need-returns
+returns c = push-done (c .before .before .before .before .before .before .before .before .before .pre) _ _ (c .before .before .push-word .result) (c .before .before .before .before .read .ensures) (c .before .before .push-word .ensures)
+
+pub push-spec : {M : Type 1} → statement M
+push-spec = tie.close (tie.spec read-requires push-word-requires same-length returns)

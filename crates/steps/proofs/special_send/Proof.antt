@@ -1,0 +1,135 @@
+use borrow.Author.Needs.{needs}
+use Rattle.steps.proofs.special_send.Statement.{statement}
+use Rattle.steps.proofs.special_send.Tie as tie
+use Rattle.steps.proofs.special_send.Reads as reads
+use Rattle.steps.proofs.special_send.Lts as lts
+use Rattle.objects.proofs.class_of.Reads as class-of-reads
+use Rattle.objects.proofs.word_of.Reads as word-of-reads
+use Rattle.steps.proofs.boolean.Reads as boolean-reads
+use Rattle.steps.proofs.sent.Reads as sent-reads
+use Rattle.steps.proofs.special_count.Reads as special-count-reads
+
+-- src/lib.rt:412:22
+sub-last : tie.Need-sub-last
+sub-last c = search needs
+
+-- src/lib.rt:412:16
+mul-last : tie.Need-mul-last
+mul-last c = ?
+
+-- src/lib.rt:412:16
+slice-read-last : tie.Need-slice-read-last
+slice-read-last c = ?
+
+-- src/lib.rt:414:27
+sub-under : tie.Need-sub-under
+sub-under c = search needs
+
+-- src/lib.rt:414:21
+mul-under : tie.Need-mul-under
+mul-under c = ?
+
+-- src/lib.rt:414:21
+slice-read-under : tie.Need-slice-read-under
+slice-read-under c = ?
+
+-- src/lib.rt:415:26
+boolean-requires : tie.Need-boolean-requires
+boolean-requires c κs = search needs
+
+-- src/lib.rt:415:15
+sub-stack : tie.Need-sub-stack
+sub-stack c = search needs
+
+-- src/lib.rt:415:9
+mul-stack : tie.Need-mul-stack
+mul-stack c = ?
+
+-- src/lib.rt:415:9
+slice-write-stack : tie.Need-slice-write-stack
+slice-write-stack c = ?
+
+-- src/lib.rt:418:32
+sub-t20 : tie.Need-sub-t20
+sub-t20 c = search needs
+
+-- src/lib.rt:416:9
+same-length : tie.Need-same-length
+same-length c = search needs
+
+-- src/lib.rt:416:9
+returns : tie.Need-returns
+returns c = ?
+
+-- src/lib.rt:422:13
+class-of-requires : tie.Need-class-of-requires
+class-of-requires c κs = ?
+
+-- src/lib.rt:423:15
+sub-stack-2 : tie.Need-sub-stack-2
+sub-stack-2 c = search needs
+
+-- src/lib.rt:423:9
+mul-stack-2 : tie.Need-mul-stack-2
+mul-stack-2 c = ?
+
+-- src/lib.rt:423:9
+slice-write-stack-2 : tie.Need-slice-write-stack-2
+slice-write-stack-2 c = ?
+
+-- src/lib.rt:424:9
+same-length-2 : tie.Need-same-length-2
+same-length-2 c = search needs
+
+-- src/lib.rt:424:9
+returns-2 : tie.Need-returns-2
+returns-2 c = ?
+
+-- src/lib.rt:429:9
+word-of-requires : tie.Need-word-of-requires
+word-of-requires c κs = ?
+
+-- src/lib.rt:430:9
+special-count-requires : tie.Need-special-count-requires
+special-count-requires c κs = ?
+
+-- src/lib.rt:431:5
+sent-requires : tie.Need-sent-requires
+sent-requires c κs = ?
+
+-- src/lib.rt:398:1
+same-length-3 : tie.Need-same-length-3
+same-length-3 c = search needs
+
+-- src/lib.rt:398:1
+returns-3 : tie.Need-returns-3
+returns-3 c = search needs
+
+pub special-send-spec : {M : Type 1} → statement M
+special-send-spec =
+    tie.close
+    (tie.spec
+    sub-last
+    mul-last
+    slice-read-last
+    sub-under
+    mul-under
+    slice-read-under
+    boolean-requires
+    sub-stack
+    mul-stack
+    slice-write-stack
+    sub-t20
+    same-length
+    returns
+    class-of-requires
+    sub-stack-2
+    mul-stack-2
+    slice-write-stack-2
+    same-length-2
+    returns-2
+    word-of-requires
+    special-count-requires
+    sent-requires
+    same-length-3
+    returns-3)

@@ -1,0 +1,83 @@
+use borrow.Author.Needs.{needs}
+use Rattle.steps.proofs.super_send.Statement.{statement}
+use Rattle.steps.proofs.super_send.Tie as tie
+use Rattle.steps.proofs.super_send.Reads as reads
+use Rattle.steps.proofs.super_send.Lts as lts
+use Rattle.objects.proofs.home.Reads as home-reads
+use Rattle.objects.proofs.literal.Reads as literal-reads
+use Rattle.objects.proofs.superclass.Reads as superclass-reads
+
+-- src/lib.rt:324:32
+add-receiver : tie.Need-add-receiver
+add-receiver c = search needs
+
+-- src/lib.rt:324:26
+mul-receiver : tie.Need-mul-receiver
+mul-receiver c = ?
+
+-- src/lib.rt:324:26
+shared-slice-read-receiver : tie.Need-shared-slice-read-receiver
+shared-slice-read-receiver c = ?
+
+-- src/lib.rt:326:14
+sub-at : tie.Need-sub-at
+sub-at c = search needs
+
+-- src/lib.rt:326:14
+sub-at-2 : tie.Need-sub-at-2
+sub-at-2 c = ?
+
+-- src/lib.rt:327:20
+mul-receiver-2 : tie.Need-mul-receiver-2
+mul-receiver-2 c = ?
+
+-- src/lib.rt:327:20
+shared-slice-read-receiver-2 : tie.Need-shared-slice-read-receiver-2
+shared-slice-read-receiver-2 c = ?
+
+-- src/lib.rt:328:21
+add-own : tie.Need-add-own
+add-own c = search needs
+
+-- src/lib.rt:328:15
+mul-own : tie.Need-mul-own
+mul-own c = ?
+
+-- src/lib.rt:328:15
+shared-slice-read-own : tie.Need-shared-slice-read-own
+shared-slice-read-own c = ?
+
+-- src/lib.rt:329:9
+literal-requires : tie.Need-literal-requires
+literal-requires c κs = ?
+
+-- src/lib.rt:330:9
+home-requires : tie.Need-home-requires
+home-requires c κs = ?
+
+-- src/lib.rt:331:9
+superclass-requires : tie.Need-superclass-requires
+superclass-requires c κs = ?
+
+-- src/lib.rt:309:1
+returns : tie.Need-returns
+returns c = ?
+
+pub super-send-spec : {M : Type 1} → statement M
+super-send-spec =
+    tie.close
+    (tie.spec
+    add-receiver
+    mul-receiver
+    shared-slice-read-receiver
+    sub-at
+    sub-at-2
+    mul-receiver-2
+    shared-slice-read-receiver-2
+    add-own
+    mul-own
+    shared-slice-read-own
+    literal-requires
+    home-requires
+    superclass-requires
+    returns)
