@@ -114,6 +114,9 @@ module _ {n b : ℕ} {contents bodies : List ℕ} {m receiver : ℕ} (a : Activa
     by-code p q h =
         if-no _ _ (ne-eqb (flag o m) receiverFlag (λ z. p (e ∙ z))) ∙ if-no _ _ (ne-eqb (flag o m) fieldFlag (λ z. q (e ∙ z))) ∙ if-no _ _ (ne-eqb (flag o m) primitiveFlag (λ z. h (e ∙ z)))
 
+    pub below-flags : f < 5 → Leaves (activate room o m receiver arguments) (entering o m receiver) contents bodies contents bodies
+    below-flags h = record { leads = by-code (λ q. omega arith) (λ q. omega arith) (λ q. omega arith); entries = refl; words = refl }
+
     -- flag 6
     pub no-fields : f ≡ 6 → isKind o fieldsKind receiver ≡ false → activate room o m receiver arguments ≡ unfit
     unfolding fieldOf

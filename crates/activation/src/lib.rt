@@ -50,7 +50,7 @@ pub fn perform(
             b: b,
         };
     }
-    let answer = arithmetic::arithmetic(k as u8, w, x);
+    let answer = arithmetic::compute(k as u8, w, x);
     Done {
         answer: answer,
         n: n,

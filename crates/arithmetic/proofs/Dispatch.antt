@@ -1,9 +1,9 @@
 -- `arithmetic` by its tests: of the two words, and of the primitive's number.
 use Prim.Native.Nat.{ℕ, _+_, _*_, _/_, _%_, _<_}
-use mathlib.Core.Path.{_≡_, ap₂, _∙_}
-use mathlib.Core.Bool.{true, false, _&&_}
+use mathlib.Core.Path.{_≡_, ap, ap₂, _∙_}
+use mathlib.Core.Bool.{Bool, true, false, _&&_}
 use native.Mathlib.Omega.{arith}
-use borrow.Author.Tests.{eq-eqb, ne-eqb}
+use borrow.Author.Tests.{eq-eqb, ne-eqb, lt-leb}
 use lib.Dec.{leb}
 use lib.Bits.{bitXor, differ, xor-step, xor-lt}
 use Rattle.bytecode.specs.Test.{if_then_else_}
@@ -28,6 +28,10 @@ module _ (k v w : ℕ) (hv : v % 2 ≡ 1) where
     pub not-bitwise : (leb 14 k && leb k 16) ≡ false → arithmetic k v w ≡ onIntegers k (valueOf v) (valueOf w)
     unfolding arithmetic if_then_else_
     not-bitwise e = rw (eq-eqb (v % 2) 1 hv, eq-eqb (w % 2) 1 hw, e)
+
+    pub numbered : (j : ℕ) → k ≡ j → j < 14 → arithmetic k v w ≡ onIntegers j (valueOf v) (valueOf w)
+    numbered j e h =
+        not-bitwise (ap (λ (i : ℕ). leb 14 i && leb i 16) e ∙ ap (λ (t : Bool). t && leb j 16) (lt-leb 14 j h)) ∙ ap (λ (i : ℕ). onIntegers i (valueOf v) (valueOf w)) e
 
 -- two odd words differ in an even number, so one more is a word
 pub xor-below : (v w : ℕ) → v < 65536 → w < 65536 → v % 2 ≡ 1 → w % 2 ≡ 1 → bitXor v w + 1 < 65536

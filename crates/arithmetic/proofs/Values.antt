@@ -6,9 +6,13 @@ use native.Mathlib.Decide.{decLt}
 use borrow.Author.Tests.{lt-ltb, le-ltb}
 use lib.IntN.{ℤ, pos, negsuc, _+ℤ_, _-ℤ_}
 use lib.Signed.{mag}
+use mir.Syntax.{w32}
+use mir.Val.{SFits, toZ, ofZ}
 use Rattle.bytecode.specs.Test.{if_then_else_}
 use Rattle.model.specs.Limits.{largestInteger}
 use Rattle.model.specs.Word.{valueOf, wordOf}
+use Rattle.arithmetic.proofs.Machine.{reads}
+use Rattle.arithmetic.proofs.Magnitude.{fits}
 
 abbrev pub raisedWord : ℕ → ℕ
 raisedWord w = (w + 32768) % 65536 / 2
@@ -48,3 +52,10 @@ module _ (w : ℕ) (h : w < 65536) where
 
   pub value-mag : mag (valueOf w) ≤ largestInteger
   value-mag = half-mag (decLt w 32768)
+
+  -- what the machine reads of it
+  pub value-fits : SFits w32 (valueOf w)
+  value-fits = fits 65536 (let g = value-mag in omega arith) (omega arith)
+
+  pub read-value : {z : ℤ} → z ≡ valueOf w → toZ w32 (ofZ w32 z) ≡ valueOf w
+  read-value e = reads e value-fits

@@ -206,7 +206,7 @@ fn on_bits(k: u8, v: u16, w: u16) -> Computed
 }
 
 // Primitive k on a receiver and an argument.
-pub fn arithmetic(k: u8, v: u16, w: u16) -> Computed
+pub fn compute(k: u8, v: u16, w: u16) -> Computed
     ensures { λ r. ⌜ r ≡ arithmetic k v w ⌝ }
 {
     if v % 2 != 1 {
@@ -219,4 +219,26 @@ pub fn arithmetic(k: u8, v: u16, w: u16) -> Computed
         return on_bits(k, v, w);
     }
     on_integers(k, value(v), value(w))
+}
+
+// The same for the run loop, into which it is compiled: the frequent primitives at once, the others by a call.
+pub fn arithmetic(k: u8, v: u16, w: u16) -> Computed
+    ensures { λ r. ⌜ r ≡ arithmetic k v w ⌝ }
+{
+    if v % 2 != 1 {
+        return Computed::Failed;
+    }
+    if w % 2 != 1 {
+        return Computed::Failed;
+    }
+    match k {
+        1 => number(value(v) + value(w)),
+        2 => number(value(v) - value(w)),
+        3 => truth(value(v) < value(w)),
+        4 => truth(value(w) < value(v)),
+        5 => truth(value(v) <= value(w)),
+        6 => truth(value(w) <= value(v)),
+        7 => truth(value(v) == value(w)),
+        _ => compute(k, v, w),
+    }
 }

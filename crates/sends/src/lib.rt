@@ -12,6 +12,7 @@ ghost use Rattle.plain.specs.Flat.{frameDepth};
 ghost use Rattle.plain.specs.Cache.{cacheEntryOf, filled};
 ghost use Rattle.plain.specs.Running.{Runs, Sending, roomAt, sendStep};
 ghost use Rattle.frames.specs.Words.{newWords};
+ghost use Rattle.activation.specs.Activating.{Activable, Activates};
 ghost use Rattle.sends.specs.Sends.{Caches, Asks, MessageIs, Guarded, Framing, BaseIs, Enters, SentIs};
 use activation::Activated;
 use model::CodePosition;
@@ -124,6 +125,26 @@ fn received(
         first: first,
         second: second,
     }
+}
+
+// What a method does. Most run in a frame at once: their flag alone is read here.
+fn acted(
+    contents: &mut [u16],
+    bodies: &mut [u16],
+    n: usize,
+    b: usize,
+    method: Pointer,
+    receiver: u16,
+    x: u16,
+    y: u16,
+) -> Activated
+    requires { ⌜ Activable n b (now contents) (now bodies) (method .0) receiver ⌝ }
+    ensures { λ r. ⌜ Activates n b (now (contents .entry)) (now (bodies .entry)) (method .0) receiver x y (now (contents .exit)) (now (bodies .exit)) r ⌝ }
+{
+    if objects::flag(objects::header(contents, bodies, n, b, method)) < 5 {
+        return Activated::Frame;
+    }
+    activation::activate(contents, bodies, n, b, method, receiver, x, y)
 }
 
 // Whether the method's home is in the receiver's class chain; a sure send need not look.
@@ -252,7 +273,7 @@ pub fn send(
     let left = sent.left;
     let place = sent.place;
     let receiver = sent.receiver;
-    let done = activation::activate(
+    let done = acted(
         contents,
         bodies,
         n,

@@ -27,14 +27,14 @@ returns c = search needs
 returns-2 : tie.Need-returns-2
 returns-2 c = does-none (c .before .before .before .before .before .args .n) (c .before .before .before .before .before .args .b) (c .before .before .before .before .before .args .contents .now) (c .before .before .before .before .before .args .bodies .now) (c .before .before .before .before .before .pre .right) (arithmetic-other (roomOf (c .before .before .before .before .before .args .contents .now) (c .before .before .before .before .before .args .bodies .now)) (objectsAt (c .before .before .before .before .before .args .n) (c .before .before .before .before .before .args .b) (c .before .before .before .before .before .args .contents .now) (c .before .before .before .before .before .args .bodies .now)) (c .before .before .before .before .before .args .k) (c .before .before .before .before .before .args .count) (c .before .before .before .before .before .args .w) (c .before .before .before .before .before .args .x) (c .before .before .before .before .before .args .y) (arithmetic-range _ _ (c .before .before .is-arithmetic .ensures) (not-false _ (c .before .if1 .left))) (c .if2 .taken))
 
-cast-arithmetic : tie.Need-cast-arithmetic
-cast-arithmetic c = let r = arithmetic-range (c .before .before .before .before .before .args .k) _ (c .before .before .is-arithmetic .ensures) (not-false _ (c .before .if1 .left)) in omega arith
+cast-compute : tie.Need-cast-compute
+cast-compute c = let r = arithmetic-range (c .before .before .before .before .before .args .k) _ (c .before .before .is-arithmetic .ensures) (not-false _ (c .before .if1 .left)) in omega arith
 
-arithmetic-requires : tie.Need-arithmetic-requires
-arithmetic-requires c κs = search needs
+compute-requires : tie.Need-compute-requires
+compute-requires c κs = search needs
 
 returns-3 : tie.Need-returns-3
-returns-3 c = does-computed (c .before .before .before .before .before .before .args .n) (c .before .before .before .before .before .before .args .b) (c .before .before .before .before .before .before .args .contents .now) (c .before .before .before .before .before .before .args .bodies .now) (c .arithmetic .result) (c .before .before .before .before .before .before .pre .right) (arithmetic-is (roomOf (c .before .before .before .before .before .before .args .contents .now) (c .before .before .before .before .before .before .args .bodies .now)) (objectsAt (c .before .before .before .before .before .before .args .n) (c .before .before .before .before .before .before .args .b) (c .before .before .before .before .before .before .args .contents .now) (c .before .before .before .before .before .before .args .bodies .now)) (c .before .before .before .before .before .before .args .k) (c .before .before .before .before .before .before .args .count) (c .before .before .before .before .before .before .args .w) (c .before .before .before .before .before .before .args .x) (c .before .before .before .before .before .before .args .y) (c .arithmetic .result) (arithmetic-range _ _ (c .before .before .before .is-arithmetic .ensures) (not-false _ (c .before .before .if1 .left))) (c .before .if2 .left) (c .arithmetic .ensures))
+returns-3 c = does-computed (c .before .before .before .before .before .before .args .n) (c .before .before .before .before .before .before .args .b) (c .before .before .before .before .before .before .args .contents .now) (c .before .before .before .before .before .before .args .bodies .now) (c .compute .result) (c .before .before .before .before .before .before .pre .right) (arithmetic-is (roomOf (c .before .before .before .before .before .before .args .contents .now) (c .before .before .before .before .before .before .args .bodies .now)) (objectsAt (c .before .before .before .before .before .before .args .n) (c .before .before .before .before .before .before .args .b) (c .before .before .before .before .before .before .args .contents .now) (c .before .before .before .before .before .before .args .bodies .now)) (c .before .before .before .before .before .before .args .k) (c .before .before .before .before .before .before .args .count) (c .before .before .before .before .before .before .args .w) (c .before .before .before .before .before .before .args .x) (c .before .before .before .before .before .before .args .y) (c .compute .result) (arithmetic-range _ _ (c .before .before .before .is-arithmetic .ensures) (not-false _ (c .before .before .if1 .left))) (c .before .if2 .left) (c .compute .ensures))
 
 pub perform-spec : {M : Type 1} → statement M
 perform-spec =
@@ -46,6 +46,6 @@ perform-spec =
     same-length-2
     returns
     returns-2
-    cast-arithmetic
-    arithmetic-requires
+    cast-compute
+    compute-requires
     returns-3)

@@ -1,23 +1,56 @@
--- `arithmetic::arithmetic` meets its contract.
+-- `arithmetic::arithmetic` meets its contract: each arm of 1 to 7 is one line of the definition.
 use Prim.Native.Nat.{ℕ, _<_}
-use mathlib.Core.Path.{_≡_, sym, ap₂, _∙_}
+use mathlib.Core.Path.{_≡_, sym, ap, ap₂, _∙_}
+use mathlib.Core.Bool.{_&&_}
 use native.Mathlib.Omega.{arith}
 use borrow.Author.Needs.{needs}
-use lib.IntN.{ℤ}
+use lib.Dec.{eqb}
+use lib.IntN.{ℤ, _+ℤ_, _-ℤ_}
+use lib.Signed.{ltZ, leZ}
 use mir.Syntax.{w32}
-use mir.Val.{toZ, ofZ}
+use mir.Val.{SFits, toZ, ofZ}
+use Rattle.bytecode.specs.Test.{if_then_else_}
 use Rattle.model.specs.Word.{valueOf}
-use Rattle.model.specs.Arithmetic.{onIntegers}
-use Rattle.arithmetic.proofs.Machine.{reads}
-use Rattle.arithmetic.proofs.Magnitude.{fits}
-use Rattle.arithmetic.proofs.Values.{value-mag}
-use Rattle.arithmetic.proofs.Dispatch.{receiver-no-integer, argument-no-integer, bitwise, not-bitwise}
+use Rattle.model.specs.Arithmetic.{number, truth, onIntegers, arithmetic}
+use Rattle.arithmetic.proofs.Machine.{asks, gives}
+use Rattle.arithmetic.proofs.Magnitude.{sum-fits, difference-fits}
+use Rattle.arithmetic.proofs.Values.{value-mag, value-fits, read-value}
+use Rattle.arithmetic.proofs.Equality.{equal-bits}
+use Rattle.arithmetic.proofs.Dispatch.{receiver-no-integer, argument-no-integer, numbered}
 use Rattle.arithmetic.proofs.arithmetic.Statement.{statement}
 use Rattle.arithmetic.proofs.arithmetic.Tie as tie
 
--- what the machine reads of a word's integer
-read-value : (w : ℕ) {z : ℤ} → w < 65536 → z ≡ valueOf w → toZ w32 (ofZ w32 z) ≡ valueOf w
-read-value w h e = reads e (fits 65536 (let g = value-mag w h in omega arith) (omega arith))
+-- two words of integers
+module _ (t : tie.Else2) where
+  abbrev s : tie.Start
+  s = t .before .before
+
+  abbrev a : ℤ
+  a = valueOf (s .args .v)
+
+  abbrev b : ℤ
+  b = valueOf (s .args .w)
+
+  sum : SFits w32 (a +ℤ b)
+  sum = sum-fits a b (value-mag (s .args .v) (s .fits .v .fits)) (value-mag (s .args .w) (s .fits .w .fits))
+
+  difference : SFits w32 (a -ℤ b)
+  difference = difference-fits a b (value-mag (s .args .v) (s .fits .v .fits)) (value-mag (s .args .w) (s .fits .w .fits))
+
+  -- what the machine reads of each
+  read-a : {z : ℤ} → z ≡ a → toZ w32 (ofZ w32 z) ≡ a
+  read-a e = read-value (s .args .v) (s .fits .v .fits) e
+
+  read-b : {z : ℤ} → z ≡ b → toZ w32 (ofZ w32 z) ≡ b
+  read-b e = read-value (s .args .w) (s .fits .w .fits) e
+
+  equal : {x y : ℤ} → x ≡ a → y ≡ b → truth (eqb (ofZ w32 x) (ofZ w32 y)) ≡ truth (leZ a b && leZ b a)
+  equal e f =
+      ap₂ (λ (x y : ℤ). truth (eqb (ofZ w32 x) (ofZ w32 y))) e f
+      ∙ ap truth (equal-bits a b (value-fits (s .args .v) (s .fits .v .fits)) (value-fits (s .args .w) (s .fits .w .fits)))
+
+  line : (j : ℕ) → s .args .k ≡ j → j < 14 → onIntegers j a b ≡ arithmetic (s .args .k) (s .args .v) (s .args .w)
+  line j e h = sym (numbered (s .args .k) (s .args .v) (s .args .w) (t .before .if1 .left) (t .if2 .left) j e h)
 
 returns : tie.Need-returns
 returns c = let s = c .before in sym (receiver-no-integer (s .args .k) (s .args .v) (s .args .w) (c .if1 .taken))
@@ -27,44 +60,136 @@ returns-2 c =
     let s = c .before .before in
     sym (argument-no-integer (s .args .k) (s .args .v) (s .args .w) (c .before .if1 .left) (c .if2 .taken))
 
-is-bitwise-requires : tie.Need-is-bitwise-requires
-is-bitwise-requires c κs = search needs
-
-on-bits-requires : tie.Need-on-bits-requires
-on-bits-requires c κs = search needs
-
-returns-3 : tie.Need-returns-3
-returns-3 c =
-    let t = c .before .before .before in
-    let s = t .before .before in
-    c .on-bits .ensures
-    ∙ sym
-    (bitwise (s .args .k) (s .args .v) (s .args .w) (t .before .if1 .left) (t .if2 .left)
-    (sym (c .before .before .is-bitwise .ensures) ∙ c .before .if3 .taken))
-
 value-requires : tie.Need-value-requires
 value-requires c κs = search needs
 
 value-requires-2 : tie.Need-value-requires-2
 value-requires-2 c κs = search needs
 
-on-integers-requires : tie.Need-on-integers-requires
-on-integers-requires c κs =
-    let s = c .before .before .before .before .before .before in
-    rw (read-value (s .args .v) (s .fits .v .fits) (c .before .value .ensures), read-value (s .args .w) (s .fits .w .fits) (c .value2 .ensures))
-    (value-mag (s .args .v) (s .fits .v .fits), value-mag (s .args .w) (s .fits .w .fits))
+add-number : tie.Need-add-number
+add-number c = let t = c .before .before .before in asks _+ℤ_ (read-a t (c .before .value .ensures)) (read-b t (c .value2 .ensures)) (sum t)
+
+number-requires : tie.Need-number-requires
+number-requires c κs = search needs
+
+value-requires-3 : tie.Need-value-requires-3
+value-requires-3 c κs = search needs
+
+value-requires-4 : tie.Need-value-requires-4
+value-requires-4 c κs = search needs
+
+sub-number : tie.Need-sub-number
+sub-number c = let t = c .before .before .before in asks _-ℤ_ (read-a t (c .before .value3 .ensures)) (read-b t (c .value4 .ensures)) (difference t)
+
+number-requires-2 : tie.Need-number-requires-2
+number-requires-2 c κs = search needs
+
+value-requires-5 : tie.Need-value-requires-5
+value-requires-5 c κs = search needs
+
+value-requires-6 : tie.Need-value-requires-6
+value-requires-6 c κs = search needs
+
+truth-requires : tie.Need-truth-requires
+truth-requires c κs = search needs
+
+value-requires-7 : tie.Need-value-requires-7
+value-requires-7 c κs = search needs
+
+value-requires-8 : tie.Need-value-requires-8
+value-requires-8 c κs = search needs
+
+truth-requires-2 : tie.Need-truth-requires-2
+truth-requires-2 c κs = search needs
+
+value-requires-9 : tie.Need-value-requires-9
+value-requires-9 c κs = search needs
+
+value-requires-10 : tie.Need-value-requires-10
+value-requires-10 c κs = search needs
+
+truth-requires-3 : tie.Need-truth-requires-3
+truth-requires-3 c κs = search needs
+
+value-requires-11 : tie.Need-value-requires-11
+value-requires-11 c κs = search needs
+
+value-requires-12 : tie.Need-value-requires-12
+value-requires-12 c κs = search needs
+
+truth-requires-4 : tie.Need-truth-requires-4
+truth-requires-4 c κs = search needs
+
+value-requires-13 : tie.Need-value-requires-13
+value-requires-13 c κs = search needs
+
+value-requires-14 : tie.Need-value-requires-14
+value-requires-14 c κs = search needs
+
+truth-requires-5 : tie.Need-truth-requires-5
+truth-requires-5 c κs = search needs
+
+compute-requires : tie.Need-compute-requires
+compute-requires c κs = search needs
+
+returns-3 : tie.Need-returns-3
+unfolding onIntegers if_then_else_
+returns-3 c =
+    let t = c .before .before .before .before in
+    c .number .ensures
+    ∙ ap number (gives _+ℤ_ (read-a t (c .before .before .value .ensures)) (read-b t (c .before .value2 .ensures)) (sum t))
+    ∙ line t 1 (c .before .before .before .match .keys1) (omega arith)
 
 returns-4 : tie.Need-returns-4
+unfolding onIntegers if_then_else_
 returns-4 c =
-    let t = c .before .before .before .before .before in
-    let s = t .before .before in
-    c .on-integers .ensures
-    ∙ ap₂ (onIntegers (s .args .k))
-    (read-value (s .args .v) (s .fits .v .fits) (c .before .before .value .ensures))
-    (read-value (s .args .w) (s .fits .w .fits) (c .before .value2 .ensures))
-    ∙ sym
-    (not-bitwise (s .args .k) (s .args .v) (s .args .w) (t .before .if1 .left) (t .if2 .left)
-    (sym (c .before .before .before .before .is-bitwise .ensures) ∙ c .before .before .before .if3 .left))
+    let t = c .before .before .before .before in
+    c .number2 .ensures
+    ∙ ap number (gives _-ℤ_ (read-a t (c .before .before .value3 .ensures)) (read-b t (c .before .value4 .ensures)) (difference t))
+    ∙ line t 2 (c .before .before .before .match .keys2) (omega arith)
+
+returns-5 : tie.Need-returns-5
+unfolding onIntegers if_then_else_
+returns-5 c =
+    let t = c .before .before .before .before in
+    c .truth .ensures
+    ∙ ap₂ (λ (x y : ℤ). truth (ltZ x y)) (read-a t (c .before .before .value5 .ensures)) (read-b t (c .before .value6 .ensures))
+    ∙ line t 3 (c .before .before .before .match .keys3) (omega arith)
+
+returns-6 : tie.Need-returns-6
+unfolding onIntegers if_then_else_
+returns-6 c =
+    let t = c .before .before .before .before in
+    c .truth2 .ensures
+    ∙ ap₂ (λ (y x : ℤ). truth (ltZ y x)) (read-b t (c .before .before .value7 .ensures)) (read-a t (c .before .value8 .ensures))
+    ∙ line t 4 (c .before .before .before .match .keys4) (omega arith)
+
+returns-7 : tie.Need-returns-7
+unfolding onIntegers if_then_else_
+returns-7 c =
+    let t = c .before .before .before .before in
+    c .truth3 .ensures
+    ∙ ap₂ (λ (x y : ℤ). truth (leZ x y)) (read-a t (c .before .before .value9 .ensures)) (read-b t (c .before .value10 .ensures))
+    ∙ line t 5 (c .before .before .before .match .keys5) (omega arith)
+
+returns-8 : tie.Need-returns-8
+unfolding onIntegers if_then_else_
+returns-8 c =
+    let t = c .before .before .before .before in
+    c .truth4 .ensures
+    ∙ ap₂ (λ (y x : ℤ). truth (leZ y x)) (read-b t (c .before .before .value11 .ensures)) (read-a t (c .before .value12 .ensures))
+    ∙ line t 6 (c .before .before .before .match .keys6) (omega arith)
+
+returns-9 : tie.Need-returns-9
+unfolding onIntegers if_then_else_
+returns-9 c =
+    let t = c .before .before .before .before in
+    c .truth5 .ensures
+    ∙ equal t (c .before .before .value13 .ensures) (c .before .value14 .ensures)
+    ∙ line t 7 (c .before .before .before .match .keys7) (omega arith)
+
+returns-10 : tie.Need-returns-10
+returns-10 c = search needs
 
 pub arithmetic-spec : {M : Type 1} → statement M
 arithmetic-spec =
@@ -72,10 +197,35 @@ arithmetic-spec =
     (tie.spec
     returns
     returns-2
-    is-bitwise-requires
-    on-bits-requires
-    returns-3
     value-requires
     value-requires-2
-    on-integers-requires
-    returns-4)
+    add-number
+    number-requires
+    value-requires-3
+    value-requires-4
+    sub-number
+    number-requires-2
+    value-requires-5
+    value-requires-6
+    truth-requires
+    value-requires-7
+    value-requires-8
+    truth-requires-2
+    value-requires-9
+    value-requires-10
+    truth-requires-3
+    value-requires-11
+    value-requires-12
+    truth-requires-4
+    value-requires-13
+    value-requires-14
+    truth-requires-5
+    compute-requires
+    returns-3
+    returns-4
+    returns-5
+    returns-6
+    returns-7
+    returns-8
+    returns-9
+    returns-10)
