@@ -216,9 +216,11 @@ module _ {n b : ℕ} {contents bodies stack : List ℕ} {a : Active} {next j end
       → stack′ ≡ set stack (a .base .0 + 6 + j) (getD stack at 0) → Says n b contents a bodies stack bodies stack′ (Next (record { 0 = next }) (record { 0 = end }))
   temporary-stored z at stack′ p e =
       let v = written a stack in
-      subst (λ (l : List ℕ). Says n b contents a bodies stack bodies l (Next (record { 0 = next }) (record { 0 = end }))) (sym e)
-      (store-temporary (store-at z) (written (movedOn a (record { 0 = next }) (record { 0 = end })) (set stack (a .base .0 + 6 + j) (getD stack at 0)))
-      (puts a stack (a .base .0 + 6 + j) (getD stack at 0) (omega arith) (record { 0 = next }) (record { 0 = end }) ∙ same-three v refl (sym (top-read z at p)) refl refl refl refl), stands-on (z .doing .active) (record { 0 = next }) (record { 0 = end }) (set stack (a .base .0 + 6 + j) (getD stack at 0)) (put-method a stack (a .base .0 + 6 + j) (getD stack at 0) (omega arith) (omega arith)) (store-above z))
+      subst (λ (l : List ℕ). Says n b contents a bodies stack bodies l (Next (record { 0 = next }) (record { 0 = end }))) (sym e) (
+        store-temporary (store-at z) (written (movedOn a (record { 0 = next }) (record { 0 = end })) (set stack (a .base .0 + 6 + j) (getD stack at 0)))
+            (puts a stack (a .base .0 + 6 + j) (getD stack at 0) (omega arith) (record { 0 = next }) (record { 0 = end }) ∙ same-three v refl (sym (top-read z at p)) refl refl refl refl),
+        stands-on (z .doing .active) (record { 0 = next }) (record { 0 = end }) (set stack (a .base .0 + 6 + j) (getD stack at 0)) (put-method a stack (a .base .0 + 6 + j) (getD stack at 0) (omega arith) (omega arith)) (store-above z),
+      )
 
   pub literal-never : Storing n b contents bodies stack a next (Literal j) end → ⊥
   literal-never z = store-writable (store-at z)

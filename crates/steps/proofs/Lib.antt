@@ -8,3 +8,4 @@ pub mod SayLaws
 pub mod SendLaws
 pub mod SpecialLaws
 pub mod DoingLaws
+pub mod RowLaws

@@ -1,3 +1,7 @@
+use native.Mathlib.Omega.{arith}
+use mathlib.Core.Path.{refl}
+use Rattle.steps.proofs.ActiveLaws.{ends}
+use Rattle.steps.proofs.DoingLaws.{two, special-inside, computed-done, failed-sends}
 use borrow.Author.Needs.{needs}
 use Rattle.steps.proofs.arithmetic_send.Statement.{statement}
 use Rattle.steps.proofs.arithmetic_send.Tie as tie
@@ -10,27 +14,27 @@ use Rattle.steps.proofs.tried.Reads as tried-reads
 
 -- src/lib.rt:368:22
 sub-last : tie.Need-sub-last
-sub-last c = search needs
+sub-last c = let k = two (c .before .before .before .pre .0) (c .before .before .before .pre .1) in omega arith
 
 -- src/lib.rt:368:16
 mul-last : tie.Need-mul-last
-mul-last c = ?
+mul-last c = let k = ends (c .before .before .before .pre .0 .active) in omega arith
 
 -- src/lib.rt:368:16
 slice-read-last : tie.Need-slice-read-last
-slice-read-last c = ?
+slice-read-last c = let k = ends (c .before .before .before .before .pre .0 .active) in let o = two (c .before .before .before .before .pre .0) (c .before .before .before .before .pre .1) in omega arith
 
 -- src/lib.rt:369:23
 sub-under : tie.Need-sub-under
-sub-under c = search needs
+sub-under c = let k = two (c .before .before .before .before .pre .0) (c .before .before .before .before .pre .1) in omega arith
 
 -- src/lib.rt:369:17
 mul-under : tie.Need-mul-under
-mul-under c = ?
+mul-under c = let k = ends (c .before .before .before .before .pre .0 .active) in omega arith
 
 -- src/lib.rt:369:17
 slice-read-under : tie.Need-slice-read-under
-slice-read-under c = ?
+slice-read-under c = let k = ends (c .before .before .before .before .before .pre .0 .active) in let o = two (c .before .before .before .before .before .pre .0) (c .before .before .before .before .before .pre .1) in omega arith
 
 -- src/lib.rt:370:34
 tried-requires : tie.Need-tried-requires
@@ -46,19 +50,19 @@ enum-known-w c = search needs
 
 -- src/lib.rt:372:19
 sub-stack : tie.Need-sub-stack
-sub-stack c = search needs
+sub-stack c = let k = two (c .before .before .before .before .before .before .before .before .before .before .pre .0) (c .before .before .before .before .before .before .before .before .before .before .pre .1) in omega arith
 
 -- src/lib.rt:372:13
 mul-stack : tie.Need-mul-stack
-mul-stack c = ?
+mul-stack c = let k = ends (c .before .before .before .before .before .before .before .before .before .before .pre .0 .active) in omega arith
 
 -- src/lib.rt:372:13
 slice-write-stack : tie.Need-slice-write-stack
-slice-write-stack c = ?
+slice-write-stack c = let k = ends (c .before .before .before .before .before .before .before .before .before .before .pre .0 .active) in let o = two (c .before .before .before .before .before .before .before .before .before .before .pre .0) (c .before .before .before .before .before .before .before .before .before .before .pre .1) in omega arith
 
 -- src/lib.rt:375:36
 sub-t22 : tie.Need-sub-t22
-sub-t22 c = search needs
+sub-t22 c = let k = two (c .before .before .before .before .before .before .before .before .before .before .pre .0) (c .before .before .before .before .before .before .before .before .before .before .pre .1) in omega arith
 
 -- src/lib.rt:379:62
 enum-told : tie.Need-enum-told
@@ -66,11 +70,11 @@ enum-told c = search needs
 
 -- src/lib.rt:379:17
 word-of-requires : tie.Need-word-of-requires
-word-of-requires c κs = ?
+word-of-requires c κs = special-inside (c .before .before .before .before .before .before .before .before .before .pre .0)
 
 -- src/lib.rt:380:13
 sent-requires : tie.Need-sent-requires
-sent-requires c κs = ?
+sent-requires c κs = failed-sends (c .before .before .before .before .before .before .before .before .before .before .before .pre .0) (c .before .before .before .before .before .before .before .before .before .before .before .pre .1) _ _ _ _ (c .before .before .before .before .arithmetic .result) refl refl (c .before .before .before .before .before .tried .ensures) (c .before .before .before .before .arithmetic .ensures) (c .before .before .enum-told .given .1) (c .before .word-of .ensures)
 
 -- src/lib.rt:354:1
 same-length : tie.Need-same-length
@@ -78,7 +82,7 @@ same-length c = search needs
 
 -- src/lib.rt:354:1
 returns : tie.Need-returns
-returns c = ?
+returns c = computed-done (c .before .before .before .before .before .before .before .before .before .before .pre .0) (c .before .before .before .before .before .before .before .before .before .before .pre .1) _ _ _ _ (c .before .before .before .arithmetic .result) _ _ refl refl (c .before .before .before .before .tried .ensures) (c .before .before .before .arithmetic .ensures) (c .before .w .given .1) refl refl
 
 -- src/lib.rt:354:1
 same-length-2 : tie.Need-same-length-2

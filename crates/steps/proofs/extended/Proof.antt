@@ -1,3 +1,11 @@
+use native.Mathlib.Omega.{arith}
+use mathlib.Core.Path.{refl}
+use Rattle.bytecode.specs.Test.{if_then_else_}
+use Rattle.bytecode.specs.Code.{lengthOf}
+use Rattle.bytecode.proofs.Choice.{past}
+use Rattle.steps.proofs.ActiveLaws.{ends}
+use Rattle.steps.proofs.DoingLaws.{storing-kept, storing-popped, pop-one, pop-done, duplicate-one, duplicate-pushing, duplicate-done}
+use Rattle.steps.proofs.RowLaws.{position-small, byte-there, extended-push, extended-store, extended-pop-store, extended-send, extended-send-long, extended-super, extended-super-long, extended-pop, extended-duplicate, extended-unused}
 use borrow.Author.Needs.{needs}
 use Rattle.steps.proofs.extended.Statement.{statement}
 use Rattle.steps.proofs.extended.Tie as tie
@@ -13,7 +21,8 @@ use Rattle.steps.proofs.super_send.Reads as super-send-reads
 
 -- src/lib.rt:491:17
 code-byte-requires : tie.Need-code-byte-requires
-code-byte-requires c κs = ?
+unfolding lengthOf if_then_else_
+code-byte-requires c κs = (c .before .before .before .before .before .before .pre .0 .active, byte-there (c .before .before .before .before .before .before .pre .0) 128 2 1 (c .before .before .match .keys1) refl (omega arith))
 
 -- src/lib.rt:492:17
 place-of-requires : tie.Need-place-of-requires
@@ -21,15 +30,16 @@ place-of-requires c κs = search needs
 
 -- src/lib.rt:500:30
 add-t34 : tie.Need-add-t34
-add-t34 c = ?
+add-t34 c = let k = position-small (c .before .before .before .before .before .before .before .before .before .before .pre .0 .active) in omega arith
 
 -- src/lib.rt:493:13
 push-requires : tie.Need-push-requires
-push-requires c κs = ?
+push-requires c κs = extended-push (c .before .before .before .before .before .before .before .before .before .before .pre .0) (c .before .before .before .before .before .before .match .keys1) _ _ (c .before .before .before .code-byte .ensures) (c .before .before .place-of .ensures)
 
 -- src/lib.rt:505:17
 code-byte-requires-2 : tie.Need-code-byte-requires-2
-code-byte-requires-2 c κs = ?
+unfolding lengthOf if_then_else_
+code-byte-requires-2 c κs = (c .before .before .before .before .before .before .pre .0 .active, byte-there (c .before .before .before .before .before .before .pre .0) 129 2 1 (c .before .before .match .keys2) refl (omega arith))
 
 -- src/lib.rt:506:17
 place-of-requires-2 : tie.Need-place-of-requires-2
@@ -37,15 +47,16 @@ place-of-requires-2 c κs = search needs
 
 -- src/lib.rt:507:37
 add-t40 : tie.Need-add-t40
-add-t40 c = ?
+add-t40 c = let k = position-small (c .before .before .before .before .before .before .before .before .pre .0 .active) in omega arith
 
 -- src/lib.rt:508:13
 store-requires : tie.Need-store-requires
-store-requires c κs = ?
+store-requires c κs = storing-kept (extended-store (c .before .before .before .before .before .before .before .before .before .before .pre .0) (c .before .before .before .before .before .before .match .keys2) _ _ (c .before .before .before .code-byte2 .ensures) (c .before .before .place-of2 .ensures)) _ refl
 
 -- src/lib.rt:521:17
 code-byte-requires-3 : tie.Need-code-byte-requires-3
-code-byte-requires-3 c κs = ?
+unfolding lengthOf if_then_else_
+code-byte-requires-3 c κs = (c .before .before .before .before .before .before .pre .0 .active, byte-there (c .before .before .before .before .before .before .pre .0) 130 2 1 (c .before .before .match .keys3) refl (omega arith))
 
 -- src/lib.rt:522:17
 place-of-requires-3 : tie.Need-place-of-requires-3
@@ -53,7 +64,7 @@ place-of-requires-3 c κs = search needs
 
 -- src/lib.rt:523:37
 add-t50 : tie.Need-add-t50
-add-t50 c = ?
+add-t50 c = let k = position-small (c .before .before .before .before .before .before .before .before .pre .0 .active) in omega arith
 
 -- src/lib.rt:533:31
 sub-t50 : tie.Need-sub-t50
@@ -61,91 +72,97 @@ sub-t50 c = search needs
 
 -- src/lib.rt:524:13
 store-requires-2 : tie.Need-store-requires-2
-store-requires-2 c κs = ?
+store-requires-2 c κs = storing-popped (extended-pop-store (c .before .before .before .before .before .before .before .before .before .before .pre .0) (c .before .before .before .before .before .before .match .keys3) _ _ (c .before .before .before .code-byte3 .ensures) (c .before .before .place-of3 .ensures)) _ refl
 
 -- src/lib.rt:537:17
 code-byte-requires-4 : tie.Need-code-byte-requires-4
-code-byte-requires-4 c κs = ?
+unfolding lengthOf if_then_else_
+code-byte-requires-4 c κs = (c .before .before .before .before .before .before .pre .0 .active, byte-there (c .before .before .before .before .before .before .pre .0) 131 2 1 (c .before .before .match .keys4) refl (omega arith))
 
 -- src/lib.rt:545:30
 add-t64 : tie.Need-add-t64
-add-t64 c = ?
+add-t64 c = let k = position-small (c .before .before .before .before .before .before .before .before .before .pre .0 .active) in omega arith
 
 -- src/lib.rt:538:13
 send-requires : tie.Need-send-requires
-send-requires c κs = ?
+send-requires c κs = extended-send (c .before .before .before .before .before .before .before .before .before .pre .0) (c .before .before .before .before .before .match .keys4) _ (c .before .before .code-byte4 .ensures)
 
 -- src/lib.rt:551:17
 code-byte-requires-5 : tie.Need-code-byte-requires-5
-code-byte-requires-5 c κs = ?
+unfolding lengthOf if_then_else_
+code-byte-requires-5 c κs = (c .before .before .before .before .before .before .pre .0 .active, byte-there (c .before .before .before .before .before .before .pre .0) 132 3 1 (c .before .before .match .keys5) refl (omega arith))
 
 -- src/lib.rt:552:17
 code-byte-requires-6 : tie.Need-code-byte-requires-6
-code-byte-requires-6 c κs = ?
+unfolding lengthOf if_then_else_
+code-byte-requires-6 c κs = (c .before .before .before .before .before .before .before .before .before .pre .0 .active, byte-there (c .before .before .before .before .before .before .before .before .before .pre .0) 132 3 2 (c .before .before .before .before .before .match .keys5) refl (omega arith))
 
 -- src/lib.rt:560:30
 add-t80 : tie.Need-add-t80
-add-t80 c = ?
+add-t80 c = let k = position-small (c .before .before .before .before .before .before .before .before .before .before .before .before .pre .0 .active) in omega arith
 
 -- src/lib.rt:553:13
 send-requires-2 : tie.Need-send-requires-2
-send-requires-2 c κs = ?
+send-requires-2 c κs = extended-send-long (c .before .before .before .before .before .before .before .before .before .before .before .before .pre .0) (c .before .before .before .before .before .before .before .before .match .keys5) _ _ (c .before .before .before .before .before .code-byte5 .ensures) (c .before .before .code-byte6 .ensures)
 
 -- src/lib.rt:566:17
 code-byte-requires-7 : tie.Need-code-byte-requires-7
-code-byte-requires-7 c κs = ?
+unfolding lengthOf if_then_else_
+code-byte-requires-7 c κs = (c .before .before .before .before .before .before .pre .0 .active, byte-there (c .before .before .before .before .before .before .pre .0) 133 2 1 (c .before .before .match .keys6) refl (omega arith))
 
 -- src/lib.rt:574:30
 add-t90 : tie.Need-add-t90
-add-t90 c = ?
+add-t90 c = let k = position-small (c .before .before .before .before .before .before .before .before .before .pre .0 .active) in omega arith
 
 -- src/lib.rt:567:13
 super-send-requires : tie.Need-super-send-requires
-super-send-requires c κs = ?
+super-send-requires c κs = extended-super (c .before .before .before .before .before .before .before .before .before .pre .0) (c .before .before .before .before .before .match .keys6) _ (c .before .before .code-byte7 .ensures)
 
 -- src/lib.rt:580:17
 code-byte-requires-8 : tie.Need-code-byte-requires-8
-code-byte-requires-8 c κs = ?
+unfolding lengthOf if_then_else_
+code-byte-requires-8 c κs = (c .before .before .before .before .before .before .pre .0 .active, byte-there (c .before .before .before .before .before .before .pre .0) 134 3 1 (c .before .before .match .keys7) refl (omega arith))
 
 -- src/lib.rt:581:17
 code-byte-requires-9 : tie.Need-code-byte-requires-9
-code-byte-requires-9 c κs = ?
+unfolding lengthOf if_then_else_
+code-byte-requires-9 c κs = (c .before .before .before .before .before .before .before .before .before .pre .0 .active, byte-there (c .before .before .before .before .before .before .before .before .before .pre .0) 134 3 2 (c .before .before .before .before .before .match .keys7) refl (omega arith))
 
 -- src/lib.rt:589:30
 add-t106 : tie.Need-add-t106
-add-t106 c = ?
+add-t106 c = let k = position-small (c .before .before .before .before .before .before .before .before .before .before .before .before .pre .0 .active) in omega arith
 
 -- src/lib.rt:582:13
 super-send-requires-2 : tie.Need-super-send-requires-2
-super-send-requires-2 c κs = ?
+super-send-requires-2 c κs = extended-super-long (c .before .before .before .before .before .before .before .before .before .before .before .before .pre .0) (c .before .before .before .before .before .before .before .before .match .keys7) _ _ (c .before .before .before .before .before .code-byte8 .ensures) (c .before .before .code-byte9 .ensures)
 
 -- src/lib.rt:595:36
 add-t108 : tie.Need-add-t108
-add-t108 c = ?
+add-t108 c = let k = position-small (c .before .before .before .before .pre .0 .active) in omega arith
 
 -- src/lib.rt:596:32
 sub-t110 : tie.Need-sub-t110
-sub-t110 c = search needs
+sub-t110 c = let k = pop-one (extended-pop (c .before .before .before .before .pre .0) (c .match .keys8)) in omega arith
 
 -- src/lib.rt:599:27
 sub-w : tie.Need-sub-w
-sub-w c = search needs
+sub-w c = let k = duplicate-one (extended-duplicate (c .before .before .before .before .pre .0) (c .match .keys9)) in omega arith
 
 -- src/lib.rt:599:21
 mul-w : tie.Need-mul-w
-mul-w c = ?
+mul-w c = let k = ends (c .before .before .before .before .pre .0 .active) in omega arith
 
 -- src/lib.rt:599:21
 slice-read-w : tie.Need-slice-read-w
-slice-read-w c = ?
+slice-read-w c = let k = ends (c .before .before .before .before .before .pre .0 .active) in let o = duplicate-one (extended-duplicate (c .before .before .before .before .before .pre .0) (c .before .match .keys9)) in omega arith
 
 -- src/lib.rt:600:51
 add-t112 : tie.Need-add-t112
-add-t112 c = ?
+add-t112 c = let k = position-small (c .before .before .before .before .before .before .pre .0 .active) in omega arith
 
 -- src/lib.rt:600:13
 push-word-requires : tie.Need-push-word-requires
-push-word-requires c κs = ?
+push-word-requires c κs = duplicate-pushing (extended-duplicate (c .before .before .before .before .before .before .pre .0) (c .before .before .match .keys9))
 
 -- src/lib.rt:475:1
 same-length : tie.Need-same-length
@@ -233,7 +250,7 @@ returns-7 c = search needs
 
 -- src/lib.rt:475:1
 returns-8 : tie.Need-returns-8
-returns-8 c = ?
+returns-8 c = pop-done (extended-pop (c .before .before .before .before .pre .0) (c .match .keys8)) _ refl
 
 -- src/lib.rt:475:1
 same-length-15 : tie.Need-same-length-15
@@ -241,11 +258,11 @@ same-length-15 c = search needs
 
 -- src/lib.rt:475:1
 returns-9 : tie.Need-returns-9
-returns-9 c = ?
+returns-9 c = duplicate-done (extended-duplicate (c .before .before .before .before .before .before .before .before .before .pre .0) (c .before .before .before .before .before .match .keys9)) _ _ (c .before .before .push-word .result) refl (c .before .before .push-word .ensures)
 
 -- src/lib.rt:475:1
 returns-10 : tie.Need-returns-10
-returns-10 c = ?
+returns-10 c = absurd (extended-unused (c .before .before .before .before .pre .0) (c .before .before .before .before .pre .1) (past 128 9 _ (omega (arith, c .before .before .before .before .pre .1)) (c .match .rest)))
 
 pub extended-spec : {M : Type 1} → statement M
 extended-spec =

@@ -1,3 +1,8 @@
+use native.Mathlib.Omega.{arith}
+use mathlib.Core.Path.{refl}
+use Rattle.bytecode.proofs.Choice.{past}
+use Rattle.steps.proofs.DoingLaws.{storing-popped, store-one}
+use Rattle.steps.proofs.RowLaws.{first-below, position-small, fetched, row-field, row-temporary, row-literal, row-variable, row-pop-field, row-pop-temporary, row-special, row-send}
 use borrow.Author.Needs.{needs}
 use Rattle.steps.proofs.step.Statement.{statement}
 use Rattle.steps.proofs.step.Tie as tie
@@ -16,35 +21,35 @@ use Rattle.steps.proofs.store.Reads as store-reads
 
 -- src/lib.rt:691:9
 code-byte-requires : tie.Need-code-byte-requires
-code-byte-requires c κs = ?
+code-byte-requires c κs = (c .before .before .before .before .before .pre, first-below (c .before .before .before .before .before .pre))
 
 -- src/lib.rt:692:29
 add-t14 : tie.Need-add-t14
-add-t14 c = ?
+add-t14 c = let k = position-small (c .before .before .before .before .before .before .before .pre) in omega arith
 
 -- src/lib.rt:694:14
 push-requires : tie.Need-push-requires
-push-requires c κs = ?
+push-requires c κs = row-field (fetched (c .before .before .before .before .before .before .before .before .before .before .pre) _ (c .before .before .before .before .code-byte .ensures)) (c .before .before .match .keys1)
 
 -- src/lib.rt:704:14
 push-requires-2 : tie.Need-push-requires-2
-push-requires-2 c κs = ?
+push-requires-2 c κs = row-temporary (fetched (c .before .before .before .before .before .before .before .before .before .before .pre) _ (c .before .before .before .before .code-byte .ensures)) (c .before .before .match .keys2)
 
 -- src/lib.rt:714:14
 push-requires-3 : tie.Need-push-requires-3
-push-requires-3 c κs = ?
+push-requires-3 c κs = row-literal (fetched (c .before .before .before .before .before .before .before .before .before .before .pre) _ (c .before .before .before .before .code-byte .ensures)) (omega (arith, c .before .before .match .keys3)) (omega (arith, c .before .before .match .keys3))
 
 -- src/lib.rt:724:14
 push-requires-4 : tie.Need-push-requires-4
-push-requires-4 c κs = ?
+push-requires-4 c κs = row-literal (fetched (c .before .before .before .before .before .before .before .before .before .before .pre) _ (c .before .before .before .before .code-byte .ensures)) (omega (arith, c .before .before .match .keys4)) (omega (arith, c .before .before .match .keys4))
 
 -- src/lib.rt:734:14
 push-requires-5 : tie.Need-push-requires-5
-push-requires-5 c κs = ?
+push-requires-5 c κs = row-variable (fetched (c .before .before .before .before .before .before .before .before .before .before .pre) _ (c .before .before .before .before .code-byte .ensures)) (omega (arith, c .before .before .match .keys5)) (omega (arith, c .before .before .match .keys5))
 
 -- src/lib.rt:744:14
 push-requires-6 : tie.Need-push-requires-6
-push-requires-6 c κs = ?
+push-requires-6 c κs = row-variable (fetched (c .before .before .before .before .before .before .before .before .before .before .pre) _ (c .before .before .before .before .code-byte .ensures)) (omega (arith, c .before .before .match .keys6)) (omega (arith, c .before .before .match .keys6))
 
 -- src/lib.rt:755:37
 sub-t53 : tie.Need-sub-t53
@@ -52,7 +57,7 @@ sub-t53 c = search needs
 
 -- src/lib.rt:757:17
 store-requires : tie.Need-store-requires
-store-requires c κs = ?
+store-requires c κs = storing-popped (row-pop-field (fetched (c .before .before .before .before .before .before .before .before .before .before .before .before .pre) _ (c .before .before .before .before .before .before .code-byte .ensures)) (c .before .before .before .before .match .keys7) (c .before .before .if1 .taken)) _ refl
 
 -- src/lib.rt:757:17
 same-length : tie.Need-same-length
@@ -68,23 +73,23 @@ returns c = search needs
 
 -- src/lib.rt:769:13
 store-requires-2 : tie.Need-store-requires-2
-store-requires-2 c κs = ?
+store-requires-2 c κs = storing-popped (row-pop-temporary (fetched (c .before .before .before .before .before .before .before .before .before .before .before .before .pre) _ (c .before .before .before .before .before .before .code-byte .ensures)) (c .before .before .before .before .match .keys7) (c .before .before .if1 .left)) _ refl
 
 -- src/lib.rt:781:14
 constant-requires : tie.Need-constant-requires
-constant-requires c κs = ?
+constant-requires c κs = ((fetched (c .before .before .before .before .before .before .before .before .before .before .pre) _ (c .before .before .before .before .code-byte .ensures)), c .before .before .match .keys8, refl)
 
 -- src/lib.rt:782:14
 extended-requires : tie.Need-extended-requires
-extended-requires c κs = ?
+extended-requires c κs = ((fetched (c .before .before .before .before .before .before .before .before .before .before .pre) _ (c .before .before .before .before .code-byte .ensures)), c .before .before .match .keys9)
 
 -- src/lib.rt:783:14
 near-requires : tie.Need-near-requires
-near-requires c κs = ?
+near-requires c κs = ((fetched (c .before .before .before .before .before .before .before .before .before .before .pre) _ (c .before .before .before .before .code-byte .ensures)), c .before .before .match .keys10)
 
 -- src/lib.rt:784:15
 far-requires : tie.Need-far-requires
-far-requires c κs = ?
+far-requires c κs = ((fetched (c .before .before .before .before .before .before .before .before .before .before .pre) _ (c .before .before .before .before .code-byte .ensures)), c .before .before .match .keys11)
 
 -- src/lib.rt:785:76
 sub-arithmetic-send : tie.Need-sub-arithmetic-send
@@ -92,7 +97,7 @@ sub-arithmetic-send c = search needs
 
 -- src/lib.rt:785:15
 arithmetic-send-requires : tie.Need-arithmetic-send-requires
-arithmetic-send-requires c κs = ?
+arithmetic-send-requires c κs = (row-special (fetched (c .before .before .before .before .before .before .before .before .before .before .pre) _ (c .before .before .before .before .code-byte .ensures)) (omega (arith, c .before .before .match .keys12)) (omega (arith, c .before .before .match .keys12)), omega (arith, c .before .before .match .keys12))
 
 -- src/lib.rt:786:73
 sub-special-send : tie.Need-sub-special-send
@@ -100,15 +105,15 @@ sub-special-send c = search needs
 
 -- src/lib.rt:786:15
 special-send-requires : tie.Need-special-send-requires
-special-send-requires c κs = ?
+special-send-requires c κs = (row-special (fetched (c .before .before .before .before .before .before .before .before .before .before .pre) _ (c .before .before .before .before .code-byte .ensures)) (omega (arith, c .before .before .match .keys13)) (omega (arith, c .before .before .match .keys13)), omega (arith, c .before .before .match .keys13))
 
 -- src/lib.rt:796:14
 sub-send : tie.Need-sub-send
-sub-send c = ?
+sub-send c = let h = past 0 13 _ (omega arith) (c .before .before .match .rest) in omega arith
 
 -- src/lib.rt:787:14
 send-requires : tie.Need-send-requires
-send-requires c κs = ?
+send-requires c κs = let h = past 0 13 _ (omega arith) (c .before .before .match .rest) in row-send (fetched (c .before .before .before .before .before .before .before .before .before .before .pre) _ (c .before .before .before .before .code-byte .ensures)) (omega arith)
 
 -- src/lib.rt:680:1
 same-length-3 : tie.Need-same-length-3
