@@ -1,11 +1,13 @@
 -- The events of a bytecode, with the send or the return that is made of them: the step, or the halt.
 use Prim.Native.Nat.{ℕ, suc, _+_, _<_}
-use mathlib.Core.Path.{_≡_, refl, sym, _∙_, subst}
+use mathlib.Core.Path.{_≡_, refl, sym, ap, _∙_, subst}
 use mathlib.Core.Bool.{Bool}
 use mathlib.Core.List.{List}
-use lib.ListN.{set}
+use native.Mathlib.Omega.{arith}
+use lib.ListN.{length, set}
 use Rattle.model.specs.Objects.{objectsAt}
 use Rattle.model.specs.Method.{temporaryCount}
+use Rattle.model.specs.Image.{Room}
 use Rattle.model.specs.declared.Pointer.{Pointer}
 use Rattle.model.specs.declared.CodePosition.{CodePosition}
 use Rattle.model.specs.declared.StackPosition.{StackPosition}
@@ -17,12 +19,15 @@ use Rattle.plain.proofs.MadeLaws.{moved-made, made-as}
 use Rattle.plain.proofs.ReturnLaws.{bottom-returns, sender-returns}
 use Rattle.steps.specs.declared.Event.{Event}
 use Rattle.steps.specs.declared.Event.the-variants.{Next, Send, Return, NoBoolean}
-use Rattle.steps.specs.Events.{Says, Becomes, stepAt}
+use Rattle.steps.specs.declared.Active.{Active}
+use Rattle.steps.specs.Events.{Says, Becomes, IsActive, Leaving, written, movedOn}
 use Rattle.steps.proofs.HereLaws.{noted-small}
+use Rattle.steps.proofs.ActiveLaws.{length-written, leaving}
 use Rattle.sends.specs.declared.Sent.{Sent}
 use Rattle.sends.specs.declared.Sent.the-variants.{Answered, Entered, NotUnderstood, NoRoom}
 use Rattle.sends.specs.Sends.{Caches, SentIs}
-use Rattle.interpreter.specs.Advances.{Stops}
+use Rattle.interpreter.specs.Advances.{Stops, AdvancedIs, stepOf}
+use Rattle.interpreter.specs.declared.Advanced.the-variants as A
 
 -- Buffers that are left as they were
 module _ {bodies stack bodies₁ stack₁ : List ℕ} (ew : bodies₁ ≡ bodies) (ef : stack₁ ≡ stack) (P : List ℕ → List ℕ → Type 0) where
@@ -32,24 +37,58 @@ module _ {bodies stack bodies₁ stack₁ : List ℕ} (ew : bodies₁ ≡ bodies
   back : P bodies₁ stack₁ → P bodies stack
   back x = subst (P bodies) ef (subst (λ (l : List ℕ). P l stack₁) ew x)
 
-module _ {n b top : ℕ} {contents bodies stack : List ℕ} (r : Runs n b top contents bodies stack) (bodies₁ stack₁ : List ℕ) (event : Event) (says : Says n b top contents bodies stack bodies₁ stack₁ event) where
-  abbrev stepFrom : List ℕ → ℕ → ℕ → Stepped
-  stepFrom cache receiver selector = stepAt (roomAt contents bodies stack cache) receiver selector n b top contents bodies stack
-
-  by-event : (y : Event) → event ≡ y → Says n b top contents bodies stack bodies₁ stack₁ y
-  by-event y e = subst (Says n b top contents bodies stack bodies₁ stack₁) e says
+module _ {n b : ℕ} {contents bodies stack₀ : List ℕ} {a : Active} (r₀ : IsActive n b contents bodies stack₀ a) (bodies₁ stack₂ : List ℕ) (event : Event) (says : Says n b contents a bodies stack₀ bodies₁ stack₂ event) where
+  by-event : (y : Event) → event ≡ y → Says n b contents a bodies stack₀ bodies₁ stack₂ y
+  by-event y e = subst (Says n b contents a bodies stack₀ bodies₁ stack₂) e says
 
   -- A bytecode that is done
-  pub went-on : (cache : List ℕ) → event ≡ Next → (receiver selector : ℕ)
-      → Made (stepFrom cache receiver selector) (runningWith receiver selector n b top) contents bodies stack cache contents bodies₁ stack₁ cache
-  went-on cache e receiver selector =
-      moved-made n b top contents bodies stack cache bodies₁ stack₁ r (by-event Next e) receiver selector (roomAt contents bodies stack cache)
+  pub went-on : (cache : List ℕ) (q : CodePosition) (z : StackPosition) → event ≡ Next q z → (receiver selector : ℕ)
+      → AdvancedIs receiver selector n b a contents bodies stack₀ cache contents bodies₁ stack₂ cache (A.Next q z)
+  went-on cache q z e receiver selector =
+      let x : Says n b contents a bodies stack₀ bodies₁ stack₂ (Next q z) = by-event (Next q z) e in
+      (moved-made n b (a .base .0) contents bodies (written a stack₀) cache bodies₁ (written (movedOn a q z) stack₂) (r₀ .runs) (x .0) receiver selector (roomAt contents bodies (written a stack₀) cache), x .1)
+
+  -- what writing the frame's words asks: the stack was left as it was
+  same-base : length (written a stack₂) ≡ length (written a stack₀) → Leaving stack₀ a → Leaving stack₂ a
+  same-base l h = let x = length-written a stack₂ in let y = length-written a stack₀ in (omega arith, h .1, h .2, h .3)
+
+  pub leaves-send : (s k : ℕ) (c : Pointer) (q : CodePosition) (sure : Bool) → event ≡ Send s k c q sure → Leaving stack₂ a
+  leaves-send s k c q sure e =
+      let x : Says n b contents a bodies stack₀ bodies₁ stack₂ (Send s k c q sure) = by-event (Send s k c q sure) e in
+      same-base (ap length (x .1 .frames)) (leaving r₀)
+
+  pub leaves-return : (w : ℕ) → event ≡ Return w → Leaving stack₂ a
+  leaves-return w e =
+      let x : Says n b contents a bodies stack₀ bodies₁ stack₂ (Return w) = by-event (Return w) e in
+      same-base (ap length (x .frames)) (leaving r₀)
+
+  pub leaves-halt : event ≡ NoBoolean → Leaving stack₂ a
+  leaves-halt e =
+      let x : Says n b contents a bodies stack₀ bodies₁ stack₂ NoBoolean = by-event NoBoolean e in
+      same-base (ap length (x .frames)) (leaving r₀)
+
+-- The frame's words are written.
+module _ {n b : ℕ} {contents bodies stack₀ : List ℕ} {a : Active} (r₀ : IsActive n b contents bodies stack₀ a) (bodies₁ stack₂ : List ℕ) (event : Event) (says : Says n b contents a bodies stack₀ bodies₁ stack₂ event) (stack₁ : List ℕ) (left : stack₁ ≡ written a stack₂) where
+  abbrev stack : List ℕ
+  stack = written a stack₀
+
+  abbrev top : ℕ
+  top = a .base .0
+
+  abbrev r : Runs n b top contents bodies stack
+  r = r₀ .runs
+
+  abbrev stepFrom : List ℕ → ℕ → ℕ → Stepped
+  stepFrom cache receiver selector = stepOf receiver selector n b a contents bodies stack₀ cache
+
+  onto-left : (x : Room → ℕ → ℕ → Stepped) → Becomes n b top contents bodies stack bodies₁ (written a stack₂) x → Becomes n b top contents bodies stack bodies₁ stack₁ x
+  onto-left x y = record { words = y .words; frames = left ∙ y .frames; steps = y .steps }
 
   -- A jump on a word that is no boolean
   pub no-boolean : (cache : List ℕ) → event ≡ NoBoolean → (receiver selector : ℕ)
       → Stops (stepFrom cache receiver selector) 4 contents bodies stack cache contents bodies₁ stack₁ cache
   no-boolean cache e receiver selector =
-      let x : Becomes n b top contents bodies stack bodies₁ stack₁ (λ room receiver selector. halts noBoolean) = by-event NoBoolean e in
+      let x : Becomes n b top contents bodies stack bodies₁ stack₁ (λ room receiver selector. halts noBoolean) = onto-left (λ room receiver selector. halts noBoolean) (by-event r₀ bodies₁ stack₂ event says NoBoolean e) in
       record { cause = noBoolean; steps = x .steps receiver selector (roomAt contents bodies stack cache); phase = refl; stays = record { entries = refl; words = x .words; frames = x .frames; cached = refl } }
 
   -- A return
@@ -58,7 +97,7 @@ module _ {n b top : ℕ} {contents bodies stack : List ℕ} (r : Runs n b top co
     return-step receiver selector = returned (runningAt receiver selector n b top contents bodies stack) (topFrame n b top contents bodies stack) (restFrames n b top contents bodies stack) w
 
     returns-word : Becomes n b top contents bodies stack bodies₁ stack₁ (λ room receiver selector. return-step receiver selector)
-    returns-word = by-event (Return w) e
+    returns-word = onto-left (λ room receiver selector. return-step receiver selector) (by-event r₀ bodies₁ stack₂ event says (Return w) e)
 
     pub finishes : (cache : List ℕ) → top ≡ 0 → (receiver selector : ℕ)
         → Made (stepFrom cache receiver selector) (finishedWith receiver selector n b w) contents bodies stack cache contents bodies₁ stack₁ cache
@@ -92,7 +131,9 @@ module _ {n b top : ℕ} {contents bodies stack : List ℕ} (r : Runs n b top co
     Sends = Sending n b top contents bodies stack s k (c .0) (q .0) sure × Becomes n b top contents bodies stack bodies₁ stack₁ (λ room receiver selector. sendStep room receiver selector n b top contents bodies stack s k (c .0) (q .0))
 
     sends-it : Sends
-    sends-it = by-event (Send s k c q sure) e
+    sends-it =
+        let x : Says n b contents a bodies stack₀ bodies₁ stack₂ (Send s k c q sure) = by-event r₀ bodies₁ stack₂ event says (Send s k c q sure) e in
+        (x .0, onto-left (λ room receiver selector. sendStep room receiver selector n b top contents bodies stack s k (c .0) (q .0)) (x .1))
 
     pub can-send : (cache : List ℕ) → Caches n b contents bodies cache
         → Sending n b top contents bodies₁ stack₁ s k (c .0) (q .0) sure × Caches n b contents bodies₁ cache × (q .0 < 65536)
@@ -100,24 +141,24 @@ module _ {n b top : ℕ} {contents bodies stack : List ℕ} (r : Runs n b top co
         let x = sends-it in
         (onto (x .1 .words) (x .1 .frames) (λ (l z : List ℕ). Sending n b top contents l z s k (c .0) (q .0) sure) (x .0), onto (x .1 .words) (x .1 .frames) (λ (l z : List ℕ). Caches n b contents l cache) g, noted-small r (q .0) _ (x .0 .noted))
 
-    module _ (cache contents′ bodies′ stack′ cache′ : List ℕ) (a : Sent)
-        (h : (receiver selector : ℕ) → SentIs (send-step cache bodies₁ stack₁ receiver selector) receiver selector n b top contents bodies₁ stack₁ cache contents′ bodies′ stack′ cache′ a)
+    module _ (cache contents′ bodies′ stack′ cache′ : List ℕ) (answer : Sent)
+        (h : (receiver selector : ℕ) → SentIs (send-step cache bodies₁ stack₁ receiver selector) receiver selector n b top contents bodies₁ stack₁ cache contents′ bodies′ stack′ cache′ answer)
       where
         -- what the send says, of the buffers before the step
-        said : (y : Sent) → a ≡ y → (receiver selector : ℕ) → SentIs (send-step cache bodies stack receiver selector) receiver selector n b top contents bodies stack cache contents′ bodies′ stack′ cache′ y
+        said : (y : Sent) → answer ≡ y → (receiver selector : ℕ) → SentIs (send-step cache bodies stack receiver selector) receiver selector n b top contents bodies stack cache contents′ bodies′ stack′ cache′ y
         said y d receiver selector =
             let x = sends-it .1 in
             subst (SentIs (send-step cache bodies stack receiver selector) receiver selector n b top contents bodies stack cache contents′ bodies′ stack′ cache′) d
-            (back (x .words) (x .frames) (λ (l z : List ℕ). SentIs (send-step cache l z receiver selector) receiver selector n b top contents l z cache contents′ bodies′ stack′ cache′ a) (h receiver selector))
+            (back (x .words) (x .frames) (λ (l z : List ℕ). SentIs (send-step cache l z receiver selector) receiver selector n b top contents l z cache contents′ bodies′ stack′ cache′ answer) (h receiver selector))
 
         as-sent : (receiver selector : ℕ) → stepFrom cache receiver selector ≡ send-step cache bodies stack receiver selector
         as-sent receiver selector = sends-it .1 .steps receiver selector (roomAt contents bodies stack cache)
 
-        pub answers : (n′ b′ : ℕ) → a ≡ Answered n′ b′ → (receiver selector : ℕ)
+        pub answers : (n′ b′ : ℕ) → answer ≡ Answered n′ b′ → (receiver selector : ℕ)
             → Made (stepFrom cache receiver selector) (runningWith receiver selector n′ b′ top) contents bodies stack cache contents′ bodies′ stack′ cache′
         answers n′ b′ d receiver selector = made-as (as-sent receiver selector) (said (Answered n′ b′) d receiver selector)
 
-        pub enters : (t : StackPosition) → a ≡ Entered t → (receiver selector : ℕ)
+        pub enters : (t : StackPosition) → answer ≡ Entered t → (receiver selector : ℕ)
             → Made (stepFrom cache receiver selector) (runningWith receiver selector n b (t .0)) contents bodies stack cache contents′ bodies′ stack′ cache′
         enters t d receiver selector = made-as (as-sent receiver selector) (said (Entered t) d receiver selector)
 
@@ -127,10 +168,10 @@ module _ {n b top : ℕ} {contents bodies stack : List ℕ} (r : Runs n b top co
         stops cause receiver selector x =
             record { cause = cause; steps = as-sent receiver selector ∙ x .0; phase = refl; stays = x .1 }
 
-        pub none-understood : a ≡ NotUnderstood → (receiver selector : ℕ)
+        pub none-understood : answer ≡ NotUnderstood → (receiver selector : ℕ)
             → Stops (stepFrom cache receiver selector) 3 contents bodies stack cache contents′ bodies′ stack′ cache′
         none-understood d receiver selector = stops notUnderstood receiver selector (said NotUnderstood d receiver selector)
 
-        pub none-fits : a ≡ NoRoom → (receiver selector : ℕ)
+        pub none-fits : answer ≡ NoRoom → (receiver selector : ℕ)
             → Stops (stepFrom cache receiver selector) 5 contents bodies stack cache contents′ bodies′ stack′ cache′
         none-fits d receiver selector = stops noStackRoom receiver selector (said NoRoom d receiver selector)

@@ -3,10 +3,17 @@ use Prim.Native.Nat.{ℕ}
 use mathlib.Core.Path.{_≡_}
 use mathlib.Core.List.{List}
 use Rattle.plain.specs.Registers.{Cause, phaseOf}
-use Rattle.plain.specs.Step.{Stepped, halts}
-use Rattle.plain.specs.Running.{runningWith, finishedWith, Made, Stays}
+use Rattle.plain.specs.Step.{Stepped, halts, step}
+use Rattle.plain.specs.Running.{runningWith, runningAt, roomAt, finishedWith, Made, Stays}
+use Rattle.steps.specs.declared.Active.{Active}
+use Rattle.steps.specs.Events.{written, movedOn, Stands}
 use Rattle.interpreter.specs.declared.Advanced.{Advanced}
-use Rattle.interpreter.specs.declared.Advanced.the-variants.{Went, Finished, Halted}
+use Rattle.interpreter.specs.declared.Advanced.the-variants.{Next, Top, Finished, Halted}
+
+-- The step that the buffers are about to make
+abbrev pub stepOf : ℕ → ℕ → ℕ → ℕ → Active → List ℕ → List ℕ → List ℕ → List ℕ → Stepped
+stepOf receiver selector n b a contents bodies stack cache =
+    step (roomAt contents bodies (written a stack) cache) (runningAt receiver selector n b (a .base .0) contents bodies (written a stack))
 
 -- A halt before the bytecode, with the phase that says why: nothing changes.
 pub record Stops (x : Stepped) (k : ℕ) (contents bodies stack cache contents′ bodies′ stack′ cache′ : List ℕ) : Type 0 where
@@ -15,11 +22,15 @@ pub record Stops (x : Stepped) (k : ℕ) (contents bodies stack cache contents�
   pub phase : k ≡ phaseOf cause
   pub stays : Stays contents bodies stack cache contents′ bodies′ stack′ cache′
 
--- What an answer says, where x is the step
-abbrev pub AdvancedIs : Stepped → ℕ → ℕ → ℕ → ℕ → List ℕ → List ℕ → List ℕ → List ℕ → List ℕ → List ℕ → List ℕ → List ℕ → Advanced → Type 0
-AdvancedIs x receiver selector n b contents bodies stack cache contents′ bodies′ stack′ cache′ (Went n′ b′ t) =
-    Made x (runningWith receiver selector n′ b′ (t .0)) contents bodies stack cache contents′ bodies′ stack′ cache′
-AdvancedIs x receiver selector n b contents bodies stack cache contents′ bodies′ stack′ cache′ (Finished w) =
-    Made x (finishedWith receiver selector n b w) contents bodies stack cache contents′ bodies′ stack′ cache′
-AdvancedIs x receiver selector n b contents bodies stack cache contents′ bodies′ stack′ cache′ (Halted k) =
-    Stops x k contents bodies stack cache contents′ bodies′ stack′ cache′
+-- What an answer says of the frame that the loop holds, where the stack stands for `written a stack`: where the frame goes on, it is still
+-- held; else its words are written.
+abbrev pub AdvancedIs : ℕ → ℕ → ℕ → ℕ → Active → List ℕ → List ℕ → List ℕ → List ℕ → List ℕ → List ℕ → List ℕ → List ℕ → Advanced → Type 0
+AdvancedIs receiver selector n b a contents bodies stack cache contents′ bodies′ stack′ cache′ (Next q e) =
+    Made (stepOf receiver selector n b a contents bodies stack cache) (runningWith receiver selector n b (a .base .0)) contents bodies (written a stack) cache contents′ bodies′ (written (movedOn a q e) stack′) cache′
+    × Stands n b contents′ bodies′ stack′ (movedOn a q e)
+AdvancedIs receiver selector n b a contents bodies stack cache contents′ bodies′ stack′ cache′ (Top n′ b′ t) =
+    Made (stepOf receiver selector n b a contents bodies stack cache) (runningWith receiver selector n′ b′ (t .0)) contents bodies (written a stack) cache contents′ bodies′ stack′ cache′
+AdvancedIs receiver selector n b a contents bodies stack cache contents′ bodies′ stack′ cache′ (Finished w) =
+    Made (stepOf receiver selector n b a contents bodies stack cache) (finishedWith receiver selector n b w) contents bodies (written a stack) cache contents′ bodies′ stack′ cache′
+AdvancedIs receiver selector n b a contents bodies stack cache contents′ bodies′ stack′ cache′ (Halted k) =
+    Stops (stepOf receiver selector n b a contents bodies stack cache) k contents bodies (written a stack) cache contents′ bodies′ stack′ cache′

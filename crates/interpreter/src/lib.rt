@@ -5,21 +5,25 @@ ghost use lib.ListN.{set};
 ghost use Rattle.model.specs.Objects.{objectsAt};
 ghost use Rattle.model.specs.Method.{temporaryCount};
 ghost use Rattle.plain.specs.Flat.{frameSender, frameDepth, frameMethod};
-ghost use Rattle.plain.specs.Step.{step};
-ghost use Rattle.plain.specs.Running.{Runs, roomAt, runningAt};
+ghost use Rattle.plain.specs.Running.{Runs};
 ghost use Rattle.sends.specs.Sends.{Caches};
-ghost use Rattle.steps.specs.Events.{written, IsActive};
+ghost use Rattle.steps.specs.Events.{IsActive};
 ghost use Rattle.interpreter.specs.Advances.{AdvancedIs};
+use model::CodePosition;
 use model::Pointer;
 use model::StackPosition;
 use sends::Sent;
 use steps::Active;
 use steps::Event;
 
-// What a bytecode leads to: the running frame goes on; or another frame is on top or a send was answered, with the number of objects and
-// body words then; or the value that the run finishes with; or a halt, with the phase that says why (3, 4 or 5).
+// What a bytecode leads to: the running frame goes on, at another position and with operands up to another end; or another frame is on top
+// or a send was answered, with the number of objects and body words then; or the value that the run finishes with; or a halt, with the phase
+// that says why (3, 4 or 5).
 pub enum Advanced {
-    Next(Active),
+    Next {
+        position: CodePosition,
+        end: StackPosition,
+    },
     Top {
         n: usize,
         b: usize,
@@ -65,18 +69,14 @@ pub fn advance(
     active: Active,
 ) -> Advanced
     requires { ⌜ IsActive n b (now contents) (now bodies) (now stack) active × Caches n b (now contents) (now bodies) (now cache) ⌝ }
-    ensures { λ r. ⌜ ((receiver selector : ℕ) → AdvancedIs (step (roomAt (now (contents .entry)) (now (bodies .entry)) (now (stack .entry)) (now (cache .entry))) (runningAt receiver selector n b (active .base .0) (now (contents .entry)) (now (bodies .entry)) (written active (now (stack .entry))))) receiver selector n b (now (contents .entry)) (now (bodies .entry)) (written active (now (stack .entry))) (now (cache .entry)) (now (contents .exit)) (now (bodies .exit)) (now (stack .exit)) (now (cache .exit)) r) ⌝ }
+    ensures { λ r. ⌜ ((receiver selector : ℕ) → AdvancedIs receiver selector n b active (now (contents .entry)) (now (bodies .entry)) (now (stack .entry)) (now (cache .entry)) (now (contents .exit)) (now (bodies .exit)) (now (stack .exit)) (now (cache .exit)) r) ⌝ }
 {
     let top = active.base;
-    let operands = active.operands;
     match steps::step(contents, bodies, stack, n, b, active) {
-        Event::Next { position, end } => Advanced::Next(Active {
-            base: top,
-            code: active.code,
-            operands: operands,
+        Event::Next { position, end } => Advanced::Next {
             position: position,
             end: end,
-        }),
+        },
         Event::Send {
             selector,
             count,

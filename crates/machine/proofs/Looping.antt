@@ -28,6 +28,11 @@ use Rattle.plain.proofs.RunningLaws.{TopBounds, top-bounds}
 use Rattle.plain.proofs.MadeLaws.{made-as, running-is, running-runs}
 use Rattle.plain.proofs.LoopLaws.{top-end-is, turn-start, loop-out, loop-out-ends, loop-halts, loop-halts-ends, loop-level, loop-next, loop-over, loop-over-ends}
 use Rattle.sends.specs.Sends.{Caches}
+use Rattle.model.specs.declared.CodePosition.{CodePosition}
+use Rattle.model.specs.declared.StackPosition.{StackPosition}
+use Rattle.steps.specs.declared.Active.{Active}
+use Rattle.steps.specs.Events.{written, movedOn, Stands, IsActive, Leaving}
+use Rattle.steps.proofs.ActiveLaws.{length-written, leaving}
 use Rattle.interpreter.specs.declared.Advanced.{Advanced}
 use Rattle.interpreter.specs.Advances.{Stops, AdvancedIs}
 use Rattle.machine.specs.declared.Registers.{Registers}
@@ -35,7 +40,7 @@ use Rattle.machine.specs.State.{registersOf, state, raisedTo, RunsTo}
 use Rattle.interpreter.specs.declared.Advanced.the-variants as A
 
 -- The state of the loop: from s₀ the run came to a running state, and the highest end fits a word and one.
-pub record Loop (s₀ : Flat) (grant receiver selector n b top : ℕ) (contents bodies stack cache : List ℕ) (count reach : ℕ) : Type 0 where
+pub record LoopAt (s₀ : Flat) (grant receiver selector n b top : ℕ) (contents bodies stack cache : List ℕ) (count reach : ℕ) : Type 0 where
   pub turn : Turn s₀ grant (flat (runningWith receiver selector n b top) contents bodies stack cache) count reach
   pub low : reach ≤ 65536
 
@@ -66,11 +71,11 @@ module _ (r : Registers) (contents bodies stack cache : List ℕ) (c : check (st
   start-runs = running-runs (r .receiver) (r .selector) (r .n) (r .b) (r .top) contents bodies stack cache (check-right s checked)
 
   pub loop-start : (grant reach : ℕ) → reach ≡ r .top + frameSize (objectsAt (r .n) (r .b) contents bodies) (frameMethod stack (r .top)) → reach ≤ 65536
-      → Loop (state r contents bodies stack cache) grant (r .receiver) (r .selector) (r .n) (r .b) (r .top) contents bodies stack cache 0 reach
+      → LoopAt (state r contents bodies stack cache) grant (r .receiver) (r .selector) (r .n) (r .b) (r .top) contents bodies stack cache 0 reach
   loop-start grant reach h l =
       record { turn = subst (λ (x : Flat). Turn x grant s 0 reach) (sym start-is) (turn-start s grant reach checked refl (h ∙ sym (top-end-is (r .receiver) (r .selector) (r .n) (r .b) (r .top) contents bodies stack cache))); low = l }
 
-module _ (s₀ : Flat) (grant receiver selector n b top : ℕ) (contents bodies stack cache : List ℕ) (count reach : ℕ) (l : Loop s₀ grant receiver selector n b top contents bodies stack cache count reach) where
+module _ (s₀ : Flat) (grant receiver selector n b top : ℕ) (contents bodies stack cache : List ℕ) (count reach : ℕ) (l : LoopAt s₀ grant receiver selector n b top contents bodies stack cache count reach) where
   abbrev sₗ : Flat
   sₗ = flat (runningWith receiver selector n b top) contents bodies stack cache
 
@@ -78,59 +83,56 @@ module _ (s₀ : Flat) (grant receiver selector n b top : ℕ) (contents bodies 
   rightₗ = check-right sₗ (l .turn .checked)
 
   -- what a bytecode asks for
-  pub loop-runs : Runs n b top contents bodies stack
+  loop-runs : Runs n b top contents bodies stack
   loop-runs = running-runs receiver selector n b top contents bodies stack cache rightₗ
 
-  pub loop-caches : Caches n b contents bodies cache
+  loop-caches : Caches n b contents bodies cache
   loop-caches = record { long = rightₗ .cacheLength; fine = rightₗ .cached }
 
-  pub loop-small : (n ≤ 2047) × (b ≤ 24000) × (top < 65536)
+  loop-small : (n ≤ 2047) × (b ≤ 24000) × (top < 65536)
   loop-small =
       let r = loop-runs in
       let t = top-bounds r in
       (most (r .right), most-words (r .right), omega arith)
 
-  pub loop-lengths : (length contents ≡ length (s₀ .contents)) × (length bodies ≡ length (s₀ .bodies)) × (length stack ≡ length (s₀ .stack)) × (length cache ≡ length (s₀ .cache))
+  loop-lengths : (length contents ≡ length (s₀ .contents)) × (length bodies ≡ length (s₀ .bodies)) × (length stack ≡ length (s₀ .stack)) × (length cache ≡ length (s₀ .cache))
   loop-lengths =
       let e = l .turn .lengths in
       (ap (λ (x : Room). x .contents) e, ap (λ (x : Room). x .bodies) e, ap (λ (x : Room). x .stack) e, ap (λ (x : Room). x .cache) e)
 
   -- the grant is used up
-  pub loop-ends : grant ≤ count → RunsTo s₀ grant contents bodies stack cache (record { registers = record { n = n; b = b; receiver = receiver; selector = selector; phase = 1; top = top; value = 0 }; count = count; reach = reach })
-  loop-ends h = record { gave = loop-out s₀ grant sₗ count reach (l .turn) h; ends = loop-out-ends s₀ grant sₗ count reach (l .turn) h; small = l .low }
+  ends-at : grant ≤ count → RunsTo s₀ grant contents bodies stack cache (record { registers = record { n = n; b = b; receiver = receiver; selector = selector; phase = 1; top = top; value = 0 }; count = count; reach = reach })
+  ends-at h = record { gave = loop-out s₀ grant sₗ count reach (l .turn) h; ends = loop-out-ends s₀ grant sₗ count reach (l .turn) h; small = l .low }
 
-  module _ (more : count < grant) (contents′ bodies′ stack′ cache′ : List ℕ) (y : Advanced)
-      (a : AdvancedIs (step (roomAt contents bodies stack cache) (runningAt receiver selector n b top contents bodies stack)) receiver selector n b contents bodies stack cache contents′ bodies′ stack′ cache′ y) where
+  module _ (more : count < grant) (contents′ bodies′ stack′ cache′ : List ℕ) where
     -- the step is that of the flat state
-    same-step : step (roomOf sₗ) (plainOf sₗ) ≡ step (roomAt contents bodies stack cache) (runningAt receiver selector n b top contents bodies stack)
+    abbrev x : Stepped
+    x = step (roomAt contents bodies stack cache) (runningAt receiver selector n b top contents bodies stack)
+
+    same-step : step (roomOf sₗ) (plainOf sₗ) ≡ x
     same-step = ap (step (roomOf sₗ)) (running-is receiver selector n b top contents bodies stack cache)
 
-    told : (y′ : Advanced) → y ≡ y′ → AdvancedIs (step (roomAt contents bodies stack cache) (runningAt receiver selector n b top contents bodies stack)) receiver selector n b contents bodies stack cache contents′ bodies′ stack′ cache′ y′
-    told y′ e =
-        subst (AdvancedIs (step (roomAt contents bodies stack cache) (runningAt receiver selector n b top contents bodies stack)) receiver selector n b contents bodies stack cache contents′ bodies′ stack′ cache′) e a
-
-    pub loop-finished : (w : ℕ) → y ≡ A.Finished w
+    finished-at : (w : ℕ) → Made x (finishedWith receiver selector n b w) contents bodies stack cache contents′ bodies′ stack′ cache′
         → RunsTo s₀ grant contents′ bodies′ stack′ cache′ (record { registers = record { n = n; b = b; receiver = receiver; selector = selector; phase = 2; top = 0; value = w }; count = count + 1; reach = reach })
-    loop-finished w e =
-        let m = made-as same-step (told (A.Finished w) e) in
+    finished-at w e =
+        let m = made-as same-step e in
         let z : topEnd (plainOf (flat (finishedWith receiver selector n b w) contents′ bodies′ stack′ cache′)) ≡ 0 = unfold plainOf topEnd in refl in
         record { gave = loop-over s₀ grant sₗ count reach (l .turn) more (finishedWith receiver selector n b w) contents′ bodies′ stack′ cache′ m refl; ends = loop-over-ends s₀ grant sₗ count reach (l .turn) more (finishedWith receiver selector n b w) contents′ bodies′ stack′ cache′ m refl z; small = l .low }
 
-    pub loop-halted : (k : ℕ) → y ≡ A.Halted k
+    halted-at : (k : ℕ) → Stops x k contents bodies stack cache contents′ bodies′ stack′ cache′
         → RunsTo s₀ grant contents′ bodies′ stack′ cache′ (record { registers = record { n = n; b = b; receiver = receiver; selector = selector; phase = k; top = top; value = 0 }; count = count; reach = reach })
-    loop-halted k e =
-        let h = told (A.Halted k) e in
-        let x = h .stays in
+    halted-at k h =
+        let u = h .stays in
         record {
-          gave = (λ i. Rattle.plain.specs.FlatCalls.gives (Rattle.plain.specs.Calls.result (h .phase i) count 0) (flat (record { n = n; b = b; startReceiver = receiver; startSelector = selector; phase = h .phase i; top = top; value = 0 }) (x .entries i) (x .words i) (x .frames i) (x .cached i)))
+          gave = (λ i. Rattle.plain.specs.FlatCalls.gives (Rattle.plain.specs.Calls.result (h .phase i) count 0) (flat (record { n = n; b = b; startReceiver = receiver; startSelector = selector; phase = h .phase i; top = top; value = 0 }) (u .entries i) (u .words i) (u .frames i) (u .cached i)))
               ∙ loop-halts s₀ grant sₗ count reach (l .turn) more (h .cause) (same-step ∙ h .steps);
           ends = loop-halts-ends s₀ grant sₗ count reach (l .turn) more (h .cause) (same-step ∙ h .steps);
           small = l .low;
         }
 
-    module _ (n′ b′ t : ℕ) (e : y ≡ A.Went n′ b′ (record { 0 = t })) where
+    module _ (n′ b′ t : ℕ) (e : Made x (runningWith receiver selector n′ b′ t) contents bodies stack cache contents′ bodies′ stack′ cache′) where
       made : Made (step (roomOf sₗ) (plainOf sₗ)) (runningWith receiver selector n′ b′ t) contents bodies stack cache contents′ bodies′ stack′ cache′
-      made = made-as same-step (told (A.Went n′ b′ (record { 0 = t })) e)
+      made = made-as same-step e
 
       abbrev s′ : Flat
       s′ = flat (runningWith receiver selector n′ b′ t) contents′ bodies′ stack′ cache′
@@ -139,8 +141,8 @@ module _ (s₀ : Flat) (grant receiver selector n b top : ℕ) (contents bodies 
       next : (reach′ : ℕ) → reach′ ≡ max reach (topEnd (plainOf s′)) → Turn s₀ grant s′ (count + 1) reach′
       next reach′ h = loop-next s₀ grant sₗ count reach (l .turn) more (runningWith receiver selector n′ b′ t) contents′ bodies′ stack′ cache′ made refl reach′ h
 
-      pub went-runs : Runs n′ b′ t contents′ bodies′ stack′
-      went-runs = running-runs receiver selector n′ b′ t contents′ bodies′ stack′ cache′ (check-right s′ (next (max reach (topEnd (plainOf s′))) refl .checked))
+      runs-at : Runs n′ b′ t contents′ bodies′ stack′
+      runs-at = running-runs receiver selector n′ b′ t contents′ bodies′ stack′ cache′ (check-right s′ (next (max reach (topEnd (plainOf s′))) refl .checked))
 
       abbrev end′ : ℕ
       end′ = t + frameSize (objectsAt n′ b′ contents′ bodies′) (frameMethod stack′ t)
@@ -152,8 +154,8 @@ module _ (s₀ : Flat) (grant receiver selector n b top : ℕ) (contents bodies 
           if-yes _ _ (eq-eqb top t q) ∙ omega arith
       raises (no q) = if-no _ _ (ne-eqb top t q) ∙ ap (max reach) (sym (top-end-is receiver selector n′ b′ t contents′ bodies′ stack′ cache′))
 
-      pub loop-went : (reach′ : ℕ) → reach′ ≡ raisedTo top t reach end′ → reach′ ≤ 65536 → Loop s₀ grant receiver selector n′ b′ t contents′ bodies′ stack′ cache′ (count + 1) reach′
-      loop-went reach′ h g = record { turn = next reach′ (h ∙ raises (ℕ-discrete top t)); low = g }
+      went-at : (reach′ : ℕ) → reach′ ≡ raisedTo top t reach end′ → reach′ ≤ 65536 → LoopAt s₀ grant receiver selector n′ b′ t contents′ bodies′ stack′ cache′ (count + 1) reach′
+      went-at reach′ h g = record { turn = next reach′ (h ∙ raises (ℕ-discrete top t)); low = g }
 
 -- The highest end, by the code's tests
 pub raised-same : (before top reach end : ℕ) → before ≡ top → reach ≡ raisedTo before top reach end
@@ -163,3 +165,71 @@ raised-same before top reach end e = sym (if-yes _ _ (eq-eqb before top e))
 pub raised-other : (before top reach end r : ℕ) → (before ≡ top → ⊥) → r ≡ max reach end → r ≡ raisedTo before top reach end
 unfolding raisedTo
 raised-other before top reach end r e h = h ∙ sym (if-no _ _ (ne-eqb before top e))
+
+-- ---- the frame that the loop holds
+
+pub record Loop (s₀ : Flat) (grant receiver selector n b : ℕ) (a : Active) (contents bodies stack cache : List ℕ) (count reach : ℕ) : Type 0 where
+  pub at : LoopAt s₀ grant receiver selector n b (a .base .0) contents bodies (written a stack) cache count reach
+  pub stands : Stands n b contents bodies stack a
+
+pub loop-holds-it : {s₀ : Flat} {grant receiver selector n b top : ℕ} {contents bodies stack cache : List ℕ} {count reach : ℕ} → LoopAt s₀ grant receiver selector n b top contents bodies stack cache count reach
+    → (a : Active) → (a .base .0 ≡ top) × (written a stack ≡ stack) × Stands n b contents bodies stack a → Loop s₀ grant receiver selector n b a contents bodies stack cache count reach
+loop-holds-it {s₀} {grant} {receiver} {selector} {n} {b} {top} {contents} {bodies} {stack} {cache} {count} {reach} l a e =
+    record {
+      at = subst (λ (t : ℕ). LoopAt s₀ grant receiver selector n b t contents bodies (written a stack) cache count reach) (sym (e .0)) (subst (λ (s : List ℕ). LoopAt s₀ grant receiver selector n b top contents bodies s cache count reach) (sym (e .1)) l);
+      stands = e .2;
+    }
+
+module _ (s₀ : Flat) (grant receiver selector n b : ℕ) (a : Active) (contents bodies stack cache : List ℕ) (count reach : ℕ) (l : Loop s₀ grant receiver selector n b a contents bodies stack cache count reach) where
+  -- what a bytecode asks for
+  pub loop-active : IsActive n b contents bodies stack a
+  loop-active =
+      record { runs = loop-runs s₀ grant receiver selector n b (a .base .0) contents bodies (written a stack) cache count reach (l .at); stands = l .stands }
+
+  pub loop-cached : Caches n b contents bodies cache
+  loop-cached = loop-caches s₀ grant receiver selector n b (a .base .0) contents bodies (written a stack) cache count reach (l .at)
+
+  pub held-small : (n ≤ 2047) × (b ≤ 24000) × (a .base .0 < 65536)
+  held-small = loop-small s₀ grant receiver selector n b (a .base .0) contents bodies (written a stack) cache count reach (l .at)
+
+  pub held-lengths : (length contents ≡ length (s₀ .contents)) × (length bodies ≡ length (s₀ .bodies)) × (length stack ≡ length (s₀ .stack)) × (length cache ≡ length (s₀ .cache))
+  held-lengths =
+      let e = loop-lengths s₀ grant receiver selector n b (a .base .0) contents bodies (written a stack) cache count reach (l .at) in
+      (e .0, e .1, sym (length-written a stack) ∙ e .2, e .3)
+
+  pub held-leaves : Leaving stack a
+  held-leaves = leaving loop-active
+
+  -- the grant is used up, and the frame's words are written
+  pub loop-ends : (stack′ : List ℕ) → stack′ ≡ written a stack → grant ≤ count
+      → RunsTo s₀ grant contents bodies stack′ cache (record { registers = record { n = n; b = b; receiver = receiver; selector = selector; phase = 1; top = a .base .0; value = 0 }; count = count; reach = reach })
+  loop-ends stack′ e h =
+      subst (λ (s : List ℕ). RunsTo s₀ grant contents bodies s cache (record { registers = record { n = n; b = b; receiver = receiver; selector = selector; phase = 1; top = a .base .0; value = 0 }; count = count; reach = reach })) (sym e)
+      (ends-at s₀ grant receiver selector n b (a .base .0) contents bodies (written a stack) cache count reach (l .at) h)
+
+  module _ (more : count < grant) (contents′ bodies′ stack′ cache′ : List ℕ) (y : Advanced) (z : AdvancedIs receiver selector n b a contents bodies stack cache contents′ bodies′ stack′ cache′ y) where
+    told : (y′ : Advanced) → y ≡ y′ → AdvancedIs receiver selector n b a contents bodies stack cache contents′ bodies′ stack′ cache′ y′
+    told y′ e = subst (AdvancedIs receiver selector n b a contents bodies stack cache contents′ bodies′ stack′ cache′) e z
+
+    pub loop-finished : (w : ℕ) → y ≡ A.Finished w
+        → RunsTo s₀ grant contents′ bodies′ stack′ cache′ (record { registers = record { n = n; b = b; receiver = receiver; selector = selector; phase = 2; top = 0; value = w }; count = count + 1; reach = reach })
+    loop-finished w e = finished-at s₀ grant receiver selector n b (a .base .0) contents bodies (written a stack) cache count reach (l .at) more contents′ bodies′ stack′ cache′ w (told (A.Finished w) e)
+
+    pub loop-halted : (k : ℕ) → y ≡ A.Halted k
+        → RunsTo s₀ grant contents′ bodies′ stack′ cache′ (record { registers = record { n = n; b = b; receiver = receiver; selector = selector; phase = k; top = a .base .0; value = 0 }; count = count; reach = reach })
+    loop-halted k e = halted-at s₀ grant receiver selector n b (a .base .0) contents bodies (written a stack) cache count reach (l .at) more contents′ bodies′ stack′ cache′ k (told (A.Halted k) e)
+
+    -- the frame goes on
+    pub loop-next-one : (q : CodePosition) (e : StackPosition) → y ≡ A.Next q e → Loop s₀ grant receiver selector n b (movedOn a q e) contents′ bodies′ stack′ cache′ (count + 1) reach
+    loop-next-one q e d =
+        let m : AdvancedIs receiver selector n b a contents bodies stack cache contents′ bodies′ stack′ cache′ (A.Next q e) = told (A.Next q e) d in
+        record { at = went-at s₀ grant receiver selector n b (a .base .0) contents bodies (written a stack) cache count reach (l .at) more contents′ bodies′ (written (movedOn a q e) stack′) cache′ n b (a .base .0) (m .0) reach (raised-same (a .base .0) (a .base .0) reach _ refl) (l .at .low); stands = m .1 }
+
+    -- another frame is on top, or the same
+    module _ (n′ b′ : ℕ) (t : StackPosition) (d : y ≡ A.Top n′ b′ t) where
+      pub went-runs : Runs n′ b′ (t .0) contents′ bodies′ stack′
+      went-runs = runs-at s₀ grant receiver selector n b (a .base .0) contents bodies (written a stack) cache count reach (l .at) more contents′ bodies′ stack′ cache′ n′ b′ (t .0) (told (A.Top n′ b′ t) d)
+
+      pub loop-went : (reach′ : ℕ) → reach′ ≡ raisedTo (a .base .0) (t .0) reach (t .0 + frameSize (objectsAt n′ b′ contents′ bodies′) (frameMethod stack′ (t .0))) → reach′ ≤ 65536
+          → LoopAt s₀ grant receiver selector n′ b′ (t .0) contents′ bodies′ stack′ cache′ (count + 1) reach′
+      loop-went reach′ h g = went-at s₀ grant receiver selector n b (a .base .0) contents bodies (written a stack) cache count reach (l .at) more contents′ bodies′ stack′ cache′ n′ b′ (t .0) (told (A.Top n′ b′ t) d) reach′ h g

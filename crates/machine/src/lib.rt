@@ -309,8 +309,9 @@ impl Registers {
         let mut active = steps::enter(contents, bodies, stack, n, b, start);
         while count < grant {
             match interpreter::advance(contents, bodies, stack, cache, n, b, active) {
-                Advanced::Next(to) => {
-                    active = to;
+                Advanced::Next { position, end } => {
+                    active.position = position;
+                    active.end = end;
                     count += 1;
                 }
                 Advanced::Top {
