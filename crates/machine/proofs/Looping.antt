@@ -22,7 +22,7 @@ use Rattle.plain.specs.FlatCalls.{topEnd}
 use Rattle.plain.specs.Running.{Runs, runningWith, finishedWith, runningAt, roomAt, Made, Stays}
 use Rattle.plain.specs.RunLoop.{Turn}
 use Rattle.plain.proofs.Preserve.{Shape, runs, ends}
-use Rattle.plain.proofs.StateLaws.{Stands, goes, rests, waits}
+use Rattle.plain.proofs.StateLaws.{Stands as Shaped, goes, rests, waits}
 use Rattle.plain.proofs.FlatLaws.{FlatRight, check-right}
 use Rattle.plain.proofs.RunningLaws.{TopBounds, top-bounds}
 use Rattle.plain.proofs.MadeLaws.{made-as, running-is, running-runs}
@@ -49,7 +49,7 @@ value-none : (s : Flat) → FlatRight s → s .registers .phase ≡ running → 
 unfolding plainOf
 value-none s r e = go (r .plain .stands)
   where
-    go : Stands (length (s .stack)) (plainOf s) → s .registers .value ≡ 0
+    go : Shaped (length (s .stack)) (plainOf s) → s .registers .value ≡ 0
     go (goes (runs a v f)) = v
     go (goes (ends a v t f)) = absurd (omega arith)
     go (rests a v t f) = absurd (omega arith)
@@ -180,7 +180,7 @@ loop-holds-it {s₀} {grant} {receiver} {selector} {n} {b} {top} {contents} {bod
       stands = e .2;
     }
 
-module _ (s₀ : Flat) (grant receiver selector n b : ℕ) (a : Active) (contents bodies stack cache : List ℕ) (count reach : ℕ) (l : Loop s₀ grant receiver selector n b a contents bodies stack cache count reach) where
+module _ {s₀ : Flat} {grant receiver selector n b : ℕ} {a : Active} {contents bodies stack cache : List ℕ} {count reach : ℕ} (l : Loop s₀ grant receiver selector n b a contents bodies stack cache count reach) where
   -- what a bytecode asks for
   pub loop-active : IsActive n b contents bodies stack a
   loop-active =

@@ -3,12 +3,6 @@ use Rattle.interpreter.proofs.Advancing.{went-on, leaves-send, leaves-r
 use borrow.Author.Needs.{needs}
 use Rattle.interpreter.proofs.advance.Statement.{statement}
 use Rattle.interpreter.proofs.advance.Tie as tie
-use Rattle.interpreter.proofs.advance.Reads as reads
-use Rattle.interpreter.proofs.advance.Lts as lts
-use Rattle.interpreter.proofs.return_to.Reads as return-to-reads
-use Rattle.sends.proofs.send.Reads as send-reads
-use Rattle.steps.proofs.leave.Reads as leave-reads
-use Rattle.steps.proofs.step.Reads as step-reads
 
 -- src/lib.rt:75:11
 step-requires : tie.Need-step-requires

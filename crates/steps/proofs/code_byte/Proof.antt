@@ -4,10 +4,6 @@ use mathlib.Core.Path.{refl}
 use borrow.Author.Needs.{needs}
 use Rattle.steps.proofs.code_byte.Statement.{statement}
 use Rattle.steps.proofs.code_byte.Tie as tie
-use Rattle.steps.proofs.code_byte.Reads as reads
-use Rattle.steps.proofs.code_byte.Lts as lts
-use Rattle.bytecode.proofs.fetch.Reads as fetch-reads
-use Rattle.objects.proofs.code_of.Reads as code-of-reads
 
 -- src/lib.rt:101:32
 add-t14 : tie.Need-add-t14

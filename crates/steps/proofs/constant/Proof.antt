@@ -10,9 +10,6 @@ use Rattle.steps.proofs.RowLaws.{row-unused}
 use borrow.Author.Needs.{needs}
 use Rattle.steps.proofs.constant.Statement.{statement}
 use Rattle.steps.proofs.constant.Tie as tie
-use Rattle.steps.proofs.constant.Reads as reads
-use Rattle.steps.proofs.constant.Lts as lts
-use Rattle.steps.proofs.push_word.Reads as push-word-reads
 
 -- src/lib.rt:451:27
 add-w : tie.Need-add-w

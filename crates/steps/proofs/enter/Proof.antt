@@ -5,11 +5,6 @@ use mathlib.Core.Path.{refl}
 use borrow.Author.Needs.{needs}
 use Rattle.steps.proofs.enter.Statement.{statement}
 use Rattle.steps.proofs.enter.Tie as tie
-use Rattle.steps.proofs.enter.Reads as reads
-use Rattle.steps.proofs.enter.Lts as lts
-use Rattle.objects.proofs.code_of.Reads as code-of-reads
-use Rattle.objects.proofs.header.Reads as header-reads
-use Rattle.objects.proofs.temporary_count.Reads as temporary-count-reads
 
 -- src/lib.rt:63:32
 add-position : tie.Need-add-position

@@ -9,15 +9,6 @@ use Rattle.steps.proofs.RowLaws.{position-small, byte-there, extended-p
 use borrow.Author.Needs.{needs}
 use Rattle.steps.proofs.extended.Statement.{statement}
 use Rattle.steps.proofs.extended.Tie as tie
-use Rattle.steps.proofs.extended.Reads as reads
-use Rattle.steps.proofs.extended.Lts as lts
-use Rattle.bytecode.proofs.place_of.Reads as place-of-reads
-use Rattle.steps.proofs.code_byte.Reads as code-byte-reads
-use Rattle.steps.proofs.push.Reads as push-reads
-use Rattle.steps.proofs.push_word.Reads as push-word-reads
-use Rattle.steps.proofs.send.Reads as send-reads
-use Rattle.steps.proofs.store.Reads as store-reads
-use Rattle.steps.proofs.super_send.Reads as super-send-reads
 
 -- src/lib.rt:491:17
 code-byte-requires : tie.Need-code-byte-requires

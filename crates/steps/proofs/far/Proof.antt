@@ -5,10 +5,6 @@ use Rattle.steps.proofs.RowLaws.{position-small, far-byte, far-jump, fa
 use borrow.Author.Needs.{needs}
 use Rattle.steps.proofs.far.Statement.{statement}
 use Rattle.steps.proofs.far.Tie as tie
-use Rattle.steps.proofs.far.Reads as reads
-use Rattle.steps.proofs.far.Lts as lts
-use Rattle.steps.proofs.code_byte.Reads as code-byte-reads
-use Rattle.steps.proofs.jump_on.Reads as jump-on-reads
 
 -- src/lib.rt:655:13
 code-byte-requires : tie.Need-code-byte-requires

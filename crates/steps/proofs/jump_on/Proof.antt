@@ -5,9 +5,6 @@ use Rattle.steps.proofs.DoingLaws.{on-one, on-room, on-ends, jumps, pas
 use borrow.Author.Needs.{needs}
 use Rattle.steps.proofs.jump_on.Statement.{statement}
 use Rattle.steps.proofs.jump_on.Tie as tie
-use Rattle.steps.proofs.jump_on.Reads as reads
-use Rattle.steps.proofs.jump_on.Lts as lts
-use Rattle.steps.proofs.boolean.Reads as boolean-reads
 
 -- src/lib.rt:236:15
 sub-end : tie.Need-sub-end

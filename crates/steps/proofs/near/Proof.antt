@@ -5,9 +5,6 @@ use Rattle.steps.proofs.RowLaws.{position-small, near-jump, near-on}
 use borrow.Author.Needs.{needs}
 use Rattle.steps.proofs.near.Statement.{statement}
 use Rattle.steps.proofs.near.Tie as tie
-use Rattle.steps.proofs.near.Reads as reads
-use Rattle.steps.proofs.near.Lts as lts
-use Rattle.steps.proofs.jump_on.Reads as jump-on-reads
 
 -- src/lib.rt:621:16
 add-next : tie.Need-add-next

@@ -2,10 +2,6 @@ use Rattle.steps.proofs.DoingLaws.{push-pushing, push-done}
 use borrow.Author.Needs.{needs}
 use Rattle.steps.proofs.push.Statement.{statement}
 use Rattle.steps.proofs.push.Tie as tie
-use Rattle.steps.proofs.push.Reads as reads
-use Rattle.steps.proofs.push.Lts as lts
-use Rattle.steps.proofs.push_word.Reads as push-word-reads
-use Rattle.steps.proofs.read.Reads as read-reads
 
 -- src/lib.rt:168:9
 read-requires : tie.Need-read-requires

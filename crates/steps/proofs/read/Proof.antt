@@ -7,10 +7,6 @@ use Rattle.steps.proofs.DoingLaws.{push-as, field-there, field-reads, t
 use borrow.Author.Needs.{needs}
 use Rattle.steps.proofs.read.Statement.{statement}
 use Rattle.steps.proofs.read.Tie as tie
-use Rattle.steps.proofs.read.Reads as reads
-use Rattle.steps.proofs.read.Lts as lts
-use Rattle.objects.proofs.literal.Reads as literal-reads
-use Rattle.objects.proofs.word_of.Reads as word-of-reads
 
 -- src/lib.rt:125:22
 enum-known-place : tie.Need-enum-known-place

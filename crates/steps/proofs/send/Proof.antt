@@ -4,10 +4,6 @@ use Rattle.steps.proofs.DoingLaws.{send-literal, send-done}
 use borrow.Author.Needs.{needs}
 use Rattle.steps.proofs.send.Statement.{statement}
 use Rattle.steps.proofs.send.Tie as tie
-use Rattle.steps.proofs.send.Reads as reads
-use Rattle.steps.proofs.send.Lts as lts
-use Rattle.objects.proofs.literal.Reads as literal-reads
-use Rattle.steps.proofs.sent.Reads as sent-reads
 
 -- src/lib.rt:302:32
 add-t14 : tie.Need-add-t14

@@ -4,9 +4,6 @@ use Rattle.steps.proofs.DoingLaws.{sent-one, sent-ends, sent-class, sen
 use borrow.Author.Needs.{needs}
 use Rattle.steps.proofs.sent.Statement.{statement}
 use Rattle.steps.proofs.sent.Tie as tie
-use Rattle.steps.proofs.sent.Reads as reads
-use Rattle.steps.proofs.sent.Lts as lts
-use Rattle.objects.proofs.class_of.Reads as class-of-reads
 
 -- src/lib.rt:274:14
 sub-at : tie.Need-sub-at

@@ -5,13 +5,6 @@ use Rattle.steps.proofs.DoingLaws.{special-below, special-one, special-
 use borrow.Author.Needs.{needs}
 use Rattle.steps.proofs.special_send.Statement.{statement}
 use Rattle.steps.proofs.special_send.Tie as tie
-use Rattle.steps.proofs.special_send.Reads as reads
-use Rattle.steps.proofs.special_send.Lts as lts
-use Rattle.objects.proofs.class_of.Reads as class-of-reads
-use Rattle.objects.proofs.word_of.Reads as word-of-reads
-use Rattle.steps.proofs.boolean.Reads as boolean-reads
-use Rattle.steps.proofs.sent.Reads as sent-reads
-use Rattle.steps.proofs.special_count.Reads as special-count-reads
 
 -- src/lib.rt:412:22
 sub-last : tie.Need-sub-last

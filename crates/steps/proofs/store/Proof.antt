@@ -5,10 +5,6 @@ use Rattle.steps.proofs.DoingLaws.{store-as, store-ends, store-one, own
 use borrow.Author.Needs.{needs}
 use Rattle.steps.proofs.store.Statement.{statement}
 use Rattle.steps.proofs.store.Tie as tie
-use Rattle.steps.proofs.store.Reads as reads
-use Rattle.steps.proofs.store.Lts as lts
-use Rattle.objects.proofs.literal.Reads as literal-reads
-use Rattle.objects.proofs.store_word.Reads as store-word-reads
 
 -- src/lib.rt:188:14
 sub-at : tie.Need-sub-at

@@ -5,11 +5,6 @@ use Rattle.steps.proofs.DoingLaws.{super-one, super-literal, super-home
 use borrow.Author.Needs.{needs}
 use Rattle.steps.proofs.super_send.Statement.{statement}
 use Rattle.steps.proofs.super_send.Tie as tie
-use Rattle.steps.proofs.super_send.Reads as reads
-use Rattle.steps.proofs.super_send.Lts as lts
-use Rattle.objects.proofs.home.Reads as home-reads
-use Rattle.objects.proofs.literal.Reads as literal-reads
-use Rattle.objects.proofs.superclass.Reads as superclass-reads
 
 -- src/lib.rt:324:32
 add-receiver : tie.Need-add-receiver
