@@ -377,7 +377,7 @@ int main(int argc, char **argv) {
         return 2;
     }
     fclose(file);
-    small_stacks(); /* first, so that the loader's work at a first call counts too */
+    small_stacks();
     loads();
     states();
     begins();
