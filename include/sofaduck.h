@@ -8,9 +8,9 @@
  * Order of use: load once; for each contact begin, then run until the phase is no longer SOFADUCK_RUNNING; save whenever the objects are to be kept.
  * A state runs one handler at a time: another contact waits, or has the handler dropped first, or goes to a state of its own.
  *
- * The library is target/staticlib/libsofaduck.a, made by `rt staticlib sofaduck`, for x86-64. It calls memcpy and memset and nothing else: it
- * allocates nothing and has no global state. Calls on different states may run on different threads at once; calls on one state come one after
- * the other. No call takes SOFADUCK_CALL_STACK bytes of the C stack, whatever the image and the handler do.
+ * The library is target/staticlib/libsofaduck.a, made by `rt staticlib sofaduck`, for x86-64 with the System V calling convention. It calls memcpy
+ * and memset and nothing else: it allocates nothing and has no global state. Calls on different states may run on different threads at once; calls
+ * on one state come one after the other. No call takes SOFADUCK_CALL_STACK bytes of the C stack, whatever the image and the handler do.
  *
  * Buffers are the caller's. A length counts elements: words of 16 bits, or an image's bytes. The library trusts that behind every pointer there are
  * as many elements as its length says, that no two buffers of a call overlap, and that `registers`, `count`, `reach` and `length` are not null.
