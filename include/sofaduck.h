@@ -103,19 +103,21 @@ static inline size_t sofaduck_size(const uint16_t *contents, uint16_t object) { 
  *   cache       SOFADUCK_CACHE words
  *   registers   written in every case
  *
- * Returns 0, or 1 to 8. A refused load sets all registers to 0, with which every other call is refused. By 1 to 3 it changes no buffer. By 4 to 8
- * the words that the image would have in contents and in bodies are 0 afterwards, and the rest of both and the cache are as before. */
+ * Returns 0; or 1, 2 or 4 to 8, what is wrong with the image; or 3, a buffer of the wrong length. A refused load sets all registers to 0, with which
+ * every other call is refused. By 1 to 3 it changes no buffer. By 4 to 8 the words that the image would have in contents and in bodies are 0
+ * afterwards, and the rest of both and the cache are as before. */
 uint32_t sofaduck_load(const uint8_t *image, size_t image_length,
                        uint16_t *contents, size_t contents_length,
                        uint16_t *bodies, size_t bodies_length,
                        uint16_t *cache, size_t cache_length,
                        uint16_t registers[SOFADUCK_REGISTERS]);
 
-/* The calls below take the whole state: contents, bodies, cache and registers as the last call left them, and a stack. The stack has any length
- * and any words when a handler is begun; from then on it is part of the state.
+/* The calls below take the whole state: contents, bodies, cache and registers as the last call left them, and a stack. In phases idle and
+ * finished the stack may have any length and any words; in the others the frames are in it, and it too stays as the last call left it.
  *
- * Each call checks all of it first, so a spoiled state is refused and does no harm. The time for that grows with the image and the frames, and
- * is spent once a call: one run of a thousand bytecodes takes far less than a thousand runs of one. */
+ * Each call checks all of it first, so a spoiled state does no harm: 3, contents shorter than 4 words an object, bodies shorter than B, or a cache of
+ * another length than 192; 11, anything else that the calls do not leave so. The time for that grows with the image and the frames, and is spent
+ * once a call: one run of a thousand bytecodes takes far less than a thousand runs of one. */
 
 /* Begin sends `selector` with the arguments to `receiver`. Frames of a handler that halted are removed.
  *
@@ -123,7 +125,9 @@ uint32_t sofaduck_load(const uint8_t *image, size_t image_length,
  *   selector    an object of bytes, the one that the image's methods are found under
  *   arguments   as many words as the method takes
  *
- * Returns 0, in phase running, or finished where the method is answered at once. Or 3, 11, 12, 8, 9, 10, 13. */
+ * Returns 0, in phase running, or finished where the method is answered at once. Or 3 or 11; 12, a handler is running (drop it first); 8, a word is
+ * invalid or the selector none; 9, no method; 10, another number of arguments; 13, no room in the stack. Refused, or answered at once, it writes no
+ * word of the stack. */
 uint32_t sofaduck_begin(uint16_t *contents, size_t contents_length,
                         uint16_t *bodies, size_t bodies_length,
                         uint16_t *stack, size_t stack_length,
@@ -138,7 +142,7 @@ uint32_t sofaduck_begin(uint16_t *contents, size_t contents_length,
  *   count       written: the bytecodes made, less than n only where the handler finished or halted
  *   reach       written: an index of the stack below which all frames of this run lay, at most the stack's length
  *
- * Returns 0, or 3, 11, 12. */
+ * Returns 0, or 3 or 11; 12, no handler is running, with n = 0 too. Refused, it leaves count and reach unwritten. */
 uint32_t sofaduck_run(uint16_t *contents, size_t contents_length,
                       uint16_t *bodies, size_t bodies_length,
                       uint16_t *stack, size_t stack_length,
@@ -146,21 +150,21 @@ uint32_t sofaduck_run(uint16_t *contents, size_t contents_length,
                       uint16_t registers[SOFADUCK_REGISTERS],
                       uint32_t n, uint32_t *count, uint32_t *reach);
 
-/* Drop ends the handler, in any phase: phase idle, top and value 0. What it wrote into objects stays. Returns 0, or 3, 11. */
+/* Drop ends the handler, in any phase: phase idle, top and value 0. What it wrote into objects stays. Returns 0, or 3 or 11. */
 uint32_t sofaduck_drop(const uint16_t *contents, size_t contents_length,
                        const uint16_t *bodies, size_t bodies_length,
                        const uint16_t *stack, size_t stack_length,
                        const uint16_t *cache, size_t cache_length,
                        uint16_t registers[SOFADUCK_REGISTERS]);
 
-/* Forget empties the cache, in any phase. Nothing but time depends on what the cache holds. Returns 0, or 3, 11. */
+/* Forget empties the cache, in any phase. Nothing but time depends on what the cache holds. Returns 0, or 3 or 11. */
 uint32_t sofaduck_forget(const uint16_t *contents, size_t contents_length,
                          const uint16_t *bodies, size_t bodies_length,
                          const uint16_t *stack, size_t stack_length,
                          uint16_t *cache, size_t cache_length,
                          const uint16_t registers[SOFADUCK_REGISTERS]);
 
-/* Check says whether the state is right, as every call but load asks first, and writes nothing. Returns 0, or 3, 11. */
+/* Check says whether the state is right, as every call but load asks first, and writes nothing. Returns 0, or 3 or 11. */
 uint32_t sofaduck_check(const uint16_t *contents, size_t contents_length,
                         const uint16_t *bodies, size_t bodies_length,
                         const uint16_t *stack, size_t stack_length,
@@ -172,7 +176,7 @@ uint32_t sofaduck_check(const uint16_t *contents, size_t contents_length,
  *   output      10 + 8 * N + 2 * B bytes or more, of which so many are written: SOFADUCK_IMAGE bytes are always enough
  *   length      written: the image's bytes
  *
- * Returns 0, or 3, 11. */
+ * Returns 0, or 3, where output is too short as well; 11. Refused, it leaves output and length unwritten. */
 uint32_t sofaduck_save(const uint16_t *contents, size_t contents_length,
                        const uint16_t *bodies, size_t bodies_length,
                        const uint16_t *stack, size_t stack_length,
