@@ -75,7 +75,7 @@ enum {
     SOFADUCK_BAD_MESSAGE,    /* start words, or what is begun: a receiver or argument is no integer and names no object, or a selector has no bytes */
     SOFADUCK_NO_METHOD,      /* the receiver has no method under the selector */
     SOFADUCK_BAD_COUNT,      /* the method takes another number of arguments */
-    SOFADUCK_BAD_STATE,      /* buffers and registers are not as the calls leave them */
+    SOFADUCK_BAD_STATE,      /* objects, cache, registers or frames break a rule that every call keeps */
     SOFADUCK_BAD_PHASE,      /* begin while a handler is running, or run while none is */
     SOFADUCK_NO_FIRST_FRAME  /* the handler's first frame does not fit in the stack */
 };
@@ -113,11 +113,12 @@ uint32_t sofaduck_load(const uint8_t *image, size_t image_length,
                        uint16_t registers[SOFADUCK_REGISTERS]);
 
 /* The calls below take the whole state: contents, bodies, cache and registers as the last call left them, and a stack. In phases idle and
- * finished the stack may have any length and any words; in the others the frames are in it, and it too stays as the last call left it.
+ * finished the stack may have any length and any words, so that one stack can serve many states by turns; in the others the frames are in it, and
+ * it too stays as the last call left it. A handler that halted is dropped before its stack goes to another state.
  *
- * Each call checks all of it first, so a spoiled state does no harm: 3, contents shorter than 4 words an object, bodies shorter than B, or a cache of
- * another length than 192; 11, anything else that the calls do not leave so. The time for that grows with the image and the frames, and is spent
- * once a call: one run of a thousand bytecodes takes far less than a thousand runs of one. */
+ * Each call checks all of it first, so a spoiled state does no harm. It is refused by 3 where contents have less than 4 * N words, bodies less than
+ * B, or the cache other than 192, and by 11 where objects, cache, registers or frames break a rule that every call keeps. The time for that grows
+ * with the image and the frames, and is spent once a call: one run of a thousand bytecodes takes far less than a thousand runs of one. */
 
 /* Begin sends `selector` with the arguments to `receiver`. Frames of a handler that halted are removed.
  *

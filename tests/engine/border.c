@@ -189,6 +189,10 @@ static void states(void) {
     begin(&s, OBJECT_box, SELECTOR_forever);
     s.stack_length = 0;
     all_refused("a frame, but no stack, a null pointer", 11);
+    loaded();
+    begin(&s, OBJECT_box, SELECTOR_forever);
+    memset(s.stack, 0x33, sizeof s.stack);
+    all_refused("other words in the stack of a handler", 11);
     fresh(&s);
     memset(s.registers, 0, sizeof s.registers);
     all_refused("registers of a refused load", 11);
@@ -261,6 +265,8 @@ static void runs(void) {
     goes("run: an object is made", SELECTOR_more, SOFADUCK_FINISHED, 5, (uint16_t)(2 * get(1) + 2));
     test("forget: the cache was filled and is empty",
          !all(s.cache, SOFADUCK_CACHE, 0) && sofaduck_forget(STATE(&s)) == 0 && all(s.cache, SOFADUCK_CACHE, 0));
+    memset(s.stack, 0x33, sizeof s.stack);
+    test("check: the stack's words are free after a handler has finished", sofaduck_check(STATE(&s)) == 0);
     test("N and B count it", s.registers[SOFADUCK_N] == get(1) + 1 && s.registers[SOFADUCK_B] == get(2) + 2);
     loaded();
     s.contents_length = 4 * get(1);
