@@ -72,7 +72,7 @@ enum {
     SOFADUCK_BAD_WORD,       /* image: an object's class, or a word of an object, a class or a list, is no integer and names no object */
     SOFADUCK_BAD_CLASS,      /* image: a class or dictionary is wrong, an object does not fit its class, or one of objects 1 to 5 is wrong */
     SOFADUCK_BAD_METHOD,     /* image: a method's header, home class, literals, count of arguments or code is wrong */
-    SOFADUCK_BAD_MESSAGE,    /* start words or begin: a receiver or argument is no integer and names no object, or the selector is no object of bytes */
+    SOFADUCK_BAD_MESSAGE,    /* start words or begin: a receiver or argument is no integer and names nothing, or the selector is no object of bytes */
     SOFADUCK_NO_METHOD,      /* the receiver has no method under the selector */
     SOFADUCK_BAD_COUNT,      /* the method takes another number of arguments */
     SOFADUCK_BAD_STATE,      /* objects, cache, registers or frames break a rule that every call keeps */
