@@ -1,0 +1,394 @@
+/* The functions for C from outside: every call, every refusal, what is written and what is not, null pointers, small C stacks, two threads.
+ * A line for each test; the exit status says whether all passed. Usage: border IMAGE, of border.source. */
+#define _DEFAULT_SOURCE /* MAP_ANONYMOUS */
+#include "sofaduck.h"
+#include "border.h"
+#include <pthread.h>
+#include <stdbool.h>
+#include <stdio.h>
+#include <stdlib.h>
+#include <string.h>
+#include <sys/mman.h>
+
+enum { STACK = 1024, GUARD = 65536, OWN_STACK = 32768, PAINT = 0x5c, ROUNDS = 2000 };
+
+typedef struct {
+    uint16_t contents[SOFADUCK_CONTENTS], bodies[SOFADUCK_BODIES], stack[STACK], cache[SOFADUCK_CACHE + 1], registers[SOFADUCK_REGISTERS];
+    size_t contents_length, bodies_length, stack_length, cache_length;
+} state;
+
+/* A buffer of length 0 goes as a null pointer. */
+#define LENT(s, buffer) (s)->buffer##_length == 0 ? NULL : (s)->buffer, (s)->buffer##_length
+#define STATE(s) LENT(s, contents), LENT(s, bodies), LENT(s, stack), LENT(s, cache), (s)->registers
+
+static uint8_t image[SOFADUCK_IMAGE], other[SOFADUCK_IMAGE + 1], output[SOFADUCK_IMAGE + 1];
+static size_t length;
+static bool failed;
+static state s, before;
+
+static void test(const char *what, bool passed) {
+    printf("%s: %s\n", passed ? "passed" : "FAILED", what);
+    failed = failed || !passed;
+}
+
+/* Buffers full of old words, of the whole lengths. */
+static void fresh(state *t) {
+    memset(t, 0xa5, sizeof *t);
+    t->contents_length = SOFADUCK_CONTENTS;
+    t->bodies_length = SOFADUCK_BODIES;
+    t->stack_length = STACK;
+    t->cache_length = SOFADUCK_CACHE;
+}
+
+static uint32_t load(state *t, const uint8_t *bytes, size_t count) {
+    return sofaduck_load(count == 0 ? NULL : bytes, count, LENT(t, contents), LENT(t, bodies), LENT(t, cache), t->registers);
+}
+
+static uint32_t begin(state *t, uint16_t receiver, uint16_t selector) { return sofaduck_begin(STATE(t), receiver, selector, NULL, 0); }
+
+static void loaded(void) {
+    fresh(&s);
+    if (load(&s, image, length) != 0) test("the image is loaded", false);
+}
+
+/* The state that a call is about to see. */
+static void note(void) { before = s; }
+
+/* A call that was refused, by the right number and with every word of the state as it was noted. */
+static void refused(const char *what, uint32_t wanted, uint32_t got) {
+    char line[200];
+    snprintf(line, sizeof line, "refused by %u: %s", (unsigned)wanted, what);
+    if (got != wanted) printf("it gave %u\n", (unsigned)got);
+    test(line, got == wanted && memcmp(&s, &before, sizeof s) == 0);
+}
+
+static bool all(const uint16_t *words, size_t count, uint16_t word) {
+    for (size_t i = 0; i < count; i++)
+        if (words[i] != word) return false;
+    return true;
+}
+
+static bool all_bytes(const uint8_t *bytes, size_t count, uint8_t byte) {
+    for (size_t i = 0; i < count; i++)
+        if (bytes[i] != byte) return false;
+    return true;
+}
+
+static void put(size_t place, unsigned word) {
+    other[2 * place] = (uint8_t)(word >> 8);
+    other[2 * place + 1] = (uint8_t)word;
+}
+
+static unsigned get(size_t place) { return image[2 * place] * 256u + image[2 * place + 1]; }
+
+/* A load that is refused: registers are zero; by 4 and above the image's words are zero; all else is as before. */
+static void load_refused(const char *what, uint32_t wanted, size_t count) {
+    const size_t n = wanted < 4 ? 0 : 4 * get(1), b = wanted < 4 ? 0 : get(2);
+    note();
+    const uint32_t got = load(&s, other, count);
+    const bool zero = all(s.registers, SOFADUCK_REGISTERS, 0) && all(s.contents, n, 0) && all(s.bodies, b, 0);
+    memcpy(s.registers, before.registers, sizeof s.registers);
+    memcpy(s.contents, before.contents, n * sizeof *s.contents);
+    memcpy(s.bodies, before.bodies, b * sizeof *s.bodies);
+    if (!zero) test("registers and words of a refused load are zero", false);
+    refused(what, wanted, got);
+    fresh(&s);
+    memcpy(other, image, sizeof image);
+}
+
+static void loads(void) {
+    const unsigned n = get(1), b = get(2);
+    size_t method = 5;
+    while (get(method + 1) != 4) method += 4;
+    fresh(&s);
+    memcpy(other, image, sizeof image);
+    load_refused("load: no bytes, a null pointer", 1, 0);
+    load_refused("load: nine bytes", 1, 9);
+    load_refused("load: a byte too few", 1, length - 1);
+    load_refused("load: a byte too many", 1, length + 1);
+    put(0, 2);
+    load_refused("load: edition 2", 2, length);
+    s.contents_length = 4 * n - 1;
+    load_refused("load: contents a word short", 3, length);
+    s.contents_length = 0;
+    load_refused("load: no contents, a null pointer", 3, length);
+    s.bodies_length = b - 1;
+    load_refused("load: bodies a word short", 3, length);
+    s.bodies_length = 0;
+    load_refused("load: no bodies, a null pointer", 3, length);
+    s.cache_length = SOFADUCK_CACHE - 1;
+    load_refused("load: a cache of 191 words", 3, length);
+    s.cache_length = SOFADUCK_CACHE + 1;
+    load_refused("load: a cache of 193 words", 3, length);
+    s.cache_length = 0;
+    load_refused("load: no cache, a null pointer", 3, length);
+    put(6, 9);
+    load_refused("load: kind 9", 4, length);
+    put(5, 0);
+    load_refused("load: class 0", 5, length);
+    put(5, SOFADUCK_NIL);
+    load_refused("load: nil as a class", 6, length);
+    put(5 + 4 * n + get(method + 2), get(5 + 4 * n + get(method + 2)) - 1);
+    load_refused("load: a method's header without its tag", 7, length);
+    put(4, SOFADUCK_NIL);
+    load_refused("load: nil as start selector", 8, length);
+
+    fresh(&s);
+    const uint16_t expected[] = {(uint16_t)n, (uint16_t)b, OBJECT_box, SELECTOR_a, SOFADUCK_IDLE, 0, 0};
+    test("load: accepted", load(&s, image, length) == 0);
+    test("load: registers", memcmp(s.registers, expected, sizeof expected) == 0);
+    test("load: the cache is empty, what lies behind contents, bodies and cache is untouched",
+         all(s.cache, SOFADUCK_CACHE, 0) && s.cache[SOFADUCK_CACHE] == 0xa5a5 && all(s.contents + 4 * n, SOFADUCK_CONTENTS - 4 * n, 0xa5a5)
+             && all(s.bodies + b, SOFADUCK_BODIES - b, 0xa5a5));
+    bool same = true;
+    for (size_t i = 0; i < 4 * n; i++) same = same && s.contents[i] == get(5 + i);
+    for (size_t i = 0; i < b; i++) same = same && s.bodies[i] == get(5 + 4 * n + i);
+    test("load: words are in host order", same);
+    s.contents_length = 4 * n, s.bodies_length = b;
+    test("load: buffers that just fit", load(&s, image, length) == 0);
+}
+
+/* Every call but load on this state: refused by the number, results unwritten. */
+static void all_refused(const char *why, uint32_t wanted) {
+    uint32_t count = 77, reach = 78, bytes = 79;
+    char line[100];
+    note();
+#define ONE(name, call) snprintf(line, sizeof line, name ": %s", why), refused(line, wanted, call)
+    ONE("begin", begin(&s, OBJECT_box, SELECTOR_a));
+    ONE("run", sofaduck_run(STATE(&s), 1, &count, &reach));
+    ONE("drop", sofaduck_drop(STATE(&s)));
+    ONE("forget", sofaduck_forget(STATE(&s)));
+    ONE("check", sofaduck_check(STATE(&s)));
+    memset(output, 0x5a, sizeof output);
+    ONE("save", sofaduck_save(STATE(&s), output, sizeof output, &bytes));
+#undef ONE
+    snprintf(line, sizeof line, "count, reach, length and output stay unwritten: %s", why);
+    test(line, count == 77 && reach == 78 && bytes == 79 && all_bytes(output, sizeof output, 0x5a));
+}
+
+static void states(void) {
+    loaded();
+    s.contents_length = 4 * s.registers[SOFADUCK_N] - 1u;
+    all_refused("contents a word short", 3);
+    loaded();
+    s.bodies_length = 0;
+    all_refused("no bodies, a null pointer", 3);
+    loaded();
+    s.cache_length = SOFADUCK_CACHE - 1;
+    all_refused("a cache of 191 words", 3);
+    loaded();
+    s.contents[1] = 9;
+    all_refused("a spoiled word of contents", 11);
+    loaded();
+    s.cache[0] = SELECTOR_a;
+    all_refused("a spoiled cache", 11);
+    loaded();
+    s.registers[SOFADUCK_PHASE] = 6;
+    all_refused("phase 6", 11);
+    loaded();
+    begin(&s, OBJECT_box, SELECTOR_forever);
+    s.stack_length = 0;
+    all_refused("a frame, but no stack, a null pointer", 11);
+    loaded();
+    begin(&s, OBJECT_box, SELECTOR_forever);
+    memset(s.stack, 0x33, sizeof s.stack);
+    all_refused("other words in the stack of a handler", 11);
+    fresh(&s);
+    memset(s.registers, 0, sizeof s.registers);
+    all_refused("registers of a refused load", 11);
+}
+
+static void begins(void) {
+    const uint16_t two[] = {sofaduck_word(-3), sofaduck_word(39)}, wrong[] = {sofaduck_word(1), 0};
+    uint32_t count = 77, reach = 78;
+    loaded();
+    note();
+    refused("run: nothing begun", 12, sofaduck_run(STATE(&s), 0, &count, &reach));
+    test("count and reach stay unwritten: nothing begun", count == 77 && reach == 78);
+    refused("begin: receiver 0", 8, begin(&s, 0, SELECTOR_a));
+    refused("begin: a receiver behind the last object", 8, begin(&s, (uint16_t)(2 * s.registers[SOFADUCK_N] + 2), SELECTOR_a));
+    refused("begin: nil as selector", 8, begin(&s, OBJECT_box, SOFADUCK_NIL));
+    refused("begin: an integer as selector", 8, begin(&s, OBJECT_box, sofaduck_word(1)));
+    refused("begin: an argument 0", 8, sofaduck_begin(STATE(&s), OBJECT_box, SELECTOR_a_b_, wrong, 2));
+    refused("begin: no method", 9, begin(&s, SOFADUCK_TRUE, SELECTOR_a));
+    refused("begin: no method, and another count", 9, sofaduck_begin(STATE(&s), sofaduck_word(5), SELECTOR_a, two, 2));
+    refused("begin: no arguments, a null pointer, where two are taken", 10, begin(&s, OBJECT_box, SELECTOR_a_b_));
+    refused("begin: an argument where none is taken", 10, sofaduck_begin(STATE(&s), OBJECT_box, SELECTOR_a, two, 1));
+    s.stack_length = SOFADUCK_FRAME - 1;
+    note();
+    refused("begin: a stack of 17 words", 13, begin(&s, OBJECT_box, SELECTOR_forever));
+    s.stack_length = SOFADUCK_LARGE_FRAME - 1;
+    note();
+    refused("begin: a stack of 37 words for a large frame", 13, begin(&s, OBJECT_box, SELECTOR_wide));
+    s.stack_length = 0;
+    note();
+    refused("begin: no stack, a null pointer", 13, begin(&s, OBJECT_box, SELECTOR_forever));
+    test("begin: a field is answered without a stack",
+         begin(&s, OBJECT_box, SELECTOR_a) == 0 && s.registers[SOFADUCK_PHASE] == SOFADUCK_FINISHED
+             && sofaduck_integer(s.registers[SOFADUCK_VALUE]) == 7);
+    test("check: no stack, a null pointer", sofaduck_check(STATE(&s)) == 0);
+    s.stack_length = SOFADUCK_FRAME;
+    test("begin: a stack of 18 words", begin(&s, OBJECT_box, SELECTOR_forever) == 0 && s.registers[SOFADUCK_PHASE] == SOFADUCK_RUNNING);
+    note();
+    refused("begin: a handler is running", 12, begin(&s, OBJECT_box, SELECTOR_a));
+    s.stack_length = SOFADUCK_LARGE_FRAME;
+    test("drop: phase, top and value are 0",
+         sofaduck_drop(STATE(&s)) == 0 && all(s.registers + SOFADUCK_PHASE, 3, 0) && sofaduck_check(STATE(&s)) == 0);
+    test("begin: a stack of 38 words for a large frame", begin(&s, OBJECT_box, SELECTOR_wide) == 0);
+}
+
+/* A handler of no arguments, run to its end or halt. */
+static void goes(const char *what, uint16_t selector, unsigned phase, uint32_t made, uint16_t value) {
+    uint32_t count = 77, reach = 0;
+    loaded();
+    const bool ran = begin(&s, OBJECT_box, selector) == 0 && sofaduck_run(STATE(&s), 500, &count, &reach) == 0;
+    test(what, ran && s.registers[SOFADUCK_PHASE] == phase && count == made && s.registers[SOFADUCK_VALUE] == value
+                   && reach % SOFADUCK_FRAME == 0 && reach <= STACK && sofaduck_check(STATE(&s)) == 0);
+}
+
+static void runs(void) {
+    const uint16_t two[] = {sofaduck_word(-3), sofaduck_word(39)};
+    uint32_t count = 77, reach = 78;
+    goes("run: goes on", SELECTOR_forever, SOFADUCK_RUNNING, 500, 0);
+    goes("run: not understood", SELECTOR_lost, SOFADUCK_NOT_UNDERSTOOD, 1, 0);
+    goes("run: no boolean", SELECTOR_undecided, SOFADUCK_NO_BOOLEAN, 1, 0);
+    goes("run: no stack room, 56 frames fit", SELECTOR_deeper, SOFADUCK_NO_STACK_ROOM, 111, 0);
+    note();
+    refused("run: after a halt", 12, sofaduck_run(STATE(&s), 1, &count, &reach));
+    test("begin: after a halt", begin(&s, OBJECT_box, SELECTOR_a) == 0 && s.registers[SOFADUCK_PHASE] == SOFADUCK_FINISHED);
+    loaded();
+    test("begin: two arguments in order",
+         sofaduck_begin(STATE(&s), OBJECT_box, SELECTOR_a_b_, two, 2) == 0 && sofaduck_run(STATE(&s), 0, &count, &reach) == 0 && count == 0
+             && reach == SOFADUCK_FRAME && sofaduck_run(STATE(&s), 4294967295u, &count, &reach) == 0 && count == 8
+             && s.registers[SOFADUCK_PHASE] == SOFADUCK_FINISHED && sofaduck_integer(s.registers[SOFADUCK_VALUE]) == -42
+             && s.bodies[sofaduck_start(s.contents, OBJECT_box) + FIELD_Box_b] == two[1] && sofaduck_size(s.contents, OBJECT_box) == 2);
+    goes("run: an object is made", SELECTOR_more, SOFADUCK_FINISHED, 5, (uint16_t)(2 * get(1) + 2));
+    test("forget: the cache was filled and is empty",
+         !all(s.cache, SOFADUCK_CACHE, 0) && sofaduck_forget(STATE(&s)) == 0 && all(s.cache, SOFADUCK_CACHE, 0));
+    memset(s.stack, 0x33, sizeof s.stack);
+    test("check: the stack's words are free after a handler has finished", sofaduck_check(STATE(&s)) == 0);
+    test("N and B count it", s.registers[SOFADUCK_N] == get(1) + 1 && s.registers[SOFADUCK_B] == get(2) + 2);
+    loaded();
+    s.contents_length = 4 * get(1);
+    test("run: no room for an object, new answers nil", begin(&s, OBJECT_box, SELECTOR_more) == 0 && sofaduck_run(STATE(&s), 9, &count, &reach) == 0
+                                                             && count == 6 && s.registers[SOFADUCK_VALUE] == SOFADUCK_NIL);
+    bool kept = true;
+    for (int k = -16384; k < 16384; k++)
+        kept = kept && sofaduck_is_integer(sofaduck_word(k)) && sofaduck_integer(sofaduck_word(k)) == k;
+    test("words of integers and back", kept && sofaduck_word(-1) == 65535 && sofaduck_word(-16384) == 32769 && !sofaduck_is_integer(SOFADUCK_NIL));
+}
+
+static void saves(void) {
+    uint32_t bytes = 79;
+    loaded();
+    note();
+    memset(output, 0x5a, sizeof output);
+    refused("save: no output, a null pointer", 3, sofaduck_save(STATE(&s), NULL, 0, &bytes));
+    refused("save: output a byte short", 3, sofaduck_save(STATE(&s), output, length - 1, &bytes));
+    test("length and output stay unwritten: output too short", bytes == 79 && all_bytes(output, sizeof output, 0x5a));
+    test("save: just enough output, the image's own bytes",
+         sofaduck_save(STATE(&s), output, length, &bytes) == 0 && bytes == length && memcmp(output, image, length) == 0);
+    test("save: what lies behind the image is untouched", sofaduck_save(STATE(&s), output, sizeof output, &bytes) == 0 && bytes == length
+                                                              && all_bytes(output + length, sizeof output - length, 0x5a));
+    test("save: the state is untouched", memcmp(&s, &before, sizeof s) == 0);
+    begin(&s, OBJECT_box, SELECTOR_forever);
+    test("save: while a handler runs", sofaduck_save(STATE(&s), output, sizeof output, &bytes) == 0 && bytes == length);
+}
+
+/* Each call on a C stack of SOFADUCK_CALL_STACK bytes and some for the thread itself, a guard below, painted to see how far it went. */
+static uint32_t count_made, reach_made, bytes_made;
+static uint32_t call_load(void) { return load(&s, image, length); }
+static uint32_t call_begin(void) { return begin(&s, OBJECT_box, SELECTOR_deeper); }
+static uint32_t call_run(void) { return sofaduck_run(STATE(&s), 500, &count_made, &reach_made); }
+static uint32_t call_drop(void) { return sofaduck_drop(STATE(&s)); }
+static uint32_t call_forget(void) { return sofaduck_forget(STATE(&s)); }
+static uint32_t call_check(void) { return sofaduck_check(STATE(&s)); }
+static uint32_t call_save(void) { return sofaduck_save(STATE(&s), output, sizeof output, &bytes_made); }
+
+static uint32_t (*called)(void);
+static uint32_t answered;
+static const uint8_t *entered;
+
+static void *in_thread(void *unused) {
+    const uint8_t here = 0;
+    entered = &here;
+    answered = called();
+    return unused;
+}
+
+static void small_stack(const char *name, uint32_t (*call)(void)) {
+    const size_t size = SOFADUCK_CALL_STACK + OWN_STACK;
+    uint8_t *const low = mmap(NULL, GUARD + size, PROT_READ | PROT_WRITE, MAP_PRIVATE | MAP_ANONYMOUS, -1, 0);
+    pthread_attr_t attributes;
+    pthread_t thread;
+    char line[100];
+    if (low == MAP_FAILED || mprotect(low, GUARD, PROT_NONE) != 0) {
+        test("memory for a small stack", false);
+        return;
+    }
+    memset(low + GUARD, PAINT, size);
+    called = call;
+    if (pthread_attr_init(&attributes) != 0 || pthread_attr_setstack(&attributes, low + GUARD, size) != 0
+        || pthread_create(&thread, &attributes, in_thread, NULL) != 0 || pthread_join(thread, NULL) != 0) {
+        test("a thread with a small stack", false);
+        return;
+    }
+    const uint8_t *deepest = low + GUARD;
+    while (*deepest == PAINT) deepest++;
+    const size_t used = (size_t)(entered - deepest);
+    snprintf(line, sizeof line, "%s in a thread with a small stack: %zu bytes of it", name, used);
+    test(line, answered == 0 && used < SOFADUCK_CALL_STACK);
+    munmap(low, GUARD + size);
+}
+
+static void small_stacks(void) {
+    fresh(&s);
+    small_stack("load", call_load);
+    small_stack("begin", call_begin);
+    small_stack("run", call_run);
+    small_stack("drop", call_drop);
+    small_stack("forget", call_forget);
+    small_stack("check", call_check);
+    small_stack("save", call_save);
+}
+
+/* The same calls on two states at once. */
+static void *play(void *lent) {
+    state *const t = lent;
+    static const uint16_t selectors[] = {SELECTOR_more, SELECTOR_deeper, SELECTOR_a, SELECTOR_lost};
+    uint32_t count, reach;
+    load(t, image, length);
+    for (unsigned i = 0; i < ROUNDS; i++) {
+        begin(t, OBJECT_box, selectors[i % 4]);
+        sofaduck_run(STATE(t), i % 200, &count, &reach);
+        if (t->registers[SOFADUCK_PHASE] == SOFADUCK_RUNNING && i % 3 == 0) sofaduck_drop(STATE(t));
+    }
+    return NULL;
+}
+
+static void threads(void) {
+    static state one, two, alone;
+    pthread_t first, second;
+    fresh(&one), fresh(&two), fresh(&alone);
+    const bool started = pthread_create(&first, NULL, play, &one) == 0 && pthread_create(&second, NULL, play, &two) == 0;
+    test("two states on two threads come to the same words, and to those of one alone",
+         started && pthread_join(first, NULL) == 0 && pthread_join(second, NULL) == 0 && play(&alone) == NULL
+             && memcmp(&one, &two, sizeof one) == 0 && memcmp(&one, &alone, sizeof one) == 0 && one.registers[SOFADUCK_N] > get(1));
+}
+
+int main(int argc, char **argv) {
+    FILE *file = argc == 2 ? fopen(argv[1], "rb") : NULL;
+    if (file == NULL || (length = fread(image, 1, sizeof image, file)) < 10) {
+        fprintf(stderr, "usage: border IMAGE, of border.source\n");
+        return 2;
+    }
+    fclose(file);
+    small_stacks();
+    loads();
+    states();
+    begins();
+    runs();
+    saves();
+    threads();
+    return failed;
+}

@@ -1,0 +1,142 @@
+/* The library with every buffer at the end of its memory: a page that nobody may touch lies behind each. Images are edited at random, what is
+ * accepted is begun and run, states are spoiled. An access past a buffer ends the program; otherwise it fails where check refuses a state that the
+ * calls left. Usage: guard IMAGE... */
+#define _DEFAULT_SOURCE /* MAP_ANONYMOUS */
+#include "sofaduck.h"
+#include <stdbool.h>
+#include <stdio.h>
+#include <stdlib.h>
+#include <string.h>
+#include <sys/mman.h>
+
+enum { EDITS = 100000, ROOM = 1 << 18, PAGE = 4096, IMAGES = 8 };
+
+static uint64_t seed = 1;
+static unsigned below(size_t n) {
+    seed = seed * 6364136223846793005u + 1442695040888963407u;
+    return (unsigned)((seed >> 33) % n);
+}
+
+/* The last bytes before a guard, for each of the buffers. */
+static void *last(int buffer, size_t bytes) {
+    static uint8_t *ends[8];
+    if (ends[buffer] == NULL) {
+        uint8_t *const low = mmap(NULL, ROOM + PAGE, PROT_READ | PROT_WRITE, MAP_PRIVATE | MAP_ANONYMOUS, -1, 0);
+        if (low == MAP_FAILED || mprotect(low + ROOM, PAGE, PROT_NONE) != 0) {
+            perror("guard");
+            exit(1);
+        }
+        ends[buffer] = low + ROOM;
+    }
+    return ends[buffer] - bytes;
+}
+
+static uint16_t *contents, *bodies, *stack, *cache, *registers;
+static size_t contents_length, bodies_length, stack_length;
+static uint32_t *count, *reach;
+static unsigned long answers[SOFADUCK_NO_FIRST_FRAME + 1];
+
+#define STATE contents, contents_length, bodies, bodies_length, stack, stack_length, cache, SOFADUCK_CACHE, registers
+
+static uint32_t counted(uint32_t answer) {
+    answers[answer]++;
+    return answer;
+}
+
+/* A word changed, a bit of it, or copied from elsewhere. */
+static void edit(uint8_t *image, size_t words) {
+    uint8_t *const at = image + 2 * below(words), *const from = image + 2 * below(words);
+    switch (below(3)) {
+    case 0: at[0] = (uint8_t)below(256), at[1] = (uint8_t)below(256); break;
+    case 1: at[below(2)] ^= (uint8_t)(1u << below(8)); break;
+    default: memmove(at, from, 2);
+    }
+}
+
+static uint16_t any_word(void) { return (uint16_t)(below(2) == 0 ? 2 * below(200) + 1 : 2 * (1 + below(registers[SOFADUCK_N]))); }
+
+static uint16_t any_selector(void) {
+    for (int tries = 0; tries < 200; tries++) {
+        const unsigned object = below(registers[SOFADUCK_N]);
+        if (contents[4 * object + 1] == 1) return (uint16_t)(2 * (object + 1));
+    }
+    return registers[SOFADUCK_START_SELECTOR];
+}
+
+/* Begin something and run it for some grants. Returns whether check accepts what is left and no call found the state wrong. */
+static bool handled(bool start) {
+    const size_t given = below(3);
+    uint16_t *const arguments = last(7, 2 * given);
+    for (size_t i = 0; i < given; i++) arguments[i] = any_word();
+    const uint16_t receiver = start ? registers[SOFADUCK_START_RECEIVER] : any_word();
+    const uint16_t selector = start ? registers[SOFADUCK_START_SELECTOR] : any_selector();
+    const uint32_t begun = counted(sofaduck_begin(STATE, receiver, selector, arguments, given));
+    bool fine = begun != SOFADUCK_NO_ROOM && begun != SOFADUCK_BAD_STATE;
+    while (registers[SOFADUCK_PHASE] == SOFADUCK_RUNNING && below(8) > 0) {
+        const uint32_t n = below(60);
+        fine = counted(sofaduck_run(STATE, n, count, reach)) == 0 && *count <= n && *reach <= stack_length && fine;
+    }
+    if (below(2) == 0) fine = counted(sofaduck_drop(STATE)) == 0 && fine;
+    return counted(sofaduck_check(STATE)) == 0 && fine;
+}
+
+/* One word of the state changed: the calls answer something. */
+static void spoiled(void) {
+    uint16_t *const buffers[] = {contents, bodies, stack, cache, registers};
+    const size_t lengths[] = {contents_length, bodies_length, stack_length, SOFADUCK_CACHE, SOFADUCK_REGISTERS};
+    const size_t output_length = 10 + 8 * (size_t)registers[SOFADUCK_N] + 2 * (size_t)registers[SOFADUCK_B];
+    const unsigned which = below(5);
+    uint32_t length;
+    if (lengths[which] > 0) buffers[which][below(lengths[which])] ^= (uint16_t)(1u << below(16));
+    counted(sofaduck_run(STATE, 100, count, reach));
+    counted(sofaduck_forget(STATE));
+    counted(sofaduck_save(STATE, last(7, output_length), output_length, &length));
+    counted(sofaduck_begin(STATE, SOFADUCK_NIL, SOFADUCK_NIL, NULL, 0));
+    counted(sofaduck_drop(STATE));
+}
+
+int main(int argc, char **argv) {
+    static uint8_t images[IMAGES][SOFADUCK_IMAGE];
+    size_t lengths[IMAGES];
+    unsigned given = 0;
+    for (int i = 1; i < argc && given < IMAGES; i++, given++) {
+        FILE *file = fopen(argv[i], "rb");
+        if (file == NULL || (lengths[given] = fread(images[given], 1, SOFADUCK_IMAGE, file)) < 10) {
+            fprintf(stderr, "guard: %s is no image\n", argv[i]);
+            return 2;
+        }
+        fclose(file);
+    }
+    if (given == 0) {
+        fprintf(stderr, "usage: guard IMAGE...\n");
+        return 2;
+    }
+    cache = last(4, 2 * SOFADUCK_CACHE);
+    registers = last(5, 2 * SOFADUCK_REGISTERS);
+    count = last(6, 8);
+    reach = count + 1;
+    for (int k = 0; k < EDITS; k++) {
+        const unsigned which = below(given);
+        const size_t length = below(50) == 0 ? below(lengths[which]) : lengths[which];
+        uint8_t *const image = last(0, length);
+        memcpy(image, images[which], length);
+        for (unsigned edits = below(4); edits > 0 && length > 1; edits--) edit(image, length / 2);
+        contents_length = 4 * (images[which][2] * 256u + images[which][3] + below(3));
+        bodies_length = images[which][4] * 256u + images[which][5] + below(20);
+        stack_length = below(3) == 0 ? below(60) : below(400);
+        contents = last(1, 2 * contents_length);
+        bodies = last(2, 2 * bodies_length);
+        stack = last(3, 2 * stack_length);
+        if (counted(sofaduck_load(image, length, contents, contents_length, bodies, bodies_length, cache, SOFADUCK_CACHE, registers)) != 0) continue;
+        for (int turn = 0; turn < 4; turn++)
+            if (!handled(turn == 0)) {
+                printf("FAILED: edit %d: the calls left a state that check refuses\n", k);
+                return 1;
+            }
+        spoiled();
+    }
+    printf("passed: %d edited images in buffers with a guard behind each; answers 0 to 13:", EDITS);
+    for (size_t i = 0; i < sizeof answers / sizeof *answers; i++) printf(" %lu", answers[i]);
+    printf("\n");
+    return 0;
+}
