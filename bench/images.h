@@ -1,7 +1,4 @@
-#include <stddef.h>
-#include <stdint.h>
-
-enum { MOST_IMAGE = 10 + 8 * 2047 + 2 * 24000 };
+#include "build.h"
 
 // A correct image of b body words, from 400 on: what a compiler writes. It gives the length in bytes.
 size_t ordinary(uint8_t *image, size_t b, uint64_t seed);
