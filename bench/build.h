@@ -1,9 +1,7 @@
 // An image that is being built: objects by their numbers, and their bodies in order. There is one at a time.
-#include <stddef.h>
-#include <stdint.h>
+#include "objects.h"
 
 enum { MOST_IMAGE = 10 + 8 * 2047 + 2 * 24000 };
-enum { FIELDS, BYTES, CLASS, LIST, METHOD };
 // The objects that every image here begins with.
 enum { NIL = 1, FALSE, TRUE, INTEGERS, SELECTORS, CLASSES, PLAIN, EMPTY, STRINGS, VARIABLES, FIRST };
 

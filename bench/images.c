@@ -62,6 +62,16 @@ static void value(unsigned deep) {
     }
 }
 
+static bool runs_on; // whether conditions are booleans and sends are understood
+
+static void condition(void) {
+    const unsigned kind = runs_on ? below(3) : 3;
+    if (kind == 0) { value(0); value(0); emit(198); }
+    else if (kind == 1) { emit(116 + below(4)); emit(116 + below(4)); emit(178 + below(6)); }
+    else if (kind == 2) emit(113 + below(2));
+    else value(1);
+}
+
 static void statement(unsigned deep) {
     const unsigned kind = below(10);
     if (kind < 5 || deep == 0) {
@@ -75,7 +85,7 @@ static void statement(unsigned deep) {
         return;
     }
     const size_t top = end;
-    value(1);
+    condition();
     const size_t from = end;
     emit(172);
     emit(0);
@@ -118,7 +128,7 @@ static unsigned method(unsigned home, unsigned count) {
 
 // A class with its methods and some objects. It gives the class.
 static unsigned group(unsigned super) {
-    const unsigned form = below(2), own = (super == NIL ? 1 : body_of(super)[2] / 2) + below(3);
+    const unsigned above = super == NIL ? 0 : body_of(super)[2] / 2, form = below(2), own = (above == 0 ? 1 : above) + below(3);
     const unsigned k = new_class(super, EMPTY, own < 200 ? own : 200, form);
     unsigned pairs[16][2], count = 0;
     for (unsigned s = first_selector + below(selectors / 2); s < first_selector + selectors && count < 6; s += 1 + below(selectors / 3)) {
@@ -141,7 +151,24 @@ static unsigned group(unsigned super) {
     return k;
 }
 
-size_t ordinary(uint8_t *image, size_t words, uint64_t seed) {
+// A class that answers every selector, and that the classes of all images have above them. Its methods take a primitive, or answer at once.
+static unsigned root(void) {
+    static const uint8_t primitives[3][8] = {{62, 70, 111, 62, 70, 111, 0, 62}, {60, 71, 110, 60, 71, 60, 1, 17}, {61, 61, 61, 61, 61, 61, 61, 9}};
+    const unsigned k = new_class(NIL, EMPTY, 0, 0), dictionary = new_object(CLASSES, LIST, 2 * selectors);
+    for (unsigned i = 0; i < selectors; i++) {
+        const unsigned count = i % 4, how = below(4);
+        const uint8_t constant[] = {112 + below(8), 124}, argument[] = {16, 124};
+        const uint16_t literals[] = {count << 9 | (count < 3 ? primitives[count][below(8)] : 1) << 1 | 1, any()};
+        const unsigned m = new_method(k, how > 0 ? 7 : count == 0 ? 5 : count, count, below(2), literals, 2, count > 0 ? argument : constant, 2);
+        body_of(dictionary)[2 * i] = 2 * (first_selector + i), body_of(dictionary)[2 * i + 1] = 2 * m;
+    }
+    body_of(k)[1] = 2 * dictionary;
+    static const uint8_t below_it[] = {INTEGERS, CLASSES, PLAIN, STRINGS, VARIABLES};
+    for (size_t i = 0; i < sizeof below_it; i++) body_of(below_it[i])[0] = 2 * k;
+    return k;
+}
+
+static size_t classes(uint8_t *image, size_t words, uint64_t seed) {
     state = seed;
     new_image();
     selectors = 16 + words / 1000 * 4;
@@ -151,10 +178,11 @@ size_t ordinary(uint8_t *image, size_t words, uint64_t seed) {
         if (below(4) > 0) body_of(SELECTORS)[i] = 2 * selector_of(i == 22 || i == 23 ? below(4) : special[i]);
     first_variable = object_count + 1;
     for (unsigned i = 0; i < 8; i++) any_words(new_object(VARIABLES, FIELDS, 2), 2);
+    const unsigned uppermost = runs_on ? root() : NIL;
     unsigned made[1024], count = 0;
     for (;;) {
         const size_t objects = object_count, before = word_count;
-        const unsigned k = group(count == 0 || below(4) == 0 ? NIL : made[below(count)]);
+        const unsigned k = group(count == 0 || below(4) == 0 ? uppermost : made[below(count)]);
         if (word_count > words || object_count > 2000 || count == 1024) {
             object_count = objects;
             word_count = before;
@@ -164,6 +192,16 @@ size_t ordinary(uint8_t *image, size_t words, uint64_t seed) {
     }
     if (word_count < words) bytes(2 * (words - word_count) - 1);
     return written(image, any(), 2 * selector_of(0));
+}
+
+size_t ordinary(uint8_t *image, size_t words, uint64_t seed) {
+    runs_on = false;
+    return classes(image, words, seed);
+}
+
+size_t lively(uint8_t *image, size_t words, uint64_t seed) {
+    runs_on = true;
+    return classes(image, words, seed);
 }
 
 size_t chain(uint8_t *image, size_t count) {
@@ -186,4 +224,20 @@ size_t shared(uint8_t *image, size_t count) {
     for (size_t i = 0; i < count; i++) body_of(dictionary)[2 * i] = 2 * (selector + i), body_of(dictionary)[2 * i + 1] = 2 * m;
     for (size_t i = 0; i < count; i++) new_class(NIL, dictionary, 0, 0);
     return written(image, 2 * NIL, 2 * selector);
+}
+
+size_t deep(uint8_t *image) {
+    enum { LAST = 2047 };
+    new_image();
+    const unsigned first = object_count + 1;
+    unsigned last = NIL;
+    for (int i = 0; i < 2000; i++) last = new_class(last, EMPTY, 0, 0);
+    static const uint8_t again[] = {112, 208, 124}; // push self, send the first literal, return top
+    const uint16_t literals[] = {2 * LAST};
+    const unsigned m = new_method(first, 0, 0, 0, literals, 1, again, sizeof again);
+    const unsigned dictionary = new_object(CLASSES, LIST, 2), instance = new_object(last, FIELDS, 0);
+    body_of(dictionary)[0] = 2 * LAST, body_of(dictionary)[1] = 2 * m;
+    body_of(first)[1] = 2 * dictionary;
+    while (object_count < LAST) bytes(0);
+    return written(image, 2 * instance, 2 * LAST);
 }

@@ -85,7 +85,7 @@ static bool measure(const program *p, const char *lua, FILE *goals) {
     memset(words, 0, sizeof words);
     begun = on(words[0]), ours = on(words[1]), theirs = on(words[2]);
     const uint32_t loaded = our_load(&begun, image, p->make(image));
-    const uint32_t number = loaded != 0 ? loaded : our_begin(&begun, begun.registers[START_RECEIVER], begun.registers[START_SELECTOR]);
+    const uint32_t number = loaded != 0 ? loaded : our_begin(&begun, begun.registers[START_RECEIVER], begun.registers[START_SELECTOR], NULL, 0);
     if (number != 0) return printf("%s: refused by %u\n", p->name, number), false;
     for (int run = 0; run < RUNS; run++) {
         for (int g = 0; g < 2; g++) {

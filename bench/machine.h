@@ -26,10 +26,9 @@ static inline slice lent(buffer b) { return (slice){b.at, b.length}; }
 static inline uint32_t our_load(machine *m, const uint8_t *image, size_t length) {
     return sofaduck_load((slice){image, length}, lent(m->contents), lent(m->bodies), lent(m->cache), m->registers);
 }
-// A begin without arguments.
-static inline uint32_t our_begin(machine *m, uint16_t receiver, uint16_t selector) {
+static inline uint32_t our_begin(machine *m, uint16_t receiver, uint16_t selector, const uint16_t *arguments, size_t count) {
     return sofaduck_begin(lent(m->contents), lent(m->bodies), lent(m->stack), lent(m->cache), m->registers, receiver, selector,
-                          (slice){NULL, 0});
+                          (slice){arguments, count});
 }
 static inline uint32_t our_run(machine *m, uint32_t n, uint32_t *count, uint32_t *reach) {
     return sofaduck_run(lent(m->contents), lent(m->bodies), lent(m->stack), lent(m->cache), m->registers, n, count, reach);
