@@ -16,6 +16,8 @@ unsigned new_object(unsigned class, unsigned kind, unsigned size) {
 
 uint16_t *body_of(unsigned object) { return bodies + contents[4 * object - 2]; }
 
+unsigned kind_of(unsigned object) { return contents[4 * object - 3]; }
+
 unsigned new_class(unsigned super, unsigned dictionary, unsigned fields, unsigned form) {
     const unsigned k = new_object(CLASSES, CLASS, 4);
     uint16_t *c = body_of(k);

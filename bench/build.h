@@ -11,6 +11,7 @@ extern size_t object_count, word_count;
 void new_image(void);
 unsigned new_object(unsigned class, unsigned kind, unsigned size);
 uint16_t *body_of(unsigned object);
+unsigned kind_of(unsigned object);
 unsigned new_class(unsigned super, unsigned dictionary, unsigned fields, unsigned form);
 void put_byte(uint16_t *words, size_t at, unsigned byte);
 unsigned new_string(const char *text);

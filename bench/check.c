@@ -159,8 +159,13 @@ static void spoil(machine *m) {
     const buffer buffers[4] = {{m->contents.at, 4 * n}, {m->bodies.at, m->registers[B]}, {m->stack.at, m->registers[TOP] + 18u}, m->cache};
     const buffer from = where < 2 ? (buffer){m->registers, REGISTERS} : buffers[where < 4 ? 0 : where < 6 ? 1 : where < 10 ? 2 : 3];
     uint16_t *w = from.at + below(from.length);
-    // a frame's own six words
-    if (where == 9) w = m->stack.at + m->registers[TOP] + below(6);
+    uint16_t *const top = m->stack.at + m->registers[TOP];
+    // a frame's own six words; or the sender's sender for the sender
+    if (where == 9) w = top + below(6);
+    if (where == 9 && w == top && below(2) == 0) {
+        *w = m->stack.at[*w];
+        return;
+    }
     switch (below(8)) {
     case 0: *w ^= 1u << below(16); break;
     case 1: *w = from.at[below(from.length)]; break;
@@ -180,7 +185,8 @@ static bool differential(void) {
         const size_t n = image[2] << 8 | image[3], b = image[4] << 8 | image[5];
         memset(words[0], 0, sizeof words[0]);
         // little room, so that frames and new objects do not always fit
-        machine loaded = on(words[0], 4 * n + below(50), b + below(60), 38 + below(below(2) == 0 ? 400 : 4000));
+        const size_t whole = 18 * below(6) + 38 * (1 + below(3)), room = below(3) == 0 ? whole : 38 + below(below(2) == 0 ? 400 : 4000);
+        machine loaded = on(words[0], 4 * n + below(50), b + below(60), room);
         if (our_load(&loaded, image, length) != 0) return printf("an image is refused\n"), false;
         for (int h = 0; h < HANDLERS; h++) {
             machine ours = copy(words[1], &loaded);

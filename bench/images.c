@@ -1,6 +1,6 @@
 // Images for the benchmarks.
 #include "images.h"
-#include <stdbool.h>
+#include <string.h>
 
 static uint64_t state;
 
@@ -15,8 +15,18 @@ static unsigned bytes(unsigned size) {
     return k;
 }
 
+static bool runs_on; // whether conditions are booleans and sends are understood, most of them
+
 // An integer, or the name of an object that is there.
-static unsigned any(void) { return below(2) == 0 ? 2 * below(32768) + 1 : 2 * (1 + below(object_count)); }
+static unsigned any(void) {
+    static const int16_t edges[] = {0, 1, 2, 3, 4, 5, 7, 8, 14, 15, 16, -1, -2, -14, -15, -16, 127, 255, 256, 8191, 8192, 16383, -16384};
+    if (runs_on && below(2) == 0) {
+        const unsigned k = 1 + below(object_count);
+        // more classes than there are, for 70 and 71
+        return below(2) == 0 ? (uint16_t)(2 * edges[below(23)] + 1) : kind_of(k) == CLASS || below(4) == 0 ? 2 * k : 2 * (1 + below(object_count));
+    }
+    return below(2) == 0 ? 2 * below(32768) + 1 : 2 * (1 + below(object_count));
+}
 
 static void any_words(unsigned k, unsigned count) {
     for (unsigned i = 0; i < count; i++) body_of(k)[i] = any();
@@ -43,9 +53,20 @@ static void send(unsigned deep, unsigned count) {
     else { emit(132 + 2 * below(2)); emit(count); emit(literal); }
 }
 
+// A special send with one or two arguments to the last literal.
+static void element(void) {
+    static const uint8_t one[] = {192, 196, 200, 202, 203, 205};
+    const bool two = below(2) == 0;
+    emit(32 + LITERALS - 1);
+    emit(117 + below(3));
+    if (two) emit(32 + LITERALS - 2);
+    emit(two ? 193 : one[below(6)]);
+}
+
 // One value pushed.
 static void value(unsigned deep) {
     const unsigned kind = below(deep == 0 ? 12 : 18);
+    if (runs_on && deep > 0 && below(8) == 0) return element();
     if (kind < 2) emit(below(fields < 16 ? fields : 16));
     else if (kind < 5) emit(temporaries > 0 ? 16 + below(temporaries) : 112);
     else if (kind < 6) emit(32 + below(LITERALS));
@@ -54,6 +75,7 @@ static void value(unsigned deep) {
     else if (kind < 11) { emit(128); emit(below(fields)); }
     else if (kind < 12) { emit(128); emit(192 + VARIABLE + below(4)); }
     else if (kind < 15) send(deep, below(4));
+    else if (kind == 15 && below(2) == 0) { value(deep - 1); emit(136); emit(176 + below(16)); }
     else if (kind < 17) { value(deep - 1); value(deep - 1); emit(176 + below(16)); }
     else {
         const unsigned k = 16 + below(16);
@@ -61,8 +83,6 @@ static void value(unsigned deep) {
         emit(176 + k);
     }
 }
-
-static bool runs_on; // whether conditions are booleans and sends are understood
 
 static void condition(void) {
     const unsigned kind = runs_on ? below(3) : 3;
@@ -87,17 +107,26 @@ static void statement(unsigned deep) {
     const size_t top = end;
     condition();
     const size_t from = end;
-    emit(172);
+    const unsigned jump = below(4) == 0 ? 168 : 172; // over what follows, on true or on false
+    emit(jump);
     emit(0);
     for (unsigned i = below(2) + 1; i > 0; i--) statement(deep - 1);
-    const bool loop = kind > 7;
-    const size_t over = end - from - 2 + (loop ? 2 : 0);
-    code[from] = 172 + over / 256;
+    const bool loop = kind > 7, other = kind == 5;
+    const size_t over = end - from - 2 + (loop ? 2 : other ? 1 : 0);
+    code[from] = jump + over / 256;
     code[from + 1] = over % 256;
     if (loop) {
         const size_t back = 1024 - (end + 2 - top);
         emit(160 + back / 256);
         emit(back % 256);
+    } else if (other) {
+        emit(144 + 1);
+        emit(118), emit(135);
+    } else if (jump == 172 && over <= 8) {
+        // the short form: what follows moves up
+        code[from] = 151 + over;
+        memmove(code + from + 1, code + from + 2, over);
+        end--;
     }
 }
 
@@ -122,6 +151,9 @@ static unsigned method(unsigned home, unsigned count) {
     const unsigned large = temporaries > 5 || below(2) == 0; // no depth is above 7
     for (unsigned i = 0; i < 8; i++) literals[i] = below(8) == 0 ? 2 * NIL : 2 * selector_of(i / 2);
     for (unsigned i = VARIABLE; i < LITERALS; i++) literals[i] = i < VARIABLE + 4 ? 2 * (first_variable + below(8)) : any();
+    // bytes or a class, for element
+    const unsigned last = 1 + below(object_count);
+    if (runs_on && (kind_of(last) == CLASS || kind_of(last) == BYTES)) literals[LITERALS - 1] = 2 * last;
     if (flag == 7) literals[LITERALS - 2] = count << 9 | below(256) << 1 | 1;
     return new_method(home, flag, temporaries, large, literals, LITERALS, code, end);
 }

@@ -6,7 +6,7 @@
 #include <string.h>
 #include <time.h>
 
-enum { CONTENTS = 4 * 2047, BODIES = 24000, STACK = 4096, CACHE = 192, RUNS = 12, LUA_RUNS = 6 };
+enum { CONTENTS = 4 * 2047, BODIES = 24000, STACK = 4096, CACHE = 192, RUNS = 20, LUA_RUNS = 10 };
 
 void bench_table(uint16_t *table);
 
