@@ -56,14 +56,16 @@ static bool alike(const char *name, outcome r, outcome s) {
     return false;
 }
 
+static const double FAILED = 1e18; // a time that none is above
+
 static double lua_time(const char *lua, const char *name) {
     char command[200];
     double seconds = 0;
     snprintf(command, sizeof command, "%s bench/loops.lua %s", lua, name);
     FILE *from = popen(command, "r");
-    if (from == NULL || fscanf(from, "%lf", &seconds) != 1) seconds = 1e9;
-    if (from != NULL) pclose(from);
-    return seconds * 1e9;
+    const bool read = from != NULL && fscanf(from, "%lf", &seconds) == 1;
+    const bool fine = from != NULL && pclose(from) == 0 && read;
+    return fine ? seconds * 1e9 : FAILED;
 }
 
 static void least(double *of, double t) {
@@ -80,7 +82,7 @@ static const char *verdict(bool reached) { return reached ? "reached" : "missed"
 
 static bool measure(const program *p, const char *lua, FILE *goals) {
     static const uint32_t grants[2] = {1000000, 1000};
-    double a[2] = {1e18, 1e18}, b[2] = {1e18, 1e18}, l[2] = {1e18, 1e18};
+    double a[2] = {FAILED, FAILED}, b[2] = {FAILED, FAILED}, l[2] = {FAILED, FAILED};
     outcome r = {0, 0, 0}, s = {0, 0, 0};
     memset(words, 0, sizeof words);
     begun = on(words[0]), ours = on(words[1]), theirs = on(words[2]);
@@ -105,12 +107,17 @@ static bool measure(const program *p, const char *lua, FILE *goals) {
     for (int g = 0; g < 2; g++)
         printf("run %-10s %7u bytecodes, %7u at a time   ours %6.2f ns each   C %6.2f   speed relative to C: %.2f\n", p->name, r.count,
                grants[g], a[g] / r.count, b[g] / r.count, b[g] / a[g]);
-    for (int k = 0; k < 2 && lua != NULL && p->lua[k] != NULL; k++)
+    for (int k = 0; k < 2 && lua != NULL && p->lua[k] != NULL; k++) {
+        if (l[k] == FAILED) {
+            printf("run %-10s %s fails on bench/loops.lua: left out\n", p->name, lua);
+            continue;
+        }
         printf("run %-10s against Lua (%s)   ours %6.2f ms   Lua %6.2f ms   speed relative to Lua: %.2f\n", p->name, p->lua[k], a[0] / 1e6,
                l[k] / 1e6, l[k] / a[0]);
+    }
     if (goals == NULL) return true;
     fprintf(goals, "goal: run %s at 0.70 of C's speed: %.2f, %s\n", p->name, b[0] / a[0], verdict(b[0] >= 0.7 * a[0]));
-    if (lua != NULL && p->make == fib_image)
+    if (l[0] != FAILED && p->make == fib_image)
         fprintf(goals, "goal: run %s ahead of Lua: %.2f of Lua's speed, %s\n", p->name, l[0] / a[0], verdict(l[0] > a[0]));
     return true;
 }
