@@ -3,29 +3,14 @@
 // quadratic, so the ratios on `chain` and `shared` compare the same steps, not the best way. Marking the classes whose chain is known to end
 // takes about 40 us instead of 8 ms on a chain of 2,000.
 #include "image.h"
+#include "objects.h"
 #include "walk.h"
 #include <string.h>
 
-enum { NIL = 2, FIELDS = 0, BYTES = 1, CLASS = 2, LIST = 3, METHOD = 4, MOST_BYTES = 48000 };
+enum { MOST_BYTES = 2 * MOST_WORDS };
 
-typedef struct {
-    uint16_t class, kind, start, size;
-} entry;
-
-typedef struct {
-    const entry *at; // from object 1 on
-    const uint16_t *bodies;
-    size_t n, b;
-} objects;
-
-static inline const entry *of(const objects *o, unsigned w) { return o->at + (w >> 1) - 1; }
-static inline const uint16_t *body(const objects *o, unsigned w) { return o->bodies + of(o, w)->start; }
-static inline bool names(const objects *o, unsigned w) { return (w & 1) == 0 && w != 0 && w >> 1 <= o->n; }
-static inline bool valid(const objects *o, unsigned w) { return (w & 1) != 0 || names(o, w); }
-static inline bool is(const objects *o, unsigned kind, unsigned w) { return names(o, w) && of(o, w)->kind == kind; }
-static inline bool nil_or(const objects *o, unsigned kind, unsigned w) { return w == NIL || is(o, kind, w); }
+static inline bool nil_or(const objects *o, unsigned kind, unsigned w) { return w == NIL_WORD || is(o, kind, w); }
 static inline bool sized_in_bytes(unsigned kind) { return kind == BYTES || kind == METHOD; }
-static inline unsigned byte_at(const uint16_t *words, size_t i) { return (uint8_t)(words[i >> 1] >> (i & 1 ? 0 : 8)); }
 
 static bool layout(const objects *o) {
     size_t from = 0;
@@ -67,7 +52,7 @@ static bool class_fine(const objects *o, const uint16_t *c) {
     const unsigned super = c[0], dictionary = c[1], fields = c[2], form = c[3];
     if (!nil_or(o, CLASS, super) || !is(o, LIST, dictionary)) return false;
     if (fields % 2 == 0 || fields / 2 > 255 || form % 2 == 0 || form / 2 > 3 || (form / 2 >= 2 && fields / 2 != 0)) return false;
-    if (super != NIL && body(o, super)[2] / 2 > fields / 2) return false;
+    if (super != NIL_WORD && body(o, super)[2] / 2 > fields / 2) return false;
     const size_t size = of(o, dictionary)->size;
     const uint16_t *pairs = body(o, dictionary);
     if (size % 2 != 0) return false;
@@ -77,8 +62,8 @@ static bool class_fine(const objects *o, const uint16_t *c) {
 }
 
 static bool chain_ends(const objects *o, unsigned c) {
-    for (size_t left = o->n; left > 0 && c != NIL; left--) c = body(o, c)[0];
-    return c == NIL;
+    for (size_t left = o->n; left > 0 && c != NIL_WORD; left--) c = body(o, c)[0];
+    return c == NIL_WORD;
 }
 
 static bool classes(const objects *o) {

@@ -1,10 +1,6 @@
 // Images for the benchmarks.
 #include "images.h"
-#include <stdbool.h>
 #include <string.h>
-
-enum { FIELDS, BYTES, CLASS, LIST, METHOD };
-enum { NIL = 1, FALSE, TRUE, INTEGERS, SELECTORS, CLASSES, PLAIN, EMPTY, STRINGS, VARIABLES, FIRST };
 
 static uint64_t state;
 
@@ -13,67 +9,27 @@ static unsigned below(unsigned n) {
     return (unsigned)(state >> 33) % n;
 }
 
-// The image so far: its objects and their bodies, in order.
-static uint16_t contents[4 * 2048], bodies[65536];
-static size_t n, b;
-
-static unsigned object(unsigned class, unsigned kind, unsigned size) {
-    uint16_t *e = contents + 4 * n++;
-    e[0] = 2 * class, e[1] = kind, e[2] = b, e[3] = size;
-    const size_t words = kind == BYTES || kind == METHOD ? (size + 1) / 2 : size;
-    memset(bodies + b, 0, 2 * words);
-    b += words;
-    return n;
-}
-
-static uint16_t *body(unsigned k) { return bodies + contents[4 * k - 2]; }
-
-static unsigned class(unsigned super, unsigned dictionary, unsigned fields, unsigned form) {
-    const unsigned k = object(CLASSES, CLASS, 4);
-    uint16_t *c = body(k);
-    c[0] = 2 * super, c[1] = 2 * dictionary, c[2] = 2 * fields + 1, c[3] = 2 * form + 1;
-    return k;
-}
-
-static void put(uint16_t *words, size_t at, unsigned x) {
-    const unsigned w = words[at / 2];
-    words[at / 2] = at % 2 == 0 ? (x << 8) | (w & 255) : (w & 65280) | x;
-}
-
 static unsigned bytes(unsigned size) {
-    const unsigned k = object(STRINGS, BYTES, size);
-    for (unsigned i = 0; i < size; i++) put(body(k), i, 97 + below(26));
+    const unsigned k = new_object(STRINGS, BYTES, size);
+    for (unsigned i = 0; i < size; i++) put_byte(body_of(k), i, 97 + below(26));
     return k;
 }
+
+static bool runs_on; // whether conditions are booleans and sends are understood, most of them
 
 // An integer, or the name of an object that is there.
-static unsigned any(void) { return below(2) == 0 ? 2 * below(32768) + 1 : 2 * (1 + below(n)); }
+static unsigned any(void) {
+    static const int16_t edges[] = {0, 1, 2, 3, 4, 5, 7, 8, 14, 15, 16, -1, -2, -14, -15, -16, 127, 255, 256, 8191, 8192, 16383, -16384};
+    if (runs_on && below(2) == 0) {
+        const unsigned k = 1 + below(object_count);
+        // more classes than there are, for 70 and 71
+        return below(2) == 0 ? (uint16_t)(2 * edges[below(23)] + 1) : kind_of(k) == CLASS || below(4) == 0 ? 2 * k : 2 * (1 + below(object_count));
+    }
+    return below(2) == 0 ? 2 * below(32768) + 1 : 2 * (1 + below(object_count));
+}
 
 static void any_words(unsigned k, unsigned count) {
-    for (unsigned i = 0; i < count; i++) body(k)[i] = any();
-}
-
-// The objects with a fixed number, and the classes that all images have.
-static void begin(void) {
-    n = b = 0;
-    for (int i = 0; i < 3; i++) body(object(PLAIN, FIELDS, 1))[0] = 2 * NIL;
-    class(NIL, EMPTY, 0, 3);
-    object(CLASSES, LIST, 32);
-    for (int i = 0; i < 32; i++) body(SELECTORS)[i] = 2 * NIL;
-    class(NIL, EMPTY, 0, 3);
-    class(NIL, EMPTY, 1, 0);
-    object(CLASSES, LIST, 0);
-    class(NIL, EMPTY, 0, 2);
-    class(NIL, EMPTY, 2, 0);
-}
-
-static size_t written(uint8_t *image, unsigned receiver, unsigned selector) {
-    const uint16_t header[5] = {1, n, b, receiver, selector};
-    uint8_t *to = image;
-    for (size_t i = 0; i < 5; i++) *to++ = header[i] >> 8, *to++ = header[i] & 255;
-    for (size_t i = 0; i < 4 * n; i++) *to++ = contents[i] >> 8, *to++ = contents[i] & 255;
-    for (size_t i = 0; i < b; i++) *to++ = bodies[i] >> 8, *to++ = bodies[i] & 255;
-    return to - image;
+    for (unsigned i = 0; i < count; i++) body_of(k)[i] = any();
 }
 
 // The argument counts of bytecodes 176 to 207.
@@ -97,9 +53,20 @@ static void send(unsigned deep, unsigned count) {
     else { emit(132 + 2 * below(2)); emit(count); emit(literal); }
 }
 
+// A special send with one or two arguments to the last literal.
+static void element(void) {
+    static const uint8_t one[] = {192, 196, 200, 202, 203, 205};
+    const bool two = below(2) == 0;
+    emit(32 + LITERALS - 1);
+    emit(117 + below(3));
+    if (two) emit(32 + LITERALS - 2);
+    emit(two ? 193 : one[below(6)]);
+}
+
 // One value pushed.
 static void value(unsigned deep) {
     const unsigned kind = below(deep == 0 ? 12 : 18);
+    if (runs_on && deep > 0 && below(8) == 0) return element();
     if (kind < 2) emit(below(fields < 16 ? fields : 16));
     else if (kind < 5) emit(temporaries > 0 ? 16 + below(temporaries) : 112);
     else if (kind < 6) emit(32 + below(LITERALS));
@@ -108,12 +75,21 @@ static void value(unsigned deep) {
     else if (kind < 11) { emit(128); emit(below(fields)); }
     else if (kind < 12) { emit(128); emit(192 + VARIABLE + below(4)); }
     else if (kind < 15) send(deep, below(4));
+    else if (kind == 15 && below(2) == 0) { value(deep - 1); emit(136); emit(176 + below(16)); }
     else if (kind < 17) { value(deep - 1); value(deep - 1); emit(176 + below(16)); }
     else {
         const unsigned k = 16 + below(16);
         for (unsigned i = 0; i <= special[k]; i++) value(deep - 1);
         emit(176 + k);
     }
+}
+
+static void condition(void) {
+    const unsigned kind = runs_on ? below(3) : 3;
+    if (kind == 0) { value(0); value(0); emit(198); }
+    else if (kind == 1) { emit(116 + below(4)); emit(116 + below(4)); emit(178 + below(6)); }
+    else if (kind == 2) emit(113 + below(2));
+    else value(1);
 }
 
 static void statement(unsigned deep) {
@@ -129,19 +105,28 @@ static void statement(unsigned deep) {
         return;
     }
     const size_t top = end;
-    value(1);
+    condition();
     const size_t from = end;
-    emit(172);
+    const unsigned jump = below(4) == 0 ? 168 : 172; // over what follows, on true or on false
+    emit(jump);
     emit(0);
     for (unsigned i = below(2) + 1; i > 0; i--) statement(deep - 1);
-    const bool loop = kind > 7;
-    const size_t over = end - from - 2 + (loop ? 2 : 0);
-    code[from] = 172 + over / 256;
+    const bool loop = kind > 7, other = kind == 5;
+    const size_t over = end - from - 2 + (loop ? 2 : other ? 1 : 0);
+    code[from] = jump + over / 256;
     code[from + 1] = over % 256;
     if (loop) {
         const size_t back = 1024 - (end + 2 - top);
         emit(160 + back / 256);
         emit(back % 256);
+    } else if (other) {
+        emit(144 + 1);
+        emit(118), emit(135);
+    } else if (jump == 172 && over <= 8) {
+        // the short form: what follows moves up
+        code[from] = 151 + over;
+        memmove(code + from + 1, code + from + 2, over);
+        end--;
     }
 }
 
@@ -153,7 +138,7 @@ static unsigned selector_of(unsigned count) { return first_selector + 4 * below(
 static unsigned method(unsigned home, unsigned count) {
     unsigned flag = count;
     const unsigned how = below(8);
-    fields = body(home)[2] / 2;
+    fields = body_of(home)[2] / 2;
     temporaries = count + below(4);
     if (how == 0) flag = 7;
     else if (how == 1 && count == 0) flag = 5;
@@ -162,86 +147,129 @@ static unsigned method(unsigned home, unsigned count) {
     for (unsigned i = below(4) + 1; i > 0; i--) statement(2);
     if (below(2) == 0) emit(120 + below(4));
     else { value(2); emit(124); }
-    const unsigned k = object(CLASSES, METHOD, 4 + 2 * LITERALS + end);
-    uint16_t *m = body(k);
+    uint16_t literals[LITERALS];
     const unsigned large = temporaries > 5 || below(2) == 0; // no depth is above 7
-    m[0] = flag << 13 | temporaries << 8 | large << 7 | LITERALS << 1 | 1;
-    m[1] = 2 * home;
-    for (unsigned i = 0; i < 8; i++) m[2 + i] = below(8) == 0 ? 2 * NIL : 2 * selector_of(i / 2);
-    for (unsigned i = VARIABLE; i < LITERALS; i++) m[2 + i] = i < VARIABLE + 4 ? 2 * (first_variable + below(8)) : any();
-    if (flag == 7) m[LITERALS] = count << 9 | below(256) << 1 | 1;
-    for (size_t i = 0; i < end; i++) put(m + 2 + LITERALS, i, code[i]);
-    return k;
+    for (unsigned i = 0; i < 8; i++) literals[i] = below(8) == 0 ? 2 * NIL : 2 * selector_of(i / 2);
+    for (unsigned i = VARIABLE; i < LITERALS; i++) literals[i] = i < VARIABLE + 4 ? 2 * (first_variable + below(8)) : any();
+    // bytes or a class, for element
+    const unsigned last = 1 + below(object_count);
+    if (runs_on && (kind_of(last) == CLASS || kind_of(last) == BYTES)) literals[LITERALS - 1] = 2 * last;
+    if (flag == 7) literals[LITERALS - 2] = count << 9 | below(256) << 1 | 1;
+    return new_method(home, flag, temporaries, large, literals, LITERALS, code, end);
 }
 
 // A class with its methods and some objects. It gives the class.
 static unsigned group(unsigned super) {
-    const unsigned form = below(2), own = (super == NIL ? 1 : body(super)[2] / 2) + below(3);
-    const unsigned k = class(super, EMPTY, own < 200 ? own : 200, form);
+    const unsigned above = super == NIL ? 0 : body_of(super)[2] / 2, form = below(2), own = (above == 0 ? 1 : above) + below(3);
+    const unsigned k = new_class(super, EMPTY, own < 200 ? own : 200, form);
     unsigned pairs[16][2], count = 0;
     for (unsigned s = first_selector + below(selectors / 2); s < first_selector + selectors && count < 6; s += 1 + below(selectors / 3)) {
         pairs[count][0] = s;
         pairs[count++][1] = method(k, (s - first_selector) % 4);
     }
     if (below(4) == 0) method(k, below(4));
-    const unsigned dictionary = object(CLASSES, LIST, 2 * count);
-    for (unsigned i = 0; i < count; i++) body(dictionary)[2 * i] = 2 * pairs[i][0], body(dictionary)[2 * i + 1] = 2 * pairs[i][1];
-    body(k)[1] = 2 * dictionary;
+    const unsigned dictionary = new_object(CLASSES, LIST, 2 * count);
+    for (unsigned i = 0; i < count; i++) body_of(dictionary)[2 * i] = 2 * pairs[i][0], body_of(dictionary)[2 * i + 1] = 2 * pairs[i][1];
+    body_of(k)[1] = 2 * dictionary;
     for (unsigned i = below(3); i > 0; i--) {
-        const unsigned size = body(k)[2] / 2 + form * below(8);
-        any_words(object(k, FIELDS, size), size);
+        const unsigned size = body_of(k)[2] / 2 + form * below(8);
+        any_words(new_object(k, FIELDS, size), size);
     }
     bytes(below(24));
     if (below(2) == 0) {
         const unsigned size = below(8);
-        any_words(object(CLASSES, LIST, size), size);
+        any_words(new_object(CLASSES, LIST, size), size);
     }
     return k;
 }
 
-size_t ordinary(uint8_t *image, size_t words, uint64_t seed) {
+// A class that answers every selector, and that the classes of all images have above them. Its methods take a primitive, or answer at once.
+static unsigned root(void) {
+    static const uint8_t primitives[3][8] = {{62, 70, 111, 62, 70, 111, 0, 62}, {60, 71, 110, 60, 71, 60, 1, 17}, {61, 61, 61, 61, 61, 61, 61, 9}};
+    const unsigned k = new_class(NIL, EMPTY, 0, 0), dictionary = new_object(CLASSES, LIST, 2 * selectors);
+    for (unsigned i = 0; i < selectors; i++) {
+        const unsigned count = i % 4, how = below(4);
+        const uint8_t constant[] = {112 + below(8), 124}, argument[] = {16, 124};
+        const uint16_t literals[] = {count << 9 | (count < 3 ? primitives[count][below(8)] : 1) << 1 | 1, any()};
+        const unsigned m = new_method(k, how > 0 ? 7 : count == 0 ? 5 : count, count, below(2), literals, 2, count > 0 ? argument : constant, 2);
+        body_of(dictionary)[2 * i] = 2 * (first_selector + i), body_of(dictionary)[2 * i + 1] = 2 * m;
+    }
+    body_of(k)[1] = 2 * dictionary;
+    static const uint8_t below_it[] = {INTEGERS, CLASSES, PLAIN, STRINGS, VARIABLES};
+    for (size_t i = 0; i < sizeof below_it; i++) body_of(below_it[i])[0] = 2 * k;
+    return k;
+}
+
+static size_t classes(uint8_t *image, size_t words, uint64_t seed) {
     state = seed;
-    begin();
+    new_image();
     selectors = 16 + words / 1000 * 4;
-    first_selector = n + 1;
+    first_selector = object_count + 1;
     for (unsigned i = 0; i < selectors; i++) bytes(1 + below(9));
     for (unsigned i = 0; i < 32; i++)
-        if (below(4) > 0) body(SELECTORS)[i] = 2 * selector_of(i == 22 || i == 23 ? below(4) : special[i]);
-    first_variable = n + 1;
-    for (unsigned i = 0; i < 8; i++) any_words(object(VARIABLES, FIELDS, 2), 2);
+        if (below(4) > 0) body_of(SELECTORS)[i] = 2 * selector_of(i == 22 || i == 23 ? below(4) : special[i]);
+    first_variable = object_count + 1;
+    for (unsigned i = 0; i < 8; i++) any_words(new_object(VARIABLES, FIELDS, 2), 2);
+    const unsigned uppermost = runs_on ? root() : NIL;
     unsigned made[1024], count = 0;
     for (;;) {
-        const size_t old_n = n, old_b = b;
-        const unsigned k = group(count == 0 || below(4) == 0 ? NIL : made[below(count)]);
-        if (b > words || n > 2000 || count == 1024) {
-            n = old_n;
-            b = old_b;
+        const size_t objects = object_count, before = word_count;
+        const unsigned k = group(count == 0 || below(4) == 0 ? uppermost : made[below(count)]);
+        if (word_count > words || object_count > 2000 || count == 1024) {
+            object_count = objects;
+            word_count = before;
             break;
         }
         made[count++] = k;
     }
-    if (b < words) bytes(2 * (words - b) - 1);
+    if (word_count < words) bytes(2 * (words - word_count) - 1);
     return written(image, any(), 2 * selector_of(0));
 }
 
+size_t ordinary(uint8_t *image, size_t words, uint64_t seed) {
+    runs_on = false;
+    return classes(image, words, seed);
+}
+
+size_t lively(uint8_t *image, size_t words, uint64_t seed) {
+    runs_on = true;
+    return classes(image, words, seed);
+}
+
 size_t chain(uint8_t *image, size_t count) {
-    begin();
+    new_image();
     const unsigned selector = bytes(1);
     unsigned last = NIL;
-    for (size_t i = 0; i < count; i++) last = class(last, EMPTY, 0, 0);
+    for (size_t i = 0; i < count; i++) last = new_class(last, EMPTY, 0, 0);
     return written(image, 2 * NIL, 2 * selector);
 }
 
 size_t shared(uint8_t *image, size_t count) {
-    begin();
-    const unsigned selector = n + 1;
+    new_image();
+    const unsigned selector = object_count + 1;
     for (size_t i = 0; i < count; i++) bytes(1);
-    const unsigned m = object(CLASSES, METHOD, 5);
-    body(m)[0] = 1;
-    body(m)[1] = 2 * (n + 2);
-    body(m)[2] = 120 << 8;
-    const unsigned dictionary = object(CLASSES, LIST, 2 * count);
-    for (size_t i = 0; i < count; i++) body(dictionary)[2 * i] = 2 * (selector + i), body(dictionary)[2 * i + 1] = 2 * m;
-    for (size_t i = 0; i < count; i++) class(NIL, dictionary, 0, 0);
+    const unsigned m = new_object(CLASSES, METHOD, 5);
+    body_of(m)[0] = 1;
+    body_of(m)[1] = 2 * (object_count + 2);
+    body_of(m)[2] = 120 << 8;
+    const unsigned dictionary = new_object(CLASSES, LIST, 2 * count);
+    for (size_t i = 0; i < count; i++) body_of(dictionary)[2 * i] = 2 * (selector + i), body_of(dictionary)[2 * i + 1] = 2 * m;
+    for (size_t i = 0; i < count; i++) new_class(NIL, dictionary, 0, 0);
     return written(image, 2 * NIL, 2 * selector);
+}
+
+size_t deep(uint8_t *image) {
+    enum { LAST = 2047 };
+    new_image();
+    const unsigned first = object_count + 1;
+    unsigned last = NIL;
+    for (int i = 0; i < 2000; i++) last = new_class(last, EMPTY, 0, 0);
+    static const uint8_t again[] = {112, 208, 124}; // push self, send the first literal, return top
+    const uint16_t literals[] = {2 * LAST};
+    const unsigned m = new_method(first, 0, 0, 0, literals, 1, again, sizeof again);
+    const unsigned dictionary = new_object(CLASSES, LIST, 2), instance = new_object(last, FIELDS, 0);
+    body_of(dictionary)[0] = 2 * LAST, body_of(dictionary)[1] = 2 * m;
+    body_of(first)[1] = 2 * dictionary;
+    while (object_count < LAST) bytes(0);
+    return written(image, 2 * instance, 2 * LAST);
 }

@@ -103,7 +103,7 @@ typedef struct {
     int runs;
 } sample;
 
-// Times and ratios; and how the times grow, where the sample before has half the size.
+// Times and speeds; and how the times grow, where the sample before has half the size.
 static bool report(const sample *samples, size_t count) {
     times t[2];
     for (size_t i = 0; i < count; i++) {
@@ -111,8 +111,8 @@ static bool report(const sample *samples, size_t count) {
         times *new = t + i % 2, *old = t + (i + 1) % 2;
         if (!measure(s->name, s->make(image, s->size), s->number, s->runs, new)) return false;
         for (int k = 0; k < 3; k++) {
-            printf("%-7s %5zu %-5s   ours %8.2f us   C %8.2f us   ratio %.2f", s->name, s->size, parts[k], new->ours[k] / 1e3,
-                   new->c[k] / 1e3, new->ours[k] / new->c[k]);
+            printf("load %-7s %5zu %-5s   ours %8.2f us   C %8.2f us   speed relative to C: %.2f", s->name, s->size, parts[k],
+                   new->ours[k] / 1e3, new->c[k] / 1e3, new->c[k] / new->ours[k]);
             if (i > 0 && s[-1].make == s->make && 2 * s[-1].size == s->size)
                 printf("   growth from half: ours %.2f, C %.2f", new->ours[k] / old->ours[k], new->c[k] / old->c[k]);
             printf("\n");

@@ -38,7 +38,7 @@ static int measure(const char *name) {
         printf("%s: the two walks differ, or the code is not sound (%d, %d)\n", name, r, s);
         return 1;
     }
-    printf("%-10s %6zu instructions   ours %6.2f ns   C %6.2f ns   ratio %.2f\n", name, noted, a / noted, b / noted, a / b);
+    printf("walk %-8s %6zu instructions   ours %6.2f ns each   C %6.2f   speed relative to C: %.2f\n", name, noted, a / noted, b / noted, b / a);
     return 0;
 }
 
