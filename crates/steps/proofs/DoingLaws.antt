@@ -426,18 +426,18 @@ module _ {n b : ℕ} {contents bodies stack : List ℕ} {a : Active} {next k : �
         → arithmetic t (getD stack under 0) (getD stack last 0) ≡ arithmetic t (getD (written a stack) (a .operands .0 + (a .end .0 - a .operands .0 - 2)) 0) (getD (written a stack) (a .operands .0 + (a .end .0 - a .operands .0 - 1)) 0)
     operands-read t under last p q = ap₂ (λ (u w : ℕ). arithmetic t u w) (sym (operand-read d 1 under two p)) (sym (operand-read d 0 last special-one q))
 
-    pub computed-done : (t under last w : ℕ) (x : Computed) (e : StackPosition) (stack′ : List ℕ) → under ≡ a .end .0 - 2 → last ≡ a .end .0 - 1 → t ≡ triedPrimitive k
-        → x ≡ arithmetic t (getD stack under 0) (getD stack last 0) → x ≡ Word w → e .0 ≡ a .end .0 - 1 → stack′ ≡ set stack under w
+    pub computed-done : (under last w : ℕ) (x : Computed) (e : StackPosition) (stack′ : List ℕ) → under ≡ a .end .0 - 2 → last ≡ a .end .0 - 1
+        → x ≡ arithmetic (triedPrimitive k) (getD stack under 0) (getD stack last 0) → x ≡ Word w → e .0 ≡ a .end .0 - 1 → stack′ ≡ set stack under w
         → Says n b contents a bodies stack bodies stack′ (Next (record { 0 = next }) e)
-    computed-done t under last w x e stack′ p q h c y u s =
+    computed-done under last w x e stack′ p q c y u s =
         let o = two in
         let z = ends (d .active) in
-        says-answered d 2 w under (record { 0 = next }) e stack′ s refl p (omega arith) two (λ l r. arithmetic-says (here d) small t w x l h (c ∙ operands-read t under last p q) y r)
+        says-answered d 2 w under (record { 0 = next }) e stack′ s refl p (omega arith) two (λ l r. arithmetic-says (here d) small (triedPrimitive k) w x l refl (c ∙ operands-read (triedPrimitive k) under last p q) y r)
 
-    pub failed-sends : (t under last s : ℕ) (x : Computed) → under ≡ a .end .0 - 2 → last ≡ a .end .0 - 1 → t ≡ triedPrimitive k
-        → x ≡ arithmetic t (getD stack under 0) (getD stack last 0) → x ≡ Failed → s ≡ specialSelector (objectsAt n b contents bodies) k → Sends n b contents bodies stack a next s 1
-    failed-sends t under last s x p q h c y u =
-        record { active = d .active; sends = arithmetic-sends (here d) small t s x h (c ∙ operands-read t under last p q) y u }
+    pub failed-sends : (under last s : ℕ) (x : Computed) → under ≡ a .end .0 - 2 → last ≡ a .end .0 - 1
+        → x ≡ arithmetic (triedPrimitive k) (getD stack under 0) (getD stack last 0) → x ≡ Failed → s ≡ specialSelector (objectsAt n b contents bodies) k → Sends n b contents bodies stack a next s 1
+    failed-sends under last s x p q c y u =
+        record { active = d .active; sends = arithmetic-sends (here d) small (triedPrimitive k) s x refl (c ∙ operands-read (triedPrimitive k) under last p q) y u }
 
   pub same-two-there : k ≡ 22 → 2 ≤ a .end .0 - a .operands .0
   same-two-there e = S.same-two (here d) e

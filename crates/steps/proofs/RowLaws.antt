@@ -76,10 +76,13 @@ module _ {n b : ℕ} {contents bodies stack : List ℕ} {a : Active} {op : ℕ} 
   row-special h l =
       doing f 1 (p + 1) (SpecialSend (op - 176)) (length-send op (omega arith) h) refl (is-send op _ _ h ∙ search ranges)
 
-  pub row-send : 208 ≤ op → Does (p + 1) (Send (op % 16) ((op - 208) / 16))
+  pub row-send : (k : ℕ) → op / 16 ≡ 13 + k → Does (p + 1) (Send (op % 16) k)
   unfolding sendOf
-  row-send h =
-      doing f 1 (p + 1) (Send (op % 16) ((op - 208) / 16)) (length-send op (omega arith) (omega arith)) refl (is-send op _ _ (omega arith) ∙ search ranges)
+  row-send k h =
+      let l : 208 ≤ op = omega arith in
+      let e : (op - 208) / 16 ≡ k = omega arith in
+      let g : sendOf op ≡ Send (op % 16) ((op - 208) / 16) = search ranges in
+      doing f 1 (p + 1) (Send (op % 16) k) (length-send op (omega arith) (omega arith)) refl (is-send op _ _ (omega arith) ∙ g ∙ ap (Send (op % 16)) e)
 
   -- ---- 112 to 127
 

@@ -10,6 +10,7 @@ ghost use Rattle.bytecode.specs.declared.Instruction.the-variants.{Push, JumpOn
 ghost use Rattle.model.specs.Objects.{objectsAt};
 ghost use Rattle.model.specs.Word.{booleanWord};
 ghost use Rattle.model.specs.Method.{codeWords, codeSize};
+ghost use Rattle.model.specs.Arithmetic.{arithmetic};
 ghost use Rattle.plain.specs.Flat.{frameMethod};
 ghost use Rattle.plain.specs.Step.{read, triedPrimitive};
 ghost use Rattle.plain.specs.Running.{Runs, topFrame};
@@ -338,16 +339,29 @@ fn super_send(
     }
 }
 
-// The primitives that 176 to 191 try, 0 for none.
-const TRIED: [u8; 16] = [1, 2, 3, 4, 5, 6, 7, 8, 9, 10, 11, 0, 17, 12, 14, 15];
-
-fn tried(k: u8) -> u8
+// The primitive that 176 to 191 try, on two words. Each is named, so that it is compiled where it is tried.
+fn tried(k: u8, v: u16, w: u16) -> Computed
     requires { ⌜ k < 16 ⌝ }
-    ensures { λ r. ⌜ r ≡ triedPrimitive k ⌝ }
+    ensures { λ r. ⌜ r ≡ arithmetic (triedPrimitive k) v w ⌝ }
 {
-    let table = TRIED;
-    let i = k as usize;
-    table[i]
+    match k {
+        0 => arithmetic::arithmetic(1, v, w),
+        1 => arithmetic::arithmetic(2, v, w),
+        2 => arithmetic::arithmetic(3, v, w),
+        3 => arithmetic::arithmetic(4, v, w),
+        4 => arithmetic::arithmetic(5, v, w),
+        5 => arithmetic::arithmetic(6, v, w),
+        6 => arithmetic::arithmetic(7, v, w),
+        7 => arithmetic::arithmetic(8, v, w),
+        8 => arithmetic::arithmetic(9, v, w),
+        9 => arithmetic::compute(10, v, w),
+        10 => arithmetic::compute(11, v, w),
+        11 => arithmetic::compute(0, v, w), // none, which fails
+        12 => arithmetic::compute(17, v, w),
+        13 => arithmetic::compute(12, v, w),
+        14 => arithmetic::arithmetic(14, v, w),
+        _ => arithmetic::arithmetic(15, v, w),
+    }
 }
 
 // 176 to 191: arithmetic, and a send where it fails.
@@ -367,7 +381,7 @@ fn arithmetic_send(
     let end = active.end.0;
     let last = stack[end - 1];
     let under = stack[end - 2];
-    match arithmetic::arithmetic(tried(k), under, last) {
+    match tried(k, under, last) {
         Computed::Word(w) => {
             stack[end - 2] = w;
             Event::Next {
@@ -784,16 +798,8 @@ pub fn step(
         10 => far(contents, bodies, stack, n, b, active, op),
         11 => arithmetic_send(contents, bodies, stack, n, b, active, next, op - 176),
         12 => special_send(contents, bodies, stack, n, b, active, next, op - 176),
-        _ => send(
-            contents,
-            bodies,
-            stack,
-            n,
-            b,
-            active,
-            next,
-            op % 16,
-            (op - 208) / 16,
-        ),
+        13 => send(contents, bodies, stack, n, b, active, next, op % 16, 0),
+        14 => send(contents, bodies, stack, n, b, active, next, op % 16, 1),
+        _ => send(contents, bodies, stack, n, b, active, next, op % 16, 2),
     }
 }

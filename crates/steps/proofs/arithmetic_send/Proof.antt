@@ -5,84 +5,85 @@ use Rattle.steps.proofs.DoingLaws.{two, special-inside, computed-done, 
 use borrow.Author.Needs.{needs}
 use Rattle.steps.proofs.arithmetic_send.Statement.{statement}
 use Rattle.steps.proofs.arithmetic_send.Tie as tie
+use Rattle.steps.proofs.arithmetic_send.Reads as reads
+use Rattle.steps.proofs.arithmetic_send.Lts as lts
+use Rattle.objects.proofs.word_of.Reads as word-of-reads
+use Rattle.steps.proofs.sent.Reads as sent-reads
+use Rattle.steps.proofs.tried.Reads as tried-reads
 
--- src/lib.rt:368:22
+-- src/lib.rt:382:22
 sub-last : tie.Need-sub-last
 sub-last c = let k = two (c .before .before .before .pre .0) (c .before .before .before .pre .1) in omega arith
 
--- src/lib.rt:368:16
+-- src/lib.rt:382:16
 mul-last : tie.Need-mul-last
 mul-last c = let k = ends (c .before .before .before .pre .0 .active) in omega arith
 
--- src/lib.rt:368:16
+-- src/lib.rt:382:16
 slice-read-last : tie.Need-slice-read-last
 slice-read-last c = let k = ends (c .before .before .before .before .pre .0 .active) in let o = two (c .before .before .before .before .pre .0) (c .before .before .before .before .pre .1) in omega arith
 
--- src/lib.rt:369:23
+-- src/lib.rt:383:23
 sub-under : tie.Need-sub-under
 sub-under c = let k = two (c .before .before .before .before .pre .0) (c .before .before .before .before .pre .1) in omega arith
 
--- src/lib.rt:369:17
+-- src/lib.rt:383:17
 mul-under : tie.Need-mul-under
 mul-under c = let k = ends (c .before .before .before .before .pre .0 .active) in omega arith
 
--- src/lib.rt:369:17
+-- src/lib.rt:383:17
 slice-read-under : tie.Need-slice-read-under
 slice-read-under c = let k = ends (c .before .before .before .before .before .pre .0 .active) in let o = two (c .before .before .before .before .before .pre .0) (c .before .before .before .before .before .pre .1) in omega arith
 
--- src/lib.rt:370:34
+-- src/lib.rt:384:11
 tried-requires : tie.Need-tried-requires
 tried-requires c κs = search needs
 
--- src/lib.rt:370:11
-arithmetic-requires : tie.Need-arithmetic-requires
-arithmetic-requires c κs = search needs
-
--- src/lib.rt:371:24
+-- src/lib.rt:385:24
 enum-known-w : tie.Need-enum-known-w
 enum-known-w c = search needs
 
--- src/lib.rt:372:19
+-- src/lib.rt:386:19
 sub-stack : tie.Need-sub-stack
-sub-stack c = let k = two (c .before .before .before .before .before .before .before .before .before .before .pre .0) (c .before .before .before .before .before .before .before .before .before .before .pre .1) in omega arith
+sub-stack c = let k = two (c .before .before .before .before .before .before .before .before .before .pre .0) (c .before .before .before .before .before .before .before .before .before .pre .1) in omega arith
 
--- src/lib.rt:372:13
+-- src/lib.rt:386:13
 mul-stack : tie.Need-mul-stack
-mul-stack c = let k = ends (c .before .before .before .before .before .before .before .before .before .before .pre .0 .active) in omega arith
+mul-stack c = let k = ends (c .before .before .before .before .before .before .before .before .before .pre .0 .active) in omega arith
 
--- src/lib.rt:372:13
+-- src/lib.rt:386:13
 slice-write-stack : tie.Need-slice-write-stack
-slice-write-stack c = let k = ends (c .before .before .before .before .before .before .before .before .before .before .pre .0 .active) in let o = two (c .before .before .before .before .before .before .before .before .before .before .pre .0) (c .before .before .before .before .before .before .before .before .before .before .pre .1) in omega arith
+slice-write-stack c = let k = ends (c .before .before .before .before .before .before .before .before .before .pre .0 .active) in let o = two (c .before .before .before .before .before .before .before .before .before .pre .0) (c .before .before .before .before .before .before .before .before .before .pre .1) in omega arith
 
--- src/lib.rt:375:36
-sub-t22 : tie.Need-sub-t22
-sub-t22 c = let k = two (c .before .before .before .before .before .before .before .before .before .before .pre .0) (c .before .before .before .before .before .before .before .before .before .before .pre .1) in omega arith
+-- src/lib.rt:389:36
+sub-t21 : tie.Need-sub-t21
+sub-t21 c = search needs
 
--- src/lib.rt:379:62
+-- src/lib.rt:393:62
 enum-told : tie.Need-enum-told
 enum-told c = search needs
 
--- src/lib.rt:379:17
+-- src/lib.rt:393:17
 word-of-requires : tie.Need-word-of-requires
-word-of-requires c κs = special-inside (c .before .before .before .before .before .before .before .before .before .pre .0)
+word-of-requires c κs = special-inside (c .before .before .before .before .before .before .before .before .pre .0)
 
--- src/lib.rt:380:13
+-- src/lib.rt:394:13
 sent-requires : tie.Need-sent-requires
-sent-requires c κs = failed-sends (c .before .before .before .before .before .before .before .before .before .before .before .pre .0) (c .before .before .before .before .before .before .before .before .before .before .before .pre .1) _ _ _ _ (c .before .before .before .before .arithmetic .result) refl refl (c .before .before .before .before .before .tried .ensures) (c .before .before .before .before .arithmetic .ensures) (c .before .before .enum-told .given .1) (c .before .word-of .ensures)
+sent-requires c κs = failed-sends (c .before .before .before .before .before .before .before .before .before .before .pre .0) (c .before .before .before .before .before .before .before .before .before .before .pre .1) _ _ _ (c .before .before .before .before .tried .result) refl refl (c .before .before .before .before .tried .ensures) (c .before .before .enum-told .given .1) (c .before .word-of .ensures)
 
--- src/lib.rt:354:1
+-- src/lib.rt:368:1
 same-length : tie.Need-same-length
 same-length c = search needs
 
--- src/lib.rt:354:1
+-- src/lib.rt:368:1
 returns : tie.Need-returns
-returns c = computed-done (c .before .before .before .before .before .before .before .before .before .before .pre .0) (c .before .before .before .before .before .before .before .before .before .before .pre .1) _ _ _ _ (c .before .before .before .arithmetic .result) _ _ refl refl (c .before .before .before .before .tried .ensures) (c .before .before .before .arithmetic .ensures) (c .before .w .given .1) refl refl
+returns c = computed-done (c .before .before .before .before .before .before .before .before .before .pre .0) (c .before .before .before .before .before .before .before .before .before .pre .1) _ _ _ (c .before .before .before .tried .result) _ _ refl refl (c .before .before .before .tried .ensures) (c .before .w .given .1) refl refl
 
--- src/lib.rt:354:1
+-- src/lib.rt:368:1
 same-length-2 : tie.Need-same-length-2
 same-length-2 c = search needs
 
--- src/lib.rt:354:1
+-- src/lib.rt:368:1
 returns-2 : tie.Need-returns-2
 returns-2 c = search needs
 
@@ -97,12 +98,11 @@ arithmetic-send-spec =
     mul-under
     slice-read-under
     tried-requires
-    arithmetic-requires
     enum-known-w
     sub-stack
     mul-stack
     slice-write-stack
-    sub-t22
+    sub-t21
     enum-told
     word-of-requires
     sent-requires
