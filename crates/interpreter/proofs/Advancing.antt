@@ -1,12 +1,13 @@
 -- The events of a bytecode, with the send or the return that is made of them: the step, or the halt.
-use Prim.Native.Nat.{ℕ, suc, _+_, _<_}
+use Prim.Native.Nat.{ℕ, suc, _+_, _≤_, _<_}
 use mathlib.Core.Path.{_≡_, refl, sym, ap, _∙_, subst}
 use mathlib.Core.Bool.{Bool}
 use mathlib.Core.List.{List}
 use native.Mathlib.Omega.{arith}
 use lib.ListN.{length, set}
+use lib.Seq.{getD-set-other}
 use Rattle.model.specs.Objects.{objectsAt}
-use Rattle.model.specs.Method.{temporaryCount}
+use Rattle.model.specs.Method.{temporaryCount, frameSize}
 use Rattle.model.specs.Image.{Room}
 use Rattle.model.specs.declared.Pointer.{Pointer}
 use Rattle.model.specs.declared.CodePosition.{CodePosition}
@@ -16,7 +17,7 @@ use Rattle.plain.specs.Step.{Stepped, halts, returned}
 use Rattle.plain.specs.Flat.{frameSender, frameDepth, frameMethod}
 use Rattle.plain.specs.Running.{Runs, Sending, Made, Stays, runningWith, finishedWith, runningAt, roomAt, topFrame, restFrames, sendStep}
 use Rattle.plain.proofs.MadeLaws.{moved-made, made-as}
-use Rattle.plain.proofs.ReturnLaws.{bottom-returns, sender-returns}
+use Rattle.plain.proofs.ReturnLaws.{sender-bounds, bottom-returns, sender-returns}
 use Rattle.steps.specs.declared.Event.{Event}
 use Rattle.steps.specs.declared.Event.the-variants.{Next, Send, Return, NoBoolean}
 use Rattle.steps.specs.declared.Active.{Active}
@@ -112,7 +113,7 @@ module _ {n b : ℕ} {contents bodies stack₀ : List ℕ} {a : Active} (r₀ : 
     abbrev after : List ℕ → List ℕ → ℕ → List ℕ
     after l s t = set (set s (t + (6 + (temporaryCount (objectsAt n b contents l) (frameMethod s t) + frameDepth s t))) w) (t + 2) (suc (frameDepth s t))
 
-    pub returns-below : (cache stack′ : List ℕ) (t : ℕ) → 0 < top → t ≡ frameSender stack₁ top → stack′ ≡ after bodies₁ stack₁ t → (receiver selector : ℕ)
+    returns-below : (cache stack′ : List ℕ) (t : ℕ) → 0 < top → t ≡ frameSender stack₁ top → stack′ ≡ after bodies₁ stack₁ t → (receiver selector : ℕ)
         → Made (stepFrom cache receiver selector) (runningWith receiver selector n b t) contents bodies stack cache contents bodies₁ stack′ cache
     returns-below cache stack′ t above et es receiver selector =
         let x = returns-word in
@@ -121,6 +122,18 @@ module _ {n b : ℕ} {contents bodies stack₀ : List ℕ} {a : Active} (r₀ : 
         (subst (λ (k : ℕ). Made (return-step receiver selector) (runningWith receiver selector n b k) contents bodies stack cache contents bodies₁ (after bodies₁ stack₁ k) cache) (sym et)
         (onto (x .words) (x .frames) (λ (l s : List ℕ). Made (return-step receiver selector) (runningWith receiver selector n b (frameSender s top)) contents bodies stack cache contents l (after l s (frameSender s top)) cache)
         (sender-returns r above receiver selector w cache))))
+
+    -- the frame below ends where the top one began
+    ends-below : (stack′ : List ℕ) (t : ℕ) → 0 < top → t ≡ frameSender stack₁ top → stack′ ≡ after bodies₁ stack₁ t → t + frameSize (objectsAt n b contents bodies₁) (frameMethod stack′ t) ≤ top
+    ends-below stack′ t above et es =
+        let k = subst (λ (x : ℕ). x + frameSize (objectsAt n b contents bodies₁) (frameMethod stack₁ x) ≡ top) (sym et) (sender-bounds return-runs above .below) in
+        let m : frameMethod stack′ t ≡ frameMethod stack₁ t = ap (λ (l : List ℕ). frameMethod l t) es ∙ getD-set-other (set stack₁ (t + (6 + (temporaryCount (objectsAt n b contents bodies₁) (frameMethod stack₁ t) + frameDepth stack₁ t))) w) (t + 2) (t + 3) (suc (frameDepth stack₁ t)) 0 (omega arith) ∙ getD-set-other stack₁ (t + (6 + (temporaryCount (objectsAt n b contents bodies₁) (frameMethod stack₁ t) + frameDepth stack₁ t))) (t + 3) w 0 (omega arith) in
+        subst (λ (x : ℕ). t + frameSize (objectsAt n b contents bodies₁) x ≤ top) (sym m) (omega arith)
+
+    pub returned-below : (cache stack′ : List ℕ) (t : StackPosition) → 0 < top → t .0 ≡ frameSender stack₁ top → stack′ ≡ after bodies₁ stack₁ (t .0) → (receiver selector : ℕ)
+        → AdvancedIs receiver selector n b a contents bodies stack₀ cache contents bodies₁ stack′ cache (A.Below t)
+    returned-below cache stack′ t above et es receiver selector =
+        (returns-below cache stack′ (t .0) above et es receiver selector, ends-below stack′ (t .0) above et es)
 
   -- A send
   module _ (s k : ℕ) (c : Pointer) (q : CodePosition) (sure : Bool) (e : event ≡ Send s k c q sure) where

@@ -1,14 +1,17 @@
 -- What a whole bytecode leads to.
-use Prim.Native.Nat.{ℕ}
+use Prim.Native.Nat.{ℕ, _+_, _≤_}
 use mathlib.Core.Path.{_≡_}
 use mathlib.Core.List.{List}
+use Rattle.model.specs.Objects.{objectsAt}
+use Rattle.model.specs.Method.{frameSize}
 use Rattle.plain.specs.Registers.{Cause, phaseOf}
+use Rattle.plain.specs.Flat.{frameMethod}
 use Rattle.plain.specs.Step.{Stepped, halts, step}
 use Rattle.plain.specs.Running.{runningWith, runningAt, roomAt, finishedWith, Made, Stays}
 use Rattle.steps.specs.declared.Active.{Active}
 use Rattle.steps.specs.Events.{written, movedOn, Stands}
 use Rattle.interpreter.specs.declared.Advanced.{Advanced}
-use Rattle.interpreter.specs.declared.Advanced.the-variants.{Next, Top, Finished, Halted}
+use Rattle.interpreter.specs.declared.Advanced.the-variants.{Next, Top, Below, Finished, Halted}
 
 -- The step that the buffers are about to make
 abbrev pub stepOf : ℕ → ℕ → ℕ → ℕ → Active → List ℕ → List ℕ → List ℕ → List ℕ → Stepped
@@ -30,6 +33,9 @@ AdvancedIs receiver selector n b a contents bodies stack cache contents′ bodie
     × Stands n b contents′ bodies′ stack′ (movedOn a q e)
 AdvancedIs receiver selector n b a contents bodies stack cache contents′ bodies′ stack′ cache′ (Top n′ b′ t) =
     Made (stepOf receiver selector n b a contents bodies stack cache) (runningWith receiver selector n′ b′ (t .0)) contents bodies (written a stack) cache contents′ bodies′ stack′ cache′
+AdvancedIs receiver selector n b a contents bodies stack cache contents′ bodies′ stack′ cache′ (Below t) =
+    Made (stepOf receiver selector n b a contents bodies stack cache) (runningWith receiver selector n b (t .0)) contents bodies (written a stack) cache contents′ bodies′ stack′ cache′
+    × (t .0 + frameSize (objectsAt n b contents′ bodies′) (frameMethod stack′ (t .0)) ≤ a .base .0)
 AdvancedIs receiver selector n b a contents bodies stack cache contents′ bodies′ stack′ cache′ (Finished w) =
     Made (stepOf receiver selector n b a contents bodies stack cache) (finishedWith receiver selector n b w) contents bodies (written a stack) cache contents′ bodies′ stack′ cache′
 AdvancedIs receiver selector n b a contents bodies stack cache contents′ bodies′ stack′ cache′ (Halted k) =

@@ -16,9 +16,9 @@ use sends::Sent;
 use steps::Active;
 use steps::Event;
 
-// What a bytecode leads to: the running frame goes on, at another position and with operands up to another end; or another frame is on top
-// or a send was answered, with the number of objects and body words then; or the value that the run finishes with; or a halt, with the phase
-// that says why (3, 4 or 5).
+// What a bytecode leads to: the running frame goes on, at another position and with operands up to another end; or a send was made, with the
+// number of objects and body words and the top frame then; or a return to the frame below; or the value that the run finishes with; or a halt,
+// with the phase that says why (3, 4 or 5).
 pub enum Advanced {
     Next {
         position: CodePosition,
@@ -29,6 +29,7 @@ pub enum Advanced {
         b: usize,
         top: StackPosition,
     },
+    Below(StackPosition),
     Finished(u16),
     Halted(u16),
 }
@@ -122,12 +123,7 @@ pub fn advance(
             if base == 0 {
                 return Advanced::Finished(w);
             }
-            let below = return_to(contents, bodies, stack, n, b, top, w);
-            Advanced::Top {
-                n: n,
-                b: b,
-                top: below,
-            }
+            Advanced::Below(return_to(contents, bodies, stack, n, b, top, w))
         }
         Event::NoBoolean => {
             steps::leave(stack, active);

@@ -157,6 +157,11 @@ module _ (s₀ : Flat) (grant receiver selector n b top : ℕ) (contents bodies 
       went-at : (reach′ : ℕ) → reach′ ≡ raisedTo top t reach end′ → reach′ ≤ 65536 → LoopAt s₀ grant receiver selector n′ b′ t contents′ bodies′ stack′ cache′ (count + 1) reach′
       went-at reach′ h g = record { turn = next reach′ (h ∙ raises (ℕ-discrete top t)); low = g }
 
+      -- a frame that ends no higher
+      below-at : end′ ≤ reach → LoopAt s₀ grant receiver selector n′ b′ t contents′ bodies′ stack′ cache′ (count + 1) reach
+      below-at h =
+          record { turn = next reach (let e = top-end-is receiver selector n′ b′ t contents′ bodies′ stack′ cache′ in omega arith); low = l .low }
+
 -- The highest end, by the code's tests
 pub raised-same : (before top reach end : ℕ) → before ≡ top → reach ≡ raisedTo before top reach end
 unfolding raisedTo
@@ -233,3 +238,18 @@ module _ {s₀ : Flat} {grant receiver selector n b : ℕ} {a : Active} {content
       pub loop-went : (reach′ : ℕ) → reach′ ≡ raisedTo (a .base .0) (t .0) reach (t .0 + frameSize (objectsAt n′ b′ contents′ bodies′) (frameMethod stack′ (t .0))) → reach′ ≤ 65536
           → LoopAt s₀ grant receiver selector n′ b′ (t .0) contents′ bodies′ stack′ cache′ (count + 1) reach′
       loop-went reach′ h g = went-at s₀ grant receiver selector n b (a .base .0) contents bodies (written a stack) cache count reach (l .at) more contents′ bodies′ stack′ cache′ n′ b′ (t .0) (told (A.Top n′ b′ t) d) reach′ h g
+
+    -- a return: the frame below ends where the top one began
+    module _ (t : StackPosition) (d : y ≡ A.Below t) where
+      said : AdvancedIs receiver selector n b a contents bodies stack cache contents′ bodies′ stack′ cache′ (A.Below t)
+      said = told (A.Below t) d
+
+      pub back-runs : Runs n b (t .0) contents′ bodies′ stack′
+      back-runs = runs-at s₀ grant receiver selector n b (a .base .0) contents bodies (written a stack) cache count reach (l .at) more contents′ bodies′ stack′ cache′ n b (t .0) (said .0)
+
+      pub loop-back : LoopAt s₀ grant receiver selector n b (t .0) contents′ bodies′ stack′ cache′ (count + 1) reach
+      loop-back =
+          let h = l .at .turn .high in
+          let e = top-end-is receiver selector n b (a .base .0) contents bodies (written a stack) cache in
+          let k = said .1 in
+          below-at s₀ grant receiver selector n b (a .base .0) contents bodies (written a stack) cache count reach (l .at) more contents′ bodies′ stack′ cache′ n b (t .0) (said .0) (omega arith)

@@ -325,6 +325,10 @@ impl Registers {
                     active = steps::enter(contents, bodies, stack, n, b, top);
                     count += 1;
                 }
+                Advanced::Below(top) => {
+                    active = steps::enter(contents, bodies, stack, n, b, top);
+                    count += 1;
+                }
                 Advanced::Finished(w) => {
                     return Outcome {
                         registers: Registers {

@@ -1,5 +1,5 @@
 use native.Mathlib.Omega.{arith}
-use Rattle.interpreter.proofs.Advancing.{went-on, leaves-send, leaves-return, leaves-halt, no-boolean, finishes, return-runs, returns-below, can-send, answers, enters, none-understood, none-fits}
+use Rattle.interpreter.proofs.Advancing.{went-on, leaves-send, leaves-return, leaves-halt, no-boolean, finishes, return-runs, returned-below, can-send, answers, enters, none-understood, none-fits}
 use borrow.Author.Needs.{needs}
 use Rattle.interpreter.proofs.advance.Statement.{statement}
 use Rattle.interpreter.proofs.advance.Tie as tie
@@ -186,7 +186,7 @@ same-length-25 c = search needs
 
 -- src/lib.rt:62:1
 returns-7 : tie.Need-returns-7
-returns-7 c = returns-below ((c .before .before .before .before .before .before .before .before .before .before .before .before .before .before .before .before .before .before .before .before .before .before .before .before .before .before .before .pre) .0) (c .before .before .before .before .before .before .before .before .before .before .before .before .before .before .before .before .before .before .step .last .1 .0) (c .before .before .before .before .before .before .before .before .before .before .before .before .before .before .before .before .before .before .step .last .1 .1 .0) (c .before .before .before .before .before .before .before .before .before .before .before .before .before .before .before .before .before .before .step .result) (c .before .before .before .before .before .before .before .before .before .before .before .before .before .before .before .before .before .before .step .ensures) _ (c .before .before .before .before .before .before .before .before .before .leave2 .ensures) _ (c .before .before .before .before .before .before .before .before .before .before .before .before .w .given .1) _ _ _ (let h = c .before .before .before .before .before .before .if1 .left in omega arith) (c .before .before .return-to .ensures .0) (c .before .before .return-to .ensures .1)
+returns-7 c = returned-below ((c .before .before .before .before .before .before .before .before .before .before .before .before .before .before .before .before .before .before .before .before .before .before .before .before .before .before .before .pre) .0) (c .before .before .before .before .before .before .before .before .before .before .before .before .before .before .before .before .before .before .step .last .1 .0) (c .before .before .before .before .before .before .before .before .before .before .before .before .before .before .before .before .before .before .step .last .1 .1 .0) (c .before .before .before .before .before .before .before .before .before .before .before .before .before .before .before .before .before .before .step .result) (c .before .before .before .before .before .before .before .before .before .before .before .before .before .before .before .before .before .before .step .ensures) _ (c .before .before .before .before .before .before .before .before .before .leave2 .ensures) _ (c .before .before .before .before .before .before .before .before .before .before .before .before .w .given .1) _ _ _ (let h = c .before .before .before .before .before .before .if1 .left in omega arith) (c .before .before .return-to .ensures .0) (c .before .before .return-to .ensures .1)
 
 -- src/lib.rt:62:1
 same-length-26 : tie.Need-same-length-26

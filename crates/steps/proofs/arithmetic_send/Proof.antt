@@ -5,11 +5,6 @@ use Rattle.steps.proofs.DoingLaws.{two, special-inside, computed-done, 
 use borrow.Author.Needs.{needs}
 use Rattle.steps.proofs.arithmetic_send.Statement.{statement}
 use Rattle.steps.proofs.arithmetic_send.Tie as tie
-use Rattle.steps.proofs.arithmetic_send.Reads as reads
-use Rattle.steps.proofs.arithmetic_send.Lts as lts
-use Rattle.objects.proofs.word_of.Reads as word-of-reads
-use Rattle.steps.proofs.sent.Reads as sent-reads
-use Rattle.steps.proofs.tried.Reads as tried-reads
 
 -- src/lib.rt:382:22
 sub-last : tie.Need-sub-last

@@ -6,18 +6,6 @@ use Rattle.steps.proofs.RowLaws.{first-below, position-small, fetched, 
 use borrow.Author.Needs.{needs}
 use Rattle.steps.proofs.step.Statement.{statement}
 use Rattle.steps.proofs.step.Tie as tie
-use Rattle.steps.proofs.step.Reads as reads
-use Rattle.steps.proofs.step.Lts as lts
-use Rattle.steps.proofs.arithmetic_send.Reads as arithmetic-send-reads
-use Rattle.steps.proofs.code_byte.Reads as code-byte-reads
-use Rattle.steps.proofs.constant.Reads as constant-reads
-use Rattle.steps.proofs.extended.Reads as extended-reads
-use Rattle.steps.proofs.far.Reads as far-reads
-use Rattle.steps.proofs.near.Reads as near-reads
-use Rattle.steps.proofs.push.Reads as push-reads
-use Rattle.steps.proofs.send.Reads as send-reads
-use Rattle.steps.proofs.special_send.Reads as special-send-reads
-use Rattle.steps.proofs.store.Reads as store-reads
 
 -- src/lib.rt:705:9
 code-byte-requires : tie.Need-code-byte-requires

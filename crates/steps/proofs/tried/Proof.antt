@@ -7,10 +7,6 @@ use Rattle.plain.specs.Step.{triedPrimitive}
 use borrow.Author.Needs.{needs}
 use Rattle.steps.proofs.tried.Statement.{statement}
 use Rattle.steps.proofs.tried.Tie as tie
-use Rattle.steps.proofs.tried.Reads as reads
-use Rattle.steps.proofs.tried.Lts as lts
-use Rattle.arithmetic.proofs.arithmetic.Reads as arithmetic-reads
-use Rattle.arithmetic.proofs.compute.Reads as compute-reads
 
 -- src/lib.rt:348:14
 arithmetic-requires : tie.Need-arithmetic-requires

@@ -3,7 +3,7 @@ use native.Mathlib.Omega.{arith}
 use Prim.Native.Nat.{ℕ, _-_, _+_}
 use mathlib.Core.Path.{_≡_, refl, sym, ap, _∙_}
 use Rattle.machine.specs.State.{state}
-use Rattle.machine.proofs.Looping.{Loop, start-runs, loop-start, loop-holds-it, loop-active, loop-cached, held-small, held-lengths, held-leaves, loop-ends, loop-finished, loop-halted, loop-next-one, went-runs, loop-went}
+use Rattle.machine.proofs.Looping.{Loop, start-runs, loop-start, loop-holds-it, loop-active, loop-cached, held-small, held-lengths, held-leaves, loop-ends, loop-finished, loop-halted, loop-next-one, went-runs, loop-went, back-runs, loop-back}
 use Rattle.machine.proofs.Registers.run_on.Statement.{statement}
 use Rattle.machine.proofs.Registers.run_on.Tie as tie
 
@@ -14,8 +14,8 @@ abbrev μ-loop : tie.MeasureT-loop
 μ-loop self contents₀ bodies₀ stack₀ cache₀ grant n₀ b₀ count₀ reach₀ active₀ contents bodies stack cache n b count reach active = grant - count
 
 -- src/lib.rt:304:35
-cast-t20 : tie.Need-cast-t20 Inv-loop μ-loop
-cast-t20 c = search needs
+cast-t21 : tie.Need-cast-t21 Inv-loop μ-loop
+cast-t21 c = search needs
 
 -- src/lib.rt:305:21
 cast-n : tie.Need-cast-n Inv-loop μ-loop
@@ -81,93 +81,113 @@ loop-less-2 c = let t = c .before .before .before .before .before .before .befor
 loop-again-2 : tie.Need-loop-again-2 Inv-loop μ-loop
 loop-again-2 c = loop-holds-it (loop-went (c .before .before .before .before .before .before .before .before .before .before .before .before .before .before .before .before .before .before .before .before .before .before .before .before .before .loop .inv) (c .before .before .before .before .before .before .before .before .before .before .before .before .before .before .before .before .before .before .before .before .before .before .before .before .loop-test .taken) _ _ _ _ (c .before .before .before .before .before .before .before .before .before .before .before .before .before .before .before .before .before .before .before .advance .result) (c .before .before .before .before .before .before .before .before .before .before .before .before .before .before .before .before .before .before .before .advance .ensures (c .before .before .before .before .before .before .before .before .before .before .before .before .before .before .before .before .before .before .before .before .before .before .before .before .before .before .before .before .before .before .before .before .before .before .before .before .before .before .before .before .before .args .self .receiver) (c .before .before .before .before .before .before .before .before .before .before .before .before .before .before .before .before .before .before .before .before .before .before .before .before .before .before .before .before .before .before .before .before .before .before .before .before .before .before .before .before .before .args .self .selector)) _ _ _ (c .before .before .before .before .before .before .before .before .before .objects .given .1) _ (c .before .before .before .before .raised .ensures .0) (c .before .before .before .before .raised .ensures .1)) (c .enter2 .result) (c .enter2 .ensures)
 
--- src/lib.rt:328:36
+-- src/lib.rt:328:33
+enum-known-top : tie.Need-enum-known-top Inv-loop μ-loop
+enum-known-top c = search needs
+
+-- src/lib.rt:329:21
+enter-requires-3 : tie.Need-enter-requires-3 Inv-loop μ-loop
+enter-requires-3 c κs = back-runs (c .before .before .before .before .before .before .before .before .before .before .before .before .before .before .before .before .before .before .before .before .loop .inv) (c .before .before .before .before .before .before .before .before .before .before .before .before .before .before .before .before .before .before .before .loop-test .taken) _ _ _ _ (c .before .before .before .before .before .before .before .before .before .before .before .before .before .before .advance .result) (c .before .before .before .before .before .before .before .before .before .before .before .before .before .before .advance .ensures (c .before .before .before .before .before .before .before .before .before .before .before .before .before .before .before .before .before .before .before .before .before .before .before .before .before .before .before .before .before .before .before .before .before .before .before .before .args .self .receiver) (c .before .before .before .before .before .before .before .before .before .before .before .before .before .before .before .before .before .before .before .before .before .before .before .before .before .before .before .before .before .before .before .before .before .before .before .before .args .self .selector)) _ (c .before .before .before .before .top .given .1)
+
+-- src/lib.rt:330:21
+add-count-3 : tie.Need-add-count-3 Inv-loop μ-loop
+add-count-3 c = let t = c .before .before .before .before .before .before .before .before .before .before .before .before .before .before .before .before .before .before .before .before .loop-test .taken in omega (arith, c .before .before .before .before .before .before .before .before .before .before .before .before .before .before .before .before .before .before .before .before .before .before .before .before .before .before .before .before .before .before .before .before .before .before .before .before .before .fits)
+
+-- src/lib.rt:310:9
+loop-less-3 : tie.Need-loop-less-3 Inv-loop μ-loop
+loop-less-3 c = let t = c .before .before .before .before .before .before .before .before .before .before .before .before .before .before .before .before .before .before .before .before .loop-test .taken in omega arith
+
+-- src/lib.rt:310:9
+loop-again-3 : tie.Need-loop-again-3 Inv-loop μ-loop
+loop-again-3 c = loop-holds-it (loop-back (c .before .before .before .before .before .before .before .before .before .before .before .before .before .before .before .before .before .before .before .before .before .loop .inv) (c .before .before .before .before .before .before .before .before .before .before .before .before .before .before .before .before .before .before .before .before .loop-test .taken) _ _ _ _ (c .before .before .before .before .before .before .before .before .before .before .before .before .before .before .before .advance .result) (c .before .before .before .before .before .before .before .before .before .before .before .before .before .before .before .advance .ensures (c .before .before .before .before .before .before .before .before .before .before .before .before .before .before .before .before .before .before .before .before .before .before .before .before .before .before .before .before .before .before .before .before .before .before .before .before .before .args .self .receiver) (c .before .before .before .before .before .before .before .before .before .before .before .before .before .before .before .before .before .before .before .before .before .before .before .before .before .before .before .before .before .before .before .before .before .before .before .before .before .args .self .selector)) _ (c .before .before .before .before .before .top .given .1)) (c .enter3 .result) (c .enter3 .ensures)
+
+-- src/lib.rt:332:36
 enum-known-w : tie.Need-enum-known-w Inv-loop μ-loop
 enum-known-w c = search needs
 
--- src/lib.rt:331:32
-cast-t55 : tie.Need-cast-t55 Inv-loop μ-loop
-cast-t55 c = let k = held-small (c .before .before .before .before .before .before .before .before .before .before .before .before .before .before .before .before .before .loop .inv) in omega arith
+-- src/lib.rt:335:32
+cast-t62 : tie.Need-cast-t62 Inv-loop μ-loop
+cast-t62 c = let k = held-small (c .before .before .before .before .before .before .before .before .before .before .before .before .before .before .before .before .before .loop .inv) in omega arith
 
--- src/lib.rt:332:32
-cast-t56 : tie.Need-cast-t56 Inv-loop μ-loop
-cast-t56 c = let k = held-small (c .before .before .before .before .before .before .before .before .before .before .before .before .before .before .before .before .before .loop .inv) in omega arith
+-- src/lib.rt:336:32
+cast-t63 : tie.Need-cast-t63 Inv-loop μ-loop
+cast-t63 c = let k = held-small (c .before .before .before .before .before .before .before .before .before .before .before .before .before .before .before .before .before .loop .inv) in omega arith
 
--- src/lib.rt:339:32
-add-t58 : tie.Need-add-t58 Inv-loop μ-loop
-add-t58 c = let t = c .before .before .before .before .before .before .before .before .before .before .before .before .before .before .before .before .loop-test .taken in omega (arith, c .before .before .before .before .before .before .before .before .before .before .before .before .before .before .before .before .before .before .before .before .before .before .before .before .before .before .before .before .before .before .before .before .before .fits)
+-- src/lib.rt:343:32
+add-t65 : tie.Need-add-t65 Inv-loop μ-loop
+add-t65 c = let t = c .before .before .before .before .before .before .before .before .before .before .before .before .before .before .before .before .loop-test .taken in omega (arith, c .before .before .before .before .before .before .before .before .before .before .before .before .before .before .before .before .before .before .before .before .before .before .before .before .before .before .before .before .before .before .before .before .before .fits)
 
--- src/lib.rt:329:21
+-- src/lib.rt:333:21
 same-length : tie.Need-same-length Inv-loop μ-loop
 same-length c = c .before .before .before .before .before .before .before .before .before .before .before .advance .kept .0 ∙ held-lengths (c .before .before .before .before .before .before .before .before .before .before .before .before .before .before .before .before .before .loop .inv) .0
 
--- src/lib.rt:329:21
+-- src/lib.rt:333:21
 same-length-2 : tie.Need-same-length-2 Inv-loop μ-loop
 same-length-2 c = c .before .before .before .before .before .before .before .before .before .before .before .advance .kept .1 .0 ∙ held-lengths (c .before .before .before .before .before .before .before .before .before .before .before .before .before .before .before .before .before .loop .inv) .1
 
--- src/lib.rt:329:21
+-- src/lib.rt:333:21
 same-length-3 : tie.Need-same-length-3 Inv-loop μ-loop
 same-length-3 c = c .before .before .before .before .before .before .before .before .before .before .before .advance .kept .1 .1 .0 ∙ held-lengths (c .before .before .before .before .before .before .before .before .before .before .before .before .before .before .before .before .before .loop .inv) .2
 
--- src/lib.rt:329:21
+-- src/lib.rt:333:21
 same-length-4 : tie.Need-same-length-4 Inv-loop μ-loop
 same-length-4 c = c .before .before .before .before .before .before .before .before .before .before .before .advance .kept .1 .1 .1 .0 ∙ held-lengths (c .before .before .before .before .before .before .before .before .before .before .before .before .before .before .before .before .before .loop .inv) .3
 
--- src/lib.rt:329:21
+-- src/lib.rt:333:21
 returns : tie.Need-returns Inv-loop μ-loop
 returns c = loop-finished (c .before .before .before .before .before .before .before .before .before .before .before .before .before .before .before .before .before .loop .inv) (c .before .before .before .before .before .before .before .before .before .before .before .before .before .before .before .before .loop-test .taken) _ _ _ _ (c .before .before .before .before .before .before .before .before .before .before .before .advance .result) (c .before .before .before .before .before .before .before .before .before .before .before .advance .ensures (c .before .before .before .before .before .before .before .before .before .before .before .before .before .before .before .before .before .before .before .before .before .before .before .before .before .before .before .before .before .before .before .before .before .args .self .receiver) (c .before .before .before .before .before .before .before .before .before .before .before .before .before .before .before .before .before .before .before .before .before .before .before .before .before .before .before .before .before .before .before .before .before .args .self .selector)) _ (c .before .w .given .1)
 
--- src/lib.rt:343:34
+-- src/lib.rt:347:34
 enum-known-k : tie.Need-enum-known-k Inv-loop μ-loop
 enum-known-k c = search needs
 
--- src/lib.rt:346:32
-cast-t59 : tie.Need-cast-t59 Inv-loop μ-loop
-cast-t59 c = let k = held-small (c .before .before .before .before .before .before .before .before .before .before .before .before .before .before .before .before .before .loop .inv) in omega arith
+-- src/lib.rt:350:32
+cast-t66 : tie.Need-cast-t66 Inv-loop μ-loop
+cast-t66 c = let k = held-small (c .before .before .before .before .before .before .before .before .before .before .before .before .before .before .before .before .before .loop .inv) in omega arith
 
--- src/lib.rt:347:32
-cast-t60 : tie.Need-cast-t60 Inv-loop μ-loop
-cast-t60 c = let k = held-small (c .before .before .before .before .before .before .before .before .before .before .before .before .before .before .before .before .before .loop .inv) in omega arith
+-- src/lib.rt:351:32
+cast-t67 : tie.Need-cast-t67 Inv-loop μ-loop
+cast-t67 c = let k = held-small (c .before .before .before .before .before .before .before .before .before .before .before .before .before .before .before .before .before .loop .inv) in omega arith
 
--- src/lib.rt:351:34
-cast-t61 : tie.Need-cast-t61 Inv-loop μ-loop
-cast-t61 c = let k = held-small (c .before .before .before .before .before .before .before .before .before .before .before .before .before .before .before .before .before .before .loop .inv) in omega arith
+-- src/lib.rt:355:34
+cast-t68 : tie.Need-cast-t68 Inv-loop μ-loop
+cast-t68 c = let k = held-small (c .before .before .before .before .before .before .before .before .before .before .before .before .before .before .before .before .before .before .loop .inv) in omega arith
 
--- src/lib.rt:344:21
+-- src/lib.rt:348:21
 same-length-5 : tie.Need-same-length-5 Inv-loop μ-loop
 same-length-5 c = c .before .before .before .before .before .before .before .before .before .before .before .before .advance .kept .0 ∙ held-lengths (c .before .before .before .before .before .before .before .before .before .before .before .before .before .before .before .before .before .before .loop .inv) .0
 
--- src/lib.rt:344:21
+-- src/lib.rt:348:21
 same-length-6 : tie.Need-same-length-6 Inv-loop μ-loop
 same-length-6 c = c .before .before .before .before .before .before .before .before .before .before .before .before .advance .kept .1 .0 ∙ held-lengths (c .before .before .before .before .before .before .before .before .before .before .before .before .before .before .before .before .before .before .loop .inv) .1
 
--- src/lib.rt:344:21
+-- src/lib.rt:348:21
 same-length-7 : tie.Need-same-length-7 Inv-loop μ-loop
 same-length-7 c = c .before .before .before .before .before .before .before .before .before .before .before .before .advance .kept .1 .1 .0 ∙ held-lengths (c .before .before .before .before .before .before .before .before .before .before .before .before .before .before .before .before .before .before .loop .inv) .2
 
--- src/lib.rt:344:21
+-- src/lib.rt:348:21
 same-length-8 : tie.Need-same-length-8 Inv-loop μ-loop
 same-length-8 c = c .before .before .before .before .before .before .before .before .before .before .before .before .advance .kept .1 .1 .1 .0 ∙ held-lengths (c .before .before .before .before .before .before .before .before .before .before .before .before .before .before .before .before .before .before .loop .inv) .3
 
--- src/lib.rt:344:21
+-- src/lib.rt:348:21
 returns-2 : tie.Need-returns-2 Inv-loop μ-loop
 returns-2 c = loop-halted (c .before .before .before .before .before .before .before .before .before .before .before .before .before .before .before .before .before .before .loop .inv) (c .before .before .before .before .before .before .before .before .before .before .before .before .before .before .before .before .before .loop-test .taken) _ _ _ _ (c .before .before .before .before .before .before .before .before .before .before .before .before .advance .result) (c .before .before .before .before .before .before .before .before .before .before .before .before .advance .ensures (c .before .before .before .before .before .before .before .before .before .before .before .before .before .before .before .before .before .before .before .before .before .before .before .before .before .before .before .before .before .before .before .before .before .before .args .self .receiver) (c .before .before .before .before .before .before .before .before .before .before .before .before .before .before .before .before .before .before .before .before .before .before .before .before .before .before .before .before .before .before .before .before .before .before .args .self .selector)) _ (c .before .before .k .given .1)
 
--- src/lib.rt:360:9
+-- src/lib.rt:364:9
 leave-requires : tie.Need-leave-requires Inv-loop μ-loop
 leave-requires c κs = held-leaves (c .before .before .loop .inv)
 
--- src/lib.rt:363:20
-cast-t66 : tie.Need-cast-t66 Inv-loop μ-loop
-cast-t66 c = let k = held-small (c .before .before .before .before .before .loop .inv) in omega arith
+-- src/lib.rt:367:20
+cast-t73 : tie.Need-cast-t73 Inv-loop μ-loop
+cast-t73 c = let k = held-small (c .before .before .before .before .before .loop .inv) in omega arith
 
--- src/lib.rt:364:20
-cast-t67 : tie.Need-cast-t67 Inv-loop μ-loop
-cast-t67 c = let k = held-small (c .before .before .before .before .before .loop .inv) in omega arith
+-- src/lib.rt:368:20
+cast-t74 : tie.Need-cast-t74 Inv-loop μ-loop
+cast-t74 c = let k = held-small (c .before .before .before .before .before .loop .inv) in omega arith
 
--- src/lib.rt:368:22
-cast-t68 : tie.Need-cast-t68 Inv-loop μ-loop
-cast-t68 c = let k = held-small (c .before .before .before .before .before .before .loop .inv) in omega arith
+-- src/lib.rt:372:22
+cast-t75 : tie.Need-cast-t75 Inv-loop μ-loop
+cast-t75 c = let k = held-small (c .before .before .before .before .before .before .loop .inv) in omega arith
 
 -- src/lib.rt:293:5
 same-length-9 : tie.Need-same-length-9 Inv-loop μ-loop
@@ -195,7 +215,7 @@ run-on-spec =
     (tie.spec
     Inv-loop
     μ-loop
-    cast-t20
+    cast-t21
     cast-n
     cast-b
     frame-end-requires
@@ -212,28 +232,33 @@ run-on-spec =
     add-count-2
     loop-less-2
     loop-again-2
+    enum-known-top
+    enter-requires-3
+    add-count-3
+    loop-less-3
+    loop-again-3
     enum-known-w
-    cast-t55
-    cast-t56
-    add-t58
+    cast-t62
+    cast-t63
+    add-t65
     same-length
     same-length-2
     same-length-3
     same-length-4
     returns
     enum-known-k
-    cast-t59
-    cast-t60
-    cast-t61
+    cast-t66
+    cast-t67
+    cast-t68
     same-length-5
     same-length-6
     same-length-7
     same-length-8
     returns-2
     leave-requires
-    cast-t66
-    cast-t67
-    cast-t68
+    cast-t73
+    cast-t74
+    cast-t75
     same-length-9
     same-length-10
     same-length-11
