@@ -204,12 +204,20 @@ fn new_base(
     }
 }
 
-// Words of the stack from a place on, at the front of a buffer.
+// Words of the stack from a place on, at the front of a buffer. The first two by themselves: the loop is compiled to a call, and few sends have more.
 fn copy(words: &mut [u16], stack: &[u16], from: usize, count: usize)
     requires { ⌜ (count ≤ length (now words)) × (from + count ≤ length (now stack)) ⌝ }
     ensures { λ _. ⌜ take count (now (words .exit)) ≡ part (now (stack .entry)) from count ⌝ }
 {
-    let mut i: usize = 0;
+    if count == 0 {
+        return;
+    }
+    words[0] = stack[from];
+    if count == 1 {
+        return;
+    }
+    words[1] = stack[from + 1];
+    let mut i: usize = 2;
     while i < count {
         words[i] = stack[from + i];
         i += 1;
