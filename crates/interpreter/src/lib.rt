@@ -93,6 +93,8 @@ pub fn advance(
                 n,
                 b,
                 top,
+                active.operands,
+                active.end,
                 selector,
                 count,
                 class,
