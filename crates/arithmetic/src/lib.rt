@@ -239,6 +239,10 @@ pub fn arithmetic(k: u8, v: u16, w: u16) -> Computed
         5 => truth(value(v) <= value(w)),
         6 => truth(value(w) <= value(v)),
         7 => truth(value(v) == value(w)),
+        8 => truth(value(v) != value(w)),
+        9 => number(value(v) * value(w)),
+        14 => Computed::Word(v & w),
+        15 => Computed::Word(v | w),
         _ => compute(k, v, w),
     }
 }

@@ -9,12 +9,21 @@ use model::CodePosition;
 use model::Pointer;
 use model::StackPosition;
 
-// The arguments, as the first temporaries of the frame whose words are lent.
+// The arguments, as the first temporaries of the frame whose words are lent. The first two by themselves: the loop is compiled to a call, and
+// few sends have more.
 fn copy_arguments(words: &mut [u16], count: usize, arguments: &[u16])
     requires { ⌜ (6 + count ≤ length (now words)) × (count ≤ length (now arguments)) ⌝ }
     ensures { λ r. ⌜ now (words .exit) ≡ sets (now (words .entry)) 6 (take count (now (arguments .entry))) ⌝ }
 {
-    let mut i = 0;
+    if count == 0 {
+        return;
+    }
+    words[6] = arguments[0];
+    if count == 1 {
+        return;
+    }
+    words[7] = arguments[1];
+    let mut i: usize = 2;
     while i < count {
         words[6 + i] = arguments[i];
         i += 1;

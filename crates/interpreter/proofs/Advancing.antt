@@ -23,10 +23,10 @@ use Rattle.steps.specs.declared.Event.the-variants.{Next, Send, Return, NoBoole
 use Rattle.steps.specs.declared.Active.{Active}
 use Rattle.steps.specs.Events.{Says, Becomes, IsActive, Leaving, written, movedOn}
 use Rattle.steps.proofs.HereLaws.{noted-small}
-use Rattle.steps.proofs.ActiveLaws.{length-written, leaving}
+use Rattle.steps.proofs.ActiveLaws.{length-written, depth-read, operands-read, leaving}
 use Rattle.sends.specs.declared.Sent.{Sent}
 use Rattle.sends.specs.declared.Sent.the-variants.{Answered, Entered, NotUnderstood, NoRoom}
-use Rattle.sends.specs.Sends.{Caches, SentIs}
+use Rattle.sends.specs.Sends.{Caches, OperandsAt, SentIs}
 use Rattle.interpreter.specs.Advances.{Stops, AdvancedIs, stepOf}
 use Rattle.interpreter.specs.declared.Advanced.the-variants as A
 
@@ -148,11 +148,20 @@ module _ {n b : ℕ} {contents bodies stack₀ : List ℕ} {a : Active} (r₀ : 
         let x : Says n b contents a bodies stack₀ bodies₁ stack₂ (Send s k c q sure) = by-event r₀ bodies₁ stack₂ event says (Send s k c q sure) e in
         (x .0, onto-left (λ room receiver selector. sendStep room receiver selector n b top contents bodies stack s k (c .0) (q .0)) (x .1))
 
+    -- the frame's operands are where the loop has them
+    operands-at : OperandsAt n b top contents bodies stack (a .operands .0) (a .end .0)
+    operands-at = let d = depth-read r₀ in let u = r₀ .stands .above in record { first = operands-read r₀; behind = omega arith }
+
     pub can-send : (cache : List ℕ) → Caches n b contents bodies cache
         → Sending n b top contents bodies₁ stack₁ s k (c .0) (q .0) sure × Caches n b contents bodies₁ cache × (q .0 < 65536)
+        × OperandsAt n b top contents bodies₁ stack₁ (a .operands .0) (a .end .0)
     can-send cache g =
-        let x = sends-it in
-        (onto (x .1 .words) (x .1 .frames) (λ (l z : List ℕ). Sending n b top contents l z s k (c .0) (q .0) sure) (x .0), onto (x .1 .words) (x .1 .frames) (λ (l z : List ℕ). Caches n b contents l cache) g, noted-small r (q .0) _ (x .0 .noted))
+        let x = sends-it in (
+          onto (x .1 .words) (x .1 .frames) (λ (l z : List ℕ). Sending n b top contents l z s k (c .0) (q .0) sure) (x .0),
+          onto (x .1 .words) (x .1 .frames) (λ (l z : List ℕ). Caches n b contents l cache) g,
+          noted-small r (q .0) _ (x .0 .noted),
+          onto (x .1 .words) (x .1 .frames) (λ (l z : List ℕ). OperandsAt n b top contents l z (a .operands .0) (a .end .0)) operands-at,
+        )
 
     module _ (cache contents′ bodies′ stack′ cache′ : List ℕ) (answer : Sent)
         (h : (receiver selector : ℕ) → SentIs (send-step cache bodies₁ stack₁ receiver selector) receiver selector n b top contents bodies₁ stack₁ cache contents′ bodies′ stack′ cache′ answer)

@@ -94,6 +94,8 @@ pub fn advance(
                 n,
                 b,
                 top,
+                active.operands,
+                active.end,
                 selector,
                 count,
                 class,

@@ -30,7 +30,27 @@ use Rattle.objects.proofs.Buffers.{contents-room, bodies-room}
 use Rattle.sends.specs.declared.Message.{Message}
 use Rattle.sends.specs.declared.Base.{Base}
 use Rattle.sends.specs.declared.Base.the-variants as base
-use Rattle.sends.specs.Sends.{MessageIs, Framing, FrameAt, NoFrame, BaseIs, Enters}
+use Rattle.sends.specs.Sends.{OperandsAt, Readable, Reads, MessageIs, Framing, FrameAt, NoFrame, BaseIs, Enters}
+
+-- Receiver and arguments are read where the frame's operands are.
+module _ {n b top : ℕ} {contents bodies stack : List ℕ} {selector count class position : ℕ} {sure : Bool} (s : Sending n b top contents bodies stack selector count class position sure)
+    {operands end : ℕ} (p : OperandsAt n b top contents bodies stack operands end) where
+  pub readable : Readable stack top operands end count
+  readable =
+      let t = top-bounds (s .runs) in
+      let nd = s .needs in
+      let f = p .first in
+      let e = p .behind in
+      record { frame = omega arith; needs = omega arith; inside = omega arith }
+
+  pub message : {r : Message} → Reads stack top operands end count r → MessageIs n b top contents bodies stack count r
+  message {r} g =
+      let nd = s .needs in
+      let f = p .first in
+      let e = p .behind in
+      let l = g .left in
+      let at = g .place in
+      record { running = g .running; left = omega arith; place = omega arith; receiver = g .receiver ∙ ap (λ (i : ℕ). getD stack i 0) (omega arith); first = g .first; second = g .second }
 
 module _ {n b top : ℕ} {contents bodies stack : List ℕ} {selector count class position : ℕ} {sure : Bool} (s : Sending n b top contents bodies stack selector count class position sure)
     {r : Message} (g : MessageIs n b top contents bodies stack count r) where

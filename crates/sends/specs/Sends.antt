@@ -35,6 +35,25 @@ pub record Asks (n b : ℕ) (contents bodies cache : List ℕ) (selector class :
   pub caches : Caches n b contents bodies cache
   pub named : 1 ≤ selector
 
+-- The first operand of the top frame, and the place behind its last
+pub record OperandsAt (n b top : ℕ) (contents bodies stack : List ℕ) (operands end : ℕ) : Type 0 where
+  pub first : operands ≡ operandsStart (objectsAt n b contents bodies) (frameMethod stack top) top
+  pub behind : end ≡ operands + frameDepth stack top
+
+-- Receiver and arguments among operands that can be read, and what is read of them
+pub record Readable (stack : List ℕ) (top operands end count : ℕ) : Type 0 where
+  pub frame : top + 3 < length stack
+  pub needs : operands + suc count ≤ end
+  pub inside : end ≤ length stack
+
+pub record Reads (stack : List ℕ) (top operands end count : ℕ) (r : Message) : Type 0 where
+  pub running : r .running ≡ frameMethod stack top
+  pub left : r .left ≡ end - suc count - operands
+  pub place : r .place ≡ end - suc count
+  pub receiver : r .receiver ≡ getD stack (r .place) 0
+  pub first : r .first ≡ getD (part stack (r .place + 1) count) 0 0
+  pub second : r .second ≡ getD (part stack (r .place + 1) count) 1 0
+
 -- Receiver and arguments of a send, the uppermost operands of the top frame
 pub record MessageIs (n b top : ℕ) (contents bodies stack : List ℕ) (count : ℕ) (r : Message) : Type 0 where
   pub running : r .running ≡ frameMethod stack top

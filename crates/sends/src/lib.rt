@@ -1,19 +1,18 @@
 // A send: the method is sought through the cache, and answers without a frame or runs in a new one. The step is plain's specs/Step.antt.
 ghost use mathlib.Core.Path.{_≡_};
 ghost use mathlib.Core.Bool.{true};
-ghost use Prim.Native.Nat.{ℕ, suc, _+_, _*_, _/_, _≤_, _<_};
+ghost use Prim.Native.Nat.{ℕ, _+_, _*_, _/_, _≤_, _<_};
 ghost use lib.ListN.{length, getD, set, take};
 ghost use lib.Seq.{sets};
 ghost use Rattle.model.specs.Objects.{objectsAt, classOf, part};
 ghost use Rattle.model.specs.Method.{home};
 ghost use Rattle.model.specs.Lookup.{lookup, inChain};
 ghost use Rattle.plain.specs.Step.{looked};
-ghost use Rattle.plain.specs.Flat.{frameDepth};
 ghost use Rattle.plain.specs.Cache.{cacheEntryOf, filled};
-ghost use Rattle.plain.specs.Running.{Runs, Sending, roomAt, sendStep};
+ghost use Rattle.plain.specs.Running.{Sending, roomAt, sendStep};
 ghost use Rattle.frames.specs.Words.{newWords};
 ghost use Rattle.activation.specs.Activating.{Activable, Activates};
-ghost use Rattle.sends.specs.Sends.{Caches, Asks, MessageIs, Guarded, Framing, BaseIs, Enters, SentIs};
+ghost use Rattle.sends.specs.Sends.{Caches, Asks, OperandsAt, Readable, Reads, Guarded, Framing, BaseIs, Enters, SentIs};
 use activation::Activated;
 use model::CodePosition;
 use model::Found;
@@ -98,23 +97,21 @@ fn argument(stack: &[u16], from: usize, count: usize, i: usize) -> u16
     stack[from + i]
 }
 
+// The operands of the top frame start at `operands` and end before `end`.
 fn received(
-    contents: &[u16],
-    bodies: &[u16],
     stack: &[u16],
-    n: usize,
-    b: usize,
     top: StackPosition,
+    operands: StackPosition,
+    end: StackPosition,
     count: usize,
 ) -> Message
-    requires { ⌜ Runs n b (top .0) (now contents) (now bodies) (now stack) × (suc count ≤ frameDepth (now stack) (top .0)) ⌝ }
-    ensures { λ r. ⌜ MessageIs n b (top .0) (now (contents .entry)) (now (bodies .entry)) (now (stack .entry)) count r ⌝ }
+    requires { ⌜ Readable (now stack) (top .0) (operands .0) (end .0) count ⌝ }
+    ensures { λ r. ⌜ Reads (now (stack .entry)) (top .0) (operands .0) (end .0) count r ⌝ }
 {
     let base = top.0;
     let running = stack[base + 3];
-    let left = stack[base + 2] as usize - count - 1;
-    let header = objects::header(contents, bodies, n, b, Pointer(running));
-    let place = base + 6 + objects::temporary_count(header) + left;
+    let place = end.0 - 1 - count;
+    let left = place - operands.0;
     let first = argument(stack, place + 1, count, 0);
     let second = argument(stack, place + 1, count, 1);
     Message {
@@ -204,12 +201,20 @@ fn new_base(
     }
 }
 
-// Words of the stack from a place on, at the front of a buffer.
+// Words of the stack from a place on, at the front of a buffer. The first two by themselves: the loop is compiled to a call, and few sends have more.
 fn copy(words: &mut [u16], stack: &[u16], from: usize, count: usize)
     requires { ⌜ (count ≤ length (now words)) × (from + count ≤ length (now stack)) ⌝ }
     ensures { λ _. ⌜ take count (now (words .exit)) ≡ part (now (stack .entry)) from count ⌝ }
 {
-    let mut i: usize = 0;
+    if count == 0 {
+        return;
+    }
+    words[0] = stack[from];
+    if count == 1 {
+        return;
+    }
+    words[1] = stack[from + 1];
+    let mut i: usize = 2;
     while i < count {
         words[i] = stack[from + i];
         i += 1;
@@ -246,7 +251,8 @@ fn enter(
     );
 }
 
-// A send of a selector with `count` arguments by the top frame, the search starting at a class; `next` is the position behind it.
+// A send of a selector with `count` arguments by the top frame, the search starting at a class; `next` is the position behind it. The frame's
+// operands start at `operands` and end before `end`.
 pub fn send(
     contents: &mut [u16],
     bodies: &mut [u16],
@@ -255,20 +261,22 @@ pub fn send(
     n: usize,
     b: usize,
     top: StackPosition,
+    operands: StackPosition,
+    end: StackPosition,
     selector: u16,
     count: usize,
     class: Pointer,
     next: CodePosition,
     sure: bool,
 ) -> Sent
-    requires { ⌜ Sending n b (top .0) (now contents) (now bodies) (now stack) selector count (class .0) (next .0) sure × Caches n b (now contents) (now bodies) (now cache) × (next .0 < 65536) ⌝ }
+    requires { ⌜ Sending n b (top .0) (now contents) (now bodies) (now stack) selector count (class .0) (next .0) sure × Caches n b (now contents) (now bodies) (now cache) × (next .0 < 65536) × OperandsAt n b (top .0) (now contents) (now bodies) (now stack) (operands .0) (end .0) ⌝ }
     ensures { λ r. ⌜ ((receiver startSelector : ℕ) → SentIs (sendStep (roomAt (now (contents .entry)) (now (bodies .entry)) (now (stack .entry)) (now (cache .entry))) receiver startSelector n b (top .0) (now (contents .entry)) (now (bodies .entry)) (now (stack .entry)) selector count (class .0) (next .0)) receiver startSelector n b (top .0) (now (contents .entry)) (now (bodies .entry)) (now (stack .entry)) (now (cache .entry)) (now (contents .exit)) (now (bodies .exit)) (now (stack .exit)) (now (cache .exit)) r) ⌝ }
 {
     let found = cached(contents, bodies, cache, n, b, selector, class);
     let Found::Method(method) = found else {
         return Sent::NotUnderstood;
     };
-    let sent = received(contents, bodies, stack, n, b, top, count);
+    let sent = received(stack, top, operands, end, count);
     let running = sent.running;
     let left = sent.left;
     let place = sent.place;

@@ -129,7 +129,7 @@ module _ {n b : ℕ} {contents bodies stack : List ℕ} {a : Active} (r : IsActi
   pub active-method : (w : ℕ) → w ≡ m → Holds methodKind n b contents bodies w
   active-method w e = holds-method (r .runs) w (e ∙ sym method-read)
 
-  operands-read : a .operands .0 ≡ operandsStart o (frameMethod v (a .base .0)) (a .base .0)
+  pub operands-read : a .operands .0 ≡ operandsStart o (frameMethod v (a .base .0)) (a .base .0)
   operands-read = r .stands .operands ∙ ap (λ (k : ℕ). operandsStart o k (a .base .0)) (sym method-read)
 
   pub ends : Ends a stack

@@ -1,22 +1,22 @@
--- `arithmetic::arithmetic` meets its contract: each arm of 1 to 7 is one line of the definition.
+-- `arithmetic::arithmetic` meets its contract: each arm but the last is one line of the definition.
 use Prim.Native.Nat.{ℕ, _<_}
-use mathlib.Core.Path.{_≡_, sym, ap, ap₂, _∙_}
-use mathlib.Core.Bool.{_&&_}
+use mathlib.Core.Path.{_≡_, refl, sym, ap, ap₂, _∙_}
+use mathlib.Core.Bool.{Bool, true, _&&_, not}
 use native.Mathlib.Omega.{arith}
 use borrow.Author.Needs.{needs}
-use lib.Dec.{eqb}
-use lib.IntN.{ℤ, _+ℤ_, _-ℤ_}
+use lib.Dec.{eqb, leb}
+use lib.IntN.{ℤ, _+ℤ_, _-ℤ_, _*ℤ_}
 use lib.Signed.{ltZ, leZ}
 use mir.Syntax.{w32}
 use mir.Val.{SFits, toZ, ofZ}
 use Rattle.bytecode.specs.Test.{if_then_else_}
 use Rattle.model.specs.Word.{valueOf}
-use Rattle.model.specs.Arithmetic.{number, truth, onIntegers, arithmetic}
+use Rattle.model.specs.Arithmetic.{number, truth, onBits, onIntegers, arithmetic}
 use Rattle.arithmetic.proofs.Machine.{asks, gives}
-use Rattle.arithmetic.proofs.Magnitude.{sum-fits, difference-fits}
+use Rattle.arithmetic.proofs.Magnitude.{sum-fits, difference-fits, product-fits}
 use Rattle.arithmetic.proofs.Values.{value-mag, value-fits, read-value}
 use Rattle.arithmetic.proofs.Equality.{equal-bits}
-use Rattle.arithmetic.proofs.Dispatch.{receiver-no-integer, argument-no-integer, numbered}
+use Rattle.arithmetic.proofs.Dispatch.{receiver-no-integer, argument-no-integer, bitwise, numbered}
 use Rattle.arithmetic.proofs.arithmetic.Statement.{statement}
 use Rattle.arithmetic.proofs.arithmetic.Tie as tie
 
@@ -37,6 +37,9 @@ module _ (t : tie.Else2) where
   difference : SFits w32 (a -ℤ b)
   difference = difference-fits a b (value-mag (s .args .v) (s .fits .v .fits)) (value-mag (s .args .w) (s .fits .w .fits))
 
+  product : SFits w32 (a *ℤ b)
+  product = product-fits a b (value-mag (s .args .v) (s .fits .v .fits)) (value-mag (s .args .w) (s .fits .w .fits))
+
   -- what the machine reads of each
   read-a : {z : ℤ} → z ≡ a → toZ w32 (ofZ w32 z) ≡ a
   read-a e = read-value (s .args .v) (s .fits .v .fits) e
@@ -44,13 +47,19 @@ module _ (t : tie.Else2) where
   read-b : {z : ℤ} → z ≡ b → toZ w32 (ofZ w32 z) ≡ b
   read-b e = read-value (s .args .w) (s .fits .w .fits) e
 
-  equal : {x y : ℤ} → x ≡ a → y ≡ b → truth (eqb (ofZ w32 x) (ofZ w32 y)) ≡ truth (leZ a b && leZ b a)
+  equal : {x y : ℤ} → x ≡ a → y ≡ b → eqb (ofZ w32 x) (ofZ w32 y) ≡ (leZ a b && leZ b a)
   equal e f =
-      ap₂ (λ (x y : ℤ). truth (eqb (ofZ w32 x) (ofZ w32 y))) e f
-      ∙ ap truth (equal-bits a b (value-fits (s .args .v) (s .fits .v .fits)) (value-fits (s .args .w) (s .fits .w .fits)))
+      ap₂ (λ (x y : ℤ). eqb (ofZ w32 x) (ofZ w32 y)) e f
+      ∙ equal-bits a b (value-fits (s .args .v) (s .fits .v .fits)) (value-fits (s .args .w) (s .fits .w .fits))
 
   line : (j : ℕ) → s .args .k ≡ j → j < 14 → onIntegers j a b ≡ arithmetic (s .args .k) (s .args .v) (s .args .w)
   line j e h = sym (numbered (s .args .k) (s .args .v) (s .args .w) (t .before .if1 .left) (t .if2 .left) j e h)
+
+  bits : (j : ℕ) → s .args .k ≡ j → (leb 14 j && leb j 16) ≡ true → onBits j (s .args .v) (s .args .w) ≡ arithmetic (s .args .k) (s .args .v) (s .args .w)
+  bits j e h =
+      sym
+      (bitwise (s .args .k) (s .args .v) (s .args .w) (t .before .if1 .left) (t .if2 .left) (ap (λ (i : ℕ). leb 14 i && leb i 16) e ∙ h)
+      ∙ ap (λ (i : ℕ). onBits i (s .args .v) (s .args .w)) e)
 
 returns : tie.Need-returns
 returns c = let s = c .before in sym (receiver-no-integer (s .args .k) (s .args .v) (s .args .w) (c .if1 .taken))
@@ -129,6 +138,27 @@ value-requires-14 c κs = search needs
 truth-requires-5 : tie.Need-truth-requires-5
 truth-requires-5 c κs = search needs
 
+value-requires-15 : tie.Need-value-requires-15
+value-requires-15 c κs = search needs
+
+value-requires-16 : tie.Need-value-requires-16
+value-requires-16 c κs = search needs
+
+truth-requires-6 : tie.Need-truth-requires-6
+truth-requires-6 c κs = search needs
+
+value-requires-17 : tie.Need-value-requires-17
+value-requires-17 c κs = search needs
+
+value-requires-18 : tie.Need-value-requires-18
+value-requires-18 c κs = search needs
+
+mul-number : tie.Need-mul-number
+mul-number c = let t = c .before .before .before in asks _*ℤ_ (read-a t (c .before .value17 .ensures)) (read-b t (c .value18 .ensures)) (product t)
+
+number-requires-3 : tie.Need-number-requires-3
+number-requires-3 c κs = search needs
+
 compute-requires : tie.Need-compute-requires
 compute-requires c κs = search needs
 
@@ -185,11 +215,35 @@ unfolding onIntegers if_then_else_
 returns-9 c =
     let t = c .before .before .before .before in
     c .truth5 .ensures
-    ∙ equal t (c .before .before .value13 .ensures) (c .before .value14 .ensures)
+    ∙ ap truth (equal t (c .before .before .value13 .ensures) (c .before .value14 .ensures))
     ∙ line t 7 (c .before .before .before .match .keys7) (omega arith)
 
 returns-10 : tie.Need-returns-10
-returns-10 c = search needs
+unfolding onIntegers if_then_else_
+returns-10 c =
+    let t = c .before .before .before .before in
+    c .truth6 .ensures
+    ∙ ap (λ (x : Bool). truth (not x)) (equal t (c .before .before .value15 .ensures) (c .before .value16 .ensures))
+    ∙ line t 8 (c .before .before .before .match .keys8) (omega arith)
+
+returns-11 : tie.Need-returns-11
+unfolding onIntegers if_then_else_
+returns-11 c =
+    let t = c .before .before .before .before in
+    c .number3 .ensures
+    ∙ ap number (gives _*ℤ_ (read-a t (c .before .before .value17 .ensures)) (read-b t (c .before .value18 .ensures)) (product t))
+    ∙ line t 9 (c .before .before .before .match .keys9) (omega arith)
+
+returns-12 : tie.Need-returns-12
+unfolding onBits if_then_else_
+returns-12 c = bits (c .before) 14 (c .match .keys10) refl
+
+returns-13 : tie.Need-returns-13
+unfolding onBits if_then_else_
+returns-13 c = bits (c .before) 15 (c .match .keys11) refl
+
+returns-14 : tie.Need-returns-14
+returns-14 c = search needs
 
 pub arithmetic-spec : {M : Type 1} → statement M
 arithmetic-spec =
@@ -220,6 +274,13 @@ arithmetic-spec =
     value-requires-13
     value-requires-14
     truth-requires-5
+    value-requires-15
+    value-requires-16
+    truth-requires-6
+    value-requires-17
+    value-requires-18
+    mul-number
+    number-requires-3
     compute-requires
     returns-3
     returns-4
@@ -228,4 +289,8 @@ arithmetic-spec =
     returns-7
     returns-8
     returns-9
-    returns-10)
+    returns-10
+    returns-11
+    returns-12
+    returns-13
+    returns-14)

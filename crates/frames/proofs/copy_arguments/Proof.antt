@@ -1,70 +1,84 @@
-use Prim.Native.Nat.{ℕ, _≤_, _-_, _+_}
+use Prim.Native.Nat.{ℕ, _≤_, _<_, _-_, _+_}
 use mathlib.Core.Path.{_≡_, refl, sym, ap, _∙_}
+use mathlib.Core.List.{List}
 use native.Mathlib.Omega.{arith}
 use borrow.Author.Needs.{needs}
-use lib.ListN.{length, take, set, getD}
-use lib.Seq.{sets, length-sets}
+use lib.ListN.{length, take, set, getD, length-set}
+use lib.Seq.{sets}
 use Rattle.frames.proofs.SetsLaws.{sets-more}
 use Rattle.frames.proofs.copy_arguments.Statement.{statement}
 use Rattle.frames.proofs.copy_arguments.Tie as tie
-use Rattle.frames.proofs.copy_arguments.Reads as reads
-use Rattle.frames.proofs.copy_arguments.Lts as lts
+
+-- The two arguments that are copied before the loop
+first : (l a : List ℕ) → 0 < length a → set l 6 (getD a 0 0) ≡ sets l 6 (take 1 a)
+first l a h = sym (sets-more l a 6 0 h)
+
+second : (l a : List ℕ) → 1 < length a → set (set l 6 (getD a 0 0)) 7 (getD a 1 0) ≡ sets l 6 (take 2 a)
+second l a h = ap (λ (x : List ℕ). set x 7 (getD a 1 0)) (first l a (omega arith)) ∙ sym (sets-more l a 6 1 h)
+
+before-loop : (l a : List ℕ) → length l ≡ length (set (set l 6 (getD a 0 0)) 7 (getD a 1 0))
+before-loop l a = simp length-set
 
 abbrev Inv-loop : tie.InvT-loop
-Inv-loop words₀ count arguments i₀ words i = (i ≤ count) × (words ≡ sets words₀ 6 (take i arguments))
+Inv-loop words₀ count arguments i₀ words i =
+    (i ≤ count) × (length words ≡ length words₀) × ((l : List ℕ) → words₀ ≡ sets l 6 (take 2 arguments) → words ≡ sets l 6 (take i arguments))
 
 abbrev μ-loop : tie.MeasureT-loop
 μ-loop words₀ count arguments i₀ words i = count - i
 
--- src/lib.rt:17:5
-loop-holds : tie.Need-loop-holds Inv-loop μ-loop
-loop-holds c = (omega arith, refl)
+returns : tie.Need-returns Inv-loop μ-loop
+returns c = ap (λ (k : ℕ). sets (c .before .args .words .now) 6 (take k (c .before .args .arguments .now))) (sym (c .if1 .taken))
 
--- src/lib.rt:18:24
-mul-words : tie.Need-mul-words Inv-loop μ-loop
-mul-words c = search needs
-
--- src/lib.rt:18:24
 shared-slice-read-words : tie.Need-shared-slice-read-words Inv-loop μ-loop
 shared-slice-read-words c = omega arith
 
--- src/lib.rt:18:15
+slice-write-words : tie.Need-slice-write-words Inv-loop μ-loop
+slice-write-words c = omega arith
+
+same-length : tie.Need-same-length Inv-loop μ-loop
+same-length c = search needs
+
+returns-2 : tie.Need-returns-2 Inv-loop μ-loop
+returns-2 c = first (c .before .before .before .args .words .now) (c .before .before .before .args .arguments .now) (omega arith) ∙ ap (λ (k : ℕ). sets (c .before .before .before .args .words .now) 6 (take k (c .before .before .before .args .arguments .now))) (sym (c .if2 .taken))
+
+shared-slice-read-words-2 : tie.Need-shared-slice-read-words-2 Inv-loop μ-loop
+shared-slice-read-words-2 c = omega arith
+
+slice-write-words-2 : tie.Need-slice-write-words-2 Inv-loop μ-loop
+slice-write-words-2 c = simp length-set (omega arith)
+
+loop-holds : tie.Need-loop-holds Inv-loop μ-loop
+loop-holds c = (omega arith, refl, λ l e. e)
+
+mul-words : tie.Need-mul-words Inv-loop μ-loop
+mul-words c = search needs
+
+shared-slice-read-words-3 : tie.Need-shared-slice-read-words-3 Inv-loop μ-loop
+shared-slice-read-words-3 c = omega arith
+
 add-words : tie.Need-add-words Inv-loop μ-loop
 add-words c = search needs
 
--- src/lib.rt:18:9
 mul-words-2 : tie.Need-mul-words-2 Inv-loop μ-loop
 mul-words-2 c = search needs
 
--- src/lib.rt:18:9
-slice-write-words : tie.Need-slice-write-words Inv-loop μ-loop
-slice-write-words c = omega (arith, ap length (c .before .before .loop .inv .1) ∙ length-sets (c .before .before .before .args .words .now) 6 (take (c .before .before .loop .i) (c .before .before .before .args .arguments .now)))
+slice-write-words-3 : tie.Need-slice-write-words-3 Inv-loop μ-loop
+slice-write-words-3 c = let l = before-loop (c .before .before .before .before .before .before .before .args .words .now) (c .before .before .before .before .before .before .before .args .arguments .now) ∙ sym (c .before .before .loop .inv .1) in omega arith
 
--- src/lib.rt:19:9
 add-i : tie.Need-add-i Inv-loop μ-loop
 add-i c = search needs
 
--- src/lib.rt:17:5
 loop-less : tie.Need-loop-less Inv-loop μ-loop
 loop-less c = omega arith
 
--- src/lib.rt:17:5
 loop-again : tie.Need-loop-again Inv-loop μ-loop
-loop-again c = (
-  omega arith,
-  ap (λ l. set l (6 + c .before .before .loop .i) (getD (c .before .before .before .args .arguments .now) (c .before .before .loop .i) 0)) (c .before .before .loop .inv .1)
-      ∙ sym (sets-more (c .before .before .before .args .words .now) (c .before .before .before .args .arguments .now) 6 (c .before .before .loop .i) (omega arith)),
-)
+loop-again c = (omega arith, length-set (c .before .before .loop .words) (6 + c .before .before .loop .i) _ ∙ c .before .before .loop .inv .1, λ l e. ap (λ (x : List ℕ). set x (6 + c .before .before .loop .i) (getD (c .before .before .before .before .before .before .before .args .arguments .now) (c .before .before .loop .i) 0)) (c .before .before .loop .inv .2 l e) ∙ sym (sets-more l (c .before .before .before .before .before .before .before .args .arguments .now) 6 (c .before .before .loop .i) (omega arith)))
 
--- src/lib.rt:12:1
-same-length : tie.Need-same-length Inv-loop μ-loop
-same-length c = ap length (c .before .loop .inv .1) ∙ length-sets (c .before .before .args .words .now) 6 (take (c .before .loop .i) (c .before .before .args .arguments .now))
+same-length-2 : tie.Need-same-length-2 Inv-loop μ-loop
+same-length-2 c = c .before .loop .inv .1 ∙ sym (before-loop (c .before .before .before .before .before .before .args .words .now) (c .before .before .before .before .before .before .args .arguments .now))
 
--- src/lib.rt:12:1
-returns : tie.Need-returns Inv-loop μ-loop
-returns c =
-    let e : c .before .loop .i ≡ c .before .before .args .count = omega arith in
-    c .before .loop .inv .1 ∙ ap (λ (k : ℕ). sets (c .before .before .args .words .now) 6 (take k (c .before .before .args .arguments .now))) e
+returns-3 : tie.Need-returns-3 Inv-loop μ-loop
+returns-3 c = let e : c .before .loop .i ≡ c .before .before .before .before .before .before .args .count = omega arith in c .before .loop .inv .2 (c .before .before .before .before .before .before .args .words .now) (second (c .before .before .before .before .before .before .args .words .now) (c .before .before .before .before .before .before .args .arguments .now) (omega arith)) ∙ ap (λ (k : ℕ). sets (c .before .before .before .before .before .before .args .words .now) 6 (take k (c .before .before .before .before .before .before .args .arguments .now))) e
 
 pub copy-arguments-spec : {M : Type 1} → statement M
 copy-arguments-spec =
@@ -72,14 +86,21 @@ copy-arguments-spec =
     (tie.spec
     Inv-loop
     μ-loop
+    returns
+    shared-slice-read-words
+    slice-write-words
+    same-length
+    returns-2
+    shared-slice-read-words-2
+    slice-write-words-2
     loop-holds
     mul-words
-    shared-slice-read-words
+    shared-slice-read-words-3
     add-words
     mul-words-2
-    slice-write-words
+    slice-write-words-3
     add-i
     loop-less
     loop-again
-    same-length
-    returns)
+    same-length-2
+    returns-3)

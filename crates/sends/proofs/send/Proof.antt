@@ -2,7 +2,7 @@ use mathlib.Core.Path.{refl, sym, _∙_}
 use native.Mathlib.Omega.{arith}
 use Rattle.plain.proofs.RunningLaws.{top-bounds}
 use Rattle.plain.proofs.FramedLaws.{send-none}
-use Rattle.sends.proofs.Sending.{activable, made-answer, made-none, framing, made-unfit, made-full, enters-there, made-frame}
+use Rattle.sends.proofs.Sending.{readable, message, activable, made-answer, made-none, framing, made-unfit, made-full, enters-there, made-frame}
 use borrow.Author.Needs.{needs}
 use Rattle.sends.proofs.send.Statement.{statement}
 use Rattle.sends.proofs.send.Tie as tie
@@ -29,22 +29,22 @@ returns : tie.Need-returns
 returns c = λ receiver selector. (send-none (c .before .before .before .before .before .before .before .before .before .before .pre .0) _ receiver selector (sym (c .before .before .cached .ensures) ∙ c .enum-told .given .1), record { entries = refl; words = refl; frames = refl; cached = refl })
 
 received-requires : tie.Need-received-requires
-received-requires c κs = search needs
+received-requires c κs = readable (c .before .before .before .before .before .before .before .before .before .before .before .before .pre .0) (c .before .before .before .before .before .before .before .before .before .before .before .before .pre .3)
 
 acted-requires : tie.Need-acted-requires
-acted-requires c κs = activable (c .before .before .before .before .before .before .before .before .before .before .before .before .before .before .before .before .before .pre .0) (c .before .before .received .ensures) _ (sym (c .before .before .before .before .before .before .before .before .before .cached .ensures) ∙ c .before .before .before .before .before .before .before .found .given .1)
+acted-requires c κs = activable (c .before .before .before .before .before .before .before .before .before .before .before .before .before .before .before .pre .0) (message (c .before .before .before .before .before .before .before .before .before .before .before .before .before .before .before .pre .0) (c .before .before .before .before .before .before .before .before .before .before .before .before .before .before .before .pre .3) (c .before .before .received .ensures)) _ (sym (c .before .before .before .before .before .before .before .cached .ensures) ∙ c .before .before .before .before .before .found .given .1)
 
 enum-known-done : tie.Need-enum-known-done
 enum-known-done c = search needs
 
 add-push : tie.Need-add-push
-add-push c = search needs
+add-push c = let t = top-bounds (c .before .before .before .before .before .before .before .before .before .before .before .before .before .before .before .before .before .before .before .before .before .before .before .before .pre .0 .runs) in let g = message (c .before .before .before .before .before .before .before .before .before .before .before .before .before .before .before .before .before .before .before .before .before .before .before .before .pre .0) (c .before .before .before .before .before .before .before .before .before .before .before .before .before .before .before .before .before .before .before .before .before .before .before .before .pre .3) (c .before .before .before .before .before .before .before .before .before .before .before .received .ensures) in let l = g .left in omega arith
 
 push-requires : tie.Need-push-requires
-push-requires c κs = let t = top-bounds (c .before .before .before .before .before .before .before .before .before .before .before .before .before .before .before .before .before .before .before .before .before .before .before .before .before .before .pre .0 .runs) in let h = c .before .before .before .before .before .before .before .before .before .before .before .before .before .before .before .before .before .before .before .before .before .before .before .before .before .before .pre .0 .needs in let g = c .before .before .before .before .before .before .before .before .before .before .before .received .ensures in let p = g .place in let l = g .left in let x = c .before .before .before .before .before .before .before .before .before .before .before .before .before .before .before .before .before .before .before .before .before .before .before .before .before .before .pre .2 in (omega arith, omega arith, x, omega arith)
+push-requires c κs = let t = top-bounds (c .before .before .before .before .before .before .before .before .before .before .before .before .before .before .before .before .before .before .before .before .before .before .before .before .pre .0 .runs) in let h = c .before .before .before .before .before .before .before .before .before .before .before .before .before .before .before .before .before .before .before .before .before .before .before .before .pre .0 .needs in let g = message (c .before .before .before .before .before .before .before .before .before .before .before .before .before .before .before .before .before .before .before .before .before .before .before .before .pre .0) (c .before .before .before .before .before .before .before .before .before .before .before .before .before .before .before .before .before .before .before .before .before .before .before .before .pre .3) (c .before .before .before .before .before .before .before .before .before .before .before .received .ensures) in let p = g .place in let l = g .left in let x = c .before .before .before .before .before .before .before .before .before .before .before .before .before .before .before .before .before .before .before .before .before .before .before .before .pre .2 in (omega arith, omega arith, x, omega arith)
 
 fill-requires : tie.Need-fill-requires
-fill-requires c κs = c .before .before .before .before .before .before .before .before .before .before .before .before .before .before .before .before .before .before .before .before .before .before .before .before .before .before .before .before .before .before .pre .1 .long
+fill-requires c κs = c .before .before .before .before .before .before .before .before .before .before .before .before .before .before .before .before .before .before .before .before .before .before .before .before .before .before .before .before .pre .1 .long
 
 enum-told-2 : tie.Need-enum-told-2
 enum-told-2 c = search needs
@@ -53,19 +53,19 @@ enum-told-3 : tie.Need-enum-told-3
 enum-told-3 c = search needs
 
 new-base-requires : tie.Need-new-base-requires
-new-base-requires c κs = framing (c .before .before .before .before .before .before .before .before .before .before .before .before .before .before .before .before .before .before .before .before .before .before .before .before .before .before .pre .0) (c .before .before .before .before .before .before .before .before .before .before .before .received .ensures) _ (sym (c .before .before .before .before .before .before .before .before .before .before .before .before .before .before .before .before .before .before .cached .ensures) ∙ c .before .before .before .before .before .before .before .before .before .before .before .before .before .before .before .before .found .given .1) (c .before .before .before .before .before .before .before .before .before .before .before .before .before .before .before .before .before .before .before .before .before .before .before .before .before .before .args .cache .now) (c .before .before .before .before .before .before .before .before .acted .last .0) (c .before .before .before .before .before .before .before .before .acted .last .1 .0) (c .before .before .before .before .before .before .before .before .acted .result) (c .before .before .before .before .before .before .before .before .acted .ensures) (c .before .before .enum-told3 .given .1)
+new-base-requires c κs = framing (c .before .before .before .before .before .before .before .before .before .before .before .before .before .before .before .before .before .before .before .before .before .before .before .before .pre .0) (message (c .before .before .before .before .before .before .before .before .before .before .before .before .before .before .before .before .before .before .before .before .before .before .before .before .pre .0) (c .before .before .before .before .before .before .before .before .before .before .before .before .before .before .before .before .before .before .before .before .before .before .before .before .pre .3) (c .before .before .before .before .before .before .before .before .before .before .before .received .ensures)) _ (sym (c .before .before .before .before .before .before .before .before .before .before .before .before .before .before .before .before .cached .ensures) ∙ c .before .before .before .before .before .before .before .before .before .before .before .before .before .before .found .given .1) (c .before .before .before .before .before .before .before .before .before .before .before .before .before .before .before .before .before .before .before .before .before .before .before .before .args .cache .now) (c .before .before .before .before .before .before .before .before .acted .last .0) (c .before .before .before .before .before .before .before .before .acted .last .1 .0) (c .before .before .before .before .before .before .before .before .acted .result) (c .before .before .before .before .before .before .before .before .acted .ensures) (c .before .before .enum-told3 .given .1)
 
 enum-known-fit : tie.Need-enum-known-fit
 enum-known-fit c = search needs
 
 add-enter : tie.Need-add-enter
-add-enter c = let t = top-bounds (c .before .before .before .before .before .before .before .before .before .before .before .before .before .before .before .before .before .before .before .before .before .before .before .before .before .before .before .before .before .before .before .pre .0 .runs) in let h = c .before .before .before .before .before .before .before .before .before .before .before .before .before .before .before .before .before .before .before .before .before .before .before .before .before .before .before .before .before .before .before .pre .0 .needs in let g = c .before .before .before .before .before .before .before .before .before .before .before .before .before .before .before .before .received .ensures in let p = g .place in omega arith
+add-enter c = let t = top-bounds (c .before .before .before .before .before .before .before .before .before .before .before .before .before .before .before .before .before .before .before .before .before .before .before .before .before .before .before .before .before .pre .0 .runs) in let h = c .before .before .before .before .before .before .before .before .before .before .before .before .before .before .before .before .before .before .before .before .before .before .before .before .before .before .before .before .before .pre .0 .needs in let g = message (c .before .before .before .before .before .before .before .before .before .before .before .before .before .before .before .before .before .before .before .before .before .before .before .before .before .before .before .before .before .pre .0) (c .before .before .before .before .before .before .before .before .before .before .before .before .before .before .before .before .before .before .before .before .before .before .before .before .before .before .before .before .before .pre .3) (c .before .before .before .before .before .before .before .before .before .before .before .before .before .before .before .before .received .ensures) in let p = g .place in omega arith
 
 enter-requires : tie.Need-enter-requires
-enter-requires c κs = enters-there (c .before .before .before .before .before .before .before .before .before .before .before .before .before .before .before .before .before .before .before .before .before .before .before .before .before .before .before .before .before .before .before .pre .0) (c .before .before .before .before .before .before .before .before .before .before .before .before .before .before .before .before .received .ensures) _ (sym (c .before .before .before .before .before .before .before .before .before .before .before .before .before .before .before .before .before .before .before .before .before .before .before .cached .ensures) ∙ c .before .before .before .before .before .before .before .before .before .before .before .before .before .before .before .before .before .before .before .before .before .found .given .1) (c .before .before .before .before .before .before .before .before .before .before .before .before .before .before .before .before .before .before .before .before .before .before .before .before .before .before .before .before .before .before .before .args .cache .now) (c .before .before .before .before .before .before .before .before .before .before .before .before .before .acted .last .0) (c .before .before .before .before .before .before .before .before .before .before .before .before .before .acted .last .1 .0) (c .before .before .before .before .before .before .before .before .before .before .before .before .before .acted .result) (c .before .before .before .before .before .before .before .before .before .before .before .before .before .acted .ensures) (c .before .before .before .before .before .before .before .enum-told3 .given .1) (c .before .before .before .before .new-base .result) (c .before .before .before .before .new-base .ensures) _ _ (c .before .before .fit .given .1) (c .before .before .before .before .before .before .before .before .before .before .before .before .before .before .before .before .before .before .before .before .before .before .before .before .before .before .before .before .before .before .before .pre .2)
+enter-requires c κs = enters-there (c .before .before .before .before .before .before .before .before .before .before .before .before .before .before .before .before .before .before .before .before .before .before .before .before .before .before .before .before .before .pre .0) (message (c .before .before .before .before .before .before .before .before .before .before .before .before .before .before .before .before .before .before .before .before .before .before .before .before .before .before .before .before .before .pre .0) (c .before .before .before .before .before .before .before .before .before .before .before .before .before .before .before .before .before .before .before .before .before .before .before .before .before .before .before .before .before .pre .3) (c .before .before .before .before .before .before .before .before .before .before .before .before .before .before .before .before .received .ensures)) _ (sym (c .before .before .before .before .before .before .before .before .before .before .before .before .before .before .before .before .before .before .before .before .before .cached .ensures) ∙ c .before .before .before .before .before .before .before .before .before .before .before .before .before .before .before .before .before .before .before .found .given .1) (c .before .before .before .before .before .before .before .before .before .before .before .before .before .before .before .before .before .before .before .before .before .before .before .before .before .before .before .before .before .args .cache .now) (c .before .before .before .before .before .before .before .before .before .before .before .before .before .acted .last .0) (c .before .before .before .before .before .before .before .before .before .before .before .before .before .acted .last .1 .0) (c .before .before .before .before .before .before .before .before .before .before .before .before .before .acted .result) (c .before .before .before .before .before .before .before .before .before .before .before .before .before .acted .ensures) (c .before .before .before .before .before .before .before .enum-told3 .given .1) (c .before .before .before .before .new-base .result) (c .before .before .before .before .new-base .ensures) _ _ (c .before .before .fit .given .1) (c .before .before .before .before .before .before .before .before .before .before .before .before .before .before .before .before .before .before .before .before .before .before .before .before .before .before .before .before .before .pre .2)
 
 fill-requires-2 : tie.Need-fill-requires-2
-fill-requires-2 c κs = c .before .before .before .before .before .before .before .before .before .before .before .before .before .before .before .before .before .before .before .before .before .before .before .before .before .before .before .before .before .before .before .before .before .before .before .pre .1 .long
+fill-requires-2 c κs = c .before .before .before .before .before .before .before .before .before .before .before .before .before .before .before .before .before .before .before .before .before .before .before .before .before .before .before .before .before .before .before .before .before .pre .1 .long
 
 enum-told-4 : tie.Need-enum-told-4
 enum-told-4 c = search needs
@@ -86,7 +86,7 @@ same-length-7 : tie.Need-same-length-7
 same-length-7 c = search needs
 
 returns-2 : tie.Need-returns-2
-returns-2 c = made-answer (c .before .before .before .before .before .before .before .before .before .before .before .before .before .before .before .before .before .before .before .before .before .before .before .before .before .before .before .before .before .before .before .before .before .pre .0) (c .before .before .before .before .before .before .before .before .before .before .before .before .before .before .before .before .before .before .received .ensures) _ (sym (c .before .before .before .before .before .before .before .before .before .before .before .before .before .before .before .before .before .before .before .before .before .before .before .before .before .cached .ensures) ∙ c .before .before .before .before .before .before .before .before .before .before .before .before .before .before .before .before .before .before .before .before .before .before .before .found .given .1) (c .before .before .before .before .before .before .before .before .before .before .before .before .before .before .before .before .before .before .before .before .before .before .before .before .before .before .before .before .before .before .before .before .before .args .cache .now) (c .before .before .before .before .before .before .before .before .before .before .before .before .before .before .before .acted .last .0) (c .before .before .before .before .before .before .before .before .before .before .before .before .before .before .before .acted .last .1 .0) (c .before .before .before .before .before .before .before .before .before .before .before .before .before .before .before .acted .result) (c .before .before .before .before .before .before .before .before .before .before .before .before .before .before .before .acted .ensures) _ _ _ _ _ (c .before .before .before .before .before .before .before .before .before .done .given .1) (c .before .before .before .before .before .before .push .ensures) (c .before .before .fill .ensures)
+returns-2 c = made-answer (c .before .before .before .before .before .before .before .before .before .before .before .before .before .before .before .before .before .before .before .before .before .before .before .before .before .before .before .before .before .before .before .pre .0) (message (c .before .before .before .before .before .before .before .before .before .before .before .before .before .before .before .before .before .before .before .before .before .before .before .before .before .before .before .before .before .before .before .pre .0) (c .before .before .before .before .before .before .before .before .before .before .before .before .before .before .before .before .before .before .before .before .before .before .before .before .before .before .before .before .before .before .before .pre .3) (c .before .before .before .before .before .before .before .before .before .before .before .before .before .before .before .before .before .before .received .ensures)) _ (sym (c .before .before .before .before .before .before .before .before .before .before .before .before .before .before .before .before .before .before .before .before .before .before .before .cached .ensures) ∙ c .before .before .before .before .before .before .before .before .before .before .before .before .before .before .before .before .before .before .before .before .before .found .given .1) (c .before .before .before .before .before .before .before .before .before .before .before .before .before .before .before .before .before .before .before .before .before .before .before .before .before .before .before .before .before .before .before .args .cache .now) (c .before .before .before .before .before .before .before .before .before .before .before .before .before .before .before .acted .last .0) (c .before .before .before .before .before .before .before .before .before .before .before .before .before .before .before .acted .last .1 .0) (c .before .before .before .before .before .before .before .before .before .before .before .before .before .before .before .acted .result) (c .before .before .before .before .before .before .before .before .before .before .before .before .before .before .before .acted .ensures) _ _ _ _ _ (c .before .before .before .before .before .before .before .before .before .done .given .1) (c .before .before .before .before .before .before .push .ensures) (c .before .before .fill .ensures)
 
 same-length-8 : tie.Need-same-length-8
 same-length-8 c = search needs
@@ -101,7 +101,7 @@ same-length-11 : tie.Need-same-length-11
 same-length-11 c = search needs
 
 returns-3 : tie.Need-returns-3
-returns-3 c = made-none (c .before .before .before .before .before .before .before .before .before .before .before .before .before .before .before .before .before .before .before .before .before .before .before .before .pre .0) (c .before .before .before .before .before .before .before .before .before .received .ensures) _ (sym (c .before .before .before .before .before .before .before .before .before .before .before .before .before .before .before .before .cached .ensures) ∙ c .before .before .before .before .before .before .before .before .before .before .before .before .before .before .found .given .1) (c .before .before .before .before .before .before .before .before .before .before .before .before .before .before .before .before .before .before .before .before .before .before .before .before .args .cache .now) (c .before .before .before .before .before .before .acted .last .0) (c .before .before .before .before .before .before .acted .last .1 .0) (c .before .before .before .before .before .before .acted .result) (c .before .before .before .before .before .before .acted .ensures) (c .enum-told2 .given .1)
+returns-3 c = made-none (c .before .before .before .before .before .before .before .before .before .before .before .before .before .before .before .before .before .before .before .before .before .before .pre .0) (message (c .before .before .before .before .before .before .before .before .before .before .before .before .before .before .before .before .before .before .before .before .before .before .pre .0) (c .before .before .before .before .before .before .before .before .before .before .before .before .before .before .before .before .before .before .before .before .before .before .pre .3) (c .before .before .before .before .before .before .before .before .before .received .ensures)) _ (sym (c .before .before .before .before .before .before .before .before .before .before .before .before .before .before .cached .ensures) ∙ c .before .before .before .before .before .before .before .before .before .before .before .before .found .given .1) (c .before .before .before .before .before .before .before .before .before .before .before .before .before .before .before .before .before .before .before .before .before .before .args .cache .now) (c .before .before .before .before .before .before .acted .last .0) (c .before .before .before .before .before .before .acted .last .1 .0) (c .before .before .before .before .before .before .acted .result) (c .before .before .before .before .before .before .acted .ensures) (c .enum-told2 .given .1)
 
 same-length-12 : tie.Need-same-length-12
 same-length-12 c = search needs
@@ -116,7 +116,7 @@ same-length-15 : tie.Need-same-length-15
 same-length-15 c = search needs
 
 returns-4 : tie.Need-returns-4
-returns-4 c = made-frame (c .before .before .before .before .before .before .before .before .before .before .before .before .before .before .before .before .before .before .before .before .before .before .before .before .before .before .before .before .before .before .before .before .before .before .before .before .before .before .pre .0) (c .before .before .before .before .before .before .before .before .before .before .before .before .before .before .before .before .before .before .before .before .before .before .before .received .ensures) _ (sym (c .before .before .before .before .before .before .before .before .before .before .before .before .before .before .before .before .before .before .before .before .before .before .before .before .before .before .before .before .before .before .cached .ensures) ∙ c .before .before .before .before .before .before .before .before .before .before .before .before .before .before .before .before .before .before .before .before .before .before .before .before .before .before .before .before .found .given .1) (c .before .before .before .before .before .before .before .before .before .before .before .before .before .before .before .before .before .before .before .before .before .before .before .before .before .before .before .before .before .before .before .before .before .before .before .before .before .before .args .cache .now) (c .before .before .before .before .before .before .before .before .before .before .before .before .before .before .before .before .before .before .before .before .acted .last .0) (c .before .before .before .before .before .before .before .before .before .before .before .before .before .before .before .before .before .before .before .before .acted .last .1 .0) (c .before .before .before .before .before .before .before .before .before .before .before .before .before .before .before .before .before .before .before .before .acted .result) (c .before .before .before .before .before .before .before .before .before .before .before .before .before .before .before .before .before .before .before .before .acted .ensures) (c .before .before .before .before .before .before .before .before .before .before .before .before .before .before .enum-told3 .given .1) (c .before .before .before .before .before .before .before .before .before .before .before .new-base .result) (c .before .before .before .before .before .before .before .before .before .before .before .new-base .ensures) _ _ (c .before .before .before .before .before .before .before .before .before .fit .given .1) _ _ (c .before .before .before .before .before .before .enter .ensures) (c .before .before .fill2 .ensures)
+returns-4 c = made-frame (c .before .before .before .before .before .before .before .before .before .before .before .before .before .before .before .before .before .before .before .before .before .before .before .before .before .before .before .before .before .before .before .before .before .before .before .before .pre .0) (message (c .before .before .before .before .before .before .before .before .before .before .before .before .before .before .before .before .before .before .before .before .before .before .before .before .before .before .before .before .before .before .before .before .before .before .before .before .pre .0) (c .before .before .before .before .before .before .before .before .before .before .before .before .before .before .before .before .before .before .before .before .before .before .before .before .before .before .before .before .before .before .before .before .before .before .before .before .pre .3) (c .before .before .before .before .before .before .before .before .before .before .before .before .before .before .before .before .before .before .before .before .before .before .before .received .ensures)) _ (sym (c .before .before .before .before .before .before .before .before .before .before .before .before .before .before .before .before .before .before .before .before .before .before .before .before .before .before .before .before .cached .ensures) ∙ c .before .before .before .before .before .before .before .before .before .before .before .before .before .before .before .before .before .before .before .before .before .before .before .before .before .before .found .given .1) (c .before .before .before .before .before .before .before .before .before .before .before .before .before .before .before .before .before .before .before .before .before .before .before .before .before .before .before .before .before .before .before .before .before .before .before .before .args .cache .now) (c .before .before .before .before .before .before .before .before .before .before .before .before .before .before .before .before .before .before .before .before .acted .last .0) (c .before .before .before .before .before .before .before .before .before .before .before .before .before .before .before .before .before .before .before .before .acted .last .1 .0) (c .before .before .before .before .before .before .before .before .before .before .before .before .before .before .before .before .before .before .before .before .acted .result) (c .before .before .before .before .before .before .before .before .before .before .before .before .before .before .before .before .before .before .before .before .acted .ensures) (c .before .before .before .before .before .before .before .before .before .before .before .before .before .before .enum-told3 .given .1) (c .before .before .before .before .before .before .before .before .before .before .before .new-base .result) (c .before .before .before .before .before .before .before .before .before .before .before .new-base .ensures) _ _ (c .before .before .before .before .before .before .before .before .before .fit .given .1) _ _ (c .before .before .before .before .before .before .enter .ensures) (c .before .before .fill2 .ensures)
 
 same-length-16 : tie.Need-same-length-16
 same-length-16 c = search needs
@@ -131,7 +131,7 @@ same-length-19 : tie.Need-same-length-19
 same-length-19 c = search needs
 
 returns-5 : tie.Need-returns-5
-returns-5 c = made-full (c .before .before .before .before .before .before .before .before .before .before .before .before .before .before .before .before .before .before .before .before .before .before .before .before .before .before .before .before .before .pre .0) (c .before .before .before .before .before .before .before .before .before .before .before .before .before .before .received .ensures) _ (sym (c .before .before .before .before .before .before .before .before .before .before .before .before .before .before .before .before .before .before .before .before .before .cached .ensures) ∙ c .before .before .before .before .before .before .before .before .before .before .before .before .before .before .before .before .before .before .before .found .given .1) (c .before .before .before .before .before .before .before .before .before .before .before .before .before .before .before .before .before .before .before .before .before .before .before .before .before .before .before .before .before .args .cache .now) (c .before .before .before .before .before .before .before .before .before .before .before .acted .last .0) (c .before .before .before .before .before .before .before .before .before .before .before .acted .last .1 .0) (c .before .before .before .before .before .before .before .before .before .before .before .acted .result) (c .before .before .before .before .before .before .before .before .before .before .before .acted .ensures) (c .before .before .before .before .before .enum-told3 .given .1) (c .before .before .new-base .result) (c .before .before .new-base .ensures) (c .enum-told4 .given .1)
+returns-5 c = made-full (c .before .before .before .before .before .before .before .before .before .before .before .before .before .before .before .before .before .before .before .before .before .before .before .before .before .before .before .pre .0) (message (c .before .before .before .before .before .before .before .before .before .before .before .before .before .before .before .before .before .before .before .before .before .before .before .before .before .before .before .pre .0) (c .before .before .before .before .before .before .before .before .before .before .before .before .before .before .before .before .before .before .before .before .before .before .before .before .before .before .before .pre .3) (c .before .before .before .before .before .before .before .before .before .before .before .before .before .before .received .ensures)) _ (sym (c .before .before .before .before .before .before .before .before .before .before .before .before .before .before .before .before .before .before .before .cached .ensures) ∙ c .before .before .before .before .before .before .before .before .before .before .before .before .before .before .before .before .before .found .given .1) (c .before .before .before .before .before .before .before .before .before .before .before .before .before .before .before .before .before .before .before .before .before .before .before .before .before .before .before .args .cache .now) (c .before .before .before .before .before .before .before .before .before .before .before .acted .last .0) (c .before .before .before .before .before .before .before .before .before .before .before .acted .last .1 .0) (c .before .before .before .before .before .before .before .before .before .before .before .acted .result) (c .before .before .before .before .before .before .before .before .before .before .before .acted .ensures) (c .before .before .before .before .before .enum-told3 .given .1) (c .before .before .new-base .result) (c .before .before .new-base .ensures) (c .enum-told4 .given .1)
 
 same-length-20 : tie.Need-same-length-20
 same-length-20 c = search needs
@@ -146,7 +146,7 @@ same-length-23 : tie.Need-same-length-23
 same-length-23 c = search needs
 
 returns-6 : tie.Need-returns-6
-returns-6 c = made-unfit (c .before .before .before .before .before .before .before .before .before .before .before .before .before .before .before .before .before .before .before .before .before .before .before .before .before .before .before .before .before .pre .0) (c .before .before .before .before .before .before .before .before .before .before .before .before .before .before .received .ensures) _ (sym (c .before .before .before .before .before .before .before .before .before .before .before .before .before .before .before .before .before .before .before .before .before .cached .ensures) ∙ c .before .before .before .before .before .before .before .before .before .before .before .before .before .before .before .before .before .before .before .found .given .1) (c .before .before .before .before .before .before .before .before .before .before .before .before .before .before .before .before .before .before .before .before .before .before .before .before .before .before .before .before .before .args .cache .now) (c .before .before .before .before .before .before .before .before .before .before .before .acted .last .0) (c .before .before .before .before .before .before .before .before .before .before .before .acted .last .1 .0) (c .before .before .before .before .before .before .before .before .before .before .before .acted .result) (c .before .before .before .before .before .before .before .before .before .before .before .acted .ensures) (c .before .before .before .before .before .enum-told3 .given .1) (c .before .before .new-base .result) (c .before .before .new-base .ensures) (c .enum-told5 .given .1)
+returns-6 c = made-unfit (c .before .before .before .before .before .before .before .before .before .before .before .before .before .before .before .before .before .before .before .before .before .before .before .before .before .before .before .pre .0) (message (c .before .before .before .before .before .before .before .before .before .before .before .before .before .before .before .before .before .before .before .before .before .before .before .before .before .before .before .pre .0) (c .before .before .before .before .before .before .before .before .before .before .before .before .before .before .before .before .before .before .before .before .before .before .before .before .before .before .before .pre .3) (c .before .before .before .before .before .before .before .before .before .before .before .before .before .before .received .ensures)) _ (sym (c .before .before .before .before .before .before .before .before .before .before .before .before .before .before .before .before .before .before .before .cached .ensures) ∙ c .before .before .before .before .before .before .before .before .before .before .before .before .before .before .before .before .before .found .given .1) (c .before .before .before .before .before .before .before .before .before .before .before .before .before .before .before .before .before .before .before .before .before .before .before .before .before .before .before .args .cache .now) (c .before .before .before .before .before .before .before .before .before .before .before .acted .last .0) (c .before .before .before .before .before .before .before .before .before .before .before .acted .last .1 .0) (c .before .before .before .before .before .before .before .before .before .before .before .acted .result) (c .before .before .before .before .before .before .before .before .before .before .before .acted .ensures) (c .before .before .before .before .before .enum-told3 .given .1) (c .before .before .new-base .result) (c .before .before .new-base .ensures) (c .enum-told5 .given .1)
 
 pub send-spec : {M : Type 1} → statement M
 send-spec =
