@@ -1,30 +1,27 @@
 -- The run loop: its invariant, its turns and its ways out.
-use Prim.Native.Nat.{ℕ, suc, _+_, _-_, _≤_, _<_, max}
-use mathlib.Core.Path.{_≡_, refl, sym, ap, ap₂, _∙_, subst}
-use mathlib.Core.Bool.{Bool, true, false}
+use Prim.Native.Nat.{ℕ, _+_, _-_, _≤_, _<_, max}
+use mathlib.Core.Path.{_≡_, refl, sym, ap, _∙_, subst}
 use mathlib.Core.List.{List}
 use native.Mathlib.Omega.{arith}
 use native.Mathlib.Decide.{ℕ-discrete}
 use borrow.Author.Tests.{eq-eqb, ne-eqb}
-use lib.Dec.{T, eqb}
 use lib.ListN.{length}
 use Rattle.bytecode.proofs.Choice.{if-yes, if-no}
-use Rattle.model.specs.Limits.{cacheWords}
-use Rattle.model.specs.Objects.{Objects, objectsAt}
-use Rattle.model.specs.Method.{frameWords, frameSize}
+use Rattle.model.specs.Objects.{objectsAt}
+use Rattle.model.specs.Method.{frameSize}
 use Rattle.model.specs.Image.{Room, accepted}
 use Rattle.model.proofs.Facts.{most, most-words}
-use Rattle.plain.specs.Registers.{Cause, phaseOf, running, finished}
-use Rattle.plain.specs.Step.{Stepped, halts, step}
+use Rattle.plain.specs.Registers.{running}
+use Rattle.plain.specs.Step.{Stepped, step}
 use Rattle.plain.specs.Flat.{Flat, flat, roomOf, plainOf, frameMethod}
 use Rattle.plain.specs.Check.{check}
 use Rattle.plain.specs.FlatCalls.{topEnd}
-use Rattle.plain.specs.Running.{Runs, runningWith, finishedWith, runningAt, roomAt, Made, Stays}
+use Rattle.plain.specs.Running.{Runs, runningWith, finishedWith, runningAt, roomAt, Made}
 use Rattle.plain.specs.RunLoop.{Turn}
-use Rattle.plain.proofs.Preserve.{Shape, runs, ends}
+use Rattle.plain.proofs.Preserve.{runs, ends}
 use Rattle.plain.proofs.StateLaws.{Stands as Shaped, goes, rests, waits}
 use Rattle.plain.proofs.FlatLaws.{FlatRight, check-right}
-use Rattle.plain.proofs.RunningLaws.{TopBounds, top-bounds}
+use Rattle.plain.proofs.RunningLaws.{top-bounds}
 use Rattle.plain.proofs.MadeLaws.{made-as, running-is, running-runs}
 use Rattle.plain.proofs.LoopLaws.{top-end-is, turn-start, loop-out, loop-out-ends, loop-halts, loop-halts-ends, loop-level, loop-next, loop-over, loop-over-ends}
 use Rattle.sends.specs.Sends.{Caches}
@@ -36,7 +33,7 @@ use Rattle.steps.proofs.ActiveLaws.{length-written, leaving}
 use Rattle.interpreter.specs.declared.Advanced.{Advanced}
 use Rattle.interpreter.specs.Advances.{Stops, AdvancedIs}
 use Rattle.machine.specs.declared.Registers.{Registers}
-use Rattle.machine.specs.State.{registersOf, state, raisedTo, RunsTo}
+use Rattle.machine.specs.State.{state, raisedTo, RunsTo}
 use Rattle.interpreter.specs.declared.Advanced.the-variants as A
 
 -- The state of the loop: from s₀ the run came to a running state, and the highest end fits a word and one.

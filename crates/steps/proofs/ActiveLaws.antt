@@ -6,7 +6,7 @@ use mathlib.Core.List.{List, [], _∷_}
 use native.Mathlib.Omega.{arith}
 use lib.ListN.{length, getD, set, take, drop, length-set, length-drop}
 use lib.Seq.{getD-set-same, getD-set-other, length-take-le}
-use Rattle.bytecode.specs.Code.{byteAt, instructionOf, lengthOf, nextAt, decodeAt}
+use Rattle.bytecode.specs.Code.{byteAt, instructionOf, lengthOf, nextAt}
 use Rattle.bytecode.specs.declared.Instruction.{Instruction}
 use Rattle.bytecode.proofs.DecodeLaws.{next-is}
 use Rattle.model.specs.Limits.{methodKind}
@@ -23,7 +23,7 @@ use Rattle.objects.specs.declared.Code.{Code}
 use Rattle.steps.specs.declared.Active.{Active}
 use Rattle.steps.specs.declared.Event.{Event}
 use Rattle.steps.specs.declared.Event.the-variants.{Next}
-use Rattle.steps.specs.Events.{Here, HereAt, written, Stands, IsActive, Doing, Fetched, Leaving, movedOn, Pushing, Pushed, hereOf, answered, Says}
+use Rattle.steps.specs.Events.{HereAt, written, Stands, IsActive, Doing, Fetched, Leaving, movedOn, Pushed, hereOf, answered, Says}
 use Rattle.steps.proofs.HereLaws.{holds-method, coded, position-inside, next-inside, decode-is}
 use Rattle.steps.proofs.MoveLaws.{same-two, same-three}
 
@@ -72,7 +72,7 @@ module _ (a : Active) (stack : List ℕ) where
 
 -- a word written above its position and depth
 module _ (a : Active) (stack : List ℕ) (at w : ℕ) (h : a .base .0 + 3 ≤ at) where
-  pub put-written : written a (set stack at w) ≡ set (written a stack) at w
+  put-written : written a (set stack at w) ≡ set (written a stack) at w
   put-written =
       ap (λ (l : List ℕ). set l (a .base .0 + 2) (a .end .0 - a .operands .0)) (set-swap stack at (a .base .0 + 1) w (a .position .0) (omega arith))
       ∙ set-swap (set stack (a .base .0 + 1) (a .position .0)) at (a .base .0 + 2) w (a .end .0 - a .operands .0) (omega arith)
@@ -112,7 +112,7 @@ module _ {n b : ℕ} {contents bodies stack : List ℕ} {a : Active} (r : IsActi
   pub method-read : frameMethod v (a .base .0) ≡ m
   method-read = word-written a stack (a .base .0 + 3) (omega arith)
 
-  pub position-read : framePosition v (a .base .0) ≡ a .position .0
+  position-read : framePosition v (a .base .0) ≡ a .position .0
   position-read =
       let l = length-set stack (a .base .0 + 1) (a .position .0) in
       getD-set-other (set stack (a .base .0 + 1) (a .position .0)) (a .base .0 + 2) (a .base .0 + 1) (a .end .0 - a .operands .0) 0 (omega arith)
@@ -153,7 +153,7 @@ module _ {n b : ℕ} {contents bodies stack : List ℕ} {a : Active} (r : IsActi
   leaving = let k = ends in let p = position-below in let s = code-small in (omega arith, omega arith, r .stands .above, omega arith)
 
   -- The frame with its instruction, as the laws speak of it
-  pub here-of : {next : ℕ} {i : Instruction} → At n b (a .base .0) contents bodies v next i → HereAt n b (a .base .0) contents bodies v (hereOf stack a next) i
+  here-of : {next : ℕ} {i : Instruction} → At n b (a .base .0) contents bodies v next i → HereAt n b (a .base .0) contents bodies v (hereOf stack a next) i
   here-of at = record { at = at; isMethod = sym method-read; isOperands = operands-read; isDepth = sym depth-read }
 
   -- The frame on the same method, moved on
@@ -205,7 +205,7 @@ module _ {n b : ℕ} {contents bodies stack : List ℕ} {a : Active} {op : ℕ} 
   next-read : nextAt words p ≡ nextAt (codeWords oₒ (frameMethod (written a stack) (a .base .0))) (framePosition (written a stack) (a .base .0))
   next-read = λ j. nextAt (codeWords oₒ (sym (method-read (f .active)) j)) (sym (position-read (f .active)) j)
 
-  pub op-next : nextAt words p ≡ p + lengthOf op
+  op-next : nextAt words p ≡ p + lengthOf op
   op-next = next-is words p ∙ ap (λ (x : ℕ). p + lengthOf x) (sym (f .byte))
 
   -- the instruction is whole

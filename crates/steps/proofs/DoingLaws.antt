@@ -13,37 +13,36 @@ use Rattle.bytecode.specs.Effect.{specialCount}
 use Rattle.bytecode.specs.declared.Place.{Place}
 use Rattle.bytecode.specs.declared.Place.the-variants.{Field, Temporary, Literal, LiteralVariable}
 use Rattle.bytecode.specs.declared.Instruction.{Instruction}
-use Rattle.bytecode.specs.declared.Instruction.the-variants.{Push, PushSelf, PushConstant, ReturnSelf, ReturnConstant, ReturnTop, Pop, Duplicate, Jump, JumpOn, Send, SuperSend, SpecialSend, Unused}
+use Rattle.bytecode.specs.declared.Instruction.the-variants.{Push, Store, PopStore, PushSelf, PushConstant, ReturnSelf, ReturnConstant, ReturnTop, Pop, Duplicate, Jump, JumpOn, Send, SuperSend, SpecialSend, Unused}
 use Rattle.model.specs.Limits.{entryWords, fieldsKind, methodKind, classKind}
 use Rattle.model.specs.Word.{isValid, objectNumber, booleanWord}
-use Rattle.model.specs.Objects.{Objects, objectsAt, isKind, classOf, start, superclassWord}
+use Rattle.model.specs.Objects.{Objects, objectsAt, bodyWord, isKind, classOf, start, superclassWord}
 use Rattle.model.specs.Method.{home, literal, literalCount, codeWords}
-use Rattle.model.specs.Rules.{specialSelector}
+use Rattle.model.specs.Rules.{Right, specialSelector}
 use Rattle.model.specs.Arithmetic.{arithmetic}
 use Rattle.model.specs.Primitive.{storeWord}
-use Rattle.model.specs.declared.CodePosition.{CodePosition}
 use Rattle.model.specs.declared.StackPosition.{StackPosition}
 use Rattle.model.specs.declared.Pointer.{Pointer}
 use Rattle.model.specs.declared.Computed.{Computed}
 use Rattle.model.specs.declared.Computed.the-variants.{Word, Failed}
-use Rattle.model.proofs.ChainLaws.{named}
+use Rattle.model.proofs.ChainLaws.{Named, named}
 use Rattle.model.proofs.Extends.{Extends, temporaries-same, literal-count-same}
 use Rattle.model.proofs.StoreLaws.{stored-extends}
 use Rattle.plain.specs.Step.{read, triedPrimitive}
 use Rattle.plain.specs.Flat.{frameMethod, frameReceiver, operandsStart}
 use Rattle.plain.specs.FlatCalls.{atFront}
-use Rattle.plain.specs.Running.{topFrame, Sending}
+use Rattle.plain.specs.Running.{topFrame}
 use Rattle.plain.proofs.RunningLaws.{is-method}
 use Rattle.objects.specs.Lent.{Inside, Holds}
 use Rattle.objects.proofs.Buffers.{contents-room, bodies-room, stored-objects}
 use Rattle.steps.specs.declared.Active.{Active}
 use Rattle.steps.specs.declared.Event.{Event}
 use Rattle.steps.specs.declared.Event.the-variants.{Next, Return, NoBoolean}
-use Rattle.steps.specs.Events.{Here, HereAt, written, Stands, IsActive, Doing, Fetched, movedOn, Pushing, Pushed, leftBy, storing, Storing, StoringAt, Sends, hereOf, Becomes, Says}
+use Rattle.steps.specs.Events.{written, Stands, IsActive, Doing, Fetched, movedOn, Pushing, Pushed, leftBy, Storing, StoringAt, Sends, hereOf, Says}
 use Rattle.steps.proofs.HereLaws.{operand-valid}
 use Rattle.steps.proofs.MoveLaws.{Answers, same-two, same-three}
-use Rattle.steps.proofs.ActiveLaws.{length-written, word-written, moves-on, puts, put-method, Ends, ends, method-read, receiver-read, code-small, op-whole, doing, here, says-moved, says-answered, says-pushed, stands-on}
-use Rattle.steps.proofs.PlaceLaws.{HasField, ReadsLiteral, literal-there, own-field, own-inside, own-read, temporary-inside, temporary-read, literal-below, literal-read, variable-below, variable-field, variable-inside, variable-read, push-place, store-runs, store-place, store-writable, store-needs, store-left}
+use Rattle.steps.proofs.ActiveLaws.{active-method, length-written, word-written, moves-on, puts, put-method, Ends, ends, method-read, receiver-read, doing, here, says-moved, says-answered, says-pushed, stands-on}
+use Rattle.steps.proofs.PlaceLaws.{HasField, ReadsLiteral, literal-there, own-field, own-inside, own-read, temporary-inside, temporary-read, literal-below, literal-read, variable-below, variable-field, variable-inside, variable-read, push-place, store-place, store-writable, store-needs}
 use Rattle.steps.proofs.StoreLaws.{store-field, store-temporary, store-variable}
 use Rattle.steps.proofs.SayLaws.{push-room, push-says, self-room, self-says, constant-room, constant-says, duplicate-needs, duplicate-room, duplicate-says, pop-needs, pop-says, jump-back, jump-small, jump-says, on-needs, on-small, on-jumps, on-stays, on-halts, self-returns, constant-returns, top-needs, top-returns, unused-never}
 use Rattle.steps.proofs.SendLaws.{sent-depth, sent-valid, sent-says, send-below, send-sends, super-below, super-needs, holds-home, super-says}
@@ -60,11 +59,11 @@ doing-at {n} {b} {contents} {bodies} {stack} {a} f c k next i e l d g =
     (ap (λ (x : ℕ). instructionOf x (byteAt (codeWords (objectsAt n b contents bodies) (frameMethod stack (a .base .0))) (a .position .0 + 1)) (byteAt (codeWords (objectsAt n b contents bodies) (frameMethod stack (a .base .0))) (a .position .0 + 2))) e ∙ g)
 
 module _ {n b : ℕ} {contents bodies stack : List ℕ} {a : Active} {next : ℕ} {i : Instruction} (d : Doing n b contents bodies stack a next i) where
-  pub room-of : Answers (a .base .0) (written a stack) (hereOf stack a next) 0 → Pushing stack a
+  room-of : Answers (a .base .0) (written a stack) (hereOf stack a next) 0 → Pushing stack a
   room-of x = let k = ends (d .active) in let l = length-written a stack in (omega arith, omega arith)
 
   -- an operand, as the code reads it
-  pub operand-read : (k at : ℕ) → suc k ≤ a .end .0 - a .operands .0 → at ≡ a .end .0 - suc k
+  operand-read : (k at : ℕ) → suc k ≤ a .end .0 - a .operands .0 → at ≡ a .end .0 - suc k
       → getD (written a stack) (a .operands .0 + (a .end .0 - a .operands .0 - suc k)) 0 ≡ getD stack at 0
   operand-read k at h e =
       let x = ends (d .active) in
@@ -96,10 +95,10 @@ module _ {n b : ℕ} {contents bodies stack : List ℕ} {a : Active} {next j : �
   field-there d =
       subst (λ (x : ℕ). Inside n b contents bodies x j) (receiver-read (d .active)) (own-inside (d .active .runs) j (push-place (here d)))
 
-  pub field-reads : Doing n b contents bodies stack a next (Push (Field j)) → (w : ℕ) → w ≡ Rattle.model.specs.Objects.bodyWord (objectsAt n b contents bodies) (objectNumber (frameReceiver stack (a .base .0))) j
+  pub field-reads : Doing n b contents bodies stack a next (Push (Field j)) → (w : ℕ) → w ≡ bodyWord (objectsAt n b contents bodies) (objectNumber (frameReceiver stack (a .base .0))) j
       → ReadIs n b contents bodies stack a (Field j) w
   field-reads d w e =
-      own-read (d .active .runs) j w (push-place (here d)) (e ∙ ap (λ (x : ℕ). Rattle.model.specs.Objects.bodyWord (objectsAt n b contents bodies) (objectNumber x) j) (sym (receiver-read (d .active))))
+      own-read (d .active .runs) j w (push-place (here d)) (e ∙ ap (λ (x : ℕ). bodyWord (objectsAt n b contents bodies) (objectNumber x) j) (sym (receiver-read (d .active))))
 
   pub temporary-there : Doing n b contents bodies stack a next (Push (Temporary j)) → (a .base .0 + 6 + j < length stack) × (a .base .0 + 6 + j < 65536)
   temporary-there d =
@@ -123,7 +122,7 @@ module _ {n b : ℕ} {contents bodies stack : List ℕ} {a : Active} {next j : �
   variable-there d v e = variable-inside (d .active .runs) j v (frameMethod stack (a .base .0)) (sym (method-read (d .active))) (push-place (here d)) e
 
   pub variable-reads : Doing n b contents bodies stack a next (Push (LiteralVariable j)) → (v w : ℕ) → v ≡ literal (objectsAt n b contents bodies) (frameMethod stack (a .base .0)) j
-      → w ≡ Rattle.model.specs.Objects.bodyWord (objectsAt n b contents bodies) (objectNumber v) 1 → ReadIs n b contents bodies stack a (LiteralVariable j) w
+      → w ≡ bodyWord (objectsAt n b contents bodies) (objectNumber v) 1 → ReadIs n b contents bodies stack a (LiteralVariable j) w
   variable-reads d v w e g = variable-read (d .active .runs) j v w (frameMethod stack (a .base .0)) (sym (method-read (d .active))) (push-place (here d)) e g
 
 -- ---- stores
@@ -142,7 +141,7 @@ module _ {n b : ℕ} {contents bodies stack : List ℕ} {a : Active} {next : ℕ
   abbrev left : ℕ
   left = end - a .operands .0
 
-  pub store-at : StoringAt n b (a .base .0) contents bodies (written a stack) (hereOf stack a next) p left
+  store-at : StoringAt n b (a .base .0) contents bodies (written a stack) (hereOf stack a next) p left
   store-at = record { pop = z .pop; here = here (z .doing); after = left-is (z .pop) (z .after) }
 
   pub store-one : 1 ≤ a .end .0 - a .operands .0
@@ -152,7 +151,7 @@ module _ {n b : ℕ} {contents bodies stack : List ℕ} {a : Active} {next : ℕ
   stays-above true e = let k = store-one in let x = store-ends in omega arith
   stays-above false e = let x = store-ends in omega arith
 
-  pub store-above : a .operands .0 ≤ end
+  store-above : a .operands .0 ≤ end
   store-above = stays-above (z .pop) (z .after)
 
   top-read : (at : ℕ) → at ≡ a .end .0 - 1 → getD (written a stack) (a .operands .0 + (a .end .0 - a .operands .0 - 1)) 0 ≡ getD stack at 0
@@ -173,7 +172,7 @@ module _ {n b : ℕ} {contents bodies stack : List ℕ} {a : Active} {next : ℕ
       st : Stands n b contents bodies stack a
       st = r .stands
 
-      right : Rattle.model.specs.Rules.Right 1 o
+      right : Right 1 o
       right = r .runs .right
 
       m : ℕ
@@ -182,7 +181,7 @@ module _ {n b : ℕ} {contents bodies stack : List ℕ} {a : Active} {next : ℕ
       t : T (isKind o methodKind m)
       t = subst (λ (k : ℕ). T (isKind o methodKind k)) (method-read r) (is-method (r .runs))
 
-      k : Rattle.model.proofs.ChainLaws.Named o fieldsKind v
+      k : Named o fieldsKind v
       k = named o fieldsKind v (f .kinds)
 
       x : Extends o (storeWord o (objectNumber v) j w)
@@ -240,10 +239,10 @@ module _ {n b : ℕ} {contents bodies stack : List ℕ} {a : Active} {next j end
       let e′ : bodies′ ≡ atFront (storeWord (objectsAt n b contents bodies) (objectNumber v) 1 (getD (written a stack) (a .operands .0 + (a .end .0 - a .operands .0 - 1)) 0) .bodies) bodies = e ∙ ap (λ (y : ℕ). atFront (storeWord (objectsAt n b contents bodies) (objectNumber v) 1 y .bodies) bodies) (sym (top-read z at p)) in
       (store-variable (store-at z) v bodies′ (written (movedOn a (record { 0 = next }) (record { 0 = end })) stack) q e′ (moves-on a stack (record { 0 = next }) (record { 0 = end })), stands-stored z v 1 _ bodies′ (variable-has z v q) e′)
 
-pub storing-kept : {n b : ℕ} {contents bodies stack : List ℕ} {a : Active} {next : ℕ} {p : Place} → Doing n b contents bodies stack a next (Rattle.bytecode.specs.declared.Instruction.the-variants.Store p) → (end : ℕ) → end ≡ a .end .0 → Storing n b contents bodies stack a next p end
+pub storing-kept : {n b : ℕ} {contents bodies stack : List ℕ} {a : Active} {next : ℕ} {p : Place} → Doing n b contents bodies stack a next (Store p) → (end : ℕ) → end ≡ a .end .0 → Storing n b contents bodies stack a next p end
 storing-kept d end e = record { pop = false; doing = d; after = e }
 
-pub storing-popped : {n b : ℕ} {contents bodies stack : List ℕ} {a : Active} {next : ℕ} {p : Place} → Doing n b contents bodies stack a next (Rattle.bytecode.specs.declared.Instruction.the-variants.PopStore p) → (end : ℕ) → end ≡ a .end .0 - 1 → Storing n b contents bodies stack a next p end
+pub storing-popped : {n b : ℕ} {contents bodies stack : List ℕ} {a : Active} {next : ℕ} {p : Place} → Doing n b contents bodies stack a next (PopStore p) → (end : ℕ) → end ≡ a .end .0 - 1 → Storing n b contents bodies stack a next p end
 storing-popped d end e = record { pop = true; doing = d; after = e }
 
 -- ---- jumps on a boolean
@@ -384,7 +383,7 @@ module _ {n b : ℕ} {contents bodies stack : List ℕ} {a : Active} {next l k :
   super-one = super-needs (here d)
 
   pub super-literal : ReadsLiteral n b contents bodies (frameMethod stack (a .base .0)) l
-  super-literal = (Rattle.steps.proofs.ActiveLaws.active-method (d .active) (frameMethod stack (a .base .0)) refl, super-below (here d))
+  super-literal = (active-method (d .active) (frameMethod stack (a .base .0)) refl, super-below (here d))
 
   pub super-home : (c : ℕ) → c ≡ home (objectsAt n b contents bodies) (frameMethod stack (a .base .0)) → Holds classKind n b contents bodies c
   super-home c e = holds-home (here d) c e

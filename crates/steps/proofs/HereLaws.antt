@@ -1,5 +1,5 @@
 -- Where a running frame stands: numbers, its instruction, its operands.
-use Prim.Native.Nat.{ℕ, zero, suc, _+_, _-_, _*_, _/_, _≤_, _<_}
+use Prim.Native.Nat.{ℕ, zero, suc, _+_, _-_, _*_, _≤_, _<_}
 use mathlib.Core.Path.{_≡_, refl, sym, ap, _∙_, subst}
 use mathlib.Core.Bool.{true}
 use mathlib.Core.List.{List, [], _∷_}
@@ -8,8 +8,7 @@ use native.Mathlib.Omega.{arith}
 use native.Mathlib.Decide.{decLt}
 use borrow.Author.Tests.{lt-ltb}
 use lib.Dec.{T}
-use lib.ListN.{length, getD, getElem?, take, drop, length-drop}
-use lib.Seq.{length-take-le}
+use lib.ListN.{length, getD, getElem?}
 use Rattle.bytecode.specs.Code.{byteAt, instructionOf, nextAt, decodeAt}
 use Rattle.bytecode.specs.Effect.{usable}
 use Rattle.bytecode.specs.declared.Instruction.{Instruction}
@@ -20,7 +19,7 @@ use Rattle.bytecode.proofs.DecodeLaws.{decode-short, decode-whole}
 use Rattle.model.specs.Limits.{methodKind}
 use Rattle.model.specs.Word.{isValid, objectNumber}
 use Rattle.model.specs.Objects.{Objects, objectsAt, start, bodyWords}
-use Rattle.model.specs.Method.{header, temporaryCount, literalCount, codeWords, codeSize, frameWords}
+use Rattle.model.specs.Method.{temporaryCount, literalCount, codeWords, codeSize, frameWords}
 use Rattle.model.specs.Depth.{noteAt, rulesAt, fineAt}
 use Rattle.model.specs.Rules.{allowed, methodTable}
 use Rattle.model.proofs.ChainLaws.{named}
@@ -33,8 +32,7 @@ use Rattle.plain.specs.Running.{Runs, topFrame}
 use Rattle.plain.proofs.FrameLaws.{frame-spot}
 use Rattle.plain.proofs.RunningLaws.{top-right, is-method, top-bounds}
 use Rattle.plain.proofs.WriteLaws.{operand-here}
-use Rattle.objects.specs.Lent.{Holds, CodeAt, temporariesOf}
-use Rattle.objects.specs.declared.Code.{Code}
+use Rattle.objects.specs.Lent.{Holds}
 use Rattle.steps.specs.Events.{Here, HereAt}
 
 -- a list's element, as a read that may find nothing
@@ -129,9 +127,6 @@ module _ {n b top : ℕ} {contents bodies stack : List ℕ} {h : Here} {i : Inst
   abbrev fₐ : Frame
   fₐ = topFrame n b top contents bodies stack
 
-  abbrev mₐ : ℕ
-  mₐ = frameMethod stack top
-
   pub bounds : Bounds top stack h
   bounds =
       let t = top-bounds (a .at .runs) in
@@ -141,12 +136,6 @@ module _ {n b top : ℕ} {contents bodies stack : List ℕ} {h : Here} {i : Inst
       let y = next-inside (a .at .runs) in
       let z = coded (a .at .runs) .small in
       record { low = omega arith; small = omega arith; first = omega arith; inside = omega arith; most = omega arith; deep = omega arith; next = omega arith }
-
-  pub here-method : Holds methodKind n b contents bodies (h .method)
-  here-method = holds-method (a .at .runs) (h .method) (a .isMethod)
-
-  top-is : frameAt oₐ stack top ≡ fₐ
-  top-is = refl
 
   -- the operand under k others
   pub operand-is : (k at : ℕ) → k < h .depth → at ≡ h .operands + (h .depth - suc k) → operand fₐ k ≡ some (getD stack at 0)

@@ -23,7 +23,7 @@ use Rattle.model.specs.Rules.{allowed, placeFine, variableFine, isWritable}
 use Rattle.model.specs.Primitive.{storeWord}
 use Rattle.model.proofs.SendFacts.{receiver-fields}
 use Rattle.plain.specs.State.{Frame, movedTo, withObjects}
-use Rattle.plain.specs.Step.{next, noLookup, _>>=_, operand, onTop, popped, fieldOf, literalOf, read, storedField, stored, execute}
+use Rattle.plain.specs.Step.{next, noLookup, _>>=_, onTop, popped, fieldOf, literalOf, read, storedField, stored, execute}
 use Rattle.plain.specs.Flat.{frameMethod, frameReceiver, frameAt}
 use Rattle.plain.specs.FlatCalls.{atFront}
 use Rattle.plain.specs.Running.{Runs, Moved, runningAt, topFrame, restFrames}
@@ -134,10 +134,6 @@ pub push-place : {n b top : ℕ} {contents bodies stack : List ℕ} {h : Here} {
 unfolding allowed frameAt
 push-place a = now-is (a .at) .allowed
 
-pub place-as : {n b top : ℕ} {contents bodies stack : List ℕ} {h : Here} {p : Place} → HereAt n b top contents bodies stack h (Push p) → (p′ : Place) → p ≡ p′
-    → T (placeFine (objectsAt n b contents bodies) (frameMethod stack top) p′)
-place-as {n} {b} {top} {contents} {bodies} {stack} a p′ e = subst (λ (x : Place). T (placeFine (objectsAt n b contents bodies) (frameMethod stack top) x)) e (push-place a)
-
 -- what the reader of a literal asks
 abbrev pub ReadsLiteral : ℕ → ℕ → List ℕ → List ℕ → ℕ → ℕ → Type 0
 ReadsLiteral n b contents bodies w j = Holds methodKind n b contents bodies w × (j < literalCount (objectsAt n b contents bodies) w)
@@ -146,14 +142,6 @@ pub literal-there : {n b top : ℕ} {contents bodies stack : List ℕ} {h : Here
     → j < literalCount (objectsAt n b contents bodies) (frameMethod stack top) → ReadsLiteral n b contents bodies (h .method) j
 literal-there {n} {b} {contents = contents} {bodies = bodies} a j l =
     (holds-method (a .at .runs) _ (a .isMethod), subst (λ (x : ℕ). j < literalCount (objectsAt n b contents bodies) x) (sym (a .isMethod)) l)
-
-pub literal-here : {n b top : ℕ} {contents bodies stack : List ℕ} {h : Here} {i : Instruction} → HereAt n b top contents bodies stack h i → (j : ℕ)
-    → T (placeFine (objectsAt n b contents bodies) (frameMethod stack top) (Literal j)) → ReadsLiteral n b contents bodies (h .method) j
-literal-here a j t = literal-there a j (literal-below (a .at .runs) j t)
-
-pub variable-here : {n b top : ℕ} {contents bodies stack : List ℕ} {h : Here} {i : Instruction} → HereAt n b top contents bodies stack h i → (j : ℕ)
-    → T (placeFine (objectsAt n b contents bodies) (frameMethod stack top) (LiteralVariable j)) → ReadsLiteral n b contents bodies (h .method) j
-variable-here a j t = literal-there a j (variable-below (a .at .runs) j t)
 
 pub read-as : (o : Objects) (f : Frame) {p p′ : Place} {w : ℕ} → p ≡ p′ → read o f p′ ≡ some w → read o f p ≡ some w
 read-as o f e q = ap (read o f) e ∙ q

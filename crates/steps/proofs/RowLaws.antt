@@ -1,21 +1,21 @@
 -- The instruction at the position of the frame that the run loop holds, by the row of its byte and by its byte.
 use Prim.Native.Nat.{ℕ, _+_, _-_, _*_, _/_, _%_, _≤_, _<_}
 use mathlib.Core.Path.{_≡_, refl, sym, ap, _∙_}
-use mathlib.Core.Bool.{Bool, true, false}
+use mathlib.Core.Bool.{false}
 use mathlib.Core.List.{List}
 use native.Mathlib.Omega.{arith}
 use native.Mathlib.Decide.{decLt}
 use borrow.Author.Tests.{lt-ltb, le-ltb}
 use lib.Dec.{ltb}
 use Rattle.bytecode.specs.Test.{if_then_else_}
-use Rattle.bytecode.specs.Code.{byteAt, placeOf, constantOf, extendedOf, jumpOf, sendOf, instructionOf, lengthOf}
+use Rattle.bytecode.specs.Code.{byteAt, placeOf, extendedOf, jumpOf, sendOf, instructionOf, lengthOf}
 use Rattle.bytecode.specs.declared.Place.{Place}
 use Rattle.bytecode.specs.declared.Place.the-variants.{Field, Temporary, Literal, LiteralVariable}
 use Rattle.bytecode.specs.declared.Instruction.{Instruction}
 use Rattle.bytecode.specs.declared.Instruction.the-variants.{Push, Store, PopStore, Pop, Duplicate, Jump, JumpOn, Send, SuperSend, SpecialSend, Unused}
-use Rattle.bytecode.proofs.Choice.{ranges, NoneOf, past}
+use Rattle.bytecode.proofs.Choice.{ranges}
 use Rattle.bytecode.proofs.CodeLaws.{constant-unused, length-low, length-middle, length-jump, length-send, push-field, push-temporary, push-literal, push-variable, pop-field, pop-temporary, is-constant, is-extended, is-jump, is-send, jump-short, jump-on-short}
-use Rattle.model.specs.Objects.{Objects, objectsAt}
+use Rattle.model.specs.Objects.{objectsAt}
 use Rattle.model.specs.Method.{codeWords, codeSize}
 use Rattle.plain.specs.Flat.{frameMethod}
 use Rattle.steps.specs.declared.Active.{Active}

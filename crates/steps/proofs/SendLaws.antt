@@ -1,19 +1,18 @@
 -- Sends: the class where the search starts, and the step that the send is.
-use Prim.Native.Nat.{ℕ, suc, _+_, _-_, _/_, _%_, _≤_, _<_}
+use Prim.Native.Nat.{ℕ, suc, _+_, _-_, _≤_, _<_}
 use mathlib.Core.Path.{_≡_, refl, sym, ap, _∙_, subst}
-use mathlib.Core.Bool.{Bool, true, false, _&&_, _||_}
+use mathlib.Core.Bool.{true, _&&_}
 use mathlib.Core.Logic.{_⊎_, inl, inr}
 use mathlib.Core.List.{List, List·Memᴰ·head}
 use mathlib.Core.Option.{Option, some}
 use native.Mathlib.Omega.{arith}
-use borrow.Author.Tests.{eq-eqb, ne-eqb, eqb-true}
+use borrow.Author.Tests.{eqb-true}
 use lib.Dec.{T, ltb, eqb, ltb→lt, eqb→eq}
 use lib.ListN.{getD, drop}
 use Rattle.bytecode.specs.Constant.{nilWord}
 use Rattle.bytecode.specs.Effect.{need, leaves, successors}
 use Rattle.bytecode.specs.declared.Instruction.{Instruction}
 use Rattle.bytecode.specs.declared.Instruction.the-variants.{Send, SuperSend}
-use Rattle.bytecode.proofs.Choice.{if-yes, if-no}
 use Rattle.bytecode.proofs.TestLaws.{and-left, and-right, or-cases}
 use Rattle.model.specs.Limits.{bytesKind, classKind}
 use Rattle.model.specs.Word.{isValid}
@@ -21,10 +20,10 @@ use Rattle.model.specs.Objects.{Objects, objectsAt, isKind, isNilOr, classOf, s
 use Rattle.model.specs.Method.{home, literalCount, literal}
 use Rattle.model.specs.Depth.{noteAt}
 use Rattle.model.specs.Lookup.{found, lookup, inChain}
-use Rattle.model.specs.Rules.{Right, allowed, sendFine, takesCount, methodTable}
+use Rattle.model.specs.Rules.{allowed, sendFine, takesCount, methodTable}
 use Rattle.model.specs.Image.{Room}
 use Rattle.model.proofs.ChainLaws.{named}
-use Rattle.model.proofs.Facts.{Valid, odd, names, valid-cases, entry-class, integer-class, class-facts, method-facts}
+use Rattle.model.proofs.Facts.{class-facts, method-facts}
 use Rattle.model.proofs.SendFacts.{lookup-facts, class-kind}
 use Rattle.plain.specs.State.{Frame}
 use Rattle.plain.specs.Step.{_>>=_, operand, popped, sends, afterLookup, execute}

@@ -8,7 +8,7 @@ use mathlib.Core.Option.{Option, some}
 use native.Mathlib.Omega.{arith}
 use borrow.Author.Tests.{eq-eqb, ne-eqb}
 use lib.Dec.{T, ltb, eqb, ltb→lt}
-use lib.ListN.{getD, set}
+use lib.ListN.{getD}
 use Rattle.bytecode.specs.Test.{if_then_else_}
 use Rattle.bytecode.specs.Effect.{specialCount, need, leaves, successors}
 use Rattle.bytecode.specs.declared.Instruction.the-variants.{SpecialSend}
@@ -32,7 +32,7 @@ use Rattle.objects.specs.Lent.{Inside}
 use Rattle.objects.proofs.Bodies.{special-inside}
 use Rattle.steps.specs.Events.{Here, HereAt, answered, SendsAt}
 use Rattle.steps.proofs.HereLaws.{operand-is}
-use Rattle.steps.proofs.MoveLaws.{Does, Answers, answer-room, answers}
+use Rattle.steps.proofs.MoveLaws.{Does, answers}
 use Rattle.steps.proofs.SayLaws.{noted, needed}
 
 special-one : (k : ℕ) → k < 16 → specialCount k ≡ 1
@@ -143,9 +143,6 @@ module _ {n b top : ℕ} {contents bodies stack : List ℕ} {h : Here} {k : ℕ}
     arithmetic-noted : noteAt (methodTable o (frameMethod stack top)) (h .next) ≡ suc (suc (h .depth - 2))
     arithmetic-noted = noted-as 1 (special-one k small)
 
-    pub arithmetic-room : Answers top stack h 2
-    arithmetic-room = answer-room a 2 arithmetic-two arithmetic-noted
-
     computes : (t : ℕ) (x : Computed) → t ≡ triedPrimitive k → x ≡ arithmetic t under last
         → Does a (λ p room. orSends x (λ w. pushed p f rest (h .next) (without f 2) w noLookup) (sends room p f rest (h .next) (classOf o) (specialSelector o k) 1))
     unfolding execute specialSends arithmeticSends
@@ -176,9 +173,6 @@ module _ {n b top : ℕ} {contents bodies stack : List ℕ} {h : Here} {k : ℕ}
     same-noted : noteAt (methodTable o (frameMethod stack top)) (h .next) ≡ suc (suc (h .depth - 2))
     same-noted = noted-as 1 same-count
 
-    pub same-room : Answers top stack h 2
-    same-room = answer-room a 2 same-two same-noted
-
     pub same-says : (w : ℕ) (stack′ : List ℕ) → w ≡ booleanWord (eqb under last)
         → stack′ ≡ answered stack top h 2 w → Moved n b top contents bodies stack bodies stack′
     unfolding execute specialSends
@@ -191,9 +185,6 @@ module _ {n b top : ℕ} {contents bodies stack : List ℕ} {h : Here} {k : ℕ}
   module _ (class : k ≡ 23) where
     class-noted : noteAt (methodTable o (frameMethod stack top)) (h .next) ≡ suc (suc (h .depth - 1))
     class-noted = noted-as 0 (ap specialCount class ∙ special-class)
-
-    pub class-room : Answers top stack h 1
-    class-room = answer-room a 1 special-needs class-noted
 
     pub class-says : (w : ℕ) (stack′ : List ℕ) → w ≡ classOf o last
         → stack′ ≡ answered stack top h 1 w → Moved n b top contents bodies stack bodies stack′

@@ -1,14 +1,9 @@
 -- Stores, by the place.
-use Prim.Native.Nat.{ℕ, _+_, _-_, _≤_, _<_}
-use mathlib.Core.Path.{_≡_, refl, sym, ap, _∙_, subst}
-use mathlib.Core.Bool.{true, false}
+use Prim.Native.Nat.{ℕ, _+_, _-_}
+use mathlib.Core.Path.{_≡_, sym, ap, _∙_, subst}
 use mathlib.Core.List.{List}
 use mathlib.Core.Option.{Option}
-use native.Mathlib.Omega.{arith}
-use lib.ListN.{length, getD, take, set}
-use Rattle.bytecode.specs.declared.Place.{Place}
-use Rattle.bytecode.specs.declared.Instruction.{Instruction}
-use Rattle.bytecode.specs.declared.Instruction.the-variants.{Store, PopStore}
+use lib.ListN.{getD, take, set}
 use Rattle.bytecode.specs.declared.Place.the-variants.{Field, Temporary, LiteralVariable}
 use Rattle.model.specs.Word.{objectNumber}
 use Rattle.model.specs.Objects.{objectsAt}
@@ -20,31 +15,9 @@ use Rattle.plain.specs.Flat.{frameReceiver}
 use Rattle.plain.specs.FlatCalls.{atFront}
 use Rattle.plain.specs.Running.{Moved, runningAt, topFrame, restFrames}
 use Rattle.plain.proofs.RunningLaws.{receiver-is}
-use Rattle.steps.specs.Events.{Here, HereAt, StoringAt}
-use Rattle.steps.proofs.HereLaws.{bounds}
+use Rattle.steps.specs.Events.{Here, StoringAt}
 use Rattle.steps.proofs.MoveLaws.{goes-temporary}
-use Rattle.steps.proofs.PlaceLaws.{own-field, temporary-below, temporary-inside, temporary-at, literal-at, variable-below, variable-field, store-runs, store-place, store-left, stores, stores-in}
-
-pub store-as : {n b top : ℕ} {contents bodies stack : List ℕ} {h : Here} {p : Place} {left : ℕ} → StoringAt n b top contents bodies stack h p left → (p′ : Place) → p ≡ p′ → StoringAt n b top contents bodies stack h p′ left
-store-as {n} {b} {top} {contents} {bodies} {stack} {h} {p} {left} z p′ e = subst (λ (x : Place). StoringAt n b top contents bodies stack h x left) e z
-
--- what moving the frame on asks
-abbrev pub Goes : ℕ → List ℕ → ℕ → ℕ → Type 0
-Goes top stack q k = (top + 2 < length stack) × (q < 65536) × (k < 65536)
-
-pub goes-there : {n b top : ℕ} {contents bodies stack : List ℕ} {h : Here} {i : Instruction} → HereAt n b top contents bodies stack h i → (q k : ℕ) → q < 65536 → k ≤ h .depth → Goes top stack q k
-goes-there a q k l t = let x = bounds a in (omega arith, l, omega arith)
-
-pub store-goes : {n b top : ℕ} {contents bodies stack : List ℕ} {h : Here} {p : Place} {left : ℕ} → StoringAt n b top contents bodies stack h p left → Goes top stack (h .next) left
-store-goes z = let x = bounds (z .here) in let y = store-left z in (omega arith, omega arith, omega arith)
-
-pub store-puts : {n b top : ℕ} {contents bodies stack : List ℕ} {h : Here} {j left : ℕ} → StoringAt n b top contents bodies stack h (Temporary j) left
-    → (top + 2 < length stack) × (top + 6 + j < length stack) × (h .next < 65536) × (left < 65536)
-store-puts {j = j} z =
-    let x = bounds (z .here) in
-    let y = store-left z in
-    let t = temporary-inside (store-runs z) j (store-place z) in
-    (omega arith, t .0, omega arith, omega arith)
+use Rattle.steps.proofs.PlaceLaws.{own-field, temporary-below, temporary-at, literal-at, variable-below, variable-field, store-runs, store-place, store-left, stores, stores-in}
 
 module _ {n b top : ℕ} {contents bodies stack : List ℕ} {h : Here} {left : ℕ} where
   pub store-field : {j : ℕ} (z : StoringAt n b top contents bodies stack h (Field j) left) (bodies′ stack′ : List ℕ)
@@ -73,13 +46,3 @@ module _ {n b top : ℕ} {contents bodies stack : List ℕ} {h : Here} {left : �
       (stores-in z v 1 bodies′ (variable-field (store-runs z) j v (h .method) (z .here .isMethod) (store-place z) p)
       (λ receiver selector room. stores z receiver selector room ∙ ap (λ (x : Option ℕ). x >>= λ y. storedField (runningAt receiver selector n b top contents bodies stack) (movedTo (topFrame n b top contents bodies stack) (h .next) (take left (topFrame n b top contents bodies stack .operands))) (restFrames n b top contents bodies stack) y 1 (getD stack (h .operands + (h .depth - 1)) 0))
       (literal-at (store-runs z) j v (h .method) (z .here .isMethod) (variable-below (store-runs z) j (store-place z)) p)) e)
-
--- the instruction by another name
-pub here-as : {n b top : ℕ} {contents bodies stack : List ℕ} {h : Here} {i : Instruction} → HereAt n b top contents bodies stack h i → (i′ : Instruction) → i ≡ i′ → HereAt n b top contents bodies stack h i′
-here-as {n} {b} {top} {contents} {bodies} {stack} {h} a i′ e = subst (λ (x : Instruction). HereAt n b top contents bodies stack h x) e a
-
-pub stores-kept : {n b top : ℕ} {contents bodies stack : List ℕ} {h : Here} {p : Place} → HereAt n b top contents bodies stack h (Store p) → StoringAt n b top contents bodies stack h p (h .depth)
-stores-kept a = record { pop = false; here = a; after = refl }
-
-pub stores-popped : {n b top : ℕ} {contents bodies stack : List ℕ} {h : Here} {p : Place} → HereAt n b top contents bodies stack h (PopStore p) → StoringAt n b top contents bodies stack h p (h .depth - 1)
-stores-popped a = record { pop = true; here = a; after = refl }

@@ -2,8 +2,7 @@
 // The bytecode is found by its row of 16, and its instruction is never built: see docs/DECISIONS.md, "The run loop".
 ghost use mathlib.Core.Path.{_≡_};
 ghost use mathlib.Core.Option.{some};
-ghost use Prim.Native.Nat.{suc, _+_, _-_, _*_, _/_, _%_, _<_, _≤_};
-ghost use lib.ListN.{length, set};
+ghost use Prim.Native.Nat.{_+_, _-_, _*_, _/_, _%_, _<_, _≤_};
 ghost use Rattle.bytecode.specs.Code.{byteAt};
 ghost use Rattle.bytecode.specs.Effect.{specialCount};
 ghost use Rattle.bytecode.specs.declared.Instruction.the-variants.{Push, JumpOn, Send, SuperSend, SpecialSend};

@@ -1,3 +1,4 @@
+-- By the event of the step, and what the send answers.
 use native.Mathlib.Omega.{arith}
 use Rattle.interpreter.proofs.Advancing.{went-on, leaves-send, leaves-return, leaves-halt, no-boolean, finishes, return-runs, returned-below, can-send, answers, enters, none-understood, none-fits}
 use borrow.Author.Needs.{needs}

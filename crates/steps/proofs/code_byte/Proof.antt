@@ -1,3 +1,4 @@
+-- The code is where the frame's method has it.
 use native.Mathlib.Omega.{arith}
 use Rattle.steps.proofs.ActiveLaws.{ends, active-method, from-is, byte-inside, byte-is, code-small}
 use mathlib.Core.Path.{refl}

@@ -1,3 +1,4 @@
+-- The frame's own words give it back.
 use native.Mathlib.Omega.{arith}
 use Rattle.steps.proofs.HereLaws.{holds-method}
 use Rattle.steps.proofs.ActiveLaws.{enter-bounds, enter-position, entered}

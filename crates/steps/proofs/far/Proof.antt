@@ -1,3 +1,4 @@
+-- A jump, or one on a boolean, by the next byte too.
 use native.Mathlib.Omega.{arith}
 use mathlib.Core.Path.{refl}
 use Rattle.steps.proofs.DoingLaws.{jump-low, jump-done}

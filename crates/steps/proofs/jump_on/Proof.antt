@@ -1,3 +1,4 @@
+-- By the word that is tested.
 use native.Mathlib.Omega.{arith}
 use mathlib.Core.Logic.{inl, inr}
 use mathlib.Core.Path.{refl}

@@ -1,6 +1,6 @@
+-- A jump, or one on false.
 use native.Mathlib.Omega.{arith}
-use mathlib.Core.Path.{refl}
-use Rattle.steps.proofs.DoingLaws.{jump-room, jump-done}
+use Rattle.steps.proofs.DoingLaws.{jump-done}
 use Rattle.steps.proofs.RowLaws.{position-small, near-jump, near-on}
 use borrow.Author.Needs.{needs}
 use Rattle.steps.proofs.near.Statement.{statement}

@@ -1,3 +1,4 @@
+-- The word of the place, pushed.
 use Rattle.steps.proofs.DoingLaws.{push-pushing, push-done}
 use borrow.Author.Needs.{needs}
 use Rattle.steps.proofs.push.Statement.{statement}

@@ -1,5 +1,5 @@
+-- The place is there, by the rules of a reached push.
 use native.Mathlib.Omega.{arith}
-use mathlib.Core.Path.{sym}
 use Rattle.bytecode.specs.declared.Place.the-variants.{Field, Temporary, Literal, LiteralVariable}
 use Rattle.steps.proofs.ActiveLaws.{ends}
 use Rattle.steps.proofs.PlaceLaws.{read-as}

@@ -1,3 +1,4 @@
+-- The selector is a literal of the method.
 use native.Mathlib.Omega.{arith}
 use Rattle.steps.proofs.ActiveLaws.{ends}
 use Rattle.steps.proofs.DoingLaws.{send-literal, send-done}

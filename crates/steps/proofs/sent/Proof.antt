@@ -1,7 +1,7 @@
+-- The receiver is a valid word, so it has a class.
 use native.Mathlib.Omega.{arith}
 use mathlib.Core.Path.{refl}
 use Rattle.steps.proofs.DoingLaws.{sent-one, sent-ends, sent-class, sent-done}
-use borrow.Author.Needs.{needs}
 use Rattle.steps.proofs.sent.Statement.{statement}
 use Rattle.steps.proofs.sent.Tie as tie
 

@@ -1,7 +1,8 @@
+-- By the row of the byte.
 use native.Mathlib.Omega.{arith}
 use mathlib.Core.Path.{refl}
 use Rattle.bytecode.proofs.Choice.{past}
-use Rattle.steps.proofs.DoingLaws.{storing-popped, store-one}
+use Rattle.steps.proofs.DoingLaws.{storing-popped}
 use Rattle.steps.proofs.RowLaws.{first-below, position-small, fetched, row-field, row-temporary, row-literal, row-variable, row-pop-field, row-pop-temporary, row-special, row-send}
 use borrow.Author.Needs.{needs}
 use Rattle.steps.proofs.step.Statement.{statement}

@@ -1,3 +1,4 @@
+-- The place is there, by the rules of a reached store; none goes to a literal.
 use native.Mathlib.Omega.{arith}
 use mathlib.Core.Path.{refl}
 use Rattle.bytecode.specs.declared.Place.the-variants.{Field, Temporary, Literal, LiteralVariable}

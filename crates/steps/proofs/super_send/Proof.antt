@@ -1,3 +1,4 @@
+-- The home of the running method is a class, and the own receiver's chain has it.
 use native.Mathlib.Omega.{arith}
 use mathlib.Core.Path.{refl}
 use Rattle.steps.proofs.ActiveLaws.{ends, active-method}

@@ -1,3 +1,4 @@
+-- Each primitive is the one that 01's table has.
 use native.Mathlib.Omega.{arith}
 use mathlib.Core.Path.{_≡_, sym, ap, _∙_}
 use Prim.Native.Nat.{ℕ}

@@ -1,7 +1,8 @@
+-- The loop: what it keeps true, and its ways out.
 use borrow.Author.Needs.{needs}
 use native.Mathlib.Omega.{arith}
-use Prim.Native.Nat.{ℕ, _-_, _+_}
-use mathlib.Core.Path.{_≡_, refl, sym, ap, _∙_}
+use Prim.Native.Nat.{_-_}
+use mathlib.Core.Path.{_∙_}
 use Rattle.machine.specs.State.{state}
 use Rattle.machine.proofs.Looping.{Loop, start-runs, loop-start, loop-holds-it, loop-active, loop-cached, held-small, held-lengths, held-leaves, loop-ends, loop-finished, loop-halted, loop-next-one, went-runs, loop-went, back-runs, loop-back}
 use Rattle.machine.proofs.Registers.run_on.Statement.{statement}
