@@ -1,5 +1,6 @@
 // A machine's state as the calls take it, the library's calls, and their C peers.
 #include "walk.h"
+#include "../include/sofaduck.h"
 
 // The registers, by their places.
 enum { N, B, START_RECEIVER, START_SELECTOR, PHASE, TOP, VALUE, REGISTERS };
@@ -14,27 +15,21 @@ typedef struct {
     uint16_t registers[REGISTERS];
 } machine;
 
-uint32_t sofaduck_load(slice image, slice contents, slice bodies, slice cache, uint16_t *registers);
-uint32_t sofaduck_begin(slice contents, slice bodies, slice stack, slice cache, uint16_t *registers, uint16_t receiver, uint16_t selector,
-                        slice arguments);
-uint32_t sofaduck_run(slice contents, slice bodies, slice stack, slice cache, uint16_t *registers, uint32_t n, uint32_t *count,
-                      uint32_t *reach);
-uint32_t sofaduck_check(slice contents, slice bodies, slice stack, slice cache, const uint16_t *registers);
-
-static inline slice lent(buffer b) { return (slice){b.at, b.length}; }
+// A buffer, and the whole state, as the library takes them.
+#define LENT(b) (b).at, (b).length
+#define STATE(m) LENT((m)->contents), LENT((m)->bodies), LENT((m)->stack), LENT((m)->cache), (m)->registers
 
 static inline uint32_t our_load(machine *m, const uint8_t *image, size_t length) {
-    return sofaduck_load((slice){image, length}, lent(m->contents), lent(m->bodies), lent(m->cache), m->registers);
+    return sofaduck_load(image, length, LENT(m->contents), LENT(m->bodies), LENT(m->cache), m->registers);
 }
 static inline uint32_t our_begin(machine *m, uint16_t receiver, uint16_t selector, const uint16_t *arguments, size_t count) {
-    return sofaduck_begin(lent(m->contents), lent(m->bodies), lent(m->stack), lent(m->cache), m->registers, receiver, selector,
-                          (slice){arguments, count});
+    return sofaduck_begin(STATE(m), receiver, selector, arguments, count);
 }
 static inline uint32_t our_run(machine *m, uint32_t n, uint32_t *count, uint32_t *reach) {
-    return sofaduck_run(lent(m->contents), lent(m->bodies), lent(m->stack), lent(m->cache), m->registers, n, count, reach);
+    return sofaduck_run(STATE(m), n, count, reach);
 }
 static inline uint32_t our_check(const machine *m) {
-    return sofaduck_check(lent(m->contents), lent(m->bodies), lent(m->stack), lent(m->cache), m->registers);
+    return sofaduck_check(STATE(m));
 }
 
 // The peers take the table's entries beside what the library takes. Refused calls write nothing.
