@@ -11,27 +11,21 @@ use Rattle.objects.proofs.is_kind.Reads as is-kind-reads
 use Rattle.objects.proofs.is_valid.Reads as is-valid-reads
 use Rattle.rules.proofs.valid_words.Reads as valid-words-reads
 
--- src/lib.rt:33:9
 is-valid-requires : tie.Need-is-valid-requires
 is-valid-requires c κs = search needs
 
--- src/lib.rt:34:9
 returns : tie.Need-returns
 returns c = λ b bodies. no-receiver (objectsAt (c .before .before .before .before .args .n) b (c .before .before .before .before .args .contents .now) bodies) (c .before .before .before .before .args .receiver) (c .before .before .before .before .args .selector) (c .before .before .before .before .args .arguments .now) (sym (c .before .is-valid .ensures) ∙ not-true _ (c .if1 .taken))
 
--- src/lib.rt:36:9
 is-kind-requires : tie.Need-is-kind-requires
 is-kind-requires c κs = search needs
 
--- src/lib.rt:37:9
 returns-2 : tie.Need-returns-2
 returns-2 c = λ b bodies. no-selector (objectsAt (c .before .before .before .before .before .before .args .n) b (c .before .before .before .before .before .before .args .contents .now) bodies) (c .before .before .before .before .before .before .args .receiver) (c .before .before .before .before .before .before .args .selector) (c .before .before .before .before .before .before .args .arguments .now) (sym (c .before .before .before .is-valid .ensures) ∙ not-false _ (c .before .before .if1 .left)) (sym (c .before .is-kind .ensures b bodies) ∙ not-true _ (c .if2 .taken))
 
--- src/lib.rt:39:5
 valid-words-requires : tie.Need-valid-words-requires
 valid-words-requires c κs = search needs
 
--- src/lib.rt:23:1
 returns-3 : tie.Need-returns-3
 returns-3 c = λ b bodies. c .valid-words .ensures ∙ arguments-left (objectsAt (c .before .before .before .before .before .before .before .args .n) b (c .before .before .before .before .before .before .before .args .contents .now) bodies) (c .before .before .before .before .before .before .before .args .receiver) (c .before .before .before .before .before .before .before .args .selector) (c .before .before .before .before .before .before .before .args .arguments .now) (sym (c .before .before .before .before .is-valid .ensures) ∙ not-false _ (c .before .before .before .if1 .left)) (sym (c .before .before .is-kind .ensures b bodies) ∙ not-false _ (c .before .if2 .left))
 

@@ -20,31 +20,24 @@ Inv-loop table contents bodies n b counts m words notes p₀ p = (p ≤ length n
 abbrev μ-loop : tie.MeasureT-loop
 μ-loop table contents bodies n b counts m words notes p₀ p = length notes - p
 
--- src/lib.rt:73:5
 loop-holds : tie.Need-loop-holds Inv-loop μ-loop
 loop-holds c = (omega arith, before-none (linkedAt (objectsAt (c .before .before .before .before .before .args .n) (c .before .before .before .before .before .args .b) (c .before .before .before .before .before .args .contents .now) (c .before .before .before .before .before .args .bodies .now)) (c .before .before .before .before .before .args .m) (c .before .before .before .before .before .args .notes .now)))
 
--- src/lib.rt:74:13
 position-fine-requires : tie.Need-position-fine-requires Inv-loop μ-loop
 position-fine-requires c κs = ((c .before .before .before .before .before .before .before .pre) .0, (c .before .before .before .before .before .before .before .pre) .1, c .loop-test .taken)
 
--- src/lib.rt:75:13
 returns : tie.Need-returns Inv-loop μ-loop
 returns c = linked-stops _ _ _ _ ((c .before .before .before .before .before .before .before .before .before .pre) .1) _ (c .before .before .loop-test .taken) (sym (c .before .position-fine .ensures) ∙ not-true _ (c .if1 .taken))
 
--- src/lib.rt:77:9
 add-p : tie.Need-add-p Inv-loop μ-loop
 add-p c = search needs
 
--- src/lib.rt:73:5
 loop-less : tie.Need-loop-less Inv-loop μ-loop
 loop-less c = omega arith
 
--- src/lib.rt:73:5
 loop-again : tie.Need-loop-again Inv-loop μ-loop
 loop-again c = (omega arith, before-more (linkedAt (objectsAt (c .before .before .before .before .before .before .before .before .before .args .n) (c .before .before .before .before .before .before .before .before .before .args .b) (c .before .before .before .before .before .before .before .before .before .args .contents .now) (c .before .before .before .before .before .before .before .before .before .args .bodies .now)) (c .before .before .before .before .before .before .before .before .before .args .m) (c .before .before .before .before .before .before .before .before .before .args .notes .now)) _ (c .before .before .before .loop .inv .1) (sym (c .before .position-fine .ensures) ∙ not-false _ (c .if1 .left)))
 
--- src/lib.rt:68:1
 returns-2 : tie.Need-returns-2 Inv-loop μ-loop
 returns-2 c = linked-over _ _ _ _ ((c .before .before .before .before .before .before .before .pre) .1) _ (c .loop-test .left) (c .before .loop .inv .1)
 

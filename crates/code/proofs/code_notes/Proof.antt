@@ -18,79 +18,60 @@ use Rattle.methods.proofs.body_word.Reads as body-word-reads
 use Rattle.methods.proofs.header_of.Reads as header-of-reads
 use Rattle.rules.proofs.class_body.field_count.Reads as field-count-reads
 
--- src/lib.rt:151:9
 header-of-requires : tie.Need-header-of-requires
 header-of-requires c κs = method-named ((c .before .before .before .before .before .before .pre) .0)
 
--- src/lib.rt:152:9
 body-word-requires : tie.Need-body-word-requires
 body-word-requires c κs = (method-named ((c .before .before .before .before .before .before .before .pre) .0), omega arith)
 
--- src/lib.rt:153:18
 field-count-requires : tie.Need-field-count-requires
 field-count-requires c κs = (laid-here ((c .before .before .before .before .before .before .before .before .pre) .0), is-class ((c .before .before .before .before .before .before .before .before .pre) .0) _ (c .body-word .ensures))
 
--- src/lib.rt:153:18
 cast-fields : tie.Need-cast-fields
 cast-fields c = let q = few-fields ((c .before .before .before .before .before .before .before .before .before .pre) .0) _ _ (c .before .body-word .ensures) (c .field-count .ensures) in omega arith
 
--- src/lib.rt:154:23
 cast-temporaries : tie.Need-cast-temporaries
 cast-temporaries c = search needs
 
--- src/lib.rt:155:20
 cast-literals : tie.Need-cast-literals
 cast-literals c = search needs
 
--- src/lib.rt:156:9
 frame-limit-requires : tie.Need-frame-limit-requires
 frame-limit-requires c κs = search needs
 
--- src/lib.rt:157:9
 walk-requires : tie.Need-walk-requires
 walk-requires c κs = search needs
 
--- src/lib.rt:167:9
 same-length : tie.Need-same-length
 same-length c = search needs
 
--- src/lib.rt:167:9
 same-length-2 : tie.Need-same-length-2
 same-length-2 c = search needs
 
--- src/lib.rt:167:9
 returns : tie.Need-returns
 returns c = notes-none _ _ _ (table-here _ _ _ _ _ _ _ _ _ ((c .before .before .before .before .before .before .before .before .before .before .before .before .before .before .before .before .before .before .pre) .1) (c .before .before .before .before .before .before .before .before .before .field-count .ensures) (c .before .before .before .before .before .before .before .before .before .before .body-word .ensures) (ap (λ (h : ℕ). h / 256 % 32) (c .before .before .before .before .before .before .before .before .before .before .before .header-of .ensures)) (ap (λ (h : ℕ). h / 2 % 64) (c .before .before .before .before .before .before .before .before .before .before .before .header-of .ensures)) (c .before .before .before .before .before .before .before .before .frame-limit .ensures .0 _ _ (c .before .before .before .before .before .before .before .before .before .before .before .header-of .ensures))) _ _ _ (c .before .before .before .before .before .walk .ensures) (not-true _ (c .if1 .taken))
 
--- src/lib.rt:169:8
 all-fine-requires : tie.Need-all-fine-requires
 all-fine-requires c κs = ((c .before .before .before .before .before .before .before .before .before .before .before .before .before .before .before .before .before .before .before .pre) .0, code-lent-by _ _ _ _ _ (c .before .before .before .before .before .before .walk .kept .1 .1 .1 .1 .1 .1 .0) ((c .before .before .before .before .before .before .before .before .before .before .before .before .before .before .before .before .before .before .before .pre) .1))
 
--- src/lib.rt:170:9
 same-length-3 : tie.Need-same-length-3
 same-length-3 c = search needs
 
--- src/lib.rt:170:9
 same-length-4 : tie.Need-same-length-4
 same-length-4 c = search needs
 
--- src/lib.rt:170:9
 returns-2 : tie.Need-returns-2
 returns-2 c = notes-some _ _ _ (table-here _ _ _ _ _ _ _ _ _ ((c .before .before .before .before .before .before .before .before .before .before .before .before .before .before .before .before .before .before .before .before .before .pre) .1) (c .before .before .before .before .before .before .before .before .before .before .before .before .field-count .ensures) (c .before .before .before .before .before .before .before .before .before .before .before .before .before .body-word .ensures) (ap (λ (h : ℕ). h / 256 % 32) (c .before .before .before .before .before .before .before .before .before .before .before .before .before .before .header-of .ensures)) (ap (λ (h : ℕ). h / 2 % 64) (c .before .before .before .before .before .before .before .before .before .before .before .before .before .before .header-of .ensures)) (c .before .before .before .before .before .before .before .before .before .before .before .frame-limit .ensures .0 _ _ (c .before .before .before .before .before .before .before .before .before .before .before .before .before .before .header-of .ensures))) _ _ _ (c .before .before .before .before .before .before .before .before .walk .ensures) (not-false _ (c .before .before .before .if1 .left)) (sym (c .before .all-fine .ensures) ∙ c .if2 .taken)
 
--- src/lib.rt:172:5
 clear-requires : tie.Need-clear-requires
 clear-requires c κs = search needs
 
--- src/lib.rt:136:1
 same-length-5 : tie.Need-same-length-5
 same-length-5 c = search needs
 
--- src/lib.rt:136:1
 same-length-6 : tie.Need-same-length-6
 same-length-6 c = search needs
 
--- src/lib.rt:136:1
 returns-3 : tie.Need-returns-3
 returns-3 c = notes-fail _ _ _ (table-here _ _ _ _ _ _ _ _ _ ((c .before .before .before .before .before .before .before .before .before .before .before .before .before .before .before .before .before .before .before .before .before .before .before .before .before .pre) .1) (c .before .before .before .before .before .before .before .before .before .before .before .before .before .before .before .before .field-count .ensures) (c .before .before .before .before .before .before .before .before .before .before .before .before .before .before .before .before .before .body-word .ensures) (ap (λ (h : ℕ). h / 256 % 32) (c .before .before .before .before .before .before .before .before .before .before .before .before .before .before .before .before .before .before .header-of .ensures)) (ap (λ (h : ℕ). h / 2 % 64) (c .before .before .before .before .before .before .before .before .before .before .before .before .before .before .before .before .before .before .header-of .ensures)) (c .before .before .before .before .before .before .before .before .before .before .before .before .before .before .before .frame-limit .ensures .0 _ _ (c .before .before .before .before .before .before .before .before .before .before .before .before .before .before .before .before .before .before .header-of .ensures))) _ _ _ (c .before .before .before .before .before .before .before .before .before .before .before .before .walk .ensures) _ (not-false _ (c .before .before .before .before .before .before .before .if1 .left)) (sym (c .before .before .before .before .before .all-fine .ensures) ∙ c .before .before .before .before .if2 .left) (c .before .before .clear .ensures ∙ ap (λ (k : ℕ). replicate k 0) (c .before .before .before .before .before .before .before .before .before .before .before .before .walk .kept .1 .1 .1 .1 .1 .1 .0))
 

@@ -12,55 +12,42 @@ use Rattle.code.proofs.runs.Reads as runs-reads
 use Rattle.methods.proofs.header_of.Reads as header-of-reads
 use Rattle.rules.proofs.kind.Reads as kind-reads
 
--- src/lib.rt:239:8
 kind-requires : tie.Need-kind-requires
 kind-requires c κs = search needs
 
--- src/lib.rt:240:9
 returns : tie.Need-returns
 returns c = object-other _ (c .before .before .before .before .before .before .before .args .k) _ (λ e. c .if1 .taken (c .before .kind .ensures ∙ e))
 
--- src/lib.rt:242:14
 mul-m : tie.Need-mul-m
 mul-m c = search needs
 
--- src/lib.rt:242:13
 cast-m : tie.Need-cast-m
 cast-m c = search needs
 
--- src/lib.rt:243:8
 method-notes-requires : tie.Need-method-notes-requires
 method-notes-requires c κs = (asked-at ((c .before .before .before .before .before .before .before .before .before .pre) .0) (c .before .before .before .before .before .before .before .before .before .args .k) ((c .before .before .before .before .before .before .before .before .before .pre) .1) ((c .before .before .before .before .before .before .before .before .before .pre) .2) (sym (c .before .before .before .kind .ensures) ∙ c .before .before .if1 .left), (c .before .before .before .before .before .before .before .before .before .pre) .0 .room, (c .before .before .before .before .before .before .before .before .before .pre) .0 .long)
 
--- src/lib.rt:244:9
 same-length : tie.Need-same-length
 same-length c = search needs
 
--- src/lib.rt:244:9
 same-length-2 : tie.Need-same-length-2
 same-length-2 c = search needs
 
--- src/lib.rt:244:9
 returns-2 : tie.Need-returns-2
 returns-2 c = object-sound ((c .before .before .before .before .before .before .before .before .before .before .before .before .before .before .before .pre) .0) (c .before .before .before .before .before .before .before .before .before .before .before .before .before .before .before .args .k) _ _ _ ((c .before .before .before .before .before .before .before .before .before .before .before .before .before .before .before .pre) .1) ((c .before .before .before .before .before .before .before .before .before .before .before .before .before .before .before .pre) .2) (sym (c .before .before .before .before .before .before .before .before .before .kind .ensures) ∙ c .before .before .before .before .before .before .before .before .if1 .left) (c .before .before .before .before .before .method-notes .ensures) (c .if2 .taken)
 
--- src/lib.rt:246:11
 header-of-requires : tie.Need-header-of-requires
 header-of-requires c κs = search needs
 
--- src/lib.rt:246:6
 runs-requires : tie.Need-runs-requires
 runs-requires c κs = search needs
 
--- src/lib.rt:225:1
 same-length-3 : tie.Need-same-length-3
 same-length-3 c = search needs
 
--- src/lib.rt:225:1
 same-length-4 : tie.Need-same-length-4
 same-length-4 c = search needs
 
--- src/lib.rt:225:1
 returns-3 : tie.Need-returns-3
 returns-3 c = object-unsound ((c .before .before .before .before .before .before .before .before .before .before .before .before .before .before .before .before .before .pre) .0) (c .before .before .before .before .before .before .before .before .before .before .before .before .before .before .before .before .before .args .k) _ _ _ ((c .before .before .before .before .before .before .before .before .before .before .before .before .before .before .before .before .before .pre) .1) ((c .before .before .before .before .before .before .before .before .before .before .before .before .before .before .before .before .before .pre) .2) (sym (c .before .before .before .before .before .before .before .before .before .before .before .kind .ensures) ∙ c .before .before .before .before .before .before .before .before .before .before .if1 .left) (c .before .before .before .before .before .before .before .method-notes .ensures) (c .runs .result) (c .before .before .if2 .left) (c .runs .ensures (objectsAt (c .before .before .before .before .before .before .before .before .before .before .before .before .before .before .before .before .before .args .n) (c .before .before .before .before .before .before .before .before .before .before .before .before .before .before .before .before .before .args .b) (c .before .before .before .before .before .before .before .before .before .before .before .before .before .before .before .before .before .args .contents .now) (c .before .before .before .before .before .before .before .before .before .before .before .before .before .before .before .before .before .args .bodies .now)) (2 * c .before .before .before .before .before .before .before .before .before .before .before .before .before .before .before .before .before .args .k) (c .before .header-of .ensures))
 

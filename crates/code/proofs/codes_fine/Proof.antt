@@ -18,47 +18,36 @@ Inv-loop table contents bodies n b counts notes₀ pending₀ k₀ notes pending
 abbrev μ-loop : tie.MeasureT-loop
 μ-loop table contents bodies n b counts notes₀ pending₀ k₀ notes pending k = suc n - k
 
--- src/lib.rt:264:5
 loop-holds : tie.Need-loop-holds Inv-loop μ-loop
 loop-holds c = (going-first _ _, refl, refl)
 
--- src/lib.rt:265:13
 code-object-requires : tie.Need-code-object-requires Inv-loop μ-loop
 code-object-requires c κs = (lent-again (c .before .before .before .loop .inv .1) (c .before .before .before .loop .inv .2) (c .before .before .before .before .before .before .before .before .before .pre), c .before .before .before .loop .inv .0 .least, c .before .before .loop-test .taken)
 
--- src/lib.rt:266:13
 same-length : tie.Need-same-length Inv-loop μ-loop
 same-length c = c .before .before .before .before .before .code-object .kept .1 .1 .1 .1 .1 .1 .1 .0 ∙ c .before .before .before .before .before .before .before .before .before .loop .inv .1
 
--- src/lib.rt:266:13
 same-length-2 : tie.Need-same-length-2 Inv-loop μ-loop
 same-length-2 c = c .before .before .before .before .before .code-object .kept .1 .1 .1 .1 .1 .1 .1 .1 .0 ∙ c .before .before .before .before .before .before .before .before .before .loop .inv .2
 
--- src/lib.rt:266:13
 returns : tie.Need-returns Inv-loop μ-loop
 returns c = codes-stop _ (c .before .before .before .before .before .before .before .before .before .loop .k) _ _ _ (c .before .before .before .before .before .before .before .before .before .loop .inv .0 .least) (c .before .before .before .before .before .before .before .before .loop-test .taken) (c .before .before .before .before .before .code-object .ensures) (not-true _ (c .if1 .taken))
 
--- src/lib.rt:268:9
 add-k : tie.Need-add-k Inv-loop μ-loop
 add-k c = let q = (c .before .before .before .before .before .before .before .before .before .before .before .before .before .before .before .pre) .ready .lent .most in let l = c .before .before .before .before .before .before .before .before .loop-test .taken in omega arith
 
--- src/lib.rt:264:5
 loop-less : tie.Need-loop-less Inv-loop μ-loop
 loop-less c = let l = c .before .before .before .before .before .before .before .before .loop-test .taken in omega arith
 
--- src/lib.rt:264:5
 loop-again : tie.Need-loop-again Inv-loop μ-loop
 loop-again c = (going-on _ (c .before .before .before .before .before .before .before .before .before .loop .k) _ _ _ (c .before .before .before .before .before .before .before .before .before .loop .inv .0) (c .before .before .before .before .before .before .before .before .loop-test .taken) (c .before .before .before .before .before .code-object .ensures) (not-false _ (c .if1 .left)), c .before .before .before .before .before .code-object .kept .1 .1 .1 .1 .1 .1 .1 .0 ∙ c .before .before .before .before .before .before .before .before .before .loop .inv .1, c .before .before .before .before .before .code-object .kept .1 .1 .1 .1 .1 .1 .1 .1 .0 ∙ c .before .before .before .before .before .before .before .before .before .loop .inv .2)
 
--- src/lib.rt:250:1
 same-length-3 : tie.Need-same-length-3 Inv-loop μ-loop
 same-length-3 c = c .before .loop .inv .1
 
--- src/lib.rt:250:1
 same-length-4 : tie.Need-same-length-4 Inv-loop μ-loop
 same-length-4 c = c .before .loop .inv .2
 
--- src/lib.rt:250:1
 returns-2 : tie.Need-returns-2 Inv-loop μ-loop
 returns-2 c = going-over _ (c .before .loop .k) _ (c .before .loop .inv .0) (c .loop-test .left)
 

@@ -11,11 +11,9 @@ use Rattle.code.proofs.frame_limit.Tie as tie
 use Rattle.code.proofs.frame_limit.Reads as reads
 use Rattle.code.proofs.frame_limit.Lts as lts
 
--- src/lib.rt:130:9
 returns : tie.Need-returns
 returns c = (λ o m e. sym (unfold frameWords in if-eq _ _ _ _ (ap (λ (h : ℕ). h / 128 % 2) (sym e) ∙ c .if1 .taken)), omega arith)
 
--- src/lib.rt:126:1
 returns-2 : tie.Need-returns-2
 returns-2 c = (λ o m e. sym (unfold frameWords in if-ne _ _ _ _ (λ q. c .if1 .left (ap (λ (h : ℕ). h / 128 % 2) e ∙ q))), omega arith)
 

@@ -12,71 +12,54 @@ use Rattle.methods.proofs.body_word.Reads as body-word-reads
 use Rattle.methods.proofs.send_fine.Reads as send-fine-reads
 use Rattle.methods.proofs.variable_fine.Reads as variable-fine-reads
 
--- src/lib.rt:43:26
 enum-told : tie.Need-enum-told
 enum-told c = search needs
 
--- src/lib.rt:44:24
 enum-known-l : tie.Need-enum-known-l
 enum-known-l c = search needs
 
--- src/lib.rt:44:116
 cast-body-word : tie.Need-cast-body-word
 cast-body-word c = search needs
 
--- src/lib.rt:44:112
 add-body-word : tie.Need-add-body-word
 add-body-word c = search needs
 
--- src/lib.rt:44:66
 body-word-requires : tie.Need-body-word-requires
 body-word-requires c κs = (method-named ((c .before .before .before .before .before .before .pre) .0), omega arith)
 
--- src/lib.rt:44:30
 variable-fine-requires : tie.Need-variable-fine-requires
 variable-fine-requires c κs = search needs
 
--- src/lib.rt:45:26
 enum-known-l-2 : tie.Need-enum-known-l-2
 enum-known-l-2 c = search needs
 
--- src/lib.rt:46:71
 cast-body-word-2 : tie.Need-cast-body-word-2
 cast-body-word-2 c = search needs
 
--- src/lib.rt:46:67
 add-body-word-2 : tie.Need-add-body-word-2
 add-body-word-2 c = search needs
 
--- src/lib.rt:46:17
 body-word-requires-2 : tie.Need-body-word-requires-2
 body-word-requires-2 c κs = (method-named ((c .before .before .before .before .before .before .pre) .0), omega arith)
 
--- src/lib.rt:47:13
 send-fine-requires : tie.Need-send-fine-requires
 send-fine-requires c κs = search needs
 
--- src/lib.rt:49:23
 enum-known-l-3 : tie.Need-enum-known-l-3
 enum-known-l-3 c = search needs
 
--- src/lib.rt:49:29
 special-fine-requires : tie.Need-special-fine-requires
 special-fine-requires c κs = ((c .before .before .before .before .before .before .pre) .0, small-special _ _ (c .before .l3 .given .1) ((c .before .before .before .before .before .before .pre) .1))
 
--- src/lib.rt:38:1
 returns : tie.Need-returns
 returns c = link-nothing _ _ _ (c .enum-told .given .1)
 
--- src/lib.rt:38:1
 returns-2 : tie.Need-returns-2
 returns-2 c = c .variable-fine .ensures _ _ ∙ link-variable _ _ _ _ _ (c .before .before .before .l .given .1) (c .before .body-word .ensures)
 
--- src/lib.rt:38:1
 returns-3 : tie.Need-returns-3
 returns-3 c = c .send-fine .ensures ∙ link-selector _ _ _ _ _ _ (c .before .before .before .l2 .given .1) (c .before .body-word2 .ensures)
 
--- src/lib.rt:38:1
 returns-4 : tie.Need-returns-4
 returns-4 c = c .special-fine .ensures ∙ ap (linkFine _ _) (sym (c .before .before .l3 .given .1))
 

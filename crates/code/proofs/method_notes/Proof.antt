@@ -14,103 +14,78 @@ use Rattle.rules.proofs.body_end.Reads as body-end-reads
 use Rattle.rules.proofs.size.Reads as size-reads
 use Rattle.rules.proofs.start.Reads as start-reads
 
--- src/lib.rt:191:13
 cast-k : tie.Need-cast-k
 cast-k c = search needs
 
--- src/lib.rt:192:9
 header-of-requires : tie.Need-header-of-requires
 header-of-requires c κs = method-named ((c .before .before .before .before .before .pre) .0)
 
--- src/lib.rt:193:20
 cast-skip : tie.Need-cast-skip
 cast-skip c = search needs
 
--- src/lib.rt:193:16
 add-skip : tie.Need-add-skip
 add-skip c = search needs
 
--- src/lib.rt:194:16
 start-requires : tie.Need-start-requires
 start-requires c κs = entry-here ((c .before .before .before .before .before .before .pre) .0)
 
--- src/lib.rt:194:16
 cast-from : tie.Need-cast-from
 cast-from c = search needs
 
--- src/lib.rt:194:16
 add-from : tie.Need-add-from
 add-from c = search needs
 
--- src/lib.rt:195:9
 body-end-requires : tie.Need-body-end-requires
 body-end-requires c κs = entry-here ((c .before .before .before .before .before .before .before .pre) .0)
 
--- src/lib.rt:196:17
 mul-first : tie.Need-mul-first
 mul-first c = search needs
 
--- src/lib.rt:197:25
 size-requires : tie.Need-size-requires
 size-requires c κs = entry-here ((c .before .before .before .before .before .before .before .before .pre) .0)
 
--- src/lib.rt:197:25
 cast-last : tie.Need-cast-last
 cast-last c = search needs
 
--- src/lib.rt:197:64
 mul-last : tie.Need-mul-last
 mul-last c = search needs
 
--- src/lib.rt:197:25
 sub-last : tie.Need-sub-last
 sub-last c = let h = c .before .before .before .header-of .ensures in let z = c .size .ensures in let k = code-starts ((c .before .before .before .before .before .before .before .before .before .pre) .0) in omega arith
 
--- src/lib.rt:197:16
 add-last : tie.Need-add-last
 add-last c = search needs
 
--- src/lib.rt:206:9
 mul-code-notes : tie.Need-mul-code-notes
 mul-code-notes c = search needs
 
--- src/lib.rt:206:9
 sub-code-notes : tie.Need-sub-code-notes
 sub-code-notes c = let h = c .before .before .before .header-of .ensures in let s = c .before .before .start .ensures in let e = c .before .body-end .ensures (c .before .before .before .before .before .before .before .before .before .args .b) (c .before .before .before .before .before .before .before .before .before .args .bodies .now) in let k = code-starts ((c .before .before .before .before .before .before .before .before .before .pre) .0) in let q = body-size ((c .before .before .before .before .before .before .before .before .before .pre) .0) in omega arith
 
--- src/lib.rt:206:9
 part-code-notes-start : tie.Need-part-code-notes-start
 part-code-notes-start c = let h = c .before .before .before .header-of .ensures in let s = c .before .before .start .ensures in let e = c .before .body-end .ensures (c .before .before .before .before .before .before .before .before .before .args .b) (c .before .before .before .before .before .before .before .before .before .args .bodies .now) in let k = code-starts ((c .before .before .before .before .before .before .before .before .before .pre) .0) in let q = body-size ((c .before .before .before .before .before .before .before .before .before .pre) .0) in omega arith
 
--- src/lib.rt:206:9
 part-code-notes-end : tie.Need-part-code-notes-end
 part-code-notes-end c = let e = c .before .body-end .ensures (c .before .before .before .before .before .before .before .before .before .args .b) (c .before .before .before .before .before .before .before .before .before .args .bodies .now) in let i = body-inside ((c .before .before .before .before .before .before .before .before .before .pre) .0) in let l = (c .before .before .before .before .before .before .before .before .before .pre) .0 .ready .lent .words in omega arith
 
--- src/lib.rt:207:9
 sub-code-notes-2 : tie.Need-sub-code-notes-2
 sub-code-notes-2 c = search needs
 
--- src/lib.rt:207:9
 part-code-notes-start-2 : tie.Need-part-code-notes-start-2
 part-code-notes-start-2 c = search needs
 
--- src/lib.rt:207:9
 part-code-notes-end-2 : tie.Need-part-code-notes-end-2
 part-code-notes-end-2 c = let h = c .before .before .before .before .header-of .ensures in let s = c .before .before .before .start .ensures in let z = c .before .size .ensures in let k = code-starts ((c .before .before .before .before .before .before .before .before .before .before .pre) .0) in let q = body-size ((c .before .before .before .before .before .before .before .before .before .before .pre) .0) in let i = body-inside ((c .before .before .before .before .before .before .before .before .before .before .pre) .0) in let l = (c .before .before .before .before .before .before .before .before .before .before .pre) .1 in omega arith
 
--- src/lib.rt:198:5
 code-notes-requires : tie.Need-code-notes-requires
 code-notes-requires c κs = let k = code-lent ((c .before .before .before .before .before .before .before .before .before .before .before .before .pre) .0) (c .before .before .before .before .before .before .header-of .result) (c .before .before .before .before .before .start .result) (c .before .before .before .before .body-end .result) (c .before .before .before .size .result) (c .before .before .before .before .before .before .before .before .before .before .before .before .args .notes .now) (c .before .before .before .before .before .before .header-of .ensures) (c .before .before .before .before .before .start .ensures) (c .before .before .before .before .body-end .ensures (c .before .before .before .before .before .before .before .before .before .before .before .before .args .b) (c .before .before .before .before .before .before .before .before .before .before .before .before .args .bodies .now)) (c .before .before .before .size .ensures) ((c .before .before .before .before .before .before .before .before .before .before .before .before .pre) .1) in ((c .before .before .before .before .before .before .before .before .before .before .before .before .pre) .0, k, let s = code-short ((c .before .before .before .before .before .before .before .before .before .before .before .before .pre) .0) (c .before .before .before .before .before .before .header-of .result) (c .before .before .before .before .before .start .result) (c .before .before .before .before .body-end .result) (c .before .before .before .size .result) (c .before .before .before .before .before .before .before .before .before .before .before .before .args .notes .now) (c .before .before .before .before .before .before .header-of .ensures) (c .before .before .before .before .before .start .ensures) (c .before .before .before .before .body-end .ensures (c .before .before .before .before .before .before .before .before .before .before .before .before .args .b) (c .before .before .before .before .before .before .before .before .before .before .before .before .args .bodies .now)) (c .before .before .before .size .ensures) ((c .before .before .before .before .before .before .before .before .before .before .before .before .pre) .1) in let t = (c .before .before .before .before .before .before .before .before .before .before .before .before .pre) .2 in omega arith)
 
--- src/lib.rt:177:1
 same-length : tie.Need-same-length
 same-length c = search needs
 
--- src/lib.rt:177:1
 same-length-2 : tie.Need-same-length-2
 same-length-2 c = search needs
 
--- src/lib.rt:177:1
 returns : tie.Need-returns
 returns c = walked-put ((c .before .before .before .before .before .before .before .before .before .before .before .before .before .before .before .before .before .pre) .0) (c .before .before .before .before .before .before .before .before .before .before .before .header-of .result) (c .before .before .before .before .before .before .before .before .before .before .start .result) (c .before .before .before .before .before .before .before .before .before .body-end .result) (c .before .before .before .before .before .before .before .before .size .result) (c .before .before .before .before .before .before .before .before .before .before .before .before .before .before .before .before .before .args .notes .now) (c .before .before .before .before .before .before .before .before .before .before .before .header-of .ensures) (c .before .before .before .before .before .before .before .before .before .before .start .ensures) (c .before .before .before .before .before .before .before .before .before .body-end .ensures (c .before .before .before .before .before .before .before .before .before .before .before .before .before .before .before .before .before .args .b) (c .before .before .before .before .before .before .before .before .before .before .before .before .before .before .before .before .before .args .bodies .now)) (c .before .before .before .before .before .before .before .before .size .ensures) ((c .before .before .before .before .before .before .before .before .before .before .before .before .before .before .before .before .before .pre) .1) _ (c .before .before .before .before .code-notes .kept .1 .1 .1 .1 .1 .1 .1 .1 .0) _ (c .before .before .before .before .code-notes .ensures)
 

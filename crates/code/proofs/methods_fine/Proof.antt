@@ -15,67 +15,51 @@ use Rattle.code.proofs.codes_fine.Reads as codes-fine-reads
 use Rattle.methods.proofs.count_methods.Reads as count-methods-reads
 use Rattle.methods.proofs.shapes_fine.Reads as shapes-fine-reads
 
--- src/lib.rt:278:9
 shapes-fine-requires : tie.Need-shapes-fine-requires
 shapes-fine-requires c κs = search needs
 
--- src/lib.rt:279:9
 returns : tie.Need-returns
 returns c = seven-shapes _ _ (sym (c .before .shapes-fine .ensures) ∙ not-true _ (c .if1 .taken))
 
--- src/lib.rt:282:56
 slice-aggregate-count-methods : tie.Need-slice-aggregate-count-methods
 slice-aggregate-count-methods c = search needs
 
--- src/lib.rt:282:9
 count-methods-requires : tie.Need-count-methods-requires
 count-methods-requires c κs = ((c .before .before .before .before .before .before .pre) .0, (let q = (c .before .before .before .before .before .before .pre) .0 .lent .most in omega arith), zeros-at 2048)
 
--- src/lib.rt:283:9
 returns-2 : tie.Need-returns-2
 returns-2 c = seven-holders _ _ _ _ (sym (c .before .before .before .before .before .shapes-fine .ensures) ∙ not-false _ (c .before .before .before .before .if1 .left)) (c .before .before .count-methods .ensures) (not-true _ (c .if2 .taken))
 
--- src/lib.rt:285:17
 table-requires : tie.Need-table-requires
 table-requires c κs = search needs
 
--- src/lib.rt:289:59
 slice-aggregate-codes-fine : tie.Need-slice-aggregate-codes-fine
 slice-aggregate-codes-fine c = search needs
 
--- src/lib.rt:289:75
 slice-aggregate-codes-fine-2 : tie.Need-slice-aggregate-codes-fine-2
 slice-aggregate-codes-fine-2 c = search needs
 
--- src/lib.rt:289:9
 codes-fine-requires : tie.Need-codes-fine-requires
 codes-fine-requires c κs = record { entries = c .before .before .before .before .before .table .ensures; ready = (c .before .before .before .before .before .before .before .before .before .before .before .before .before .before .before .pre) .0; sends = record { lent = (c .before .before .before .before .before .before .before .before .before .before .before .before .before .before .before .pre) .0 .lent; long = (let q = (c .before .before .before .before .before .before .before .before .before .before .before .before .before .before .before .pre) .0 .lent .most in let z = c .before .before .before .before .before .before .before .before .count-methods .kept .1 .1 .1 .1 .0 in omega arith); counted = held-counts _ _ _ (c .before .before .before .before .before .before .before .before .count-methods .ensures) (not-false _ (c .before .before .before .before .before .before .if2 .left)) .1 }; shaped = true→T (sym (c .before .before .before .before .before .before .before .before .before .before .before .shapes-fine .ensures) ∙ not-false _ (c .before .before .before .before .before .before .before .before .before .before .if1 .left)); room = (c .before .before .before .before .before .before .before .before .before .before .before .before .before .before .before .pre) .1; long = (let q = length-replicate {A = ℕ} 4000 0 in let l = c .before .before .before .before .if3 .taken in omega arith) }
 
--- src/lib.rt:289:9
 same-length : tie.Need-same-length
 same-length c = search needs
 
--- src/lib.rt:289:9
 returns-3 : tie.Need-returns-3
 returns-3 c = seven-codes _ _ _ (sym (c .before .before .before .before .before .before .before .before .before .before .before .before .before .before .before .shapes-fine .ensures) ∙ not-false _ (c .before .before .before .before .before .before .before .before .before .before .before .before .before .before .if1 .left)) (held-counts _ _ _ (c .before .before .before .before .before .before .before .before .before .before .before .before .count-methods .ensures) (not-false _ (c .before .before .before .before .before .before .before .before .before .before .if2 .left)) .0) (c .before .before .before .codes-fine .ensures)
 
--- src/lib.rt:292:48
 slice-aggregate-codes-fine-3 : tie.Need-slice-aggregate-codes-fine-3
 slice-aggregate-codes-fine-3 c = search needs
 
--- src/lib.rt:292:64
 slice-aggregate-codes-fine-4 : tie.Need-slice-aggregate-codes-fine-4
 slice-aggregate-codes-fine-4 c = search needs
 
--- src/lib.rt:292:5
 codes-fine-requires-2 : tie.Need-codes-fine-requires-2
 codes-fine-requires-2 c κs = record { entries = c .before .before .before .before .before .table .ensures; ready = (c .before .before .before .before .before .before .before .before .before .before .before .before .before .before .before .pre) .0; sends = record { lent = (c .before .before .before .before .before .before .before .before .before .before .before .before .before .before .before .pre) .0 .lent; long = (let q = (c .before .before .before .before .before .before .before .before .before .before .before .before .before .before .before .pre) .0 .lent .most in let z = c .before .before .before .before .before .before .before .before .count-methods .kept .1 .1 .1 .1 .0 in omega arith); counted = held-counts _ _ _ (c .before .before .before .before .before .before .before .before .count-methods .ensures) (not-false _ (c .before .before .before .before .before .before .if2 .left)) .1 }; shaped = true→T (sym (c .before .before .before .before .before .before .before .before .before .before .before .shapes-fine .ensures) ∙ not-false _ (c .before .before .before .before .before .before .before .before .before .before .if1 .left)); room = (c .before .before .before .before .before .before .before .before .before .before .before .before .before .before .before .pre) .1; long = (let q = length-replicate {A = ℕ} 48000 0 in let l = (c .before .before .before .before .before .before .before .before .before .before .before .before .before .before .before .pre) .0 .lent .most-words in omega arith) }
 
--- src/lib.rt:274:1
 same-length-2 : tie.Need-same-length-2
 same-length-2 c = search needs
 
--- src/lib.rt:274:1
 returns-4 : tie.Need-returns-4
 returns-4 c = seven-codes _ _ _ (sym (c .before .before .before .before .before .before .before .before .before .before .before .before .before .before .before .shapes-fine .ensures) ∙ not-false _ (c .before .before .before .before .before .before .before .before .before .before .before .before .before .before .if1 .left)) (held-counts _ _ _ (c .before .before .before .before .before .before .before .before .before .before .before .before .count-methods .ensures) (not-false _ (c .before .before .before .before .before .before .before .before .before .before .if2 .left)) .0) (c .before .before .before .codes-fine2 .ensures)
 

@@ -8,23 +8,18 @@ use Rattle.code.proofs.position_fine.Lts as lts
 use Rattle.code.proofs.link_fine.Reads as link-fine-reads
 use Rattle.flow.proofs.link_at.Reads as link-at-reads
 
--- src/lib.rt:60:8
 shared-slice-read-if1 : tie.Need-shared-slice-read-if1
 shared-slice-read-if1 c = (c .before .before .before .before .before .before .pre) .2
 
--- src/lib.rt:61:9
 returns : tie.Need-returns
 returns c = linked-free _ _ _ _ (c .if1 .taken)
 
--- src/lib.rt:63:9
 link-at-requires : tie.Need-link-at-requires
 link-at-requires c κs = ((c .before .before .before .before .before .before .before .pre) .0 .entries, (c .before .before .before .before .before .before .before .pre) .2, (c .before .before .before .before .before .before .before .pre) .1 .covered, (c .before .before .before .before .before .before .before .pre) .1 .small)
 
--- src/lib.rt:64:5
 link-fine-requires : tie.Need-link-fine-requires
 link-fine-requires c κs = ((c .before .before .before .before .before .before .before .before .pre) .0, small-link _ _ _ _ (c .link-at .ensures))
 
--- src/lib.rt:54:1
 returns-2 : tie.Need-returns-2
 returns-2 c = c .link-fine .ensures ∙ linked-noted _ _ _ _ _ _ (c .before .before .if1 .left) ((c .before .before .before .before .before .before .before .before .before .pre) .1) (c .before .link-at .ensures)
 

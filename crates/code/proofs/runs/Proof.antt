@@ -4,11 +4,9 @@ use Rattle.code.proofs.runs.Tie as tie
 use Rattle.code.proofs.runs.Reads as reads
 use Rattle.code.proofs.runs.Lts as lts
 
--- src/lib.rt:219:9
 returns : tie.Need-returns
 returns c = λ o m e. runs-low o m _ (c .if1 .taken) e
 
--- src/lib.rt:214:1
 returns-2 : tie.Need-returns-2
 returns-2 c = λ o m e. runs-high o m _ (c .if1 .left) e
 

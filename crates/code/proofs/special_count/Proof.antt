@@ -9,27 +9,21 @@ use Rattle.code.proofs.special_count.Lts as lts
 use Rattle.bytecode.proofs.entry.Reads as entry-reads
 use Rattle.bytecode.proofs.entry_need.Reads as entry-need-reads
 
--- src/lib.rt:18:36
 add-entry : tie.Need-add-entry
 add-entry c = search needs
 
--- src/lib.rt:18:9
 entry-requires : tie.Need-entry-requires
 entry-requires c κs = search needs
 
--- src/lib.rt:19:6
 entry-need-requires : tie.Need-entry-need-requires
 entry-need-requires c κs = search needs
 
--- src/lib.rt:19:6
 sub-result : tie.Need-sub-result
 sub-result c = let q = special-need _ _ ((c .before .before .pre) .1) (c .before .entry .ensures) in let r = c .entry-need .ensures in omega arith
 
--- src/lib.rt:19:5
 cast-result : tie.Need-cast-result
 cast-result c = search needs
 
--- src/lib.rt:14:1
 returns : tie.Need-returns
 returns c = let q = special-need _ _ ((c .before .before .pre) .1) (c .before .entry .ensures) in let r = c .entry-need .ensures in omega arith
 

@@ -9,27 +9,21 @@ use Rattle.code.proofs.special_count.Reads as special-count-reads
 use Rattle.methods.proofs.body_word.Reads as body-word-reads
 use Rattle.methods.proofs.send_fine.Reads as send-fine-reads
 
--- src/lib.rt:28:9
 returns : tie.Need-returns
 returns c = special-same _ _ _ (c .if1 .taken)
 
--- src/lib.rt:31:9
 returns-2 : tie.Need-returns-2
 returns-2 c = special-class _ _ _ (c .if2 .taken)
 
--- src/lib.rt:33:9
 body-word-requires : tie.Need-body-word-requires
 body-word-requires c κs = search needs
 
--- src/lib.rt:34:59
 special-count-requires : tie.Need-special-count-requires
 special-count-requires c κs = search needs
 
--- src/lib.rt:34:5
 send-fine-requires : tie.Need-send-fine-requires
 send-fine-requires c κs = search needs
 
--- src/lib.rt:23:1
 returns-3 : tie.Need-returns-3
 returns-3 c = c .send-fine .ensures ∙ special-sent _ _ _ _ _ (c .before .before .before .before .if1 .left) (c .before .before .before .if2 .left) (c .before .before .body-word .ensures) (c .before .special-count .ensures)
 

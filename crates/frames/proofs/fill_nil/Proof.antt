@@ -30,31 +30,24 @@ Inv-loop words₀ from temporaries i₀ words i = (from ≤ i) × (i ≤ tempora
 abbrev μ-loop : tie.MeasureT-loop
 μ-loop words₀ from temporaries i₀ words i = temporaries - i
 
--- src/lib.rt:29:5
 loop-holds : tie.Need-loop-holds Inv-loop μ-loop
 loop-holds c = (omega arith, omega arith, sym (ap (λ k. sets (c .args .words .now) (6 + c .args .from) (replicate {A = ℕ} k 2)) (nothing (c .args .from))))
 
--- src/lib.rt:30:15
 add-words : tie.Need-add-words Inv-loop μ-loop
 add-words c = search needs
 
--- src/lib.rt:30:9
 mul-words : tie.Need-mul-words Inv-loop μ-loop
 mul-words c = omega (arith, c .before .loop .inv, ap length (c .before .loop .inv .2) ∙ length-sets (c .before .before .args .words .now) (6 + c .before .before .args .from) (replicate {A = ℕ} (c .before .loop .i - c .before .before .args .from) 2))
 
--- src/lib.rt:30:9
 slice-write-words : tie.Need-slice-write-words Inv-loop μ-loop
 slice-write-words c = omega (arith, ap length (c .before .loop .inv .2) ∙ length-sets (c .before .before .args .words .now) (6 + c .before .before .args .from) (replicate {A = ℕ} (c .before .loop .i - c .before .before .args .from) 2))
 
--- src/lib.rt:31:9
 add-i : tie.Need-add-i Inv-loop μ-loop
 add-i c = search needs
 
--- src/lib.rt:29:5
 loop-less : tie.Need-loop-less Inv-loop μ-loop
 loop-less c = omega arith
 
--- src/lib.rt:29:5
 loop-again : tie.Need-loop-again Inv-loop μ-loop
 loop-again c = (
   omega arith,
@@ -62,11 +55,9 @@ loop-again c = (
   one-more (c .before .before .args .words .now) (c .before .loop .words) (c .before .before .args .from) (c .before .loop .i) (c .before .loop .inv .0) (c .before .loop .inv .2),
 )
 
--- src/lib.rt:24:1
 same-length : tie.Need-same-length Inv-loop μ-loop
 same-length c = ap length (c .before .loop .inv .2) ∙ length-sets (c .before .before .args .words .now) (6 + c .before .before .args .from) (replicate {A = ℕ} (c .before .loop .i - c .before .before .args .from) 2)
 
--- src/lib.rt:24:1
 returns : tie.Need-returns Inv-loop μ-loop
 returns c = c .before .loop .inv .2 ∙ ap (λ k. sets (c .before .before .args .words .now) (6 + c .before .before .args .from) (replicate {A = ℕ} (k - c .before .before .args .from) 2)) (omega arith)
 

@@ -6,51 +6,39 @@ use Rattle.frames.proofs.push.Tie as tie
 use Rattle.frames.proofs.push.Reads as reads
 use Rattle.frames.proofs.push.Lts as lts
 
--- src/lib.rt:87:5
 mul-stack : tie.Need-mul-stack
 mul-stack c = search needs
 
--- src/lib.rt:87:5
 slice-write-stack : tie.Need-slice-write-stack
 slice-write-stack c = search needs
 
--- src/lib.rt:88:21
 cast-stack : tie.Need-cast-stack
 cast-stack c = search needs
 
--- src/lib.rt:88:11
 add-stack : tie.Need-add-stack
 add-stack c = search needs
 
--- src/lib.rt:88:5
 mul-stack-2 : tie.Need-mul-stack-2
 mul-stack-2 c = search needs
 
--- src/lib.rt:88:5
 slice-write-stack-2 : tie.Need-slice-write-stack-2
 slice-write-stack-2 c = simp length-set (omega arith)
 
--- src/lib.rt:89:21
 cast-stack-2 : tie.Need-cast-stack-2
 cast-stack-2 c = search needs
 
--- src/lib.rt:89:11
 add-stack-2 : tie.Need-add-stack-2
 add-stack-2 c = search needs
 
--- src/lib.rt:89:5
 mul-stack-3 : tie.Need-mul-stack-3
 mul-stack-3 c = search needs
 
--- src/lib.rt:89:5
 slice-write-stack-3 : tie.Need-slice-write-stack-3
 slice-write-stack-3 c = search needs
 
--- src/lib.rt:73:1
 same-length : tie.Need-same-length
 same-length c = search needs
 
--- src/lib.rt:73:1
 returns : tie.Need-returns
 returns c = search needs
 

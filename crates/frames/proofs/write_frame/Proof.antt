@@ -23,52 +23,41 @@ finish l arguments count temporaries h =
     sets-append (take count arguments) (replicate (temporaries - length (take count arguments)) 2) l 6
     ∙ ap (λ (k : ℕ). sets (sets l 6 (take count arguments)) (6 + k) (replicate (temporaries - k) 2)) (length-take-le count arguments h)
 
--- src/lib.rt:42:16
 cast-words : tie.Need-cast-words
 cast-words c = search needs
 
--- src/lib.rt:42:5
 slice-write-words : tie.Need-slice-write-words
 slice-write-words c = search needs
 
--- src/lib.rt:43:5
 slice-write-words-2 : tie.Need-slice-write-words-2
 slice-write-words-2 c = simp length-set (omega arith)
 
--- src/lib.rt:44:5
 slice-write-words-3 : tie.Need-slice-write-words-3
 slice-write-words-3 c = simp length-set (omega arith)
 
--- src/lib.rt:45:5
 slice-write-words-4 : tie.Need-slice-write-words-4
 slice-write-words-4 c = simp length-set (omega arith)
 
--- src/lib.rt:46:5
 slice-write-words-5 : tie.Need-slice-write-words-5
 slice-write-words-5 c = simp length-set (omega arith)
 
--- src/lib.rt:47:5
 slice-write-words-6 : tie.Need-slice-write-words-6
 slice-write-words-6 c = simp length-set (omega arith)
 
--- src/lib.rt:48:5
 copy-arguments-requires : tie.Need-copy-arguments-requires
 copy-arguments-requires c κs = (simp length-set (omega arith), omega arith)
 
--- src/lib.rt:49:5
 fill-nil-requires : tie.Need-fill-nil-requires
 fill-nil-requires c κs = (
   omega arith,
   omega (arith, long (c .before .before .before .before .before .before .before .args .words .now) (c .before .before .before .copy-arguments .last .0) (c .before .before .before .before .before .before .before .args .sender .0) (c .before .before .before .before .before .before .before .args .method .0) (c .before .before .before .before .before .before .before .args .receiver) (take (c .before .before .before .before .before .before .before .args .count) (c .before .before .before .before .before .before .before .args .arguments .now)) (c .before .before .before .copy-arguments .ensures)),
 )
 
--- src/lib.rt:36:1
 same-length : tie.Need-same-length
 same-length c =
     ap length (c .before .before .fill-nil .ensures) ∙ length-sets (c .before .before .before .before .before .before .copy-arguments .last .0) (6 + c .before .before .before .before .before .before .before .before .before .before .args .count) (replicate {A = ℕ} (c .before .before .before .before .before .before .before .before .before .before .args .temporaries - c .before .before .before .before .before .before .before .before .before .before .args .count) 2)
     ∙ long (c .before .before .before .before .before .before .before .before .before .before .args .words .now) (c .before .before .before .before .before .before .copy-arguments .last .0) (c .before .before .before .before .before .before .before .before .before .before .args .sender .0) (c .before .before .before .before .before .before .before .before .before .before .args .method .0) (c .before .before .before .before .before .before .before .before .before .before .args .receiver) (take (c .before .before .before .before .before .before .before .before .before .before .args .count) (c .before .before .before .before .before .before .before .before .before .before .args .arguments .now)) (c .before .before .before .before .before .before .copy-arguments .ensures)
 
--- src/lib.rt:36:1
 returns : tie.Need-returns
 returns c =
     c .before .before .fill-nil .ensures

@@ -5,203 +5,153 @@ use borrow.Author.Needs.{needs}
 use Rattle.interpreter.proofs.advance.Statement.{statement}
 use Rattle.interpreter.proofs.advance.Tie as tie
 
--- src/lib.rt:75:11
 step-requires : tie.Need-step-requires
 step-requires c κs = search needs
 
--- src/lib.rt:76:23
 enum-known-position : tie.Need-enum-known-position
 enum-known-position c = search needs
 
--- src/lib.rt:81:13
 enum-known-selector : tie.Need-enum-known-selector
 enum-known-selector c = search needs
 
--- src/lib.rt:87:13
 leave-requires : tie.Need-leave-requires
 leave-requires c κs = leaves-send ((c .before .before .before .before .before .before .before .before .before .before .before .before .before .before .before .before .before .pre) .0) (c .before .before .before .before .before .before .before .before .step .last .1 .0) (c .before .before .before .before .before .before .before .before .step .last .1 .1 .0) (c .before .before .before .before .before .before .before .before .step .result) (c .before .before .before .before .before .before .before .before .step .ensures) _ _ _ _ _ (c .before .before .selector .given .1)
 
--- src/lib.rt:88:19
 send-requires : tie.Need-send-requires
 send-requires c κs = can-send ((c .before .before .before .before .before .before .before .before .before .before .before .before .before .before .before .before .before .before .before .before .before .before .before .before .pre) .0) (c .before .before .before .before .before .before .before .before .before .before .before .before .before .before .before .step .last .1 .0) (c .before .before .before .before .before .before .before .before .before .before .before .before .before .before .before .step .last .1 .1 .0) (c .before .before .before .before .before .before .before .before .before .before .before .before .before .before .before .step .result) (c .before .before .before .before .before .before .before .before .before .before .before .before .before .before .before .step .ensures) _ (c .before .before .before .before .before .before .leave .ensures) _ _ _ _ _ (c .before .before .before .before .before .before .before .before .before .selector .given .1) _ ((c .before .before .before .before .before .before .before .before .before .before .before .before .before .before .before .before .before .before .before .before .before .before .before .before .pre) .1)
 
--- src/lib.rt:103:24
 enum-known-objects : tie.Need-enum-known-objects
 enum-known-objects c = search needs
 
--- src/lib.rt:110:31
 enum-known-base : tie.Need-enum-known-base
 enum-known-base c = search needs
 
--- src/lib.rt:115:40
 enum-told : tie.Need-enum-told
 enum-told c = search needs
 
--- src/lib.rt:116:33
 enum-told-2 : tie.Need-enum-told-2
 enum-told-2 c = search needs
 
--- src/lib.rt:119:23
 enum-known-w : tie.Need-enum-known-w
 enum-known-w c = search needs
 
--- src/lib.rt:120:13
 leave-requires-2 : tie.Need-leave-requires-2
 leave-requires-2 c κs = leaves-return ((c .before .before .before .before .before .before .before .before .before .before .before .before .before .before .before .before .before .pre) .0) (c .before .before .before .before .before .before .before .before .step .last .1 .0) (c .before .before .before .before .before .before .before .before .step .last .1 .1 .0) (c .before .before .before .before .before .before .before .before .step .result) (c .before .before .before .before .before .before .before .before .step .ensures) _ (c .before .before .w .given .1)
 
--- src/lib.rt:123:17
 same-length : tie.Need-same-length
 same-length c = search needs
 
--- src/lib.rt:123:17
 same-length-2 : tie.Need-same-length-2
 same-length-2 c = search needs
 
--- src/lib.rt:123:17
 same-length-3 : tie.Need-same-length-3
 same-length-3 c = search needs
 
--- src/lib.rt:123:17
 returns : tie.Need-returns
 returns c = finishes ((c .before .before .before .before .before .before .before .before .before .before .before .before .before .before .before .before .before .before .before .before .before .pre) .0) (c .before .before .before .before .before .before .before .before .before .before .before .before .step .last .1 .0) (c .before .before .before .before .before .before .before .before .before .before .before .before .step .last .1 .1 .0) (c .before .before .before .before .before .before .before .before .before .before .before .before .step .result) (c .before .before .before .before .before .before .before .before .before .before .before .before .step .ensures) _ (c .before .before .before .leave2 .ensures) _ (c .before .before .before .before .before .before .w .given .1) _ (c .if1 .taken)
 
--- src/lib.rt:125:17
 return-to-requires : tie.Need-return-to-requires
 return-to-requires c κs = (return-runs ((c .before .before .before .before .before .before .before .before .before .before .before .before .before .before .before .before .before .before .before .before .before .before .before .before .pre) .0) (c .before .before .before .before .before .before .before .before .before .before .before .before .before .before .before .step .last .1 .0) (c .before .before .before .before .before .before .before .before .before .before .before .before .before .before .before .step .last .1 .1 .0) (c .before .before .before .before .before .before .before .before .before .before .before .before .before .before .before .step .result) (c .before .before .before .before .before .before .before .before .before .before .before .before .before .before .before .step .ensures) _ (c .before .before .before .before .before .before .leave2 .ensures) _ (c .before .before .before .before .before .before .before .before .before .w .given .1), let h = c .before .before .before .if1 .left in omega arith)
 
--- src/lib.rt:133:26
 enum-told-3 : tie.Need-enum-told-3
 enum-told-3 c = search needs
 
--- src/lib.rt:133:13
 leave-requires-3 : tie.Need-leave-requires-3
 leave-requires-3 c κs = leaves-halt ((c .before .before .before .before .before .before .before .before .before .before .before .before .before .before .before .before .pre) .0) (c .before .before .before .before .before .before .before .step .last .1 .0) (c .before .before .before .before .before .before .before .step .last .1 .1 .0) (c .before .before .before .before .before .before .before .step .result) (c .before .before .before .before .before .before .before .step .ensures) (c .before .enum-told3 .given .1)
 
--- src/lib.rt:62:1
 same-length-4 : tie.Need-same-length-4
 same-length-4 c = search needs
 
--- src/lib.rt:62:1
 same-length-5 : tie.Need-same-length-5
 same-length-5 c = search needs
 
--- src/lib.rt:62:1
 same-length-6 : tie.Need-same-length-6
 same-length-6 c = search needs
 
--- src/lib.rt:62:1
 returns-2 : tie.Need-returns-2
 returns-2 c = went-on ((c .before .before .before .before .before .before .before .before .before .before .before .before .before .before .before .before .pre) .0) (c .before .before .before .before .before .before .before .step .last .1 .0) (c .before .before .before .before .before .before .before .step .last .1 .1 .0) (c .before .before .before .before .before .before .before .step .result) (c .before .before .before .before .before .before .before .step .ensures) _ _ _ (c .before .position .given .1)
 
--- src/lib.rt:62:1
 same-length-7 : tie.Need-same-length-7
 same-length-7 c = search needs
 
--- src/lib.rt:62:1
 same-length-8 : tie.Need-same-length-8
 same-length-8 c = search needs
 
--- src/lib.rt:62:1
 same-length-9 : tie.Need-same-length-9
 same-length-9 c = search needs
 
--- src/lib.rt:62:1
 same-length-10 : tie.Need-same-length-10
 same-length-10 c = search needs
 
--- src/lib.rt:62:1
 returns-3 : tie.Need-returns-3
 returns-3 c = answers ((c .before .before .before .before .before .before .before .before .before .before .before .before .before .before .before .before .before .before .before .before .before .before .before .before .before .before .before .before .before .before .before .before .before .before .before .before .pre) .0) (c .before .before .before .before .before .before .before .before .before .before .before .before .before .before .before .before .before .before .before .before .before .before .before .before .before .before .before .step .last .1 .0) (c .before .before .before .before .before .before .before .before .before .before .before .before .before .before .before .before .before .before .before .before .before .before .before .before .before .before .before .step .last .1 .1 .0) (c .before .before .before .before .before .before .before .before .before .before .before .before .before .before .before .before .before .before .before .before .before .before .before .before .before .before .before .step .result) (c .before .before .before .before .before .before .before .before .before .before .before .before .before .before .before .before .before .before .before .before .before .before .before .before .before .before .before .step .ensures) _ (c .before .before .before .before .before .before .before .before .before .before .before .before .before .before .before .before .before .before .leave .ensures) _ _ _ _ _ (c .before .before .before .before .before .before .before .before .before .before .before .before .before .before .before .before .before .before .before .before .before .selector .given .1) _ (c .before .before .before .before .before .before .before .before .before .before .before .send .last .0) (c .before .before .before .before .before .before .before .before .before .before .before .send .last .1 .0) (c .before .before .before .before .before .before .before .before .before .before .before .send .last .1 .1 .0) (c .before .before .before .before .before .before .before .before .before .before .before .send .last .1 .1 .1 .0) (c .before .before .before .before .before .before .before .before .before .before .before .send .result) (c .before .before .before .before .before .before .before .before .before .before .before .send .ensures) _ _ (c .before .objects .given .1)
 
--- src/lib.rt:62:1
 same-length-11 : tie.Need-same-length-11
 same-length-11 c = search needs
 
--- src/lib.rt:62:1
 same-length-12 : tie.Need-same-length-12
 same-length-12 c = search needs
 
--- src/lib.rt:62:1
 same-length-13 : tie.Need-same-length-13
 same-length-13 c = search needs
 
--- src/lib.rt:62:1
 same-length-14 : tie.Need-same-length-14
 same-length-14 c = search needs
 
--- src/lib.rt:62:1
 returns-4 : tie.Need-returns-4
 returns-4 c = enters ((c .before .before .before .before .before .before .before .before .before .before .before .before .before .before .before .before .before .before .before .before .before .before .before .before .before .before .before .before .before .before .before .before .before .before .before .before .pre) .0) (c .before .before .before .before .before .before .before .before .before .before .before .before .before .before .before .before .before .before .before .before .before .before .before .before .before .before .before .step .last .1 .0) (c .before .before .before .before .before .before .before .before .before .before .before .before .before .before .before .before .before .before .before .before .before .before .before .before .before .before .before .step .last .1 .1 .0) (c .before .before .before .before .before .before .before .before .before .before .before .before .before .before .before .before .before .before .before .before .before .before .before .before .before .before .before .step .result) (c .before .before .before .before .before .before .before .before .before .before .before .before .before .before .before .before .before .before .before .before .before .before .before .before .before .before .before .step .ensures) _ (c .before .before .before .before .before .before .before .before .before .before .before .before .before .before .before .before .before .before .leave .ensures) _ _ _ _ _ (c .before .before .before .before .before .before .before .before .before .before .before .before .before .before .before .before .before .before .before .before .before .selector .given .1) _ (c .before .before .before .before .before .before .before .before .before .before .before .send .last .0) (c .before .before .before .before .before .before .before .before .before .before .before .send .last .1 .0) (c .before .before .before .before .before .before .before .before .before .before .before .send .last .1 .1 .0) (c .before .before .before .before .before .before .before .before .before .before .before .send .last .1 .1 .1 .0) (c .before .before .before .before .before .before .before .before .before .before .before .send .result) (c .before .before .before .before .before .before .before .before .before .before .before .send .ensures) _ (c .before .base .given .1)
 
--- src/lib.rt:62:1
 same-length-15 : tie.Need-same-length-15
 same-length-15 c = search needs
 
--- src/lib.rt:62:1
 same-length-16 : tie.Need-same-length-16
 same-length-16 c = search needs
 
--- src/lib.rt:62:1
 same-length-17 : tie.Need-same-length-17
 same-length-17 c = search needs
 
--- src/lib.rt:62:1
 same-length-18 : tie.Need-same-length-18
 same-length-18 c = search needs
 
--- src/lib.rt:62:1
 returns-5 : tie.Need-returns-5
 returns-5 c = none-understood ((c .before .before .before .before .before .before .before .before .before .before .before .before .before .before .before .before .before .before .before .before .before .before .before .before .before .before .before .before .before .before .before .before .before .before .before .pre) .0) (c .before .before .before .before .before .before .before .before .before .before .before .before .before .before .before .before .before .before .before .before .before .before .before .before .before .before .step .last .1 .0) (c .before .before .before .before .before .before .before .before .before .before .before .before .before .before .before .before .before .before .before .before .before .before .before .before .before .before .step .last .1 .1 .0) (c .before .before .before .before .before .before .before .before .before .before .before .before .before .before .before .before .before .before .before .before .before .before .before .before .before .before .step .result) (c .before .before .before .before .before .before .before .before .before .before .before .before .before .before .before .before .before .before .before .before .before .before .before .before .before .before .step .ensures) _ (c .before .before .before .before .before .before .before .before .before .before .before .before .before .before .before .before .before .leave .ensures) _ _ _ _ _ (c .before .before .before .before .before .before .before .before .before .before .before .before .before .before .before .before .before .before .before .before .selector .given .1) _ (c .before .before .before .before .before .before .before .before .before .before .send .last .0) (c .before .before .before .before .before .before .before .before .before .before .send .last .1 .0) (c .before .before .before .before .before .before .before .before .before .before .send .last .1 .1 .0) (c .before .before .before .before .before .before .before .before .before .before .send .last .1 .1 .1 .0) (c .before .before .before .before .before .before .before .before .before .before .send .result) (c .before .before .before .before .before .before .before .before .before .before .send .ensures) (c .enum-told .given .1)
 
--- src/lib.rt:62:1
 same-length-19 : tie.Need-same-length-19
 same-length-19 c = search needs
 
--- src/lib.rt:62:1
 same-length-20 : tie.Need-same-length-20
 same-length-20 c = search needs
 
--- src/lib.rt:62:1
 same-length-21 : tie.Need-same-length-21
 same-length-21 c = search needs
 
--- src/lib.rt:62:1
 same-length-22 : tie.Need-same-length-22
 same-length-22 c = search needs
 
--- src/lib.rt:62:1
 returns-6 : tie.Need-returns-6
 returns-6 c = none-fits ((c .before .before .before .before .before .before .before .before .before .before .before .before .before .before .before .before .before .before .before .before .before .before .before .before .before .before .before .before .before .before .before .before .before .before .before .pre) .0) (c .before .before .before .before .before .before .before .before .before .before .before .before .before .before .before .before .before .before .before .before .before .before .before .before .before .before .step .last .1 .0) (c .before .before .before .before .before .before .before .before .before .before .before .before .before .before .before .before .before .before .before .before .before .before .before .before .before .before .step .last .1 .1 .0) (c .before .before .before .before .before .before .before .before .before .before .before .before .before .before .before .before .before .before .before .before .before .before .before .before .before .before .step .result) (c .before .before .before .before .before .before .before .before .before .before .before .before .before .before .before .before .before .before .before .before .before .before .before .before .before .before .step .ensures) _ (c .before .before .before .before .before .before .before .before .before .before .before .before .before .before .before .before .before .leave .ensures) _ _ _ _ _ (c .before .before .before .before .before .before .before .before .before .before .before .before .before .before .before .before .before .before .before .before .selector .given .1) _ (c .before .before .before .before .before .before .before .before .before .before .send .last .0) (c .before .before .before .before .before .before .before .before .before .before .send .last .1 .0) (c .before .before .before .before .before .before .before .before .before .before .send .last .1 .1 .0) (c .before .before .before .before .before .before .before .before .before .before .send .last .1 .1 .1 .0) (c .before .before .before .before .before .before .before .before .before .before .send .result) (c .before .before .before .before .before .before .before .before .before .before .send .ensures) (c .enum-told2 .given .1)
 
--- src/lib.rt:62:1
 same-length-23 : tie.Need-same-length-23
 same-length-23 c = search needs
 
--- src/lib.rt:62:1
 same-length-24 : tie.Need-same-length-24
 same-length-24 c = search needs
 
--- src/lib.rt:62:1
 same-length-25 : tie.Need-same-length-25
 same-length-25 c = search needs
 
--- src/lib.rt:62:1
 returns-7 : tie.Need-returns-7
 returns-7 c = returned-below ((c .before .before .before .before .before .before .before .before .before .before .before .before .before .before .before .before .before .before .before .before .before .before .before .before .before .before .before .pre) .0) (c .before .before .before .before .before .before .before .before .before .before .before .before .before .before .before .before .before .before .step .last .1 .0) (c .before .before .before .before .before .before .before .before .before .before .before .before .before .before .before .before .before .before .step .last .1 .1 .0) (c .before .before .before .before .before .before .before .before .before .before .before .before .before .before .before .before .before .before .step .result) (c .before .before .before .before .before .before .before .before .before .before .before .before .before .before .before .before .before .before .step .ensures) _ (c .before .before .before .before .before .before .before .before .before .leave2 .ensures) _ (c .before .before .before .before .before .before .before .before .before .before .before .before .w .given .1) _ _ _ (let h = c .before .before .before .before .before .before .if1 .left in omega arith) (c .before .before .return-to .ensures .0) (c .before .before .return-to .ensures .1)
 
--- src/lib.rt:62:1
 same-length-26 : tie.Need-same-length-26
 same-length-26 c = search needs
 
--- src/lib.rt:62:1
 same-length-27 : tie.Need-same-length-27
 same-length-27 c = search needs
 
--- src/lib.rt:62:1
 same-length-28 : tie.Need-same-length-28
 same-length-28 c = search needs
 
--- src/lib.rt:62:1
 returns-8 : tie.Need-returns-8
 returns-8 c = no-boolean ((c .before .before .before .before .before .before .before .before .before .before .before .before .before .before .before .before .before .before .before .pre) .0) (c .before .before .before .before .before .before .before .before .before .before .step .last .1 .0) (c .before .before .before .before .before .before .before .before .before .before .step .last .1 .1 .0) (c .before .before .before .before .before .before .before .before .before .before .step .result) (c .before .before .before .before .before .before .before .before .before .before .step .ensures) _ (c .before .before .leave3 .ensures) _ (c .before .before .before .before .enum-told3 .given .1)
 

@@ -8,23 +8,18 @@ use Rattle.machine.proofs.check.Lts as lts
 use Rattle.state.proofs.state_fine.Reads as state-fine-reads
 use Rattle.store.proofs.buffers_fine.Reads as buffers-fine-reads
 
--- src/lib.rt:88:9
 buffers-fine-requires : tie.Need-buffers-fine-requires
 buffers-fine-requires c κs = search needs
 
--- src/lib.rt:95:9
 returns : tie.Need-returns
 returns c = answers-3 (c .before .before .before .before .before .before .args .registers) (c .before .before .before .before .before .before .args .contents .now) (c .before .before .before .before .before .before .args .bodies .now) (c .before .before .before .before .before .before .args .stack .now) (c .before .before .before .before .before .before .args .cache .now) _ (c .before .buffers-fine .ensures) (not-true _ (c .if1 .taken))
 
--- src/lib.rt:97:9
 state-fine-requires : tie.Need-state-fine-requires
 state-fine-requires c κs = buffers-pass (c .before .before .before .before .before .before .args .registers) (c .before .before .before .before .before .before .args .contents .now) (c .before .before .before .before .before .before .args .bodies .now) (c .before .before .before .before .before .before .args .stack .now) (c .before .before .before .before .before .before .args .cache .now) _ (c .before .buffers-fine .ensures) (not-false _ (c .if1 .left))
 
--- src/lib.rt:110:9
 returns-2 : tie.Need-returns-2
 returns-2 c = answers-11 (c .before .before .before .before .before .before .before .before .args .registers) (c .before .before .before .before .before .before .before .before .args .contents .now) (c .before .before .before .before .before .before .before .before .args .bodies .now) (c .before .before .before .before .before .before .before .before .args .stack .now) (c .before .before .before .before .before .before .before .before .args .cache .now) _ (c .before .before .before .buffers-fine .ensures) _ (c .before .state-fine .ensures) (not-false _ (c .before .before .if1 .left)) (not-true _ (c .if2 .taken))
 
--- src/lib.rt:79:1
 returns-3 : tie.Need-returns-3
 returns-3 c = answers-yes (c .before .before .before .before .before .before .before .before .args .registers) (c .before .before .before .before .before .before .before .before .args .contents .now) (c .before .before .before .before .before .before .before .before .args .bodies .now) (c .before .before .before .before .before .before .before .before .args .stack .now) (c .before .before .before .before .before .before .before .before .args .cache .now) _ (c .before .before .before .buffers-fine .ensures) _ (c .before .state-fine .ensures) (not-false _ (c .before .before .if1 .left)) (not-false _ (c .if2 .left))
 

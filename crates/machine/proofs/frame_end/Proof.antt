@@ -12,35 +12,27 @@ use Rattle.machine.proofs.frame_end.Lts as lts
 use Rattle.objects.proofs.frame_words.Reads as frame-words-reads
 use Rattle.objects.proofs.header.Reads as header-reads
 
--- src/lib.rt:209:32
 add-t10 : tie.Need-add-t10
 add-t10 c = let t = top-bounds (c .before .before .before .pre) in omega arith
 
--- src/lib.rt:209:26
 mul-t11 : tie.Need-mul-t11
 mul-t11 c = let t = top-bounds (c .before .before .before .pre) in omega arith
 
--- src/lib.rt:209:26
 shared-slice-read-t13 : tie.Need-shared-slice-read-t13
 shared-slice-read-t13 c = let t = top-bounds (c .before .before .before .before .pre) in omega arith
 
--- src/lib.rt:210:38
 header-requires : tie.Need-header-requires
 header-requires c κs = record { right = (c .before .before .before .before .pre) .right; kinds = is-method (c .before .before .before .before .pre) }
 
--- src/lib.rt:210:9
 frame-words-requires : tie.Need-frame-words-requires
 frame-words-requires c κs = search needs
 
--- src/lib.rt:211:13
 add-result : tie.Need-add-result
 add-result c = let k = small-frame _ _ (c .frame-words .ensures) in omega arith
 
--- src/lib.rt:211:5
 add-result-2 : tie.Need-add-result-2
 add-result-2 c = let k = small-frame _ _ (c .frame-words .ensures) in let t = top-bounds (c .before .before .before .before .before .before .pre) in omega arith
 
--- src/lib.rt:197:1
 returns : tie.Need-returns
 returns c = let e = frame-is (objectsAt (c .before .before .before .before .before .before .args .n) (c .before .before .before .before .before .before .args .b) (c .before .before .before .before .before .before .args .contents .now) (c .before .before .before .before .before .before .args .bodies .now)) _ _ _ (c .before .header .ensures) (c .frame-words .ensures) in let t = top-bounds (c .before .before .before .before .before .before .pre) in (ap (λ (k : ℕ). c .before .before .before .before .before .before .args .top .0 + (6 + k)) e, omega arith)
 

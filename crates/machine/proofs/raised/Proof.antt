@@ -8,19 +8,15 @@ use Rattle.machine.proofs.raised.Reads as reads
 use Rattle.machine.proofs.raised.Lts as lts
 use Rattle.machine.proofs.frame_end.Reads as frame-end-reads
 
--- src/lib.rt:229:9
 returns : tie.Need-returns
 returns c = (raised-same (c .before .before .before .before .args .before) (c .before .before .before .before .args .top) (c .before .before .before .before .args .reach) _ (c .if1 .taken), (c .before .before .before .before .pre) .1)
 
--- src/lib.rt:231:9
 frame-end-requires : tie.Need-frame-end-requires
 frame-end-requires c κs = search needs
 
--- src/lib.rt:233:9
 returns-2 : tie.Need-returns-2
 returns-2 c = let e = c .before .frame-end .ensures .0 in let t = c .if2 .taken in (raised-other (c .before .before .before .before .before .before .args .before) (c .before .before .before .before .before .before .args .top) (c .before .before .before .before .before .before .args .reach) _ _ (c .before .before .if1 .left) (omega arith), c .before .frame-end .ensures .1)
 
--- src/lib.rt:215:1
 returns-3 : tie.Need-returns-3
 returns-3 c = let e = c .before .frame-end .ensures .0 in let t = c .if2 .left in (raised-other (c .before .before .before .before .before .before .args .before) (c .before .before .before .before .before .before .args .top) (c .before .before .before .before .before .before .args .reach) _ _ (c .before .before .if1 .left) (omega arith), (c .before .before .before .before .before .before .pre) .1)
 

@@ -9,43 +9,33 @@ use Rattle.image.proofs.length_of.Reads as length-of-reads
 use Rattle.image.proofs.write.Reads as write-reads
 use Rattle.machine.proofs.check.Reads as check-reads
 
--- src/lib.rt:147:23
 length-of-requires : tie.Need-length-of-requires
 length-of-requires c κs = search needs
 
--- src/lib.rt:148:9
 returns : tie.Need-returns
 returns c = saves-short (c .before .before .before .before .before .before .before .args .registers) (c .before .before .before .before .before .before .before .args .contents .now) (c .before .before .before .before .before .before .before .args .bodies .now) (c .before .before .before .before .before .before .before .args .stack .now) (c .before .before .before .before .before .before .before .args .cache .now) (c .before .before .before .before .before .before .before .args .output .now) (let e = c .before .length-of .ensures in let t = c .if1 .taken in omega arith)
 
--- src/lib.rt:150:11
 check-requires : tie.Need-check-requires
 check-requires c κs = search needs
 
--- src/lib.rt:151:26
 enum-known-k : tie.Need-enum-known-k
 enum-known-k c = search needs
 
--- src/lib.rt:153:17
 enum-told : tie.Need-enum-told
 enum-told c = search needs
 
--- src/lib.rt:160:17
 write-requires : tie.Need-write-requires
 write-requires c κs = let z = saves-room (c .before .before .before .before .before .before .before .before .before .before .before .args .registers) (c .before .before .before .before .before .before .before .before .before .before .before .args .contents .now) (c .before .before .before .before .before .before .before .before .before .before .before .args .bodies .now) (c .before .before .before .before .before .before .before .before .before .before .before .args .stack .now) (c .before .before .before .before .before .before .before .before .before .before .before .args .cache .now) (c .before .before .before .check .result) (c .before .before .before .check .ensures) (c .before .before .before .before .before .before .before .before .before .before .before .args .output .now) (let e = c .before .before .before .before .before .length-of .ensures in let t = c .before .before .before .before .if1 .left in omega arith) (c .before .enum-told .given .1) in (z .0, z .1, (let e = c .before .before .before .before .before .length-of .ensures in let t = c .before .before .before .before .if1 .left in omega arith))
 
--- src/lib.rt:161:26
 cast-t19 : tie.Need-cast-t19
 cast-t19 c = search needs
 
--- src/lib.rt:135:1
 returns-2 : tie.Need-returns-2
 returns-2 c = saves-not (c .before .before .before .before .before .before .before .before .before .before .before .args .registers) (c .before .before .before .before .before .before .before .before .before .before .before .args .contents .now) (c .before .before .before .before .before .before .before .before .before .before .before .args .bodies .now) (c .before .before .before .before .before .before .before .before .before .before .before .args .stack .now) (c .before .before .before .before .before .before .before .before .before .before .before .args .cache .now) (c .before .before .before .check .result) (c .before .before .before .check .ensures) (c .before .before .before .before .before .before .before .before .before .before .before .args .output .now) (let e = c .before .before .before .before .before .length-of .ensures in let t = c .before .before .before .before .if1 .left in omega arith) _ (c .before .k .given .1)
 
--- src/lib.rt:135:1
 same-length : tie.Need-same-length
 same-length c = search needs
 
--- src/lib.rt:135:1
 returns-3 : tie.Need-returns-3
 returns-3 c = saves (c .before .before .before .before .before .before .before .before .before .before .before .before .before .before .args .registers) (c .before .before .before .before .before .before .before .before .before .before .before .before .before .before .args .contents .now) (c .before .before .before .before .before .before .before .before .before .before .before .before .before .before .args .bodies .now) (c .before .before .before .before .before .before .before .before .before .before .before .before .before .before .args .stack .now) (c .before .before .before .before .before .before .before .before .before .before .before .before .before .before .args .cache .now) (c .before .before .before .before .before .before .check .result) (c .before .before .before .before .before .before .check .ensures) (c .before .before .before .before .before .before .before .before .before .before .before .before .before .before .args .output .now) (let e = c .before .before .before .before .before .before .before .before .length-of .ensures in let t = c .before .before .before .before .before .before .before .if1 .left in omega arith) (c .before .before .before .before .enum-told .given .1) _ _ (c .before .before .write .ensures .0) (c .before .before .write .ensures .1)
 

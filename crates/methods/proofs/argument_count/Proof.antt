@@ -11,29 +11,23 @@ use Rattle.methods.proofs.argument_count.Lts as lts
 use Rattle.methods.proofs.extension_of.Reads as extension-of-reads
 use Rattle.methods.proofs.header_of.Reads as header-of-reads
 
--- src/lib.rt:50:9
 header-of-requires : tie.Need-header-of-requires
 header-of-requires c κs = search needs
 
--- src/lib.rt:53:9
 returns : tie.Need-returns
 returns c =
     (count-flag (objectsAt (c .before .before .before .before .args .n) (c .before .before .before .before .args .b) (c .before .before .before .before .args .contents .now) (c .before .before .before .before .args .bodies .now)) (c .before .before .before .before .args .m) (c .before .header-of .result) (c .before .header-of .ensures) (c .if1 .taken), omega arith)
 
--- src/lib.rt:56:24
 cast-literals : tie.Need-cast-literals
 cast-literals c = search needs
 
--- src/lib.rt:57:16
 extension-of-requires : tie.Need-extension-of-requires
 extension-of-requires c κs = search needs
 
--- src/lib.rt:57:9
 returns-2 : tie.Need-returns-2
 returns-2 c =
     (ap (λ (x : ℕ). x / 512 % 32) (c .extension-of .ensures) ∙ count-extension (objectsAt (c .before .before .before .before .before .before .args .n) (c .before .before .before .before .before .before .args .b) (c .before .before .before .before .before .before .args .contents .now) (c .before .before .before .before .before .before .args .bodies .now)) (c .before .before .before .before .before .before .args .m) (c .before .before .before .header-of .result) (c .before .before .before .header-of .ensures) (c .before .before .if1 .left) (c .before .if2 .taken), omega arith)
 
--- src/lib.rt:46:1
 returns-3 : tie.Need-returns-3
 returns-3 c =
     (count-none (objectsAt (c .before .before .before .before .before .args .n) (c .before .before .before .before .before .args .b) (c .before .before .before .before .before .args .contents .now) (c .before .before .before .before .before .args .bodies .now)) (c .before .before .before .before .before .args .m) (c .before .before .header-of .result) (c .before .before .header-of .ensures) (c .before .if1 .left) (c .if2 .left), omega arith)

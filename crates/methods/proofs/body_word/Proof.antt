@@ -9,27 +9,21 @@ use Rattle.methods.proofs.body_word.Lts as lts
 use Rattle.rules.proofs.start.Reads as start-reads
 use Rattle.rules.proofs.word_at.Reads as word-at-reads
 
--- src/lib.rt:21:13
 cast-k : tie.Need-cast-k
 cast-k c = search needs
 
--- src/lib.rt:22:14
 start-requires : tie.Need-start-requires
 start-requires c κs = search needs
 
--- src/lib.rt:22:14
 cast-at : tie.Need-cast-at
 cast-at c = search needs
 
--- src/lib.rt:22:14
 add-at : tie.Need-add-at
 add-at c = search needs
 
--- src/lib.rt:23:5
 word-at-requires : tie.Need-word-at-requires
 word-at-requires c κs = search needs
 
--- src/lib.rt:17:1
 returns : tie.Need-returns
 returns c = c .word-at .ensures ∙ ap (λ (x : ℕ). getD (take (c .before .before .before .before .args .b) (c .before .before .before .before .args .bodies .now)) (x + c .before .before .before .before .args .i) 0) (c .before .start .ensures)
 

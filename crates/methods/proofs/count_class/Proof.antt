@@ -24,55 +24,42 @@ Inv-loop contents bodies n b class counts₀ d pairs i₀ counts i = (i ≤ pair
 abbrev μ-loop : tie.MeasureT-loop
 μ-loop contents bodies n b class counts₀ d pairs i₀ counts i = pairs - i
 
--- src/lib.rt:101:9
 body-word-requires : tie.Need-body-word-requires Inv-loop μ-loop
 body-word-requires c κs = (kind-named _ _ _ _ (c .before .before .before .pre .ready) classKind (c .before .before .before .args .class) (c .before .before .before .pre .isClass), omega arith)
 
--- src/lib.rt:102:43
 cast-size : tie.Need-cast-size Inv-loop μ-loop
 cast-size c = search needs
 
--- src/lib.rt:102:18
 size-requires : tie.Need-size-requires Inv-loop μ-loop
 size-requires c κs = let h = dictionary-named _ _ _ _ (c .before .before .before .before .pre .ready) (c .before .before .before .before .args .class) (c .before .before .before .before .pre .isClass) (c .body-word .result) (c .body-word .ensures) in record { entries = c .before .before .before .before .pre .ready .lent .entries; least = h .least; most = h .most }
 
--- src/lib.rt:102:17
 cast-pairs : tie.Need-cast-pairs Inv-loop μ-loop
 cast-pairs c = search needs
 
--- src/lib.rt:104:5
 loop-holds : tie.Need-loop-holds Inv-loop μ-loop
 loop-holds c = (omega arith, refl, c .before .before .before .before .before .pre .so-far)
 
--- src/lib.rt:105:13
 count-pair-requires : tie.Need-count-pair-requires Inv-loop μ-loop
 count-pair-requires c κs = pair-asked _ _ _ _ (c .before .before .before .before .before .before .before .before .args .class) (c .before .before .before .before .before .before .before .before .args .counts .now) (c .before .before .before .before .before .before .before .before .pre) (c .before .before .before .before .body-word .result) (c .before .before .before .size .result) (c .before .before .before .before .body-word .ensures) (c .before .before .before .size .ensures) (search needs) (c .before .before .loop .counts) (c .before .before .loop .i) (c .before .before .loop .inv .1) (c .before .before .loop .inv .2) (c .before .loop-test .taken)
 
--- src/lib.rt:106:13
 same-length : tie.Need-same-length Inv-loop μ-loop
 same-length c = c .before .before .before .count-pair .kept .1 .1 .1 .1 .1 .1 .0 ∙ c .before .before .before .before .before .before .loop .inv .1
 
--- src/lib.rt:106:13
 returns : tie.Need-returns Inv-loop μ-loop
 returns c = class-no _ _ _ _ _ _ _ (subst (Turned _ _ _ _) (not-true _ (c .if1 .taken)) (c .before .before .before .count-pair .ensures))
 
--- src/lib.rt:108:9
 add-i : tie.Need-add-i Inv-loop μ-loop
 add-i c = search needs
 
--- src/lib.rt:104:5
 loop-less : tie.Need-loop-less Inv-loop μ-loop
 loop-less c = omega arith
 
--- src/lib.rt:104:5
 loop-again : tie.Need-loop-again Inv-loop μ-loop
 loop-again c = (omega arith, c .before .before .before .count-pair .kept .1 .1 .1 .1 .1 .1 .0 ∙ c .before .before .before .before .before .before .loop .inv .1, turned-on _ _ _ _ _ (not-false _ (c .if1 .left)) (c .before .before .before .count-pair .ensures))
 
--- src/lib.rt:97:1
 same-length-2 : tie.Need-same-length-2 Inv-loop μ-loop
 same-length-2 c = c .before .loop .inv .1
 
--- src/lib.rt:97:1
 returns-2 : tie.Need-returns-2 Inv-loop μ-loop
 returns-2 c = class-done _ _ _ _ (c .before .before .before .before .before .before .before .args .class) (c .before .before .before .before .before .before .before .args .counts .now) (c .before .before .before .before .before .before .before .pre) (c .before .before .before .body-word .result) (c .before .before .size .result) (c .before .before .before .body-word .ensures) (c .before .before .size .ensures) (c .before .loop .counts) (c .before .loop .i) (c .before .loop .inv .2) (c .loop-test .left)
 

@@ -20,39 +20,30 @@ Inv-loop contents bodies n b counts₀ k₀ counts k = (1 ≤ k) × (k ≤ n + 1
 abbrev μ-loop : tie.MeasureT-loop
 μ-loop contents bodies n b counts₀ k₀ counts k = n + 1 - k
 
--- src/lib.rt:131:5
 loop-holds : tie.Need-loop-holds Inv-loop μ-loop
 loop-holds c = (omega arith, omega (arith, c .before .before .before .pre .0 .lent .least), refl, none-counted _ _ (c .before .before .before .pre .2))
 
--- src/lib.rt:132:13
 count-object-requires : tie.Need-count-object-requires Inv-loop μ-loop
 count-object-requires c κs = record { ready = c .before .before .before .before .before .before .pre .0; least = c .before .before .loop .inv .0; most = c .before .loop-test .taken; long = let h = c .before .before .loop .inv .2 in omega (arith, c .before .before .before .before .before .before .pre .1); so-far = c .before .before .loop .inv .3 }
 
--- src/lib.rt:133:13
 same-length : tie.Need-same-length Inv-loop μ-loop
 same-length c = c .before .before .before .count-object .kept .1 .1 .1 .1 .1 .0 ∙ c .before .before .before .before .before .before .loop .inv .2
 
--- src/lib.rt:133:13
 returns : tie.Need-returns Inv-loop μ-loop
 returns c = held-no _ _ _ _ _ (subst (Turned _ _ _ _) (not-true _ (c .if1 .taken)) (c .before .before .before .count-object .ensures))
 
--- src/lib.rt:135:9
 add-k : tie.Need-add-k Inv-loop μ-loop
 add-k c = omega (arith, c .before .before .before .before .before .before .before .before .before .before .pre .0 .lent .most)
 
--- src/lib.rt:131:5
 loop-less : tie.Need-loop-less Inv-loop μ-loop
 loop-less c = omega arith
 
--- src/lib.rt:131:5
 loop-again : tie.Need-loop-again Inv-loop μ-loop
 loop-again c = (omega arith, omega arith, c .before .before .before .count-object .kept .1 .1 .1 .1 .1 .0 ∙ c .before .before .before .before .before .before .loop .inv .2, turned-on _ _ _ _ _ (not-false _ (c .if1 .left)) (c .before .before .before .count-object .ensures))
 
--- src/lib.rt:126:1
 same-length-2 : tie.Need-same-length-2 Inv-loop μ-loop
 same-length-2 c = c .before .loop .inv .2
 
--- src/lib.rt:126:1
 returns-2 : tie.Need-returns-2 Inv-loop μ-loop
 returns-2 c = all-counted _ _ (c .before .loop .k) (omega arith) (c .before .loop .inv .3)
 

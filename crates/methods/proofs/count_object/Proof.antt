@@ -10,31 +10,24 @@ use Rattle.methods.proofs.count_object.Lts as lts
 use Rattle.methods.proofs.count_class.Reads as count-class-reads
 use Rattle.rules.proofs.kind.Reads as kind-reads
 
--- src/lib.rt:118:8
 kind-requires : tie.Need-kind-requires
 kind-requires c κs = record { entries = c .before .before .before .pre .ready .lent .entries; least = c .before .before .before .pre .least; most = c .before .before .before .pre .most }
 
--- src/lib.rt:119:9
 returns : tie.Need-returns
 returns c = no-class-here _ _ _ _ (c .before .before .before .before .before .args .k) (c .before .before .before .before .before .args .counts .now) (c .before .before .before .before .before .pre) (λ e. c .if1 .taken (c .before .kind .ensures ∙ e))
 
--- src/lib.rt:121:42
 mul-count-class : tie.Need-mul-count-class
 mul-count-class c = omega (arith, c .before .before .before .before .before .pre .most, c .before .before .before .before .before .pre .ready .lent .most)
 
--- src/lib.rt:121:41
 cast-count-class : tie.Need-cast-count-class
 cast-count-class c = omega (arith, c .before .before .before .before .before .pre .most, c .before .before .before .before .before .pre .ready .lent .most)
 
--- src/lib.rt:121:5
 count-class-requires : tie.Need-count-class-requires
 count-class-requires c κs = class-here _ _ _ _ (c .before .before .before .before .before .before .args .k) (c .before .before .before .before .before .before .args .counts .now) (c .before .before .before .before .before .before .pre) (sym (c .before .before .kind .ensures) ∙ c .before .if1 .left) (2 * c .before .before .before .before .before .before .args .k) refl
 
--- src/lib.rt:114:1
 same-length : tie.Need-same-length
 same-length c = c .before .before .count-class .kept .1 .1 .1 .1 .1 .0
 
--- src/lib.rt:114:1
 returns-2 : tie.Need-returns-2
 returns-2 c = turned-here _ _ _ _ (c .before .before .before .before .before .before .before .before .before .args .k) (c .before .before .before .before .before .before .before .before .before .args .counts .now) (c .before .before .before .before .before .before .before .before .before .pre) (2 * c .before .before .before .before .before .before .before .before .before .args .k) refl _ _ (c .before .before .count-class .ensures)
 

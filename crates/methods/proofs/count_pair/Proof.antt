@@ -16,31 +16,24 @@ use Rattle.methods.proofs.argument_count.Reads as argument-count-reads
 use Rattle.methods.proofs.body_word.Reads as body-word-reads
 use Rattle.methods.proofs.note_count.Reads as note-count-reads
 
--- src/lib.rt:85:9
 body-word-requires : tie.Need-body-word-requires
 body-word-requires c κs = (kind-named _ _ _ _ (c .before .before .before .pre .ready) classKind (c .before .before .before .args .class) (c .before .before .before .pre .isClass), omega arith)
 
--- src/lib.rt:86:50
 mul-body-word : tie.Need-mul-body-word
 mul-body-word c = omega (arith, c .before .before .before .before .pre .low)
 
--- src/lib.rt:86:9
 body-word-requires-2 : tie.Need-body-word-requires-2
 body-word-requires-2 c κs = (dictionary-named _ _ _ _ (c .before .before .before .before .pre .ready) (c .before .before .before .before .args .class) (c .before .before .before .before .pre .isClass) (c .body-word .result) (c .body-word .ensures), omega (arith, c .before .before .before .before .pre .low))
 
--- src/lib.rt:87:50
 mul-body-word-2 : tie.Need-mul-body-word-2
 mul-body-word-2 c = omega (arith, c .before .before .before .before .before .pre .low)
 
--- src/lib.rt:87:50
 add-body-word : tie.Need-add-body-word
 add-body-word c = omega (arith, c .before .before .before .before .before .pre .low)
 
--- src/lib.rt:87:9
 body-word-requires-3 : tie.Need-body-word-requires-3
 body-word-requires-3 c κs = (dictionary-named _ _ _ _ (c .before .before .before .before .before .pre .ready) (c .before .before .before .before .before .args .class) (c .before .before .before .before .before .pre .isClass) (c .before .body-word .result) (c .before .body-word .ensures), omega (arith, c .before .before .before .before .before .pre .low))
 
--- src/lib.rt:88:9
 body-word-requires-4 : tie.Need-body-word-requires-4
 body-word-requires-4 c κs = (
   method-named _ _ _ _ (c .before .before .before .before .before .before .pre .ready) (c .before .before .before .before .before .before .args .class) (c .before .before .before .before .before .before .pre .isClass) (c .before .before .before .before .before .before .args .i) (c .before .before .before .before .before .before .pre .inside) (c .body-word3 .result)
@@ -48,30 +41,24 @@ body-word-requires-4 c κs = (
   omega arith,
 )
 
--- src/lib.rt:90:9
 returns : tie.Need-returns
 returns c =
     pair-no _ _ _ _ (c .before .before .before .before .before .before .before .before .args .class) (c .before .before .before .before .before .before .before .before .args .i) (c .before .before .before .before .before .before .before .before .args .counts .now) (c .before .before .before .before .before .before .before .before .pre) (c .before .before .before .before .body-word .result) (c .before .before .body-word3 .result) (c .before .body-word4 .result) (c .before .before .before .before .body-word .ensures) (c .before .before .body-word3 .ensures) (c .before .body-word4 .ensures) _ (c .if1 .taken)
 
--- src/lib.rt:92:9
 argument-count-requires : tie.Need-argument-count-requires
 argument-count-requires c κs =
     method-named _ _ _ _ (c .before .before .before .before .before .before .before .before .pre .ready) (c .before .before .before .before .before .before .before .before .args .class) (c .before .before .before .before .before .before .before .before .pre .isClass) (c .before .before .before .before .before .before .before .before .args .i) (c .before .before .before .before .before .before .before .before .pre .inside) (c .before .before .body-word3 .result)
     (c .before .before .body-word3 .ensures ∙ ap (λ (x : ℕ). bodyWord (objectsAt (c .before .before .before .before .before .before .before .before .args .n) (c .before .before .before .before .before .before .before .before .args .b) (c .before .before .before .before .before .before .before .before .args .contents .now) (c .before .before .before .before .before .before .before .before .args .bodies .now)) (x / 2) (2 * c .before .before .before .before .before .before .before .before .args .i + 1)) (c .before .before .before .before .body-word .ensures))
 
--- src/lib.rt:93:24
 cast-note-count : tie.Need-cast-note-count
 cast-note-count c = search needs
 
--- src/lib.rt:93:43
 add-note-count : tie.Need-add-note-count
 add-note-count c = search needs
 
--- src/lib.rt:93:42
 cast-note-count-2 : tie.Need-cast-note-count-2
 cast-note-count-2 c = search needs
 
--- src/lib.rt:93:5
 note-count-requires : tie.Need-note-count-requires
 note-count-requires c κs =
     omega (
@@ -81,11 +68,9 @@ note-count-requires c κs =
           (c .before .before .before .before .before .body-word2 .ensures ∙ ap (λ (x : ℕ). bodyWord (objectsAt (c .before .before .before .before .before .before .before .before .before .before .args .n) (c .before .before .before .before .before .before .before .before .before .before .args .b) (c .before .before .before .before .before .before .before .before .before .before .args .contents .now) (c .before .before .before .before .before .before .before .before .before .before .args .bodies .now)) (x / 2) (2 * c .before .before .before .before .before .before .before .before .before .before .args .i)) (c .before .before .before .before .before .before .body-word .ensures)),
     )
 
--- src/lib.rt:81:1
 same-length : tie.Need-same-length
 same-length c = search needs
 
--- src/lib.rt:81:1
 returns-2 : tie.Need-returns-2
 returns-2 c =
     pair-turned _ _ _ _ (c .before .before .before .before .before .before .before .before .before .before .before .before .before .args .class) (c .before .before .before .before .before .before .before .before .before .before .before .before .before .args .i) (c .before .before .before .before .before .before .before .before .before .before .before .before .before .args .counts .now) (c .before .before .before .before .before .before .before .before .before .before .before .before .before .pre) (c .before .before .before .before .before .before .before .before .before .body-word .result) (c .before .before .before .before .before .before .before .body-word3 .result) (c .before .before .before .before .before .before .body-word4 .result) (c .before .before .before .before .before .before .before .before .before .body-word .ensures) (c .before .before .before .before .before .before .before .body-word3 .ensures) (c .before .before .before .before .before .before .body-word4 .ensures)

@@ -10,19 +10,15 @@ use Rattle.methods.proofs.extension_fine.Reads as reads
 use Rattle.methods.proofs.extension_fine.Lts as lts
 use Rattle.methods.proofs.extension_of.Reads as extension-of-reads
 
--- src/lib.rt:162:9
 returns : tie.Need-returns
 returns c = simp (ap (leb 2) (sym (c .before .before .before .pre .1)) ∙ lt-leb _ _ (c .if1 .taken))
 
--- src/lib.rt:164:9
 extension-of-requires : tie.Need-extension-of-requires
 extension-of-requires c κs = search needs
 
--- src/lib.rt:166:9
 returns-2 : tie.Need-returns-2
 returns-2 c = simp (ap (leb 2) (sym (c .before .before .before .before .before .pre .1)) ∙ le-leb _ _ (c .before .before .if1 .left), ap (λ (x : ℕ). eqb (x % 2) 1) (sym (c .before .extension-of .ensures)) ∙ ne-eqb _ _ (c .if2 .taken))
 
--- src/lib.rt:157:1
 returns-3 : tie.Need-returns-3
 returns-3 c =
     ap (λ (x : ℕ). ltb x 16384) (c .before .extension-of .ensures)

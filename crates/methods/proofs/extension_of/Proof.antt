@@ -10,22 +10,18 @@ use Rattle.methods.proofs.extension_of.Reads as reads
 use Rattle.methods.proofs.extension_of.Lts as lts
 use Rattle.methods.proofs.body_word.Reads as body-word-reads
 
--- src/lib.rt:40:9
 body-word-requires : tie.Need-body-word-requires
 body-word-requires c κs = search needs
 
--- src/lib.rt:40:9
 returns : tie.Need-returns
 returns c =
     let o = objectsAt (c .before .before .before .before .args .n) (c .before .before .before .before .args .b) (c .before .before .before .before .args .contents .now) (c .before .before .before .before .args .bodies .now) in
     let e : _≡_ {A = ℕ} 2 (2 + (literalCount o (c .before .before .before .before .args .m) - 2)) = omega (arith, c .before .before .before .before .pre .1) in
     c .body-word .ensures ∙ ap (bodyWord o (c .before .before .before .before .args .m / 2)) e
 
--- src/lib.rt:42:5
 body-word-requires-2 : tie.Need-body-word-requires-2
 body-word-requires-2 c κs = search needs
 
--- src/lib.rt:35:1
 returns-2 : tie.Need-returns-2
 returns-2 c =
     let o = objectsAt (c .before .before .before .before .args .n) (c .before .before .before .before .args .b) (c .before .before .before .before .args .contents .now) (c .before .before .before .before .args .bodies .now) in

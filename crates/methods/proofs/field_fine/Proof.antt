@@ -9,15 +9,12 @@ use Rattle.methods.proofs.field_fine.Reads as reads
 use Rattle.methods.proofs.field_fine.Lts as lts
 use Rattle.methods.proofs.body_word.Reads as body-word-reads
 
--- src/lib.rt:177:9
 returns : tie.Need-returns
 returns c = no-field-flag _ (c .before .before .before .args .m) (c .before .before .before .args .h) (c .before .before .before .pre .header) (c .if1 .taken)
 
--- src/lib.rt:179:20
 body-word-requires : tie.Need-body-word-requires
 body-word-requires c κs = (home-named _ _ _ _ _ _ _ (c .before .before .before .pre), omega arith)
 
--- src/lib.rt:172:1
 returns-2 : tie.Need-returns-2
 returns-2 c = field-flag _ (c .before .before .before .before .args .m) (c .before .before .before .before .args .h) (c .before .before .before .before .pre .header) (c .before .before .before .before .args .home) (c .body-word .result) (c .before .if1 .left) (c .body-word .ensures) (c .before .before .before .before .pre .home)
 

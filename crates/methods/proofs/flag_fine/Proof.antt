@@ -12,29 +12,23 @@ use Rattle.methods.proofs.argument_count.Reads as argument-count-reads
 use Rattle.methods.proofs.field_fine.Reads as field-fine-reads
 use Rattle.methods.proofs.primitive_fine.Reads as primitive-fine-reads
 
--- src/lib.rt:198:9
 field-fine-requires : tie.Need-field-fine-requires
 field-fine-requires c κs = search needs
 
--- src/lib.rt:199:9
 returns : tie.Need-returns
 unfolding flagRules
 returns c = simp (sym (c .before .field-fine .ensures) ∙ not-true _ (c .if1 .taken))
 
--- src/lib.rt:201:9
 primitive-fine-requires : tie.Need-primitive-fine-requires
 primitive-fine-requires c κs = search needs
 
--- src/lib.rt:202:9
 returns-2 : tie.Need-returns-2
 unfolding flagRules
 returns-2 c = simp (sym (c .before .before .before .field-fine .ensures) ∙ not-false _ (c .before .before .if1 .left), sym (c .before .primitive-fine .ensures) ∙ not-true _ (c .if2 .taken))
 
--- src/lib.rt:204:5
 argument-count-requires : tie.Need-argument-count-requires
 argument-count-requires c κs = search needs
 
--- src/lib.rt:194:1
 returns-3 : tie.Need-returns-3
 unfolding flagRules
 returns-3 c =

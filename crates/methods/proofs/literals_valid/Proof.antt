@@ -20,39 +20,30 @@ Inv-loop contents bodies n b m literals i₀ i = (i ≤ literals) × Before (λ 
 abbrev μ-loop : tie.MeasureT-loop
 μ-loop contents bodies n b m literals i₀ i = literals - i
 
--- src/lib.rt:146:5
 loop-holds : tie.Need-loop-holds Inv-loop μ-loop
 loop-holds c = (omega arith, before-none (λ j. isValid (c .before .before .args .n) (literal (objectsAt (c .before .before .args .n) (c .before .before .args .b) (c .before .before .args .contents .now) (c .before .before .args .bodies .now)) (c .before .before .args .m) j)))
 
--- src/lib.rt:147:54
 add-body-word : tie.Need-add-body-word Inv-loop μ-loop
 add-body-word c = search needs
 
--- src/lib.rt:147:13
 body-word-requires : tie.Need-body-word-requires Inv-loop μ-loop
 body-word-requires c κs = (c .before .before .before .before .pre .0, omega (arith, c .before .before .before .before .pre .1))
 
--- src/lib.rt:148:13
 is-valid-requires : tie.Need-is-valid-requires Inv-loop μ-loop
 is-valid-requires c κs = search needs
 
--- src/lib.rt:149:13
 returns : tie.Need-returns Inv-loop μ-loop
 returns c = sym (below-no (c .before .before .before .before .before .before .before .args .literals) (λ j. isValid (c .before .before .before .before .before .before .before .args .n) (literal (objectsAt (c .before .before .before .before .before .before .before .args .n) (c .before .before .before .before .before .before .before .args .b) (c .before .before .before .before .before .before .before .args .contents .now) (c .before .before .before .before .before .before .before .args .bodies .now)) (c .before .before .before .before .before .before .before .args .m) j)) (c .before .before .before .before .loop .i) (c .before .before .before .loop-test .taken) (ap (isValid (c .before .before .before .before .before .before .before .args .n)) (sym (c .before .before .body-word .ensures)) ∙ sym (c .before .is-valid .ensures) ∙ not-true _ (c .if1 .taken)))
 
--- src/lib.rt:151:9
 add-i : tie.Need-add-i Inv-loop μ-loop
 add-i c = search needs
 
--- src/lib.rt:146:5
 loop-less : tie.Need-loop-less Inv-loop μ-loop
 loop-less c = omega arith
 
--- src/lib.rt:146:5
 loop-again : tie.Need-loop-again Inv-loop μ-loop
 loop-again c = (omega arith, before-more (λ j. isValid (c .before .before .before .before .before .before .before .args .n) (literal (objectsAt (c .before .before .before .before .before .before .before .args .n) (c .before .before .before .before .before .before .before .args .b) (c .before .before .before .before .before .before .before .args .contents .now) (c .before .before .before .before .before .before .before .args .bodies .now)) (c .before .before .before .before .before .before .before .args .m) j)) (c .before .before .before .before .loop .i) (c .before .before .before .before .loop .inv .1) (ap (isValid (c .before .before .before .before .before .before .before .args .n)) (sym (c .before .before .body-word .ensures)) ∙ sym (c .before .is-valid .ensures) ∙ not-false _ (c .if1 .left)))
 
--- src/lib.rt:141:1
 returns-2 : tie.Need-returns-2 Inv-loop μ-loop
 returns-2 c = sym (below-all (c .before .before .before .before .args .literals) (c .before .loop .i) (λ j. isValid (c .before .before .before .before .args .n) (literal (objectsAt (c .before .before .before .before .args .n) (c .before .before .before .before .args .b) (c .before .before .before .before .args .contents .now) (c .before .before .before .before .args .bodies .now)) (c .before .before .before .before .args .m) j)) (c .loop-test .left) (c .before .loop .inv .1))
 

@@ -7,37 +7,29 @@ use Rattle.methods.proofs.note_count.Tie as tie
 use Rattle.methods.proofs.note_count.Reads as reads
 use Rattle.methods.proofs.note_count.Lts as lts
 
--- src/lib.rt:68:15
 slice-read-old : tie.Need-slice-read-old
 slice-read-old c = search needs
 
--- src/lib.rt:70:9
 slice-write-counts : tie.Need-slice-write-counts
 slice-write-counts c = search needs
 
--- src/lib.rt:71:9
 same-length : tie.Need-same-length
 same-length c = search needs
 
--- src/lib.rt:71:9
 returns : tie.Need-returns
 unfolding Noted
 returns c = (refl, inl (c .if1 .taken))
 
--- src/lib.rt:74:9
 slice-write-counts-2 : tie.Need-slice-write-counts-2
 slice-write-counts-2 c = search needs
 
--- src/lib.rt:75:9
 same-length-2 : tie.Need-same-length-2
 same-length-2 c = search needs
 
--- src/lib.rt:75:9
 returns-2 : tie.Need-returns-2
 unfolding Noted
 returns-2 c = (refl, inr (c .if2 .taken))
 
--- src/lib.rt:64:1
 returns-3 : tie.Need-returns-3
 unfolding Noted
 returns-3 c = (c .before .if1 .left, c .if2 .left)

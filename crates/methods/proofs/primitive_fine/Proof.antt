@@ -8,19 +8,15 @@ use Rattle.methods.proofs.primitive_fine.Reads as reads
 use Rattle.methods.proofs.primitive_fine.Lts as lts
 use Rattle.methods.proofs.extension_fine.Reads as extension-fine-reads
 
--- src/lib.rt:188:9
 returns : tie.Need-returns
 returns c = no-primitive-flag _ (c .before .before .before .args .m) (c .before .before .before .args .h) (c .before .before .before .pre .header) (c .if1 .taken)
 
--- src/lib.rt:190:47
 cast-extension-fine : tie.Need-cast-extension-fine
 cast-extension-fine c = search needs
 
--- src/lib.rt:190:5
 extension-fine-requires : tie.Need-extension-fine-requires
 extension-fine-requires c κs = (c .before .before .before .pre .method, ap (λ (x : ℕ). x / 2 % 64) (c .before .before .before .pre .header))
 
--- src/lib.rt:183:1
 returns-2 : tie.Need-returns-2
 returns-2 c = primitive-flag _ (c .before .before .before .before .args .m) (c .before .before .before .before .args .h) (c .before .before .before .before .pre .header) (c .extension-fine .result) (c .before .if1 .left) (c .extension-fine .ensures)
 

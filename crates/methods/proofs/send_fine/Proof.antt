@@ -10,35 +10,27 @@ use Rattle.methods.proofs.send_fine.Reads as reads
 use Rattle.methods.proofs.send_fine.Lts as lts
 use Rattle.rules.proofs.is_nil_or.Reads as is-nil-or-reads
 
--- src/lib.rt:276:9
 is-nil-or-requires : tie.Need-is-nil-or-requires
 is-nil-or-requires c κs = search needs
 
--- src/lib.rt:277:9
 returns : tie.Need-returns
 returns c = no-selector (c .before .before .before .before .before .args .n) (c .before .before .before .before .before .args .b) (c .before .before .before .before .before .args .contents .now) (c .before .before .before .before .before .args .bodies .now) (c .before .before .before .before .before .args .counts .now) (c .before .before .before .before .before .pre) (c .before .before .before .before .before .args .selector) (c .before .before .before .before .before .args .arguments) (sym (c .before .is-nil-or .ensures (c .before .before .before .before .before .args .b) (c .before .before .before .before .before .args .bodies .now)) ∙ not-true _ (c .if1 .taken))
 
--- src/lib.rt:279:13
 cast-j : tie.Need-cast-j
 cast-j c = search needs
 
--- src/lib.rt:280:16
 shared-slice-read-note : tie.Need-shared-slice-read-note
 shared-slice-read-note c = selector-inside (c .before .before .before .before .before .before .args .n) (c .before .before .before .before .before .before .args .b) (c .before .before .before .before .before .before .args .contents .now) (c .before .before .before .before .before .before .args .bodies .now) (c .before .before .before .before .before .before .args .counts .now) (c .before .before .before .before .before .before .pre) (c .before .before .before .before .before .before .args .selector) (sym (c .before .before .is-nil-or .ensures (c .before .before .before .before .before .before .args .b) (c .before .before .before .before .before .before .args .bodies .now)) ∙ not-false _ (c .before .if1 .left))
 
--- src/lib.rt:282:9
 returns-2 : tie.Need-returns-2
 returns-2 c = none-under (c .before .before .before .before .before .before .before .args .n) (c .before .before .before .before .before .before .before .args .b) (c .before .before .before .before .before .before .before .args .contents .now) (c .before .before .before .before .before .before .before .args .bodies .now) (c .before .before .before .before .before .before .before .args .counts .now) (c .before .before .before .before .before .before .before .pre) (c .before .before .before .before .before .before .before .args .selector) (c .before .before .before .before .before .before .before .args .arguments) (sym (c .before .before .before .is-nil-or .ensures (c .before .before .before .before .before .before .before .args .b) (c .before .before .before .before .before .before .before .args .bodies .now)) ∙ not-false _ (c .before .before .if1 .left)) (c .if2 .taken)
 
--- src/lib.rt:284:5
 cast-result : tie.Need-cast-result
 cast-result c = omega (arith, c .before .shared-slice-known4 .given (c .before .before .before .before .before .before .before .args .selector / 2))
 
--- src/lib.rt:284:22
 add-result : tie.Need-add-result
 add-result c = search needs
 
--- src/lib.rt:272:1
 returns-3 : tie.Need-returns-3
 returns-3 c = count-under (c .before .before .before .before .before .before .before .args .n) (c .before .before .before .before .before .before .before .args .b) (c .before .before .before .before .before .before .before .args .contents .now) (c .before .before .before .before .before .before .before .args .bodies .now) (c .before .before .before .before .before .before .before .args .counts .now) (c .before .before .before .before .before .before .before .pre) (c .before .before .before .before .before .before .before .args .selector) (c .before .before .before .before .before .before .before .args .arguments) (sym (c .before .before .before .is-nil-or .ensures (c .before .before .before .before .before .before .before .args .b) (c .before .before .before .before .before .before .before .args .bodies .now)) ∙ not-false _ (c .before .before .if1 .left)) (c .if2 .left)
 

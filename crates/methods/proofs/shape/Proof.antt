@@ -19,71 +19,54 @@ use Rattle.methods.proofs.literals_valid.Reads as literals-valid-reads
 use Rattle.rules.proofs.is_kind.Reads as is-kind-reads
 use Rattle.rules.proofs.size.Reads as size-reads
 
--- src/lib.rt:212:41
 cast-size : tie.Need-cast-size
 cast-size c = search needs
 
--- src/lib.rt:212:16
 size-requires : tie.Need-size-requires
 size-requires c κs = search needs
 
--- src/lib.rt:212:16
 cast-size-2 : tie.Need-cast-size-2
 cast-size-2 c = search needs
 
--- src/lib.rt:214:9
 returns : tie.Need-returns
 returns c = sym (shape-is (objectsAt (c .before .before .before .before .args .n) (c .before .before .before .before .args .b) (c .before .before .before .before .args .contents .now) (c .before .before .before .before .args .bodies .now)) (c .before .before .before .before .args .m) (header (objectsAt (c .before .before .before .before .args .n) (c .before .before .before .before .args .b) (c .before .before .before .before .args .contents .now) (c .before .before .before .before .args .bodies .now)) (c .before .before .before .before .args .m)) refl (c .before .size .result) (home (objectsAt (c .before .before .before .before .args .n) (c .before .before .before .before .args .b) (c .before .before .before .before .args .contents .now) (c .before .before .before .before .args .bodies .now)) (c .before .before .before .before .args .m)) (c .before .size .ensures) refl ∙ simp (lt-leb _ _ (c .if1 .taken)))
 
--- src/lib.rt:216:9
 header-of-requires : tie.Need-header-of-requires
 header-of-requires c κs = search needs
 
--- src/lib.rt:218:9
 returns-2 : tie.Need-returns-2
 returns-2 c = sym (shape-is (objectsAt (c .before .before .before .before .before .before .args .n) (c .before .before .before .before .before .before .args .b) (c .before .before .before .before .before .before .args .contents .now) (c .before .before .before .before .before .before .args .bodies .now)) (c .before .before .before .before .before .before .args .m) (c .before .header-of .result) (c .before .header-of .ensures) (c .before .before .before .size .result) (home (objectsAt (c .before .before .before .before .before .before .args .n) (c .before .before .before .before .before .before .args .b) (c .before .before .before .before .before .before .args .contents .now) (c .before .before .before .before .before .before .args .bodies .now)) (c .before .before .before .before .before .before .args .m)) (c .before .before .before .size .ensures) refl ∙ simp (le-leb _ _ (c .before .before .if1 .left), ne-eqb _ _ (c .if2 .taken)))
 
--- src/lib.rt:220:20
 cast-literals : tie.Need-cast-literals
 cast-literals c = search needs
 
--- src/lib.rt:221:19
 mul-if3 : tie.Need-mul-if3
 mul-if3 c = search needs
 
--- src/lib.rt:221:15
 add-if3 : tie.Need-add-if3
 add-if3 c = search needs
 
--- src/lib.rt:222:9
 returns-3 : tie.Need-returns-3
 returns-3 c = sym (shape-is (objectsAt (c .before .before .before .before .before .before .before .args .n) (c .before .before .before .before .before .before .before .args .b) (c .before .before .before .before .before .before .before .args .contents .now) (c .before .before .before .before .before .before .before .args .bodies .now)) (c .before .before .before .before .before .before .before .args .m) (c .before .before .header-of .result) (c .before .before .header-of .ensures) (c .before .before .before .before .size .result) (home (objectsAt (c .before .before .before .before .before .before .before .args .n) (c .before .before .before .before .before .before .before .args .b) (c .before .before .before .before .before .before .before .args .contents .now) (c .before .before .before .before .before .before .before .args .bodies .now)) (c .before .before .before .before .before .before .before .args .m)) (c .before .before .before .before .size .ensures) refl ∙ simp (le-leb _ _ (c .before .before .before .if1 .left), eq-eqb _ _ (c .before .if2 .left), lt-leb _ _ (c .if3 .taken)))
 
--- src/lib.rt:224:9
 body-word-requires : tie.Need-body-word-requires
 body-word-requires c κs = search needs
 
--- src/lib.rt:225:9
 is-kind-requires : tie.Need-is-kind-requires
 is-kind-requires c κs = search needs
 
--- src/lib.rt:226:9
 returns-4 : tie.Need-returns-4
 returns-4 c = sym (shape-is (objectsAt (c .before .before .before .before .before .before .before .before .before .before .args .n) (c .before .before .before .before .before .before .before .before .before .before .args .b) (c .before .before .before .before .before .before .before .before .before .before .args .contents .now) (c .before .before .before .before .before .before .before .before .before .before .args .bodies .now)) (c .before .before .before .before .before .before .before .before .before .before .args .m) (c .before .before .before .before .before .header-of .result) (c .before .before .before .before .before .header-of .ensures) (c .before .before .before .before .before .before .before .size .result) (c .before .before .body-word .result) (c .before .before .before .before .before .before .before .size .ensures) (c .before .before .body-word .ensures) ∙ simp (le-leb _ _ (c .before .before .before .before .before .before .if1 .left), eq-eqb _ _ (c .before .before .before .before .if2 .left), le-leb _ _ (c .before .before .before .if3 .left), sym (c .before .is-kind .ensures (c .before .before .before .before .before .before .before .before .before .before .args .b) (c .before .before .before .before .before .before .before .before .before .before .args .bodies .now)) ∙ not-true _ (c .if4 .taken)))
 
--- src/lib.rt:228:9
 literals-valid-requires : tie.Need-literals-valid-requires
 literals-valid-requires c κs = search needs
 
--- src/lib.rt:229:9
 returns-5 : tie.Need-returns-5
 returns-5 c = sym (shape-is (objectsAt (c .before .before .before .before .before .before .before .before .before .before .before .before .args .n) (c .before .before .before .before .before .before .before .before .before .before .before .before .args .b) (c .before .before .before .before .before .before .before .before .before .before .before .before .args .contents .now) (c .before .before .before .before .before .before .before .before .before .before .before .before .args .bodies .now)) (c .before .before .before .before .before .before .before .before .before .before .before .before .args .m) (c .before .before .before .before .before .before .before .header-of .result) (c .before .before .before .before .before .before .before .header-of .ensures) (c .before .before .before .before .before .before .before .before .before .size .result) (c .before .before .before .before .body-word .result) (c .before .before .before .before .before .before .before .before .before .size .ensures) (c .before .before .before .before .body-word .ensures) ∙ simp (le-leb _ _ (c .before .before .before .before .before .before .before .before .if1 .left), eq-eqb _ _ (c .before .before .before .before .before .before .if2 .left), le-leb _ _ (c .before .before .before .before .before .if3 .left), sym (c .before .before .before .is-kind .ensures (c .before .before .before .before .before .before .before .before .before .before .before .before .args .b) (c .before .before .before .before .before .before .before .before .before .before .before .before .args .bodies .now)) ∙ not-false _ (c .before .before .if4 .left), sym (c .before .literals-valid .ensures) ∙ not-true _ (c .if5 .taken)))
 
--- src/lib.rt:231:5
 flag-fine-requires : tie.Need-flag-fine-requires
 flag-fine-requires c κs = record { method = c .before .before .before .before .before .before .before .before .before .before .before .before .pre; header = c .before .before .before .before .before .before .before .header-of .ensures; home = c .before .before .before .before .body-word .ensures; isClass = true→T (sym (c .before .before .before .is-kind .ensures (c .before .before .before .before .before .before .before .before .before .before .before .before .args .b) (c .before .before .before .before .before .before .before .before .before .before .before .before .args .bodies .now)) ∙ not-false _ (c .before .before .if4 .left)) }
 
--- src/lib.rt:208:1
 returns-6 : tie.Need-returns-6
 returns-6 c = c .flag-fine .ensures ∙ sym (shape-is (objectsAt (c .before .before .before .before .before .before .before .before .before .before .before .before .before .args .n) (c .before .before .before .before .before .before .before .before .before .before .before .before .before .args .b) (c .before .before .before .before .before .before .before .before .before .before .before .before .before .args .contents .now) (c .before .before .before .before .before .before .before .before .before .before .before .before .before .args .bodies .now)) (c .before .before .before .before .before .before .before .before .before .before .before .before .before .args .m) (c .before .before .before .before .before .before .before .before .header-of .result) (c .before .before .before .before .before .before .before .before .header-of .ensures) (c .before .before .before .before .before .before .before .before .before .before .size .result) (c .before .before .before .before .before .body-word .result) (c .before .before .before .before .before .before .before .before .before .before .size .ensures) (c .before .before .before .before .before .body-word .ensures) ∙ passed-five _ _ _ _ _ _ (le-leb _ _ (c .before .before .before .before .before .before .before .before .before .if1 .left)) (eq-eqb _ _ (c .before .before .before .before .before .before .before .if2 .left)) (le-leb _ _ (c .before .before .before .before .before .before .if3 .left)) (sym (c .before .before .before .before .is-kind .ensures (c .before .before .before .before .before .before .before .before .before .before .before .before .before .args .b) (c .before .before .before .before .before .before .before .before .before .before .before .before .before .args .bodies .now)) ∙ not-false _ (c .before .before .before .if4 .left)) (sym (c .before .before .literals-valid .ensures) ∙ not-false _ (c .before .if5 .left)))
 

@@ -10,27 +10,21 @@ use Rattle.methods.proofs.shape_object.Lts as lts
 use Rattle.methods.proofs.shape.Reads as shape-reads
 use Rattle.rules.proofs.kind.Reads as kind-reads
 
--- src/lib.rt:240:8
 kind-requires : tie.Need-kind-requires
 kind-requires c κs = record { entries = c .before .before .pre .0 .entries; least = c .before .before .pre .1; most = c .before .before .pre .2 }
 
--- src/lib.rt:241:9
 returns : tie.Need-returns
 returns c = no-method-here _ (c .before .before .before .before .args .k) (λ e. c .if1 .taken (c .before .kind .ensures ∙ e))
 
--- src/lib.rt:243:36
 mul-shape : tie.Need-mul-shape
 mul-shape c = omega (arith, c .before .before .before .before .pre .2, c .before .before .before .before .pre .0 .most)
 
--- src/lib.rt:243:35
 cast-shape : tie.Need-cast-shape
 cast-shape c = omega (arith, c .before .before .before .before .pre .2, c .before .before .before .before .pre .0 .most)
 
--- src/lib.rt:243:5
 shape-requires : tie.Need-shape-requires
 shape-requires c κs = record { lent = c .before .before .before .before .pre .0; least = omega (arith, c .before .before .before .before .pre .1); most = omega (arith, c .before .before .before .before .pre .2) }
 
--- src/lib.rt:236:1
 returns-2 : tie.Need-returns-2
 returns-2 c = method-here _ (c .before .before .before .before .before .args .k) (c .shape .result) (sym (c .before .before .kind .ensures) ∙ c .before .if1 .left) (c .shape .ensures)
 

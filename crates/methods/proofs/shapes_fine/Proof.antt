@@ -18,32 +18,25 @@ Inv-loop contents bodies n b k₀ k = (1 ≤ k) × (k ≤ n + 1) × UpBefore (sh
 abbrev μ-loop : tie.MeasureT-loop
 μ-loop contents bodies n b k₀ k = n + 1 - k
 
--- src/lib.rt:252:5
 loop-holds : tie.Need-loop-holds Inv-loop μ-loop
 loop-holds c = (omega arith, omega (arith, c .before .before .pre .least), up-none (shapeFine (objectsAt (c .before .before .args .n) (c .before .before .args .b) (c .before .before .args .contents .now) (c .before .before .args .bodies .now))))
 
--- src/lib.rt:253:13
 shape-object-requires : tie.Need-shape-object-requires Inv-loop μ-loop
 shape-object-requires c κs = (c .before .before .before .before .pre, c .before .loop .inv .0, c .loop-test .taken)
 
--- src/lib.rt:254:13
 returns : tie.Need-returns Inv-loop μ-loop
 unfolding shapes
 returns c = sym (up-no (c .before .before .before .before .before .before .args .n) (shapeFine (objectsAt (c .before .before .before .before .before .before .args .n) (c .before .before .before .before .before .before .args .b) (c .before .before .before .before .before .before .args .contents .now) (c .before .before .before .before .before .before .args .bodies .now))) (c .before .before .before .loop .k) (c .before .before .before .loop .inv .0) (c .before .before .loop-test .taken) (sym (c .before .shape-object .ensures) ∙ not-true _ (c .if1 .taken)))
 
--- src/lib.rt:256:9
 add-k : tie.Need-add-k Inv-loop μ-loop
 add-k c = omega (arith, c .before .before .before .before .before .before .pre .most)
 
--- src/lib.rt:252:5
 loop-less : tie.Need-loop-less Inv-loop μ-loop
 loop-less c = omega arith
 
--- src/lib.rt:252:5
 loop-again : tie.Need-loop-again Inv-loop μ-loop
 loop-again c = (omega arith, omega arith, up-more (shapeFine (objectsAt (c .before .before .before .before .before .before .args .n) (c .before .before .before .before .before .before .args .b) (c .before .before .before .before .before .before .args .contents .now) (c .before .before .before .before .before .before .args .bodies .now))) (c .before .before .before .loop .k) (c .before .before .before .loop .inv .2) (sym (c .before .shape-object .ensures) ∙ not-false _ (c .if1 .left)))
 
--- src/lib.rt:247:1
 returns-2 : tie.Need-returns-2 Inv-loop μ-loop
 unfolding shapes
 returns-2 c = sym (up-all (c .before .before .before .before .args .n) (c .before .loop .k) (shapeFine (objectsAt (c .before .before .before .before .args .n) (c .before .before .before .before .args .b) (c .before .before .before .before .args .contents .now) (c .before .before .before .before .args .bodies .now))) (omega arith) (c .before .loop .inv .2))

@@ -17,24 +17,19 @@ use Rattle.methods.proofs.variable_fine.Lts as lts
 use Rattle.rules.proofs.is_kind.Reads as is-kind-reads
 use Rattle.rules.proofs.size.Reads as size-reads
 
--- src/lib.rt:265:9
 is-kind-requires : tie.Need-is-kind-requires
 is-kind-requires c κs = search needs
 
--- src/lib.rt:266:9
 returns : tie.Need-returns
 unfolding variableFine
 returns c = λ b bodies. sym (ap (λ (x : Bool). x && leb 2 (size (objectsAt (c .before .before .before .args .n) b (c .before .before .before .args .contents .now) bodies) (c .before .before .before .args .w / 2))) (sym (c .before .is-kind .ensures b bodies) ∙ not-true _ (c .if1 .taken)))
 
--- src/lib.rt:268:35
 cast-size : tie.Need-cast-size
 cast-size c = search needs
 
--- src/lib.rt:268:10
 size-requires : tie.Need-size-requires
 size-requires c κs = let h = C.named (objectsAt (c .before .before .before .args .n) 0 (c .before .before .before .args .contents .now) []) fieldsKind (c .before .before .before .args .w) (true→T (sym (c .before .is-kind .ensures 0 []) ∙ not-false _ (c .if1 .left))) in record { entries = c .before .before .before .pre; least = h .least; most = h .most }
 
--- src/lib.rt:261:1
 returns-2 : tie.Need-returns-2
 unfolding variableFine
 returns-2 c = λ b bodies. ap (leb 2) (c .size .ensures) ∙ sym (ap (λ (x : Bool). x && leb 2 (size (objectsAt (c .before .before .before .before .args .n) b (c .before .before .before .before .args .contents .now) bodies) (c .before .before .before .before .args .w / 2))) (sym (c .before .before .is-kind .ensures b bodies) ∙ not-false _ (c .before .if1 .left)))

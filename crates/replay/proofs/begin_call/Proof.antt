@@ -10,111 +10,84 @@ use Rattle.replay.proofs.begin_call.Reads as reads
 use Rattle.replay.proofs.begin_call.Lts as lts
 use Rattle.machine.proofs.Registers.begin.Reads as begin-reads
 
--- src/lib.rt:86:26
 add-receiver : tie.Need-add-receiver
 add-receiver c = search needs
 
--- src/lib.rt:86:20
 mul-receiver : tie.Need-mul-receiver
 mul-receiver c = search needs
 
--- src/lib.rt:86:20
 shared-slice-read-receiver : tie.Need-shared-slice-read-receiver
 shared-slice-read-receiver c = search needs
 
--- src/lib.rt:87:26
 add-selector : tie.Need-add-selector
 add-selector c = search needs
 
--- src/lib.rt:87:20
 mul-selector : tie.Need-mul-selector
 mul-selector c = search needs
 
--- src/lib.rt:87:20
 shared-slice-read-selector : tie.Need-shared-slice-read-selector
 shared-slice-read-selector c = search needs
 
--- src/lib.rt:88:16
 add-from : tie.Need-add-from
 add-from c = search needs
 
--- src/lib.rt:89:28
 add-end : tie.Need-add-end
 add-end c = search needs
 
--- src/lib.rt:89:22
 mul-end : tie.Need-mul-end
 mul-end c = search needs
 
--- src/lib.rt:89:22
 shared-slice-read-end : tie.Need-shared-slice-read-end
 shared-slice-read-end c = search needs
 
--- src/lib.rt:89:22
 cast-end : tie.Need-cast-end
 cast-end c = search needs
 
--- src/lib.rt:89:15
 add-end-2 : tie.Need-add-end-2
 add-end-2 c = search needs
 
--- src/lib.rt:97:9
 mul-begin : tie.Need-mul-begin
 mul-begin c = search needs
 
--- src/lib.rt:97:9
 sub-begin : tie.Need-sub-begin
 sub-begin c = search needs
 
--- src/lib.rt:97:9
 part-begin-start : tie.Need-part-begin-start
 part-begin-start c = search needs
 
--- src/lib.rt:97:9
 part-begin-end : tie.Need-part-begin-end
 part-begin-end c = search needs
 
--- src/lib.rt:90:11
 begin-requires : tie.Need-begin-requires
 begin-requires c κs = search needs
 
--- src/lib.rt:99:24
 enum-known-next : tie.Need-enum-known-next
 enum-known-next c = search needs
 
--- src/lib.rt:100:24
 enum-known-k : tie.Need-enum-known-k
 enum-known-k c = search needs
 
--- src/lib.rt:74:1
 same-length : tie.Need-same-length
 same-length c = search needs
 
--- src/lib.rt:74:1
 same-length-2 : tie.Need-same-length-2
 same-length-2 c = search needs
 
--- src/lib.rt:74:1
 same-length-3 : tie.Need-same-length-3
 same-length-3 c = search needs
 
--- src/lib.rt:74:1
 returns : tie.Need-returns
 returns c = begun-done _ _ _ _ _ (c .before .before .before .before .before .before .before .before .before .begin .result) (c .before .before .before .before .before .before .before .before .before .begin .ensures) _ (c .before .next .given .1) ∙ arguments-are (state (c .before .before .before .before .before .before .before .before .before .before .before .before .before .before .before .before .before .before .before .before .before .before .args .registers) (c .before .before .before .before .before .before .before .before .before .before .before .before .before .before .before .before .before .before .before .before .before .before .args .contents .now) (c .before .before .before .before .before .before .before .before .before .before .before .before .before .before .before .before .before .before .before .before .before .before .args .bodies .now) (c .before .before .before .before .before .before .before .before .before .before .before .before .before .before .before .before .before .before .before .before .before .before .args .stack .now) (c .before .before .before .before .before .before .before .before .before .before .before .before .before .before .before .before .before .before .before .before .before .before .args .cache .now)) _ _ (c .before .before .before .before .before .before .before .before .before .before .before .before .before .before .before .before .before .before .before .before .before .before .args .calls .now) (c .before .before .before .before .before .before .before .before .before .before .before .before .before .before .before .before .before .before .before .before .before .before .args .i + 4) (getD (c .before .before .before .before .before .before .before .before .before .before .before .before .before .before .before .before .before .before .before .before .before .before .args .calls .now) (c .before .before .before .before .before .before .before .before .before .before .before .before .before .before .before .before .before .before .before .before .before .before .args .i + 3) 0)
 
--- src/lib.rt:74:1
 same-length-4 : tie.Need-same-length-4
 same-length-4 c = search needs
 
--- src/lib.rt:74:1
 same-length-5 : tie.Need-same-length-5
 same-length-5 c = search needs
 
--- src/lib.rt:74:1
 same-length-6 : tie.Need-same-length-6
 same-length-6 c = search needs
 
--- src/lib.rt:74:1
 returns-2 : tie.Need-returns-2
 returns-2 c = begun-refused _ _ _ _ _ (c .before .before .before .before .before .before .before .before .before .begin .result) (c .before .before .before .before .before .before .before .before .before .begin .ensures) _ _ (c .before .k .given .1) ∙ arguments-are (state (c .before .before .before .before .before .before .before .before .before .before .before .before .before .before .before .before .before .before .before .before .before .before .args .registers) (c .before .before .before .before .before .before .before .before .before .before .before .before .before .before .before .before .before .before .before .before .before .before .args .contents .now) (c .before .before .before .before .before .before .before .before .before .before .before .before .before .before .before .before .before .before .before .before .before .before .args .bodies .now) (c .before .before .before .before .before .before .before .before .before .before .before .before .before .before .before .before .before .before .before .before .before .before .args .stack .now) (c .before .before .before .before .before .before .before .before .before .before .before .before .before .before .before .before .before .before .before .before .before .before .args .cache .now)) _ _ (c .before .before .before .before .before .before .before .before .before .before .before .before .before .before .before .before .before .before .before .before .before .before .args .calls .now) (c .before .before .before .before .before .before .before .before .before .before .before .before .before .before .before .before .before .before .before .before .before .before .args .i + 4) (getD (c .before .before .before .before .before .before .before .before .before .before .before .before .before .before .before .before .before .before .before .before .before .before .args .calls .now) (c .before .before .before .before .before .before .before .before .before .before .before .before .before .before .before .before .before .before .before .before .before .before .args .i + 3) 0)
 

@@ -6,23 +6,18 @@ use Rattle.replay.proofs.drop_call.Reads as reads
 use Rattle.replay.proofs.drop_call.Lts as lts
 use Rattle.machine.proofs.Registers.drop.Reads as drop-reads
 
--- src/lib.rt:126:11
 drop-requires : tie.Need-drop-requires
 drop-requires c κs = search needs
 
--- src/lib.rt:127:26
 enum-known-next : tie.Need-enum-known-next
 enum-known-next c = search needs
 
--- src/lib.rt:128:26
 enum-known-k : tie.Need-enum-known-k
 enum-known-k c = search needs
 
--- src/lib.rt:117:1
 returns : tie.Need-returns
 returns c = dropped-done _ _ _ _ _ (c .before .before .before .drop .result) (c .before .before .before .drop .ensures) _ (c .before .next .given .1)
 
--- src/lib.rt:117:1
 returns-2 : tie.Need-returns-2
 returns-2 c = dropped-refused _ _ _ _ _ (c .before .before .before .drop .result) (c .before .before .before .drop .ensures) _ _ (c .before .k .given .1)
 

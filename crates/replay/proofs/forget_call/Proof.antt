@@ -6,31 +6,24 @@ use Rattle.replay.proofs.forget_call.Reads as reads
 use Rattle.replay.proofs.forget_call.Lts as lts
 use Rattle.machine.proofs.forget.Reads as forget-reads
 
--- src/lib.rt:141:11
 forget-requires : tie.Need-forget-requires
 forget-requires c κs = search needs
 
--- src/lib.rt:142:31
 enum-told : tie.Need-enum-told
 enum-told c = search needs
 
--- src/lib.rt:143:28
 enum-known-k : tie.Need-enum-known-k
 enum-known-k c = search needs
 
--- src/lib.rt:132:1
 same-length : tie.Need-same-length
 same-length c = search needs
 
--- src/lib.rt:132:1
 returns : tie.Need-returns
 returns c = forgotten-done _ _ _ _ _ (c .before .before .before .before .before .before .before .before .before .before .args .registers) (c .before .before .before .before .forget .result) (c .before .before .before .before .forget .ensures) (c .enum-told .given .1)
 
--- src/lib.rt:132:1
 same-length-2 : tie.Need-same-length-2
 same-length-2 c = search needs
 
--- src/lib.rt:132:1
 returns-2 : tie.Need-returns-2
 returns-2 c = forgotten-refused _ _ _ _ _ (c .before .before .before .before .before .before .before .before .before .before .before .args .registers) (c .before .before .before .before .before .forget .result) (c .before .before .before .before .before .forget .ensures) _ (c .before .k .given .1)
 

@@ -6,59 +6,45 @@ use Rattle.replay.proofs.note.Reads as reads
 use Rattle.replay.proofs.note.Lts as lts
 use Rattle.replay.proofs.put.Reads as put-reads
 
--- src/lib.rt:191:25
 enum-known-performed : tie.Need-enum-known-performed
 enum-known-performed c = search needs
 
--- src/lib.rt:192:13
 put-requires : tie.Need-put-requires
 put-requires c κs = search needs
 
--- src/lib.rt:195:28
 enum-known-performed-2 : tie.Need-enum-known-performed-2
 enum-known-performed-2 c = search needs
 
--- src/lib.rt:196:13
 put-requires-2 : tie.Need-put-requires-2
 put-requires-2 c κs = search needs
 
--- src/lib.rt:199:24
 enum-known-performed-3 : tie.Need-enum-known-performed-3
 enum-known-performed-3 c = search needs
 
--- src/lib.rt:204:17
 cast-put : tie.Need-cast-put
 cast-put c = search needs
 
--- src/lib.rt:206:17
 cast-put-2 : tie.Need-cast-put-2
 cast-put-2 c = search needs
 
--- src/lib.rt:200:13
 put-requires-3 : tie.Need-put-requires-3
 put-requires-3 c κs = search needs
 
--- src/lib.rt:186:1
 same-length : tie.Need-same-length
 same-length c = search needs
 
--- src/lib.rt:186:1
 returns : tie.Need-returns
 returns c = noted-done (c .before .before .before .before .before .before .before .before .args .performed) (c .before .before .before .before .before .before .before .before .args .answers .now) _ (c .before .before .before .before .before .before .before .before .args .at) _ (c .before .before .before .before .before .performed .given .1) (c .before .before .put .ensures)
 
--- src/lib.rt:186:1
 same-length-2 : tie.Need-same-length-2
 same-length-2 c = search needs
 
--- src/lib.rt:186:1
 returns-2 : tie.Need-returns-2
 returns-2 c = noted-refused (c .before .before .before .before .before .before .before .before .args .performed) (c .before .before .before .before .before .before .before .before .args .answers .now) _ (c .before .before .before .before .before .before .before .before .args .at) _ _ (c .before .before .before .before .before .performed2 .given .1) (c .before .before .put2 .ensures)
 
--- src/lib.rt:186:1
 same-length-3 : tie.Need-same-length-3
 same-length-3 c = search needs
 
--- src/lib.rt:186:1
 returns-3 : tie.Need-returns-3
 returns-3 c = noted-ran (c .before .before .before .before .before .before .before .before .before .before .args .performed) (c .before .before .before .before .before .before .before .before .before .before .args .answers .now) _ (c .before .before .before .before .before .before .before .before .before .before .args .at) _ _ (c .before .before .before .before .before .before .before .performed3 .given .1) (c .before .before .put3 .ensures)
 

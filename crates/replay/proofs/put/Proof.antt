@@ -7,55 +7,42 @@ use Rattle.replay.proofs.put.Tie as tie
 use Rattle.replay.proofs.put.Reads as reads
 use Rattle.replay.proofs.put.Lts as lts
 
--- src/lib.rt:179:5
 mul-answers : tie.Need-mul-answers
 mul-answers c = search needs
 
--- src/lib.rt:179:5
 slice-write-answers : tie.Need-slice-write-answers
 slice-write-answers c = search needs
 
--- src/lib.rt:180:13
 add-answers : tie.Need-add-answers
 add-answers c = search needs
 
--- src/lib.rt:180:5
 mul-answers-2 : tie.Need-mul-answers-2
 mul-answers-2 c = search needs
 
--- src/lib.rt:180:5
 slice-write-answers-2 : tie.Need-slice-write-answers-2
 slice-write-answers-2 c = simp length-set (omega arith)
 
--- src/lib.rt:181:13
 add-answers-2 : tie.Need-add-answers-2
 add-answers-2 c = search needs
 
--- src/lib.rt:181:5
 mul-answers-3 : tie.Need-mul-answers-3
 mul-answers-3 c = search needs
 
--- src/lib.rt:181:5
 slice-write-answers-3 : tie.Need-slice-write-answers-3
 slice-write-answers-3 c = simp length-set (omega arith)
 
--- src/lib.rt:182:13
 add-answers-3 : tie.Need-add-answers-3
 add-answers-3 c = search needs
 
--- src/lib.rt:182:5
 mul-answers-4 : tie.Need-mul-answers-4
 mul-answers-4 c = search needs
 
--- src/lib.rt:182:5
 slice-write-answers-4 : tie.Need-slice-write-answers-4
 slice-write-answers-4 c = simp length-set (omega arith)
 
--- src/lib.rt:175:1
 same-length : tie.Need-same-length
 same-length c = search needs
 
--- src/lib.rt:175:1
 returns : tie.Need-returns
 returns c = puts (c .args .answers .now) (c .args .at) (c .args .number) (c .args .phase) (c .args .count) (c .args .value)
 

@@ -10,96 +10,73 @@ use Rattle.replay.proofs.run_call.Reads as reads
 use Rattle.replay.proofs.run_call.Lts as lts
 use Rattle.machine.proofs.Registers.run.Reads as run-reads
 
--- src/lib.rt:117:22
 add-high : tie.Need-add-high
 add-high c = search needs
 
--- src/lib.rt:117:16
 mul-high : tie.Need-mul-high
 mul-high c = search needs
 
--- src/lib.rt:117:16
 shared-slice-read-high : tie.Need-shared-slice-read-high
 shared-slice-read-high c = search needs
 
--- src/lib.rt:117:16
 cast-high : tie.Need-cast-high
 cast-high c = omega (arith, c .before .shared-slice-known .given (c .before .before .before .before .before .before .args .i + 1))
 
--- src/lib.rt:118:21
 add-low : tie.Need-add-low
 add-low c = search needs
 
--- src/lib.rt:118:15
 mul-low : tie.Need-mul-low
 mul-low c = search needs
 
--- src/lib.rt:118:15
 shared-slice-read-low : tie.Need-shared-slice-read-low
 shared-slice-read-low c = search needs
 
--- src/lib.rt:118:15
 cast-low : tie.Need-cast-low
 cast-low c = omega (arith, c .before .shared-slice-known2 .given (c .before .before .before .before .before .before .before .args .i + 2))
 
--- src/lib.rt:119:13
 mul-n : tie.Need-mul-n
 mul-n c = let h = c .before .before .shared-slice-known .given (c .before .before .before .before .before .before .before .args .i + 1) in let l = c .before .shared-slice-known2 .given (c .before .before .before .before .before .before .before .args .i + 2) in omega arith
 
--- src/lib.rt:119:13
 add-n : tie.Need-add-n
 add-n c = let h = c .before .before .shared-slice-known .given (c .before .before .before .before .before .before .before .args .i + 1) in let l = c .before .shared-slice-known2 .given (c .before .before .before .before .before .before .before .args .i + 2) in omega arith
 
--- src/lib.rt:120:11
 run-requires : tie.Need-run-requires
 run-requires c κs = search needs
 
--- src/lib.rt:122:24
 enum-known-next : tie.Need-enum-known-next
 enum-known-next c = search needs
 
--- src/lib.rt:126:22
 enum-known-k : tie.Need-enum-known-k
 enum-known-k c = search needs
 
--- src/lib.rt:105:1
 same-length : tie.Need-same-length
 same-length c = search needs
 
--- src/lib.rt:105:1
 same-length-2 : tie.Need-same-length-2
 same-length-2 c = search needs
 
--- src/lib.rt:105:1
 same-length-3 : tie.Need-same-length-3
 same-length-3 c = search needs
 
--- src/lib.rt:105:1
 same-length-4 : tie.Need-same-length-4
 same-length-4 c = search needs
 
--- src/lib.rt:105:1
 returns : tie.Need-returns
 unfolding runLength
 returns c = ran-done _ _ _ _ _ (c .before .before .before .before .before .before .before .before .before .before .before .run .result) (c .before .before .before .before .before .before .before .before .before .before .before .run .ensures .0) _ _ _ (c .before .next .given .1)
 
--- src/lib.rt:105:1
 same-length-5 : tie.Need-same-length-5
 same-length-5 c = search needs
 
--- src/lib.rt:105:1
 same-length-6 : tie.Need-same-length-6
 same-length-6 c = search needs
 
--- src/lib.rt:105:1
 same-length-7 : tie.Need-same-length-7
 same-length-7 c = search needs
 
--- src/lib.rt:105:1
 same-length-8 : tie.Need-same-length-8
 same-length-8 c = search needs
 
--- src/lib.rt:105:1
 returns-2 : tie.Need-returns-2
 unfolding runLength
 returns-2 c = ran-refused _ _ _ _ _ (c .before .before .before .before .before .before .before .before .before .before .before .run .result) (c .before .before .before .before .before .before .before .before .before .before .before .run .ensures .0) _ _ (c .before .k .given .1)

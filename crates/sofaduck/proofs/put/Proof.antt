@@ -4,7 +4,6 @@ use Rattle.sofaduck.proofs.put.Tie as tie
 use Rattle.sofaduck.proofs.put.Reads as reads
 use Rattle.sofaduck.proofs.put.Lts as lts
 
--- src/lib.rt:21:1
 returns : tie.Need-returns
 returns c = put-seven (c .before .args .r)
 

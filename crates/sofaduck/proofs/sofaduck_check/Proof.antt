@@ -7,27 +7,21 @@ use Rattle.sofaduck.proofs.sofaduck_check.Lts as lts
 use Rattle.machine.proofs.check.Reads as check-reads
 use Rattle.sofaduck.proofs.taken.Reads as taken-reads
 
--- src/lib.rt:198:26
 taken-requires : tie.Need-taken-requires
 taken-requires c κs = search needs
 
--- src/lib.rt:198:11
 check-requires : tie.Need-check-requires
 check-requires c κs = search needs
 
--- src/lib.rt:199:27
 enum-told : tie.Need-enum-told
 enum-told c = search needs
 
--- src/lib.rt:200:26
 enum-known-k : tie.Need-enum-known-k
 enum-known-k c = search needs
 
--- src/lib.rt:188:1
 returns : tie.Need-returns
 returns c = check-done (c .before .before .before .before .before .before .before .before .args .registers .now) (c .before .before .before .before .before .before .before .before .args .contents .now) (c .before .before .before .before .before .before .before .before .args .bodies .now) (c .before .before .before .before .before .before .before .before .args .stack .now) (c .before .before .before .before .before .before .before .before .args .cache .now) (c .before .before .before .taken .result) (c .before .before .before .taken .ensures) (c .before .before .check .result) (c .before .before .check .ensures) (c .enum-told .given .1)
 
--- src/lib.rt:188:1
 returns-2 : tie.Need-returns-2
 returns-2 c = check-refused (c .before .before .before .before .before .before .before .before .before .args .registers .now) (c .before .before .before .before .before .before .before .before .before .args .contents .now) (c .before .before .before .before .before .before .before .before .before .args .bodies .now) (c .before .before .before .before .before .before .before .before .before .args .stack .now) (c .before .before .before .before .before .before .before .before .before .args .cache .now) (c .before .before .before .before .taken .result) (c .before .before .before .before .taken .ensures) (c .before .before .before .check .result) (c .before .before .before .check .ensures) _ (c .before .k .given .1)
 

@@ -8,35 +8,27 @@ use Rattle.machine.proofs.Registers.drop.Reads as drop-reads
 use Rattle.sofaduck.proofs.put.Reads as put-reads
 use Rattle.sofaduck.proofs.taken.Reads as taken-reads
 
--- src/lib.rt:159:9
 taken-requires : tie.Need-taken-requires
 taken-requires c κs = search needs
 
--- src/lib.rt:160:11
 drop-requires : tie.Need-drop-requires
 drop-requires c κs = search needs
 
--- src/lib.rt:161:26
 enum-known-r : tie.Need-enum-known-r
 enum-known-r c = search needs
 
--- src/lib.rt:162:13
 put-requires : tie.Need-put-requires
 put-requires c κs = search needs
 
--- src/lib.rt:165:26
 enum-known-k : tie.Need-enum-known-k
 enum-known-k c = search needs
 
--- src/lib.rt:166:13
 put-requires-2 : tie.Need-put-requires-2
 put-requires-2 c κs = search needs
 
--- src/lib.rt:149:1
 returns : tie.Need-returns
 returns c = drop-done (c .before .before .before .before .before .before .before .before .before .before .before .before .args .registers .now) (c .before .before .before .before .before .before .before .before .before .before .before .before .args .contents .now) (c .before .before .before .before .before .before .before .before .before .before .before .before .args .bodies .now) (c .before .before .before .before .before .before .before .before .before .before .before .before .args .stack .now) (c .before .before .before .before .before .before .before .before .before .before .before .before .args .cache .now) (c .before .before .before .before .before .before .taken .result) (c .before .before .before .before .before .before .taken .ensures) _ (c .before .before .before .before .before .drop .result) (c .before .before .before .before .before .drop .ensures) _ (c .before .before .before .r .given .1) (c .put .ensures)
 
--- src/lib.rt:149:1
 returns-2 : tie.Need-returns-2
 returns-2 c = drop-refused (c .before .before .before .before .before .before .before .before .before .before .before .before .args .registers .now) (c .before .before .before .before .before .before .before .before .before .before .before .before .args .contents .now) (c .before .before .before .before .before .before .before .before .before .before .before .before .args .bodies .now) (c .before .before .before .before .before .before .before .before .before .before .before .before .args .stack .now) (c .before .before .before .before .before .before .before .before .before .before .before .before .args .cache .now) (c .before .before .before .before .before .before .taken .result) (c .before .before .before .before .before .before .taken .ensures) _ (c .before .before .before .before .before .drop .result) (c .before .before .before .before .before .drop .ensures) _ _ (c .before .before .before .k .given .1) (c .put2 .ensures)
 

@@ -7,35 +7,27 @@ use Rattle.sofaduck.proofs.sofaduck_forget.Lts as lts
 use Rattle.machine.proofs.forget.Reads as forget-reads
 use Rattle.sofaduck.proofs.taken.Reads as taken-reads
 
--- src/lib.rt:182:27
 taken-requires : tie.Need-taken-requires
 taken-requires c κs = search needs
 
--- src/lib.rt:182:11
 forget-requires : tie.Need-forget-requires
 forget-requires c κs = search needs
 
--- src/lib.rt:183:31
 enum-told : tie.Need-enum-told
 enum-told c = search needs
 
--- src/lib.rt:184:28
 enum-known-k : tie.Need-enum-known-k
 enum-known-k c = search needs
 
--- src/lib.rt:172:1
 same-length : tie.Need-same-length
 same-length c = search needs
 
--- src/lib.rt:172:1
 returns : tie.Need-returns
 returns c = forget-done (c .before .before .before .before .before .before .before .before .before .before .before .args .registers .now) (c .before .before .before .before .before .before .before .before .before .before .before .args .contents .now) (c .before .before .before .before .before .before .before .before .before .before .before .args .bodies .now) (c .before .before .before .before .before .before .before .before .before .before .before .args .stack .now) (c .before .before .before .before .before .before .before .before .before .before .before .args .cache .now) (c .before .before .before .before .before .before .taken .result) (c .before .before .before .before .before .before .taken .ensures) _ (c .before .before .before .before .forget .result) (c .before .before .before .before .forget .ensures) (c .enum-told .given .1)
 
--- src/lib.rt:172:1
 same-length-2 : tie.Need-same-length-2
 same-length-2 c = search needs
 
--- src/lib.rt:172:1
 returns-2 : tie.Need-returns-2
 returns-2 c = forget-refused (c .before .before .before .before .before .before .before .before .before .before .before .before .args .registers .now) (c .before .before .before .before .before .before .before .before .before .before .before .before .args .contents .now) (c .before .before .before .before .before .before .before .before .before .before .before .before .args .bodies .now) (c .before .before .before .before .before .before .before .before .before .before .before .before .args .stack .now) (c .before .before .before .before .before .before .before .before .before .before .before .before .args .cache .now) (c .before .before .before .before .before .before .before .taken .result) (c .before .before .before .before .before .before .before .taken .ensures) _ (c .before .before .before .before .before .forget .result) (c .before .before .before .before .before .forget .ensures) _ (c .before .k .given .1)
 

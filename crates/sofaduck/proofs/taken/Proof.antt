@@ -5,35 +5,27 @@ use Rattle.sofaduck.proofs.taken.Tie as tie
 use Rattle.sofaduck.proofs.taken.Reads as reads
 use Rattle.sofaduck.proofs.taken.Lts as lts
 
--- src/lib.rt:37:12
 element-copy-out-t4 : tie.Need-element-copy-out-t4
 element-copy-out-t4 c = search needs
 
--- src/lib.rt:38:12
 element-copy-out-t7 : tie.Need-element-copy-out-t7
 element-copy-out-t7 c = search needs
 
--- src/lib.rt:39:19
 element-copy-out-t10 : tie.Need-element-copy-out-t10
 element-copy-out-t10 c = search needs
 
--- src/lib.rt:40:19
 element-copy-out-t13 : tie.Need-element-copy-out-t13
 element-copy-out-t13 c = search needs
 
--- src/lib.rt:41:16
 element-copy-out-t16 : tie.Need-element-copy-out-t16
 element-copy-out-t16 c = search needs
 
--- src/lib.rt:42:14
 element-copy-out-t19 : tie.Need-element-copy-out-t19
 element-copy-out-t19 c = search needs
 
--- src/lib.rt:43:16
 element-copy-out-t22 : tie.Need-element-copy-out-t22
 element-copy-out-t22 c = search needs
 
--- src/lib.rt:33:1
 returns : tie.Need-returns
 returns c = take-seven (c .before .before .before .before .before .before .before .args .registers .now)
 

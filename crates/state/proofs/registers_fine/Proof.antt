@@ -7,19 +7,15 @@ use Rattle.state.proofs.registers_fine.Reads as reads
 use Rattle.state.proofs.registers_fine.Lts as lts
 use Rattle.objects.proofs.is_valid.Reads as is-valid-reads
 
--- src/lib.rt:20:9
 returns : tie.Need-returns
 returns c = late-phase (c .before .args .n) (c .before .args .phase) (c .before .args .value) (c .if1 .taken)
 
--- src/lib.rt:23:9
 is-valid-requires : tie.Need-is-valid-requires
 is-valid-requires c κs = search needs
 
--- src/lib.rt:23:9
 returns-2 : tie.Need-returns-2
 returns-2 c = finished-value (c .before .before .before .args .n) (c .before .before .before .args .phase) (c .before .before .before .args .value) _ (c .before .before .if1 .left) (c .before .if2 .taken) (c .is-valid .ensures)
 
--- src/lib.rt:16:1
 returns-3 : tie.Need-returns-3
 returns-3 c = other-value (c .before .before .args .n) (c .before .before .args .phase) (c .before .before .args .value) (c .before .if1 .left) (c .if2 .left)
 

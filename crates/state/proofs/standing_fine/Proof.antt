@@ -8,19 +8,15 @@ use Rattle.state.proofs.standing_fine.Reads as reads
 use Rattle.state.proofs.standing_fine.Lts as lts
 use Rattle.checks.proofs.frames_fine.Reads as frames-fine-reads
 
--- src/lib.rt:43:9
 returns : tie.Need-returns
 returns c = none-standing (objectsAt (c .before .before .before .before .before .args .n) (c .before .before .before .before .before .args .b) (c .before .before .before .before .before .args .contents .now) (c .before .before .before .before .before .args .bodies .now)) (c .before .before .before .before .before .args .stack .now) (c .before .before .before .before .before .args .phase) (c .before .before .before .before .before .args .top) (inl (c .if1 .taken))
 
--- src/lib.rt:46:9
 returns-2 : tie.Need-returns-2
 returns-2 c = none-standing (objectsAt (c .before .before .before .before .before .before .args .n) (c .before .before .before .before .before .before .args .b) (c .before .before .before .before .before .before .args .contents .now) (c .before .before .before .before .before .before .args .bodies .now)) (c .before .before .before .before .before .before .args .stack .now) (c .before .before .before .before .before .before .args .phase) (c .before .before .before .before .before .before .args .top) (inr (c .if2 .taken))
 
--- src/lib.rt:48:5
 frames-fine-requires : tie.Need-frames-fine-requires
 frames-fine-requires c κs = search needs
 
--- src/lib.rt:29:1
 returns-3 : tie.Need-returns-3
 returns-3 c = all-standing (objectsAt (c .before .before .before .before .before .before .before .args .n) (c .before .before .before .before .before .before .before .args .b) (c .before .before .before .before .before .before .before .args .contents .now) (c .before .before .before .before .before .before .before .args .bodies .now)) (c .before .before .before .before .before .before .before .args .stack .now) (c .before .before .before .before .before .before .before .args .phase) (c .before .before .before .before .before .before .before .args .top) _ (c .before .before .if1 .left) (c .before .if2 .left) (c .frames-fine .ensures)
 

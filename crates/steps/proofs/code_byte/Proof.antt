@@ -6,47 +6,36 @@ use borrow.Author.Needs.{needs}
 use Rattle.steps.proofs.code_byte.Statement.{statement}
 use Rattle.steps.proofs.code_byte.Tie as tie
 
--- src/lib.rt:101:32
 add-t14 : tie.Need-add-t14
 add-t14 c = let k = ends (c .before .before .before .pre .0) in omega arith
 
--- src/lib.rt:101:26
 mul-t15 : tie.Need-mul-t15
 mul-t15 c = let k = ends (c .before .before .before .pre .0) in omega arith
 
--- src/lib.rt:101:26
 shared-slice-read-t17 : tie.Need-shared-slice-read-t17
 shared-slice-read-t17 c = let k = ends (c .before .before .before .before .pre .0) in omega arith
 
--- src/lib.rt:102:9
 code-of-requires : tie.Need-code-of-requires
 code-of-requires c κs = active-method (c .before .before .before .before .pre .0) _ refl
 
--- src/lib.rt:105:14
 add-at : tie.Need-add-at
 add-at c = let k = code-small (c .before .before .before .before .before .before .pre .0) in omega (arith, c .before .before .before .before .before .before .pre .1)
 
--- src/lib.rt:106:21
 mul-fetch : tie.Need-mul-fetch
 mul-fetch c = let k = from-is (c .before .before .before .before .before .before .pre .0) (c .before .code-of .ensures) in search needs
 
--- src/lib.rt:106:21
 sub-fetch : tie.Need-sub-fetch
 sub-fetch c = search needs
 
--- src/lib.rt:106:21
 part-fetch-start : tie.Need-part-fetch-start
 part-fetch-start c = search needs
 
--- src/lib.rt:106:21
 part-fetch-end : tie.Need-part-fetch-end
 part-fetch-end c = search needs
 
--- src/lib.rt:106:5
 fetch-requires : tie.Need-fetch-requires
 fetch-requires c κs = byte-inside (c .before .before .before .before .before .before .before .pre .0) (c .before .before .code-of .ensures) _ (c .before .before .before .before .before .before .before .pre .1)
 
--- src/lib.rt:88:1
 returns : tie.Need-returns
 returns c = byte-is (c .before .before .before .before .before .before .before .before .pre .0) (c .before .before .before .code-of .ensures) _ _ (c .fetch .ensures)
 

@@ -12,182 +12,143 @@ use borrow.Author.Needs.{needs}
 use Rattle.steps.proofs.constant.Statement.{statement}
 use Rattle.steps.proofs.constant.Tie as tie
 
--- src/lib.rt:451:27
 add-w : tie.Need-add-w
 add-w c = search needs
 
--- src/lib.rt:451:21
 mul-w : tie.Need-mul-w
 mul-w c = let k = ends (c .before .before .before .before .pre .0 .active) in omega arith
 
--- src/lib.rt:451:21
 slice-read-w : tie.Need-slice-read-w
 slice-read-w c = let k = ends (c .before .before .before .before .before .pre .0 .active) in omega arith
 
--- src/lib.rt:452:13
 push-word-requires : tie.Need-push-word-requires
 unfolding lengthOf instructionOf constantOf if_then_else_
 push-word-requires c κs = self-pushing (doing-at (c .before .before .before .before .before .before .pre .0) 112 1 _ PushSelf (c .before .before .match .keys1) refl (c .before .before .before .before .before .before .pre .2) refl)
 
--- src/lib.rt:454:16
 push-word-requires-2 : tie.Need-push-word-requires-2
 unfolding lengthOf instructionOf constantOf if_then_else_
 push-word-requires-2 c κs = constant-pushing (doing-at (c .before .before .before .before .before .pre .0) 113 1 _ (PushConstant 6) (c .before .match .keys2) refl (c .before .before .before .before .before .pre .2) refl)
 
--- src/lib.rt:455:16
 push-word-requires-3 : tie.Need-push-word-requires-3
 unfolding lengthOf instructionOf constantOf if_then_else_
 push-word-requires-3 c κs = constant-pushing (doing-at (c .before .before .before .before .before .pre .0) 114 1 _ (PushConstant 4) (c .before .match .keys3) refl (c .before .before .before .before .before .pre .2) refl)
 
--- src/lib.rt:456:16
 push-word-requires-4 : tie.Need-push-word-requires-4
 unfolding lengthOf instructionOf constantOf if_then_else_
 push-word-requires-4 c κs = constant-pushing (doing-at (c .before .before .before .before .before .pre .0) 115 1 _ (PushConstant 2) (c .before .match .keys4) refl (c .before .before .before .before .before .pre .2) refl)
 
--- src/lib.rt:457:16
 push-word-requires-5 : tie.Need-push-word-requires-5
 unfolding lengthOf instructionOf constantOf if_then_else_
 push-word-requires-5 c κs = constant-pushing (doing-at (c .before .before .before .before .before .pre .0) 116 1 _ (PushConstant 65535) (c .before .match .keys5) refl (c .before .before .before .before .before .pre .2) refl)
 
--- src/lib.rt:458:16
 push-word-requires-6 : tie.Need-push-word-requires-6
 unfolding lengthOf instructionOf constantOf if_then_else_
 push-word-requires-6 c κs = constant-pushing (doing-at (c .before .before .before .before .before .pre .0) 117 1 _ (PushConstant 1) (c .before .match .keys6) refl (c .before .before .before .before .before .pre .2) refl)
 
--- src/lib.rt:459:16
 push-word-requires-7 : tie.Need-push-word-requires-7
 unfolding lengthOf instructionOf constantOf if_then_else_
 push-word-requires-7 c κs = constant-pushing (doing-at (c .before .before .before .before .before .pre .0) 118 1 _ (PushConstant 3) (c .before .match .keys7) refl (c .before .before .before .before .before .pre .2) refl)
 
--- src/lib.rt:460:16
 push-word-requires-8 : tie.Need-push-word-requires-8
 unfolding lengthOf instructionOf constantOf if_then_else_
 push-word-requires-8 c κs = constant-pushing (doing-at (c .before .before .before .before .before .pre .0) 119 1 _ (PushConstant 5) (c .before .match .keys8) refl (c .before .before .before .before .before .pre .2) refl)
 
--- src/lib.rt:461:36
 add-t33 : tie.Need-add-t33
 add-t33 c = search needs
 
--- src/lib.rt:461:30
 mul-t34 : tie.Need-mul-t34
 mul-t34 c = let k = ends (c .before .before .before .before .pre .0 .active) in omega arith
 
--- src/lib.rt:461:30
 slice-read-t36 : tie.Need-slice-read-t36
 slice-read-t36 c = let k = ends (c .before .before .before .before .before .pre .0 .active) in omega arith
 
--- src/lib.rt:466:22
 sub-at : tie.Need-sub-at
 unfolding lengthOf instructionOf constantOf if_then_else_
 sub-at c = let k = top-one (doing-at (c .before .before .before .before .before .pre .0) 124 1 _ ReturnTop (c .before .match .keys13) refl (c .before .before .before .before .before .pre .2) refl) in omega arith
 
--- src/lib.rt:467:27
 mul-t37 : tie.Need-mul-t37
 mul-t37 c = let k = ends (c .before .before .before .before .before .pre .0 .active) in omega arith
 
--- src/lib.rt:467:27
 slice-read-t39 : tie.Need-slice-read-t39
 unfolding lengthOf instructionOf constantOf if_then_else_
 slice-read-t39 c = let k = ends (c .before .before .before .before .before .before .pre .0 .active) in let o = top-one (doing-at (c .before .before .before .before .before .before .pre .0) 124 1 _ ReturnTop (c .before .before .match .keys13) refl (c .before .before .before .before .before .before .pre .2) refl) in omega arith
 
--- src/lib.rt:435:1
 same-length : tie.Need-same-length
 same-length c = search needs
 
--- src/lib.rt:435:1
 returns : tie.Need-returns
 unfolding lengthOf instructionOf constantOf if_then_else_
 returns c = self-done (doing-at (c .before .before .before .before .before .before .before .before .before .pre .0) 112 1 _ PushSelf (c .before .before .before .before .before .match .keys1) refl (c .before .before .before .before .before .before .before .before .before .pre .2) refl) _ (c .before .before .push-word .result) (c .before .before .push-word .ensures)
 
--- src/lib.rt:435:1
 same-length-2 : tie.Need-same-length-2
 same-length-2 c = search needs
 
--- src/lib.rt:435:1
 returns-2 : tie.Need-returns-2
 unfolding lengthOf instructionOf constantOf if_then_else_
 returns-2 c = constant-done (doing-at (c .before .before .before .before .before .before .before .before .pre .0) 113 1 _ (PushConstant 6) (c .before .before .before .before .match .keys2) refl (c .before .before .before .before .before .before .before .before .pre .2) refl) _ (c .before .before .push-word2 .result) (c .before .before .push-word2 .ensures)
 
--- src/lib.rt:435:1
 same-length-3 : tie.Need-same-length-3
 same-length-3 c = search needs
 
--- src/lib.rt:435:1
 returns-3 : tie.Need-returns-3
 unfolding lengthOf instructionOf constantOf if_then_else_
 returns-3 c = constant-done (doing-at (c .before .before .before .before .before .before .before .before .pre .0) 114 1 _ (PushConstant 4) (c .before .before .before .before .match .keys3) refl (c .before .before .before .before .before .before .before .before .pre .2) refl) _ (c .before .before .push-word3 .result) (c .before .before .push-word3 .ensures)
 
--- src/lib.rt:435:1
 same-length-4 : tie.Need-same-length-4
 same-length-4 c = search needs
 
--- src/lib.rt:435:1
 returns-4 : tie.Need-returns-4
 unfolding lengthOf instructionOf constantOf if_then_else_
 returns-4 c = constant-done (doing-at (c .before .before .before .before .before .before .before .before .pre .0) 115 1 _ (PushConstant 2) (c .before .before .before .before .match .keys4) refl (c .before .before .before .before .before .before .before .before .pre .2) refl) _ (c .before .before .push-word4 .result) (c .before .before .push-word4 .ensures)
 
--- src/lib.rt:435:1
 same-length-5 : tie.Need-same-length-5
 same-length-5 c = search needs
 
--- src/lib.rt:435:1
 returns-5 : tie.Need-returns-5
 unfolding lengthOf instructionOf constantOf if_then_else_
 returns-5 c = constant-done (doing-at (c .before .before .before .before .before .before .before .before .pre .0) 116 1 _ (PushConstant 65535) (c .before .before .before .before .match .keys5) refl (c .before .before .before .before .before .before .before .before .pre .2) refl) _ (c .before .before .push-word5 .result) (c .before .before .push-word5 .ensures)
 
--- src/lib.rt:435:1
 same-length-6 : tie.Need-same-length-6
 same-length-6 c = search needs
 
--- src/lib.rt:435:1
 returns-6 : tie.Need-returns-6
 unfolding lengthOf instructionOf constantOf if_then_else_
 returns-6 c = constant-done (doing-at (c .before .before .before .before .before .before .before .before .pre .0) 117 1 _ (PushConstant 1) (c .before .before .before .before .match .keys6) refl (c .before .before .before .before .before .before .before .before .pre .2) refl) _ (c .before .before .push-word6 .result) (c .before .before .push-word6 .ensures)
 
--- src/lib.rt:435:1
 same-length-7 : tie.Need-same-length-7
 same-length-7 c = search needs
 
--- src/lib.rt:435:1
 returns-7 : tie.Need-returns-7
 unfolding lengthOf instructionOf constantOf if_then_else_
 returns-7 c = constant-done (doing-at (c .before .before .before .before .before .before .before .before .pre .0) 118 1 _ (PushConstant 3) (c .before .before .before .before .match .keys7) refl (c .before .before .before .before .before .before .before .before .pre .2) refl) _ (c .before .before .push-word7 .result) (c .before .before .push-word7 .ensures)
 
--- src/lib.rt:435:1
 same-length-8 : tie.Need-same-length-8
 same-length-8 c = search needs
 
--- src/lib.rt:435:1
 returns-8 : tie.Need-returns-8
 unfolding lengthOf instructionOf constantOf if_then_else_
 returns-8 c = constant-done (doing-at (c .before .before .before .before .before .before .before .before .pre .0) 119 1 _ (PushConstant 5) (c .before .before .before .before .match .keys8) refl (c .before .before .before .before .before .before .before .before .pre .2) refl) _ (c .before .before .push-word8 .result) (c .before .before .push-word8 .ensures)
 
--- src/lib.rt:435:1
 returns-9 : tie.Need-returns-9
 unfolding lengthOf instructionOf constantOf if_then_else_
 returns-9 c = self-returned (doing-at (c .before .before .before .before .before .pre .0) 120 1 _ ReturnSelf (c .before .match .keys9) refl (c .before .before .before .before .before .pre .2) refl)
 
--- src/lib.rt:435:1
 returns-10 : tie.Need-returns-10
 unfolding lengthOf instructionOf constantOf if_then_else_
 returns-10 c = constant-returned (doing-at (c .before .before .before .before .pre .0) 121 1 _ (ReturnConstant 6) (c .match .keys10) refl (c .before .before .before .before .pre .2) refl)
 
--- src/lib.rt:435:1
 returns-11 : tie.Need-returns-11
 unfolding lengthOf instructionOf constantOf if_then_else_
 returns-11 c = constant-returned (doing-at (c .before .before .before .before .pre .0) 122 1 _ (ReturnConstant 4) (c .match .keys11) refl (c .before .before .before .before .pre .2) refl)
 
--- src/lib.rt:435:1
 returns-12 : tie.Need-returns-12
 unfolding lengthOf instructionOf constantOf if_then_else_
 returns-12 c = constant-returned (doing-at (c .before .before .before .before .pre .0) 123 1 _ (ReturnConstant 2) (c .match .keys12) refl (c .before .before .before .before .pre .2) refl)
 
--- src/lib.rt:435:1
 returns-13 : tie.Need-returns-13
 unfolding lengthOf instructionOf constantOf if_then_else_
 returns-13 c = top-returned (doing-at (c .before .before .before .before .before .before .pre .0) 124 1 _ ReturnTop (c .before .before .match .keys13) refl (c .before .before .before .before .before .before .pre .2) refl) _ refl
 
--- src/lib.rt:435:1
 returns-14 : tie.Need-returns-14
 returns-14 c = absurd (row-unused (c .before .before .before .before .pre .0) (past 112 13 _ (omega (arith, c .before .before .before .before .pre .1)) (c .match .rest)) (omega (arith, c .before .before .before .before .pre .1)))
 

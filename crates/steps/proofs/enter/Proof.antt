@@ -7,75 +7,57 @@ use borrow.Author.Needs.{needs}
 use Rattle.steps.proofs.enter.Statement.{statement}
 use Rattle.steps.proofs.enter.Tie as tie
 
--- src/lib.rt:63:32
 add-position : tie.Need-add-position
 add-position c = let k = enter-bounds _ (c .before .before .before .pre) in omega arith
 
--- src/lib.rt:63:26
 mul-position : tie.Need-mul-position
 mul-position c = let k = enter-bounds _ (c .before .before .before .pre) in omega arith
 
--- src/lib.rt:63:26
 shared-slice-read-position : tie.Need-shared-slice-read-position
 shared-slice-read-position c = let k = enter-bounds _ (c .before .before .before .before .pre) in omega arith
 
--- src/lib.rt:64:9
 code-of-requires : tie.Need-code-of-requires
 code-of-requires c κs = holds-method (c .before .before .before .before .pre) _ refl
 
--- src/lib.rt:65:48
 header-requires : tie.Need-header-requires
 header-requires c κs = holds-method (c .before .before .before .before .before .pre) _ refl
 
--- src/lib.rt:65:9
 temporary-count-requires : tie.Need-temporary-count-requires
 temporary-count-requires c κs = search needs
 
--- src/lib.rt:66:20
 add-operands : tie.Need-add-operands
 add-operands c = let k = enter-bounds _ (c .before .before .before .before .before .before .before .pre) in omega arith
 
--- src/lib.rt:66:20
 add-operands-2 : tie.Need-add-operands-2
 add-operands-2 c = let k = enter-bounds _ (c .before .before .before .before .before .before .before .pre) in omega (arith, c .temporary-count .ensures, c .before .header .ensures)
 
--- src/lib.rt:67:26
 add-position-2 : tie.Need-add-position-2
 add-position-2 c = let k = enter-bounds _ (c .before .before .before .before .before .before .before .pre) in omega arith
 
--- src/lib.rt:67:20
 mul-position-2 : tie.Need-mul-position-2
 mul-position-2 c = let k = enter-bounds _ (c .before .before .before .before .before .before .before .pre) in omega arith
 
--- src/lib.rt:67:20
 shared-slice-read-position-2 : tie.Need-shared-slice-read-position-2
 shared-slice-read-position-2 c = let k = enter-bounds _ (c .before .before .before .before .before .before .before .before .pre) in omega arith
 
--- src/lib.rt:67:20
 cast-position : tie.Need-cast-position
 cast-position c = let k = enter-position _ (c .before .before .before .before .before .before .before .before .pre) in omega arith
 
--- src/lib.rt:68:23
 add-depth : tie.Need-add-depth
 add-depth c = let k = enter-bounds _ (c .before .before .before .before .before .before .before .before .pre) in omega arith
 
--- src/lib.rt:68:17
 mul-depth : tie.Need-mul-depth
 mul-depth c = let k = enter-bounds _ (c .before .before .before .before .before .before .before .before .pre) in omega arith
 
--- src/lib.rt:68:17
 shared-slice-read-depth : tie.Need-shared-slice-read-depth
 shared-slice-read-depth c = let k = enter-bounds _ (c .before .before .before .before .before .before .before .before .before .pre) in omega arith
 
--- src/lib.rt:68:17
 cast-depth : tie.Need-cast-depth
 cast-depth c = let k = enter-bounds _ (c .before .before .before .before .before .before .before .before .before .pre) in omega arith
 
--- src/lib.rt:74:28
 add-t14 : tie.Need-add-t14
 add-t14 c = let k = enter-bounds _ (c .before .before .before .before .before .before .before .before .before .pre) in omega (arith, c .before .before .temporary-count .ensures, c .before .before .before .header .ensures)
 
--- src/lib.rt:51:1
 returns : tie.Need-returns
 returns c = entered _ (c .before .before .before .before .before .before .before .before .before .pre) (c .before .before .before .before .code-of .result) _ _ (c .before .before .before .before .code-of .ensures) (c .before .before .before .header .ensures) (c .before .before .temporary-count .ensures)
 

@@ -11,248 +11,189 @@ use borrow.Author.Needs.{needs}
 use Rattle.steps.proofs.extended.Statement.{statement}
 use Rattle.steps.proofs.extended.Tie as tie
 
--- src/lib.rt:491:17
 code-byte-requires : tie.Need-code-byte-requires
 unfolding lengthOf if_then_else_
 code-byte-requires c κs = (c .before .before .before .before .before .before .pre .0 .active, byte-there (c .before .before .before .before .before .before .pre .0) 128 2 1 (c .before .before .match .keys1) refl (omega arith))
 
--- src/lib.rt:492:17
 place-of-requires : tie.Need-place-of-requires
 place-of-requires c κs = search needs
 
--- src/lib.rt:500:30
 add-t34 : tie.Need-add-t34
 add-t34 c = let k = position-small (c .before .before .before .before .before .before .before .before .before .before .pre .0 .active) in omega arith
 
--- src/lib.rt:493:13
 push-requires : tie.Need-push-requires
 push-requires c κs = extended-push (c .before .before .before .before .before .before .before .before .before .before .pre .0) (c .before .before .before .before .before .before .match .keys1) _ _ (c .before .before .before .code-byte .ensures) (c .before .before .place-of .ensures)
 
--- src/lib.rt:505:17
 code-byte-requires-2 : tie.Need-code-byte-requires-2
 unfolding lengthOf if_then_else_
 code-byte-requires-2 c κs = (c .before .before .before .before .before .before .pre .0 .active, byte-there (c .before .before .before .before .before .before .pre .0) 129 2 1 (c .before .before .match .keys2) refl (omega arith))
 
--- src/lib.rt:506:17
 place-of-requires-2 : tie.Need-place-of-requires-2
 place-of-requires-2 c κs = search needs
 
--- src/lib.rt:507:37
 add-t40 : tie.Need-add-t40
 add-t40 c = let k = position-small (c .before .before .before .before .before .before .before .before .pre .0 .active) in omega arith
 
--- src/lib.rt:508:13
 store-requires : tie.Need-store-requires
 store-requires c κs = storing-kept (extended-store (c .before .before .before .before .before .before .before .before .before .before .pre .0) (c .before .before .before .before .before .before .match .keys2) _ _ (c .before .before .before .code-byte2 .ensures) (c .before .before .place-of2 .ensures)) _ refl
 
--- src/lib.rt:521:17
 code-byte-requires-3 : tie.Need-code-byte-requires-3
 unfolding lengthOf if_then_else_
 code-byte-requires-3 c κs = (c .before .before .before .before .before .before .pre .0 .active, byte-there (c .before .before .before .before .before .before .pre .0) 130 2 1 (c .before .before .match .keys3) refl (omega arith))
 
--- src/lib.rt:522:17
 place-of-requires-3 : tie.Need-place-of-requires-3
 place-of-requires-3 c κs = search needs
 
--- src/lib.rt:523:37
 add-t50 : tie.Need-add-t50
 add-t50 c = let k = position-small (c .before .before .before .before .before .before .before .before .pre .0 .active) in omega arith
 
--- src/lib.rt:533:31
 sub-t50 : tie.Need-sub-t50
 sub-t50 c = search needs
 
--- src/lib.rt:524:13
 store-requires-2 : tie.Need-store-requires-2
 store-requires-2 c κs = storing-popped (extended-pop-store (c .before .before .before .before .before .before .before .before .before .before .pre .0) (c .before .before .before .before .before .before .match .keys3) _ _ (c .before .before .before .code-byte3 .ensures) (c .before .before .place-of3 .ensures)) _ refl
 
--- src/lib.rt:537:17
 code-byte-requires-4 : tie.Need-code-byte-requires-4
 unfolding lengthOf if_then_else_
 code-byte-requires-4 c κs = (c .before .before .before .before .before .before .pre .0 .active, byte-there (c .before .before .before .before .before .before .pre .0) 131 2 1 (c .before .before .match .keys4) refl (omega arith))
 
--- src/lib.rt:545:30
 add-t64 : tie.Need-add-t64
 add-t64 c = let k = position-small (c .before .before .before .before .before .before .before .before .before .pre .0 .active) in omega arith
 
--- src/lib.rt:538:13
 send-requires : tie.Need-send-requires
 send-requires c κs = extended-send (c .before .before .before .before .before .before .before .before .before .pre .0) (c .before .before .before .before .before .match .keys4) _ (c .before .before .code-byte4 .ensures)
 
--- src/lib.rt:551:17
 code-byte-requires-5 : tie.Need-code-byte-requires-5
 unfolding lengthOf if_then_else_
 code-byte-requires-5 c κs = (c .before .before .before .before .before .before .pre .0 .active, byte-there (c .before .before .before .before .before .before .pre .0) 132 3 1 (c .before .before .match .keys5) refl (omega arith))
 
--- src/lib.rt:552:17
 code-byte-requires-6 : tie.Need-code-byte-requires-6
 unfolding lengthOf if_then_else_
 code-byte-requires-6 c κs = (c .before .before .before .before .before .before .before .before .before .pre .0 .active, byte-there (c .before .before .before .before .before .before .before .before .before .pre .0) 132 3 2 (c .before .before .before .before .before .match .keys5) refl (omega arith))
 
--- src/lib.rt:560:30
 add-t80 : tie.Need-add-t80
 add-t80 c = let k = position-small (c .before .before .before .before .before .before .before .before .before .before .before .before .pre .0 .active) in omega arith
 
--- src/lib.rt:553:13
 send-requires-2 : tie.Need-send-requires-2
 send-requires-2 c κs = extended-send-long (c .before .before .before .before .before .before .before .before .before .before .before .before .pre .0) (c .before .before .before .before .before .before .before .before .match .keys5) _ _ (c .before .before .before .before .before .code-byte5 .ensures) (c .before .before .code-byte6 .ensures)
 
--- src/lib.rt:566:17
 code-byte-requires-7 : tie.Need-code-byte-requires-7
 unfolding lengthOf if_then_else_
 code-byte-requires-7 c κs = (c .before .before .before .before .before .before .pre .0 .active, byte-there (c .before .before .before .before .before .before .pre .0) 133 2 1 (c .before .before .match .keys6) refl (omega arith))
 
--- src/lib.rt:574:30
 add-t90 : tie.Need-add-t90
 add-t90 c = let k = position-small (c .before .before .before .before .before .before .before .before .before .pre .0 .active) in omega arith
 
--- src/lib.rt:567:13
 super-send-requires : tie.Need-super-send-requires
 super-send-requires c κs = extended-super (c .before .before .before .before .before .before .before .before .before .pre .0) (c .before .before .before .before .before .match .keys6) _ (c .before .before .code-byte7 .ensures)
 
--- src/lib.rt:580:17
 code-byte-requires-8 : tie.Need-code-byte-requires-8
 unfolding lengthOf if_then_else_
 code-byte-requires-8 c κs = (c .before .before .before .before .before .before .pre .0 .active, byte-there (c .before .before .before .before .before .before .pre .0) 134 3 1 (c .before .before .match .keys7) refl (omega arith))
 
--- src/lib.rt:581:17
 code-byte-requires-9 : tie.Need-code-byte-requires-9
 unfolding lengthOf if_then_else_
 code-byte-requires-9 c κs = (c .before .before .before .before .before .before .before .before .before .pre .0 .active, byte-there (c .before .before .before .before .before .before .before .before .before .pre .0) 134 3 2 (c .before .before .before .before .before .match .keys7) refl (omega arith))
 
--- src/lib.rt:589:30
 add-t106 : tie.Need-add-t106
 add-t106 c = let k = position-small (c .before .before .before .before .before .before .before .before .before .before .before .before .pre .0 .active) in omega arith
 
--- src/lib.rt:582:13
 super-send-requires-2 : tie.Need-super-send-requires-2
 super-send-requires-2 c κs = extended-super-long (c .before .before .before .before .before .before .before .before .before .before .before .before .pre .0) (c .before .before .before .before .before .before .before .before .match .keys7) _ _ (c .before .before .before .before .before .code-byte8 .ensures) (c .before .before .code-byte9 .ensures)
 
--- src/lib.rt:595:36
 add-t108 : tie.Need-add-t108
 add-t108 c = let k = position-small (c .before .before .before .before .pre .0 .active) in omega arith
 
--- src/lib.rt:596:32
 sub-t110 : tie.Need-sub-t110
 sub-t110 c = let k = pop-one (extended-pop (c .before .before .before .before .pre .0) (c .match .keys8)) in omega arith
 
--- src/lib.rt:599:27
 sub-w : tie.Need-sub-w
 sub-w c = let k = duplicate-one (extended-duplicate (c .before .before .before .before .pre .0) (c .match .keys9)) in omega arith
 
--- src/lib.rt:599:21
 mul-w : tie.Need-mul-w
 mul-w c = let k = ends (c .before .before .before .before .pre .0 .active) in omega arith
 
--- src/lib.rt:599:21
 slice-read-w : tie.Need-slice-read-w
 slice-read-w c = let k = ends (c .before .before .before .before .before .pre .0 .active) in let o = duplicate-one (extended-duplicate (c .before .before .before .before .before .pre .0) (c .before .match .keys9)) in omega arith
 
--- src/lib.rt:600:51
 add-t112 : tie.Need-add-t112
 add-t112 c = let k = position-small (c .before .before .before .before .before .before .pre .0 .active) in omega arith
 
--- src/lib.rt:600:13
 push-word-requires : tie.Need-push-word-requires
 push-word-requires c κs = duplicate-pushing (extended-duplicate (c .before .before .before .before .before .before .pre .0) (c .before .before .match .keys9))
 
--- src/lib.rt:475:1
 same-length : tie.Need-same-length
 same-length c = search needs
 
--- src/lib.rt:475:1
 same-length-2 : tie.Need-same-length-2
 same-length-2 c = search needs
 
--- src/lib.rt:475:1
 returns : tie.Need-returns
 returns c = search needs
 
--- src/lib.rt:475:1
 same-length-3 : tie.Need-same-length-3
 same-length-3 c = search needs
 
--- src/lib.rt:475:1
 same-length-4 : tie.Need-same-length-4
 same-length-4 c = search needs
 
--- src/lib.rt:475:1
 returns-2 : tie.Need-returns-2
 returns-2 c = search needs
 
--- src/lib.rt:475:1
 same-length-5 : tie.Need-same-length-5
 same-length-5 c = search needs
 
--- src/lib.rt:475:1
 same-length-6 : tie.Need-same-length-6
 same-length-6 c = search needs
 
--- src/lib.rt:475:1
 returns-3 : tie.Need-returns-3
 returns-3 c = search needs
 
--- src/lib.rt:475:1
 same-length-7 : tie.Need-same-length-7
 same-length-7 c = search needs
 
--- src/lib.rt:475:1
 same-length-8 : tie.Need-same-length-8
 same-length-8 c = search needs
 
--- src/lib.rt:475:1
 returns-4 : tie.Need-returns-4
 returns-4 c = search needs
 
--- src/lib.rt:475:1
 same-length-9 : tie.Need-same-length-9
 same-length-9 c = search needs
 
--- src/lib.rt:475:1
 same-length-10 : tie.Need-same-length-10
 same-length-10 c = search needs
 
--- src/lib.rt:475:1
 returns-5 : tie.Need-returns-5
 returns-5 c = search needs
 
--- src/lib.rt:475:1
 same-length-11 : tie.Need-same-length-11
 same-length-11 c = search needs
 
--- src/lib.rt:475:1
 same-length-12 : tie.Need-same-length-12
 same-length-12 c = search needs
 
--- src/lib.rt:475:1
 returns-6 : tie.Need-returns-6
 returns-6 c = search needs
 
--- src/lib.rt:475:1
 same-length-13 : tie.Need-same-length-13
 same-length-13 c = search needs
 
--- src/lib.rt:475:1
 same-length-14 : tie.Need-same-length-14
 same-length-14 c = search needs
 
--- src/lib.rt:475:1
 returns-7 : tie.Need-returns-7
 returns-7 c = search needs
 
--- src/lib.rt:475:1
 returns-8 : tie.Need-returns-8
 returns-8 c = pop-done (extended-pop (c .before .before .before .before .pre .0) (c .match .keys8)) _ refl
 
--- src/lib.rt:475:1
 same-length-15 : tie.Need-same-length-15
 same-length-15 c = search needs
 
--- src/lib.rt:475:1
 returns-9 : tie.Need-returns-9
 returns-9 c = duplicate-done (extended-duplicate (c .before .before .before .before .before .before .before .before .before .pre .0) (c .before .before .before .before .before .match .keys9)) _ _ (c .before .before .push-word .result) refl (c .before .before .push-word .ensures)
 
--- src/lib.rt:475:1
 returns-10 : tie.Need-returns-10
 returns-10 c = absurd (extended-unused (c .before .before .before .before .pre .0) (c .before .before .before .before .pre .1) (past 128 9 _ (omega (arith, c .before .before .before .before .pre .1)) (c .match .rest)))
 

@@ -7,59 +7,45 @@ use borrow.Author.Needs.{needs}
 use Rattle.steps.proofs.far.Statement.{statement}
 use Rattle.steps.proofs.far.Tie as tie
 
--- src/lib.rt:655:13
 code-byte-requires : tie.Need-code-byte-requires
 code-byte-requires c κs = (c .before .before .before .pre .0 .active, far-byte (c .before .before .before .pre .0) (c .before .before .before .pre .1))
 
--- src/lib.rt:655:13
 cast-x : tie.Need-cast-x
 cast-x c = search needs
 
--- src/lib.rt:657:16
 add-next : tie.Need-add-next
 add-next c = let k = position-small (c .before .before .before .before .before .before .pre .0 .active) in omega arith
 
--- src/lib.rt:659:21
 cast-ahead : tie.Need-cast-ahead
 cast-ahead c = search needs
 
--- src/lib.rt:659:21
 mul-ahead : tie.Need-mul-ahead
 mul-ahead c = search needs
 
--- src/lib.rt:659:21
 add-ahead : tie.Need-add-ahead
 add-ahead c = search needs
 
--- src/lib.rt:661:36
 add-t16 : tie.Need-add-t16
 add-t16 c = let k = position-small (c .before .before .before .before .before .before .before .pre .0 .active) in omega arith
 
--- src/lib.rt:661:36
 sub-t17 : tie.Need-sub-t17
 sub-t17 c = jump-low (far-jump (c .before .before .before .before .before .before .before .pre .0) (c .before .before .before .before .before .before .before .pre .1) (c .if1 .taken) _ (c .before .before .before .code-byte .ensures))
 
--- src/lib.rt:660:9
 returns : tie.Need-returns
 returns c = jump-done (far-jump (c .before .before .before .before .before .before .before .pre .0) (c .before .before .before .before .before .before .before .pre .1) (c .if1 .taken) _ (c .before .before .before .code-byte .ensures)) _ refl
 
--- src/lib.rt:665:17
 cast-ahead-2 : tie.Need-cast-ahead-2
 cast-ahead-2 c = search needs
 
--- src/lib.rt:665:17
 mul-ahead-2 : tie.Need-mul-ahead-2
 mul-ahead-2 c = search needs
 
--- src/lib.rt:665:17
 add-ahead-2 : tie.Need-add-ahead-2
 add-ahead-2 c = search needs
 
--- src/lib.rt:666:5
 jump-on-requires : tie.Need-jump-on-requires
 jump-on-requires c κs = far-on (c .before .before .before .before .before .before .before .pre .0) (c .before .before .before .before .before .before .before .pre .1) (c .if1 .left) _ (c .before .before .before .code-byte .ensures)
 
--- src/lib.rt:643:1
 returns-2 : tie.Need-returns-2
 returns-2 c = search needs
 

@@ -7,39 +7,30 @@ use borrow.Author.Needs.{needs}
 use Rattle.steps.proofs.jump_on.Statement.{statement}
 use Rattle.steps.proofs.jump_on.Tie as tie
 
--- src/lib.rt:236:15
 sub-end : tie.Need-sub-end
 sub-end c = let k = on-one (c .before .before .before .before .pre) in omega arith
 
--- src/lib.rt:237:13
 mul-w : tie.Need-mul-w
 mul-w c = let k = on-ends (c .before .before .before .before .pre) in omega arith
 
--- src/lib.rt:237:13
 shared-slice-read-w : tie.Need-shared-slice-read-w
 shared-slice-read-w c = let k = on-ends (c .before .before .before .before .before .pre) in let o = on-one (c .before .before .before .before .before .pre) in omega arith
 
--- src/lib.rt:238:13
 boolean-requires : tie.Need-boolean-requires
 boolean-requires c κs = search needs
 
--- src/lib.rt:240:36
 add-t16 : tie.Need-add-t16
 add-t16 c = let k = on-room (c .before .before .before .before .before .before .before .before .pre) in omega arith
 
--- src/lib.rt:239:9
 returns : tie.Need-returns
 returns c = jumps (c .before .before .before .before .before .before .before .before .pre) _ _ refl (c .before .before .boolean .ensures) (c .before .if1 .taken)
 
--- src/lib.rt:245:9
 returns-2 : tie.Need-returns-2
 returns-2 c = passes (c .before .before .before .before .before .before .before .before .pre) _ _ refl (c .before .before .boolean .ensures) (c .before .if1 .left) (inl (c .if2 .taken))
 
--- src/lib.rt:251:9
 returns-3 : tie.Need-returns-3
 returns-3 c = passes (c .before .before .before .before .before .before .before .before .before .pre) _ _ refl (c .before .before .before .boolean .ensures) (c .before .before .if1 .left) (inr (c .if3 .taken))
 
--- src/lib.rt:222:1
 returns-4 : tie.Need-returns-4
 returns-4 c = halts-there (c .before .before .before .before .before .before .before .before .before .pre) _ _ refl (c .before .before .before .boolean .ensures) (c .before .before .if1 .left) (c .before .if2 .left) (c .if3 .left)
 

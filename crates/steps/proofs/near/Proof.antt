@@ -6,31 +6,24 @@ use borrow.Author.Needs.{needs}
 use Rattle.steps.proofs.near.Statement.{statement}
 use Rattle.steps.proofs.near.Tie as tie
 
--- src/lib.rt:621:16
 add-next : tie.Need-add-next
 add-next c = let k = position-small (c .before .before .before .before .before .pre .0 .active) in omega arith
 
--- src/lib.rt:622:17
 cast-ahead : tie.Need-cast-ahead
 cast-ahead c = search needs
 
--- src/lib.rt:622:17
 add-ahead : tie.Need-add-ahead
 add-ahead c = search needs
 
--- src/lib.rt:625:36
 add-t14 : tie.Need-add-t14
 add-t14 c = let k = position-small (c .before .before .before .before .before .before .pre .0 .active) in omega arith
 
--- src/lib.rt:624:9
 returns : tie.Need-returns
 returns c = jump-done (near-jump (c .before .before .before .before .before .before .pre .0) (c .before .before .before .before .before .before .pre .1) (c .if1 .taken)) _ (omega arith)
 
--- src/lib.rt:629:5
 jump-on-requires : tie.Need-jump-on-requires
 jump-on-requires c κs = near-on (c .before .before .before .before .before .before .pre .0) (c .before .before .before .before .before .before .pre .1) (c .if1 .left)
 
--- src/lib.rt:608:1
 returns-2 : tie.Need-returns-2
 returns-2 c = search needs
 

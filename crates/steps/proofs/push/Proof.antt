@@ -4,19 +4,15 @@ use borrow.Author.Needs.{needs}
 use Rattle.steps.proofs.push.Statement.{statement}
 use Rattle.steps.proofs.push.Tie as tie
 
--- src/lib.rt:168:9
 read-requires : tie.Need-read-requires
 read-requires c κs = search needs
 
--- src/lib.rt:169:5
 push-word-requires : tie.Need-push-word-requires
 push-word-requires c κs = push-pushing (c .before .before .before .before .before .before .pre)
 
--- src/lib.rt:155:1
 same-length : tie.Need-same-length
 same-length c = search needs
 
--- src/lib.rt:155:1
 returns : tie.Need-returns
 returns c = push-done (c .before .before .before .before .before .before .before .before .before .pre) _ _ (c .before .before .push-word .result) (c .before .before .before .before .read .ensures) (c .before .before .push-word .ensures)
 

@@ -8,119 +8,90 @@ use borrow.Author.Needs.{needs}
 use Rattle.steps.proofs.read.Statement.{statement}
 use Rattle.steps.proofs.read.Tie as tie
 
--- src/lib.rt:125:22
 enum-known-place : tie.Need-enum-known-place
 enum-known-place c = search needs
 
--- src/lib.rt:126:34
 add-receiver : tie.Need-add-receiver
 add-receiver c = search needs
 
--- src/lib.rt:126:28
 mul-receiver : tie.Need-mul-receiver
 mul-receiver c = let k = ends (c .before .before .before .before .before .before .pre .active) in omega arith
 
--- src/lib.rt:126:28
 shared-slice-read-receiver : tie.Need-shared-slice-read-receiver
 shared-slice-read-receiver c = let k = ends (c .before .before .before .before .before .before .before .pre .active) in omega arith
 
--- src/lib.rt:127:73
 cast-word-of : tie.Need-cast-word-of
 cast-word-of c = search needs
 
--- src/lib.rt:127:13
 word-of-requires : tie.Need-word-of-requires
 word-of-requires c κs = field-there (push-as (c .before .before .before .before .before .before .before .pre) (Field _) (c .before .before .place .given .1))
 
--- src/lib.rt:129:26
 enum-known-place-2 : tie.Need-enum-known-place-2
 enum-known-place-2 c = search needs
 
--- src/lib.rt:129:38
 add-result : tie.Need-add-result
 add-result c = search needs
 
--- src/lib.rt:129:49
 cast-result : tie.Need-cast-result
 cast-result c = search needs
 
--- src/lib.rt:129:38
 add-result-2 : tie.Need-add-result-2
 add-result-2 c = let k = temporary-there (push-as (c .before .before .before .before .before .before .pre) (Temporary _) (c .before .place2 .given .1)) in omega arith
 
--- src/lib.rt:129:32
 mul-result : tie.Need-mul-result
 mul-result c = let k = temporary-there (push-as (c .before .before .before .before .before .before .pre) (Temporary _) (c .before .place2 .given .1)) in omega arith
 
--- src/lib.rt:129:32
 shared-slice-read-result : tie.Need-shared-slice-read-result
 shared-slice-read-result c = temporary-there (push-as (c .before .before .before .before .before .before .before .pre) (Temporary _) (c .before .before .place2 .given .1)) .0
 
--- src/lib.rt:130:24
 enum-known-place-3 : tie.Need-enum-known-place-3
 enum-known-place-3 c = search needs
 
--- src/lib.rt:131:40
 add-t30 : tie.Need-add-t30
 add-t30 c = search needs
 
--- src/lib.rt:131:34
 mul-t31 : tie.Need-mul-t31
 mul-t31 c = let k = ends (c .before .before .before .before .before .before .pre .active) in omega arith
 
--- src/lib.rt:131:34
 shared-slice-read-t33 : tie.Need-shared-slice-read-t33
 shared-slice-read-t33 c = let k = ends (c .before .before .before .before .before .before .before .pre .active) in omega arith
 
--- src/lib.rt:132:62
 cast-literal : tie.Need-cast-literal
 cast-literal c = search needs
 
--- src/lib.rt:132:13
 literal-requires : tie.Need-literal-requires
 literal-requires c κs = literal-lies (push-as (c .before .before .before .before .before .before .before .pre) (Literal _) (c .before .before .place3 .given .1))
 
--- src/lib.rt:134:32
 enum-known-place-4 : tie.Need-enum-known-place-4
 enum-known-place-4 c = search needs
 
--- src/lib.rt:135:40
 add-t34 : tie.Need-add-t34
 add-t34 c = search needs
 
--- src/lib.rt:135:34
 mul-t35 : tie.Need-mul-t35
 mul-t35 c = let k = ends (c .before .before .before .before .before .before .pre .active) in omega arith
 
--- src/lib.rt:135:34
 shared-slice-read-t37 : tie.Need-shared-slice-read-t37
 shared-slice-read-t37 c = let k = ends (c .before .before .before .before .before .before .before .pre .active) in omega arith
 
--- src/lib.rt:136:70
 cast-literal-2 : tie.Need-cast-literal-2
 cast-literal-2 c = search needs
 
--- src/lib.rt:136:17
 literal-requires-2 : tie.Need-literal-requires-2
 literal-requires-2 c κs = variable-lies (push-as (c .before .before .before .before .before .before .before .pre) (LiteralVariable _) (c .before .before .place4 .given .1))
 
--- src/lib.rt:137:13
 word-of-requires-2 : tie.Need-word-of-requires-2
 word-of-requires-2 c κs = variable-there (push-as (c .before .before .before .before .before .before .before .before .pre) (LiteralVariable _) (c .before .before .before .place4 .given .1)) _ (c .literal2 .ensures)
 
--- src/lib.rt:110:1
 returns : tie.Need-returns
 returns c = read-as _ _ (c .before .before .before .place .given .1) (field-reads (push-as (c .before .before .before .before .before .before .before .before .pre) (Field _) (c .before .before .before .place .given .1)) _ (c .word-of .ensures))
 
--- src/lib.rt:110:1
 returns-2 : tie.Need-returns-2
 returns-2 c = read-as _ _ (c .before .before .place2 .given .1) (temporary-reads (push-as (c .before .before .before .before .before .before .before .pre) (Temporary _) (c .before .before .place2 .given .1)))
 
--- src/lib.rt:110:1
 returns-3 : tie.Need-returns-3
 returns-3 c = read-as _ _ (c .before .before .before .place3 .given .1) (literal-reads (push-as (c .before .before .before .before .before .before .before .before .pre) (Literal _) (c .before .before .before .place3 .given .1)) _ (c .literal .ensures))
 
--- src/lib.rt:110:1
 returns-4 : tie.Need-returns-4
 returns-4 c = read-as _ _ (c .before .before .before .before .place4 .given .1) (variable-reads (push-as (c .before .before .before .before .before .before .before .before .before .pre) (LiteralVariable _) (c .before .before .before .before .place4 .given .1)) _ _ (c .before .literal2 .ensures) (c .word-of2 .ensures))
 

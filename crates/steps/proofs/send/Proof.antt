@@ -6,27 +6,21 @@ use borrow.Author.Needs.{needs}
 use Rattle.steps.proofs.send.Statement.{statement}
 use Rattle.steps.proofs.send.Tie as tie
 
--- src/lib.rt:302:32
 add-t14 : tie.Need-add-t14
 add-t14 c = search needs
 
--- src/lib.rt:302:26
 mul-t15 : tie.Need-mul-t15
 mul-t15 c = let k = ends (c .before .before .before .pre .active) in omega arith
 
--- src/lib.rt:302:26
 shared-slice-read-t17 : tie.Need-shared-slice-read-t17
 shared-slice-read-t17 c = let k = ends (c .before .before .before .before .pre .active) in omega arith
 
--- src/lib.rt:303:9
 literal-requires : tie.Need-literal-requires
 literal-requires c κs = send-literal (c .before .before .before .before .pre)
 
--- src/lib.rt:305:5
 sent-requires : tie.Need-sent-requires
 sent-requires c κs = send-done (c .before .before .before .before .before .pre) _ (c .literal .ensures)
 
--- src/lib.rt:287:1
 returns : tie.Need-returns
 returns c = search needs
 

@@ -5,27 +5,21 @@ use Rattle.steps.proofs.DoingLaws.{sent-one, sent-ends, sent-class, sen
 use Rattle.steps.proofs.sent.Statement.{statement}
 use Rattle.steps.proofs.sent.Tie as tie
 
--- src/lib.rt:274:14
 sub-at : tie.Need-sub-at
 sub-at c = let k = sent-one (c .before .before .before .before .pre) in omega arith
 
--- src/lib.rt:274:14
 sub-at-2 : tie.Need-sub-at-2
 sub-at-2 c = let k = sent-one (c .before .before .before .before .pre) in omega arith
 
--- src/lib.rt:275:20
 mul-receiver : tie.Need-mul-receiver
 mul-receiver c = let k = sent-ends (c .before .before .before .before .pre) in omega arith
 
--- src/lib.rt:275:20
 shared-slice-read-receiver : tie.Need-shared-slice-read-receiver
 shared-slice-read-receiver c = let k = sent-ends (c .before .before .before .before .before .pre) in let o = sent-one (c .before .before .before .before .before .pre) in omega arith
 
--- src/lib.rt:276:9
 class-of-requires : tie.Need-class-of-requires
 class-of-requires c κs = sent-class (c .before .before .before .before .before .pre) _ refl
 
--- src/lib.rt:260:1
 returns : tie.Need-returns
 returns c = sent-done (c .before .before .before .before .before .before .pre) _ _ refl (c .class-of .ensures _ _)
 

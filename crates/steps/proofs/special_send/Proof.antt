@@ -7,99 +7,75 @@ use borrow.Author.Needs.{needs}
 use Rattle.steps.proofs.special_send.Statement.{statement}
 use Rattle.steps.proofs.special_send.Tie as tie
 
--- src/lib.rt:412:22
 sub-last : tie.Need-sub-last
 sub-last c = let k = special-one (c .before .before .before .pre .0) in omega arith
 
--- src/lib.rt:412:16
 mul-last : tie.Need-mul-last
 mul-last c = let k = ends (c .before .before .before .pre .0 .active) in omega arith
 
--- src/lib.rt:412:16
 slice-read-last : tie.Need-slice-read-last
 slice-read-last c = let k = ends (c .before .before .before .before .pre .0 .active) in let o = special-one (c .before .before .before .before .pre .0) in omega arith
 
--- src/lib.rt:414:27
 sub-under : tie.Need-sub-under
 sub-under c = let k = same-two-there (c .before .before .before .before .before .pre .0) (c .if1 .taken) in omega arith
 
--- src/lib.rt:414:21
 mul-under : tie.Need-mul-under
 mul-under c = let k = ends (c .before .before .before .before .before .pre .0 .active) in omega arith
 
--- src/lib.rt:414:21
 slice-read-under : tie.Need-slice-read-under
 slice-read-under c = let k = ends (c .before .before .before .before .before .before .pre .0 .active) in let o = same-two-there (c .before .before .before .before .before .before .pre .0) (c .before .if1 .taken) in omega arith
 
--- src/lib.rt:415:26
 boolean-requires : tie.Need-boolean-requires
 boolean-requires c κs = search needs
 
--- src/lib.rt:415:15
 sub-stack : tie.Need-sub-stack
 sub-stack c = let k = same-two-there (c .before .before .before .before .before .before .before .pre .0) (c .before .before .if1 .taken) in omega arith
 
--- src/lib.rt:415:9
 mul-stack : tie.Need-mul-stack
 mul-stack c = let k = ends (c .before .before .before .before .before .before .before .pre .0 .active) in omega arith
 
--- src/lib.rt:415:9
 slice-write-stack : tie.Need-slice-write-stack
 slice-write-stack c = let k = ends (c .before .before .before .before .before .before .before .pre .0 .active) in let o = same-two-there (c .before .before .before .before .before .before .before .pre .0) (c .before .before .if1 .taken) in omega arith
 
--- src/lib.rt:418:32
 sub-t20 : tie.Need-sub-t20
 sub-t20 c = let k = special-one (c .before .before .before .before .before .before .before .pre .0) in omega arith
 
--- src/lib.rt:416:9
 same-length : tie.Need-same-length
 same-length c = search needs
 
--- src/lib.rt:416:9
 returns : tie.Need-returns
 returns c = same-done (c .before .before .before .before .before .before .before .pre .0) (c .before .before .if1 .taken) _ _ _ _ _ refl refl (c .boolean .ensures) refl refl
 
--- src/lib.rt:422:13
 class-of-requires : tie.Need-class-of-requires
 class-of-requires c κs = (special-valid (c .before .before .before .before .before .before .pre .0) _ refl, entries-room (c .before .before .before .before .before .before .pre .0))
 
--- src/lib.rt:423:15
 sub-stack-2 : tie.Need-sub-stack-2
 sub-stack-2 c = let k = special-one (c .before .before .before .before .before .before .before .pre .0) in omega arith
 
--- src/lib.rt:423:9
 mul-stack-2 : tie.Need-mul-stack-2
 mul-stack-2 c = let k = ends (c .before .before .before .before .before .before .before .pre .0 .active) in omega arith
 
--- src/lib.rt:423:9
 slice-write-stack-2 : tie.Need-slice-write-stack-2
 slice-write-stack-2 c = let k = ends (c .before .before .before .before .before .before .before .pre .0 .active) in let o = special-one (c .before .before .before .before .before .before .before .pre .0) in omega arith
 
--- src/lib.rt:424:9
 same-length-2 : tie.Need-same-length-2
 same-length-2 c = search needs
 
--- src/lib.rt:424:9
 returns-2 : tie.Need-returns-2
 returns-2 c = class-done (c .before .before .before .before .before .before .before .pre .0) (c .before .if2 .taken) _ _ _ _ refl (c .class-of .ensures _ _) refl refl
 
--- src/lib.rt:429:9
 word-of-requires : tie.Need-word-of-requires
 word-of-requires c κs = special-inside (c .before .before .before .before .before .before .pre .0)
 
--- src/lib.rt:430:9
 special-count-requires : tie.Need-special-count-requires
 special-count-requires c κs = (c .before .before .before .before .before .before .before .pre .1, special-below (c .before .before .before .before .before .before .before .pre .0))
 
--- src/lib.rt:431:5
 sent-requires : tie.Need-sent-requires
 sent-requires c κs = special-done (c .before .before .before .before .before .before .before .before .before .pre .0) _ _ (c .before .before .before .before .before .before .before .before .before .pre .1) (c .before .before .before .before .if1 .left) (c .before .before .before .if2 .left) (c .before .before .word-of .ensures) (c .before .special-count .ensures)
 
--- src/lib.rt:398:1
 same-length-3 : tie.Need-same-length-3
 same-length-3 c = search needs
 
--- src/lib.rt:398:1
 returns-3 : tie.Need-returns-3
 returns-3 c = search needs
 

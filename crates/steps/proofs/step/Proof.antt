@@ -8,295 +8,222 @@ use borrow.Author.Needs.{needs}
 use Rattle.steps.proofs.step.Statement.{statement}
 use Rattle.steps.proofs.step.Tie as tie
 
--- src/lib.rt:705:9
 code-byte-requires : tie.Need-code-byte-requires
 code-byte-requires c κs = (c .before .before .before .before .before .pre, first-below (c .before .before .before .before .before .pre))
 
--- src/lib.rt:706:29
 add-t14 : tie.Need-add-t14
 add-t14 c = let k = position-small (c .before .before .before .before .before .before .before .pre) in omega arith
 
--- src/lib.rt:708:14
 push-requires : tie.Need-push-requires
 push-requires c κs = row-field (fetched (c .before .before .before .before .before .before .before .before .before .before .pre) _ (c .before .before .before .before .code-byte .ensures)) (c .before .before .match .keys1)
 
--- src/lib.rt:718:14
 push-requires-2 : tie.Need-push-requires-2
 push-requires-2 c κs = row-temporary (fetched (c .before .before .before .before .before .before .before .before .before .before .pre) _ (c .before .before .before .before .code-byte .ensures)) (c .before .before .match .keys2)
 
--- src/lib.rt:728:14
 push-requires-3 : tie.Need-push-requires-3
 push-requires-3 c κs = row-literal (fetched (c .before .before .before .before .before .before .before .before .before .before .pre) _ (c .before .before .before .before .code-byte .ensures)) (omega (arith, c .before .before .match .keys3)) (omega (arith, c .before .before .match .keys3))
 
--- src/lib.rt:738:14
 push-requires-4 : tie.Need-push-requires-4
 push-requires-4 c κs = row-literal (fetched (c .before .before .before .before .before .before .before .before .before .before .pre) _ (c .before .before .before .before .code-byte .ensures)) (omega (arith, c .before .before .match .keys4)) (omega (arith, c .before .before .match .keys4))
 
--- src/lib.rt:748:14
 push-requires-5 : tie.Need-push-requires-5
 push-requires-5 c κs = row-variable (fetched (c .before .before .before .before .before .before .before .before .before .before .pre) _ (c .before .before .before .before .code-byte .ensures)) (omega (arith, c .before .before .match .keys5)) (omega (arith, c .before .before .match .keys5))
 
--- src/lib.rt:758:14
 push-requires-6 : tie.Need-push-requires-6
 push-requires-6 c κs = row-variable (fetched (c .before .before .before .before .before .before .before .before .before .before .pre) _ (c .before .before .before .before .code-byte .ensures)) (omega (arith, c .before .before .match .keys6)) (omega (arith, c .before .before .match .keys6))
 
--- src/lib.rt:769:37
 sub-t53 : tie.Need-sub-t53
 sub-t53 c = search needs
 
--- src/lib.rt:771:17
 store-requires : tie.Need-store-requires
 store-requires c κs = storing-popped (row-pop-field (fetched (c .before .before .before .before .before .before .before .before .before .before .before .before .pre) _ (c .before .before .before .before .before .before .code-byte .ensures)) (c .before .before .before .before .match .keys7) (c .before .before .if1 .taken)) _ refl
 
--- src/lib.rt:771:17
 same-length : tie.Need-same-length
 same-length c = search needs
 
--- src/lib.rt:771:17
 same-length-2 : tie.Need-same-length-2
 same-length-2 c = search needs
 
--- src/lib.rt:771:17
 returns : tie.Need-returns
 returns c = search needs
 
--- src/lib.rt:783:13
 store-requires-2 : tie.Need-store-requires-2
 store-requires-2 c κs = storing-popped (row-pop-temporary (fetched (c .before .before .before .before .before .before .before .before .before .before .before .before .pre) _ (c .before .before .before .before .before .before .code-byte .ensures)) (c .before .before .before .before .match .keys7) (c .before .before .if1 .left)) _ refl
 
--- src/lib.rt:795:14
 constant-requires : tie.Need-constant-requires
 constant-requires c κs = ((fetched (c .before .before .before .before .before .before .before .before .before .before .pre) _ (c .before .before .before .before .code-byte .ensures)), c .before .before .match .keys8, refl)
 
--- src/lib.rt:796:14
 extended-requires : tie.Need-extended-requires
 extended-requires c κs = ((fetched (c .before .before .before .before .before .before .before .before .before .before .pre) _ (c .before .before .before .before .code-byte .ensures)), c .before .before .match .keys9)
 
--- src/lib.rt:797:14
 near-requires : tie.Need-near-requires
 near-requires c κs = ((fetched (c .before .before .before .before .before .before .before .before .before .before .pre) _ (c .before .before .before .before .code-byte .ensures)), c .before .before .match .keys10)
 
--- src/lib.rt:798:15
 far-requires : tie.Need-far-requires
 far-requires c κs = ((fetched (c .before .before .before .before .before .before .before .before .before .before .pre) _ (c .before .before .before .before .code-byte .ensures)), c .before .before .match .keys11)
 
--- src/lib.rt:799:76
 sub-arithmetic-send : tie.Need-sub-arithmetic-send
 sub-arithmetic-send c = search needs
 
--- src/lib.rt:799:15
 arithmetic-send-requires : tie.Need-arithmetic-send-requires
 arithmetic-send-requires c κs = (row-special (fetched (c .before .before .before .before .before .before .before .before .before .before .pre) _ (c .before .before .before .before .code-byte .ensures)) (omega (arith, c .before .before .match .keys12)) (omega (arith, c .before .before .match .keys12)), omega (arith, c .before .before .match .keys12))
 
--- src/lib.rt:800:73
 sub-special-send : tie.Need-sub-special-send
 sub-special-send c = search needs
 
--- src/lib.rt:800:15
 special-send-requires : tie.Need-special-send-requires
 special-send-requires c κs = (row-special (fetched (c .before .before .before .before .before .before .before .before .before .before .pre) _ (c .before .before .before .before .code-byte .ensures)) (omega (arith, c .before .before .match .keys13)) (omega (arith, c .before .before .match .keys13)), omega (arith, c .before .before .match .keys13))
 
--- src/lib.rt:801:15
 send-requires : tie.Need-send-requires
 send-requires c κs = row-send (fetched (c .before .before .before .before .before .before .before .before .before .before .pre) _ (c .before .before .before .before .code-byte .ensures)) 0 (c .before .before .match .keys14)
 
--- src/lib.rt:802:15
 send-requires-2 : tie.Need-send-requires-2
 send-requires-2 c κs = row-send (fetched (c .before .before .before .before .before .before .before .before .before .before .pre) _ (c .before .before .before .before .code-byte .ensures)) 1 (c .before .before .match .keys15)
 
--- src/lib.rt:803:14
 send-requires-3 : tie.Need-send-requires-3
 send-requires-3 c κs = let h = past 0 15 _ (omega arith) (c .before .before .match .rest) in row-send (fetched (c .before .before .before .before .before .before .before .before .before .before .pre) _ (c .before .before .before .before .code-byte .ensures)) 2 (omega (arith, c .before .before .before .before .code-byte .ensures))
 
--- src/lib.rt:694:1
 same-length-3 : tie.Need-same-length-3
 same-length-3 c = search needs
 
--- src/lib.rt:694:1
 same-length-4 : tie.Need-same-length-4
 same-length-4 c = search needs
 
--- src/lib.rt:694:1
 returns-2 : tie.Need-returns-2
 returns-2 c = search needs
 
--- src/lib.rt:694:1
 same-length-5 : tie.Need-same-length-5
 same-length-5 c = search needs
 
--- src/lib.rt:694:1
 same-length-6 : tie.Need-same-length-6
 same-length-6 c = search needs
 
--- src/lib.rt:694:1
 returns-3 : tie.Need-returns-3
 returns-3 c = search needs
 
--- src/lib.rt:694:1
 same-length-7 : tie.Need-same-length-7
 same-length-7 c = search needs
 
--- src/lib.rt:694:1
 same-length-8 : tie.Need-same-length-8
 same-length-8 c = search needs
 
--- src/lib.rt:694:1
 returns-4 : tie.Need-returns-4
 returns-4 c = search needs
 
--- src/lib.rt:694:1
 same-length-9 : tie.Need-same-length-9
 same-length-9 c = search needs
 
--- src/lib.rt:694:1
 same-length-10 : tie.Need-same-length-10
 same-length-10 c = search needs
 
--- src/lib.rt:694:1
 returns-5 : tie.Need-returns-5
 returns-5 c = search needs
 
--- src/lib.rt:694:1
 same-length-11 : tie.Need-same-length-11
 same-length-11 c = search needs
 
--- src/lib.rt:694:1
 same-length-12 : tie.Need-same-length-12
 same-length-12 c = search needs
 
--- src/lib.rt:694:1
 returns-6 : tie.Need-returns-6
 returns-6 c = search needs
 
--- src/lib.rt:694:1
 same-length-13 : tie.Need-same-length-13
 same-length-13 c = search needs
 
--- src/lib.rt:694:1
 same-length-14 : tie.Need-same-length-14
 same-length-14 c = search needs
 
--- src/lib.rt:694:1
 returns-7 : tie.Need-returns-7
 returns-7 c = search needs
 
--- src/lib.rt:694:1
 same-length-15 : tie.Need-same-length-15
 same-length-15 c = search needs
 
--- src/lib.rt:694:1
 same-length-16 : tie.Need-same-length-16
 same-length-16 c = search needs
 
--- src/lib.rt:694:1
 returns-8 : tie.Need-returns-8
 returns-8 c = search needs
 
--- src/lib.rt:694:1
 same-length-17 : tie.Need-same-length-17
 same-length-17 c = search needs
 
--- src/lib.rt:694:1
 same-length-18 : tie.Need-same-length-18
 same-length-18 c = search needs
 
--- src/lib.rt:694:1
 returns-9 : tie.Need-returns-9
 returns-9 c = search needs
 
--- src/lib.rt:694:1
 same-length-19 : tie.Need-same-length-19
 same-length-19 c = search needs
 
--- src/lib.rt:694:1
 same-length-20 : tie.Need-same-length-20
 same-length-20 c = search needs
 
--- src/lib.rt:694:1
 returns-10 : tie.Need-returns-10
 returns-10 c = search needs
 
--- src/lib.rt:694:1
 same-length-21 : tie.Need-same-length-21
 same-length-21 c = search needs
 
--- src/lib.rt:694:1
 same-length-22 : tie.Need-same-length-22
 same-length-22 c = search needs
 
--- src/lib.rt:694:1
 returns-11 : tie.Need-returns-11
 returns-11 c = search needs
 
--- src/lib.rt:694:1
 same-length-23 : tie.Need-same-length-23
 same-length-23 c = search needs
 
--- src/lib.rt:694:1
 same-length-24 : tie.Need-same-length-24
 same-length-24 c = search needs
 
--- src/lib.rt:694:1
 returns-12 : tie.Need-returns-12
 returns-12 c = search needs
 
--- src/lib.rt:694:1
 same-length-25 : tie.Need-same-length-25
 same-length-25 c = search needs
 
--- src/lib.rt:694:1
 same-length-26 : tie.Need-same-length-26
 same-length-26 c = search needs
 
--- src/lib.rt:694:1
 returns-13 : tie.Need-returns-13
 returns-13 c = search needs
 
--- src/lib.rt:694:1
 same-length-27 : tie.Need-same-length-27
 same-length-27 c = search needs
 
--- src/lib.rt:694:1
 same-length-28 : tie.Need-same-length-28
 same-length-28 c = search needs
 
--- src/lib.rt:694:1
 returns-14 : tie.Need-returns-14
 returns-14 c = search needs
 
--- src/lib.rt:694:1
 same-length-29 : tie.Need-same-length-29
 same-length-29 c = search needs
 
--- src/lib.rt:694:1
 same-length-30 : tie.Need-same-length-30
 same-length-30 c = search needs
 
--- src/lib.rt:694:1
 returns-15 : tie.Need-returns-15
 returns-15 c = search needs
 
--- src/lib.rt:694:1
 same-length-31 : tie.Need-same-length-31
 same-length-31 c = search needs
 
--- src/lib.rt:694:1
 same-length-32 : tie.Need-same-length-32
 same-length-32 c = search needs
 
--- src/lib.rt:694:1
 returns-16 : tie.Need-returns-16
 returns-16 c = search needs
 
--- src/lib.rt:694:1
 same-length-33 : tie.Need-same-length-33
 same-length-33 c = search needs
 
--- src/lib.rt:694:1
 same-length-34 : tie.Need-same-length-34
 same-length-34 c = search needs
 
--- src/lib.rt:694:1
 returns-17 : tie.Need-returns-17
 returns-17 c = search needs
 

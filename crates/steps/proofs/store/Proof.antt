@@ -7,122 +7,93 @@ use borrow.Author.Needs.{needs}
 use Rattle.steps.proofs.store.Statement.{statement}
 use Rattle.steps.proofs.store.Tie as tie
 
--- src/lib.rt:188:14
 sub-at : tie.Need-sub-at
 sub-at c = let k = store-one (c .before .before .before .before .pre) in omega arith
 
--- src/lib.rt:189:13
 mul-w : tie.Need-mul-w
 mul-w c = let k = store-ends (c .before .before .before .before .pre) in omega arith
 
--- src/lib.rt:189:13
 slice-read-w : tie.Need-slice-read-w
 slice-read-w c = let k = store-ends (c .before .before .before .before .before .pre) in let o = store-one (c .before .before .before .before .before .pre) in omega arith
 
--- src/lib.rt:191:22
 enum-known-place : tie.Need-enum-known-place
 enum-known-place c = search needs
 
--- src/lib.rt:192:34
 add-receiver : tie.Need-add-receiver
 add-receiver c = search needs
 
--- src/lib.rt:192:28
 mul-receiver : tie.Need-mul-receiver
 mul-receiver c = let k = store-ends (c .before .before .before .before .before .before .before .before .pre) in omega arith
 
--- src/lib.rt:192:28
 slice-read-receiver : tie.Need-slice-read-receiver
 slice-read-receiver c = let k = store-ends (c .before .before .before .before .before .before .before .before .before .pre) in omega arith
 
--- src/lib.rt:193:76
 cast-store-word : tie.Need-cast-store-word
 cast-store-word c = search needs
 
--- src/lib.rt:193:13
 store-word-requires : tie.Need-store-word-requires
 store-word-requires c κs = own-there (store-as (c .before .before .before .before .before .before .before .before .before .before .pre) (Field _) (c .before .before .before .place .given .1))
 
--- src/lib.rt:195:26
 enum-known-place-2 : tie.Need-enum-known-place-2
 enum-known-place-2 c = search needs
 
--- src/lib.rt:196:19
 add-stack : tie.Need-add-stack
 add-stack c = search needs
 
--- src/lib.rt:196:30
 cast-stack : tie.Need-cast-stack
 cast-stack c = search needs
 
--- src/lib.rt:196:19
 add-stack-2 : tie.Need-add-stack-2
 add-stack-2 c = let k = temporary-room (store-as (c .before .before .before .before .before .before .before .before .pre) (Temporary _) (c .before .place2 .given .1)) in omega arith
 
--- src/lib.rt:196:13
 mul-stack : tie.Need-mul-stack
 mul-stack c = let k = temporary-room (store-as (c .before .before .before .before .before .before .before .before .pre) (Temporary _) (c .before .place2 .given .1)) in omega arith
 
--- src/lib.rt:196:13
 slice-write-stack : tie.Need-slice-write-stack
 slice-write-stack c = temporary-room (store-as (c .before .before .before .before .before .before .before .before .pre) (Temporary _) (c .before .place2 .given .1)) .0
 
 enum-told : tie.Need-enum-told
 enum-told c = search needs
 
--- src/lib.rt:200:32
 enum-known-place-3 : tie.Need-enum-known-place-3
 enum-known-place-3 c = search needs
 
--- src/lib.rt:201:40
 add-t35 : tie.Need-add-t35
 add-t35 c = search needs
 
--- src/lib.rt:201:34
 mul-t36 : tie.Need-mul-t36
 mul-t36 c = let k = store-ends (c .before .before .before .before .before .before .before .before .pre) in omega arith
 
--- src/lib.rt:201:34
 slice-read-t38 : tie.Need-slice-read-t38
 slice-read-t38 c = let k = store-ends (c .before .before .before .before .before .before .before .before .before .pre) in omega arith
 
--- src/lib.rt:202:70
 cast-literal : tie.Need-cast-literal
 cast-literal c = search needs
 
--- src/lib.rt:202:17
 literal-requires : tie.Need-literal-requires
 literal-requires c κs = variable-holds (store-as (c .before .before .before .before .before .before .before .before .before .before .pre) (LiteralVariable _) (c .before .before .before .place3 .given .1))
 
--- src/lib.rt:203:13
 store-word-requires-2 : tie.Need-store-word-requires-2
 store-word-requires-2 c κs = variable-room (store-as (c .before .before .before .before .before .before .before .before .before .before .before .before .pre) (LiteralVariable _) (c .before .before .before .before .before .place3 .given .1)) _ (c .before .literal .ensures)
 
--- src/lib.rt:173:1
 same-length : tie.Need-same-length
 same-length c = search needs
 
--- src/lib.rt:173:1
 returns : tie.Need-returns
 returns c = own-stored (store-as (c .before .before .before .before .before .before .before .before .before .before .before .before .before .pre) (Field _) (c .before .before .before .before .before .before .place .given .1)) _ _ refl (c .before .before .store-word .ensures)
 
--- src/lib.rt:173:1
 same-length-2 : tie.Need-same-length-2
 same-length-2 c = search needs
 
--- src/lib.rt:173:1
 returns-2 : tie.Need-returns-2
 returns-2 c = temporary-stored (store-as (c .before .before .before .before .before .before .before .before .pre) (Temporary _) (c .before .place2 .given .1)) _ _ refl refl
 
--- src/lib.rt:173:1
 returns-3 : tie.Need-returns-3
 returns-3 c = absurd (literal-never (store-as (c .before .before .before .before .before .before .before .pre) (Literal _) (c .enum-told .given .1)))
 
--- src/lib.rt:173:1
 same-length-3 : tie.Need-same-length-3
 same-length-3 c = search needs
 
--- src/lib.rt:173:1
 returns-4 : tie.Need-returns-4
 returns-4 c = variable-stored (store-as (c .before .before .before .before .before .before .before .before .before .before .before .before .before .before .before .pre) (LiteralVariable _) (c .before .before .before .before .before .before .before .before .place3 .given .1)) _ _ _ refl (c .before .before .before .before .literal .ensures) (c .before .before .store-word2 .ensures)
 

@@ -8,35 +8,27 @@ use Rattle.store.proofs.read.Lts as lts
 use Rattle.image.proofs.header_of.Reads as header-of-reads
 use Rattle.store.proofs.read_number.Reads as read-number-reads
 
--- src/lib.rt:172:9
 read-number-requires : tie.Need-read-number-requires
 read-number-requires c κs = search needs
 
--- src/lib.rt:174:9
 same-length : tie.Need-same-length
 same-length c = search needs
 
--- src/lib.rt:174:9
 same-length-2 : tie.Need-same-length-2
 same-length-2 c = search needs
 
--- src/lib.rt:174:9
 returns : tie.Need-returns
 returns c = reading-refused _ _ _ _ _ _ _ (c .before .before .before .before .before .read-number .ensures) (c .if1 .taken)
 
--- src/lib.rt:176:9
 header-of-requires : tie.Need-header-of-requires
 header-of-requires c κs = search needs
 
--- src/lib.rt:169:1
 same-length-3 : tie.Need-same-length-3
 same-length-3 c = search needs
 
--- src/lib.rt:169:1
 same-length-4 : tie.Need-same-length-4
 same-length-4 c = search needs
 
--- src/lib.rt:169:1
 returns-2 : tie.Need-returns-2
 returns-2 c = reading-accepted _ _ _ _ _ _ _ (c .before .before .before .before .before .before .read-number .ensures) _ (c .before .if1 .left) (c .header-of .ensures)
 

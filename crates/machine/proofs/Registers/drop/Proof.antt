@@ -6,23 +6,18 @@ use Rattle.machine.proofs.Registers.drop.Reads as reads
 use Rattle.machine.proofs.Registers.drop.Lts as lts
 use Rattle.machine.proofs.check.Reads as check-reads
 
--- src/lib.rt:171:15
 check-requires : tie.Need-check-requires
 check-requires c κs = search needs
 
--- src/lib.rt:172:30
 enum-known-k : tie.Need-enum-known-k
 enum-known-k c = search needs
 
--- src/lib.rt:173:48
 enum-told : tie.Need-enum-told
 enum-told c = search needs
 
--- src/lib.rt:168:5
 returns : tie.Need-returns
 returns c = drops-not (c .before .before .before .before .before .before .before .before .args .self) (c .before .before .before .before .before .before .before .before .args .contents .now) (c .before .before .before .before .before .before .before .before .args .bodies .now) (c .before .before .before .before .before .before .before .before .args .stack .now) (c .before .before .before .before .before .before .before .before .args .cache .now) (c .before .before .before .check .result) (c .before .before .before .check .ensures) _ (c .before .k .given .1)
 
--- src/lib.rt:168:5
 returns-2 : tie.Need-returns-2
 returns-2 c = drops (c .before .before .before .before .before .before .before .args .self) (c .before .before .before .before .before .before .before .args .contents .now) (c .before .before .before .before .before .before .before .args .bodies .now) (c .before .before .before .before .before .before .before .args .stack .now) (c .before .before .before .before .before .before .before .args .cache .now) (c .before .before .check .result) (c .before .before .check .ensures) (c .enum-told .given .1)
 
