@@ -10,3 +10,5 @@ pub mod primitives;
 pub mod refusal;
 pub mod rules;
 pub mod words;
+#[cfg(test)]
+mod worked;

@@ -54,7 +54,7 @@ fn buffers(random: &mut Random, image: &[u8]) -> Buffers {
     let (n, b) = (word(1).min(MOST_OBJECTS), word(2).min(MOST_BODY_WORDS));
     let contents = 4 * n + random.pick(&[0, 0, 3, 4, 8, 40, 400, 400]);
     let bodies = b + random.pick(&[0, 0, 1, 2, 5, 30, 400, 2000, 2000]);
-    let stack = random.pick(&[0, 17, 18, 19, 36, 37, 38, 55, 56, 74, 100, 150, 300, 300, 300, 600, 600, 1024, 1024, 1024, 1024]);
+    let stack = random.pick(&[0, 17, 18, 37, 38, 56, 74, 100, 150, 200, 300, 300, 300, 300, 600, 600, 600, 600, 1024, 1024, 1024, 1024, 1024, 1024]);
     let stack = if random.below(400) == 0 { random.from(65_530, 65_560) } else { stack };
     let lengths = [contents, bodies, stack, 192];
     let words = lengths.map(|length| (0..length + GUARD).map(|_| random.word()).collect());
@@ -67,7 +67,7 @@ fn buffers(random: &mut Random, image: &[u8]) -> Buffers {
 pub fn case(random: &mut Random, report: &mut Report) -> Result<(), (Buffers, Vec<Call>, String)> {
     let kind = random.below(100);
     let mut draft = if kind < 10 { noisy(random) } else { generate::draft(random) };
-    if kind == 99 {
+    if kind >= 96 {
         fill(random, &mut draft);
     }
     let image = draft.image();
@@ -76,6 +76,7 @@ pub fn case(random: &mut Random, report: &mut Report) -> Result<(), (Buffers, Ve
     let compared = match kind {
         0..=9 => noisy_case(random, &mut pair, image),
         10..=39 => damaged_case(random, &mut pair, &draft),
+        40..=49 | 97.. => primitive_case(random, &mut pair, image),
         _ => list_case(random, &mut pair, image),
     };
     compared.map_err(|what| (pair.first, pair.calls, what))
@@ -149,12 +150,76 @@ fn list_case(random: &mut Random, pair: &mut Pair, image: Vec<u8>) -> Compared<(
     calls(random, pair, most)
 }
 
+/// Begins of methods with primitives, most on receivers and arguments that they can take.
+fn primitive_case(random: &mut Random, pair: &mut Pair, image: Vec<u8>) -> Compared<()> {
+    pair.make(Call::Load(image))?;
+    for _ in 0..40 {
+        let Some(world) = pair.world() else { return Ok(()) };
+        let left = pair.ours.lengths[1].min(MOST_BODY_WORDS) as i64 - pair.ours.registers[1] as i64;
+        let call = primitive_message(random, &world, left);
+        pair.make(call)?;
+        if pair.ours.registers[4] == RUNNING {
+            let call = if random.percent(50) { run(random) } else { Call::Drop };
+            pair.make(call)?;
+        }
+    }
+    Ok(())
+}
+
+/// Pairs of a selector and a method with a primitive, in all dictionaries.
+fn primitive_methods(world: &World) -> Vec<(u16, u16)> {
+    let objects = &world.objects;
+    let classes = objects.list.iter().filter(|object| object.kind == CLASS);
+    let pairs = classes.flat_map(|class| objects.get(class.body[1]).unwrap().body.chunks(2).map(|pair| (pair[0], pair[1])));
+    pairs.filter(|(_, method)| world.method(*method).flag == 7).collect()
+}
+
+/// `left` are the words that bodies can still take.
+fn primitive_message(random: &mut Random, world: &World, left: i64) -> Call {
+    let objects = &world.objects;
+    let n = objects.list.len();
+    let methods = primitive_methods(world);
+    if methods.is_empty() {
+        return Call::Check;
+    }
+    let (selector, method) = random.pick(&methods);
+    let method = world.method(method);
+    let form_of = |word: u16| objects.class(objects.class_of(word)).map_or(3, |class| class.form);
+    let suits = |word: u16| match method.primitive {
+        1..=17 => is_integer(word),
+        60..=62 => [1, 2].contains(&form_of(word)),
+        70 => objects.class(word).is_some_and(|class| class.form == 0),
+        71 => objects.class(word).is_some_and(|class| [1, 2].contains(&class.form)),
+        _ => true,
+    };
+    let mut receiver = argument(random, n);
+    for _ in 0..200 {
+        if suits(receiver) && objects.in_chain(receiver, method.home) {
+            break;
+        }
+        receiver = argument(random, n);
+    }
+    let size = objects.get(receiver).map_or(0, |object| object.size as i64).min(16_382);
+    let index = |random: &mut Random| word(random.pick(&[0, 1, 1, 1, size - 1, size, size, size + 1])).unwrap();
+    let mut arguments: Vec<u16> = (0..method.arguments).map(|_| argument(random, n)).collect();
+    if [60, 61].contains(&method.primitive) && !arguments.is_empty() && random.percent(80) {
+        arguments[0] = index(random);
+    }
+    if method.primitive == 71 && !arguments.is_empty() && random.percent(50) {
+        let fields = objects.class(receiver).map_or(0, |class| class.fields as i64);
+        let sizes = [left - fields, left - fields + 1, 2 * left, 2 * left - 1, 2 * left + 1];
+        arguments[0] = word(random.pick(&sizes).clamp(-1, 16_383)).unwrap();
+    }
+    Call::Begin { receiver, selector, arguments }
+}
+
 /// So many calls on a state that is right, with spoiled states in between.
 fn calls(random: &mut Random, pair: &mut Pair, most: usize) -> Compared<()> {
     for _ in 0..most {
         match random.below(20) {
             0 | 1 => spoiled(random, pair)?,
             2 if random.percent(30) => shortened(random, pair)?,
+            4 | 5 if random.percent(50) => made_up(random, pair)?,
             3 if random.percent(30) => saved_and_loaded(random, pair)?,
             _ => {
                 let call = some_call(random, pair);
@@ -198,8 +263,11 @@ fn run(random: &mut Random) -> Call {
 
 fn argument(random: &mut Random, n: usize) -> u16 {
     match random.below(8) {
-        0..=3 => word(random.from(0, 12) as i64 - 3).unwrap(),
-        4 => word(random.pick(&[-16_384, 16_383, 255, 256, 16_382, 1000])).unwrap(),
+        0..=2 => word(random.from(0, 12) as i64 - 3).unwrap(),
+        3 => word(random.from(0, 32_767) as i64 - 16_384).unwrap(),
+        4 => word(random.pick(&[-16_384, 16_383, 255, 256, 16_382, 128, 127, -128, 1000])).unwrap(),
+        // The last objects are those that were made, or are large.
+        5 => pointer(n - random.below(3)),
         _ => pointer(random.from(1, n)),
     }
 }
@@ -212,7 +280,15 @@ fn message(random: &mut Random, pair: &Pair) -> Call {
     let objects = &world.objects;
     let n = objects.list.len();
     let classes: Vec<u16> = (1..=n).map(pointer).filter(|word| objects.has_kind(*word, CLASS)).collect();
-    let home = random.pick(&classes);
+    let mut home = random.pick(&classes);
+    for _ in 0..3 {
+        // Classes whose objects have fields or elements, more often than the others.
+        let class = objects.class(home).unwrap();
+        if class.fields > 0 || class.form == 1 {
+            break;
+        }
+        home = random.pick(&classes);
+    }
     let pairs = &objects.get(objects.class(home).unwrap().dictionary).unwrap().body;
     let first = if random.percent(30) { random.pick(&classes) } else { argument(random, n) };
     let (mut receiver, mut selector, mut count) = (first, pointer(random.from(1, n)), random.below(3));
@@ -220,7 +296,7 @@ fn message(random: &mut Random, pair: &Pair) -> Call {
         let at = 2 * random.below(pairs.len() / 2);
         selector = pairs[at];
         count = world.method(pairs[at + 1]).arguments;
-        for _ in 0..30 {
+        for _ in 0..60 {
             if objects.in_chain(receiver, home) {
                 break;
             }
@@ -302,6 +378,80 @@ fn spoiled(random: &mut Random, pair: &mut Pair) -> Compared<()> {
     }
     pair.make(Call::Write { buffer, index, word: old })?;
     Ok(())
+}
+
+/// Frames that no send made, written into the stack: any method at any position of its table, flags 5 and 6 too, most of them right.
+fn made_up(random: &mut Random, pair: &mut Pair) -> Compared<()> {
+    let Some(world) = pair.world() else { return Ok(()) };
+    let mut words: Vec<u16> = vec![];
+    let mut base = 0;
+    let count = random.pick(&[1, 1, 2, 3]);
+    for index in 0..count {
+        let sender = base;
+        base = words.len();
+        let frame = made_up_frame(random, &world, sender as u16, index + 1 == count);
+        words.extend(frame);
+    }
+    if words.len() > pair.ours.lengths[2] {
+        return Ok(());
+    }
+    for (index, word) in words.into_iter().enumerate() {
+        pair.make(Call::Write { buffer: 2, index, word })?;
+    }
+    let phase = random.pick(&[1, 1, 1, 3, 4, 5]);
+    set_registers(pair, [phase, base as u16, 0])?;
+    pair.make(Call::Check)?;
+    for _ in 0..random.from(1, 3) {
+        let call = any_call(random, pair);
+        pair.make(call)?;
+    }
+    if pair.make(Call::Check)?.number != 0 {
+        set_registers(pair, [0, 0, 0])?;
+    }
+    Ok(())
+}
+
+/// Phase, top and value.
+fn set_registers(pair: &mut Pair, words: [u16; 3]) -> Compared<()> {
+    for (index, word) in words.into_iter().enumerate() {
+        pair.make(Call::Write { buffer: 4, index: 4 + index, word })?;
+    }
+    Ok(())
+}
+
+fn made_up_frame(random: &mut Random, world: &World, sender: u16, is_top: bool) -> Vec<u16> {
+    let objects = &world.objects;
+    let n = objects.list.len();
+    let methods: Vec<u16> = (1..=n).map(pointer).filter(|word| objects.has_kind(*word, METHOD)).collect();
+    let mut chosen = random.pick(&methods);
+    for _ in 0..if random.percent(40) { 10 } else { 0 } {
+        if [5, 6].contains(&world.method(chosen).flag) {
+            break;
+        }
+        chosen = random.pick(&methods);
+    }
+    let method = world.method(chosen);
+    let mut receiver = argument(random, n);
+    for _ in 0..60 {
+        if objects.in_chain(receiver, method.home) {
+            break;
+        }
+        receiver = argument(random, n);
+    }
+    let table = method.table.clone().unwrap_or_default();
+    let wanted = |depth: &Option<usize>| depth.is_some_and(|depth| is_top || depth > 0);
+    let reached: Vec<usize> = (0..table.len()).filter(|position| wanted(&table[*position])).collect();
+    let (mut position, mut depth) = (0, 0);
+    if !reached.is_empty() {
+        position = random.pick(&reached);
+        depth = table[position].unwrap() - if is_top { 0 } else { 1 };
+    }
+    if random.percent(5) {
+        position += 1;
+    }
+    let mut frame = vec![sender, position as u16, depth as u16, chosen, 0, receiver];
+    frame.extend((0..method.room()).map(|_| argument(random, n)));
+    frame
 }
 
 /// A word of the same buffer in place of another.

@@ -48,7 +48,7 @@ impl Numbers {
 
 /// A valid image.
 pub fn draft(random: &mut Random) -> Draft {
-    let class_count = random.from(4, 9);
+    let class_count = random.from(5, 11);
     let selector_count = random.from(8, 15);
     let instance_count = random.from(5, 14);
     let (plan, dictionaries, loose, count, mut numbers) = plan(random, class_count, selector_count, instance_count);
@@ -110,9 +110,9 @@ fn plan(random: &mut Random, class_count: usize, selector_count: usize, instance
 /// How often a class has a method under a selector, in percent.
 fn chance(class: usize) -> usize {
     match class {
-        ROOT => 90,
-        METACLASS => 60,
-        _ => 30,
+        ROOT => 85,
+        METACLASS | INTEGERS | STRINGS => 60,
+        _ => 45,
     }
 }
 
@@ -260,7 +260,7 @@ fn put_method(random: &mut Random, plan: &Plan, draft: &mut Draft, class: usize,
         5 => random.below(32),
         _ => (arguments + random.pick(&[0, 1, 2, 3, 8])).min(most).max(arguments),
     };
-    let mut coder = Coder { random, plan, fields: home.fields, temporaries, room: if large { 32 } else { 12 }, literals: vec![] };
+    let mut coder = Coder { random, plan, fields: home.fields, has_superclass: home.superclass != NIL, temporaries, room: if large { 32 } else { 12 }, literals: vec![] };
     let free = (flag == 5 || flag == 6) && coder.random.percent(70);
     let code = if free || temporaries > coder.room { coder.noise(12) } else { coder.method_code() };
     let mut literals = coder.literals;
@@ -280,6 +280,8 @@ struct Coder<'a> {
     random: &'a mut Random,
     plan: &'a Plan,
     fields: usize,
+    /// Where there is none, a super send finds nothing.
+    has_superclass: bool,
     temporaries: usize,
     room: usize,
     literals: Vec<u16>,
@@ -478,7 +480,7 @@ impl Coder<'_> {
 
     /// A jump over bytes that nothing reaches.
     fn far_jump(&mut self, depth: usize) -> Vec<u8> {
-        let far = if self.random.percent(15) { self.random.from(200, 1000) } else { self.random.from(1, 12) };
+        let far = if self.random.percent(5) { self.random.from(200, 1000) } else { self.random.from(1, 12) };
         let unreached: Vec<u8> = (0..far).map(|_| self.random.byte()).collect();
         if self.random.percent(50) {
             let mut code = self.jump(far);
@@ -579,7 +581,7 @@ impl Coder<'_> {
             code.extend(self.expression(depth + 1 + index, fuel - 1));
         }
         let Some(literal) = self.literal(selector) else { return vec![118] };
-        let above = self.random.percent(20);
+        let above = self.random.percent(if self.has_superclass { 25 } else { 3 });
         let short = literal < 32 && arguments < 8;
         if !above && literal < 16 && arguments < 3 && self.random.percent(80) {
             code.push(208 + 16 * arguments as u8 + literal as u8);

@@ -202,6 +202,9 @@ pub fn difference(plain: &Outcome, proved: &Outcome, ours: &Buffers, theirs: &Bu
     }
     for (buffer, name) in ["contents", "bodies", "stack", "cache"].iter().enumerate() {
         let (left, right) = (&ours.words[buffer], &theirs.words[buffer]);
+        if left == right {
+            continue;
+        }
         if let Some(index) = (0..left.len()).find(|index| left[*index] != right[*index]) {
             return Some(format!("{name} word {index}: plain {}, library {}", left[index], right[index]));
         }
