@@ -258,7 +258,7 @@ fn put_method(random: &mut Random, plan: &Plan, draft: &mut Draft, class: usize,
     let temporaries = match flag {
         6 => random.below(home.fields.min(32)),
         5 => random.below(32),
-        _ => (arguments + random.pick(&[0, 1, 2, 3, 8])).min(most).max(arguments),
+        _ => (arguments + random.pick(&[0, 1, 2, 3, 8, 20])).min(most).max(arguments),
     };
     let mut coder = Coder { random, plan, fields: home.fields, has_superclass: home.superclass != NIL, temporaries, room: if large { 32 } else { 12 }, literals: vec![] };
     let free = (flag == 5 || flag == 6) && coder.random.percent(70);
@@ -311,9 +311,9 @@ impl Coder<'_> {
 
     fn method_code(&mut self) -> Vec<u8> {
         let mut code = vec![];
-        if self.random.percent(15) {
+        if self.random.percent(25) {
             // Literals in front, so that the code needs the higher indices.
-            let count = self.random.pick(&[4, 10, 14, 14, 30, 40]);
+            let count = self.random.from(1, 40);
             self.literals = (0..count).map(|_| any_word(self.random, self.plan)).collect();
         }
         if self.random.percent(1) {

@@ -16,7 +16,7 @@ use std::process::exit;
 use std::time::{Duration, Instant};
 
 const SEED: u64 = 80;
-const CASES: u64 = 15_000;
+const CASES: u64 = 10_000;
 
 const HELP: &str = "usage: compare [SEED [SECONDS]]
        compare SEED --case NUMBER
