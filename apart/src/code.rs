@@ -29,8 +29,14 @@ pub enum Instruction {
     JumpOn(u16, i32),
     /// A special send, from 0.
     Special(usize),
-    Send { arguments: usize, literal: usize },
-    SuperSend { arguments: usize, literal: usize },
+    Send {
+        arguments: usize,
+        literal: usize,
+    },
+    SuperSend {
+        arguments: usize,
+        literal: usize,
+    },
 }
 
 pub const IDENTITY: usize = 198 - 176;
@@ -39,13 +45,21 @@ pub const CLASS_OF: usize = 199 - 176;
 /// Arguments of the special sends.
 pub fn special_arguments(special: usize) -> usize {
     const FROM_192: [usize; 16] = [1, 2, 0, 0, 1, 0, 1, 0, 1, 0, 1, 1, 0, 1, 0, 0];
-    if special < 16 { 1 } else { FROM_192[special - 16] }
+    if special < 16 {
+        1
+    } else {
+        FROM_192[special - 16]
+    }
 }
 
 /// The primitive that 176 to 191 try; 0 where there is none.
 pub fn special_primitive(special: usize) -> u16 {
     const TRIED: [u16; 16] = [1, 2, 3, 4, 5, 6, 7, 8, 9, 10, 11, 0, 17, 12, 14, 15];
-    if special < 16 { TRIED[special] } else { 0 }
+    if special < 16 {
+        TRIED[special]
+    } else {
+        0
+    }
 }
 
 fn constant(low: u8) -> u16 {
@@ -127,7 +141,11 @@ pub struct Surroundings<'a> {
 type Found = Result<(), &'static str>;
 
 fn ask(truth: bool, why: &'static str) -> Found {
-    if truth { Ok(()) } else { Err(why) }
+    if truth {
+        Ok(())
+    } else {
+        Err(why)
+    }
 }
 
 fn place_fine(around: &Surroundings, method: &Method, place: Place) -> Found {

@@ -25,7 +25,11 @@ impl Object {
     /// Bytes lie two to a word, the high one first.
     pub fn byte(&self, index: usize) -> u8 {
         let word = self.body[index / 2];
-        if index % 2 == 0 { (word >> 8) as u8 } else { word as u8 }
+        if index % 2 == 0 {
+            (word >> 8) as u8
+        } else {
+            word as u8
+        }
     }
 
     pub fn put_byte(&mut self, index: usize, byte: u8) {
@@ -37,7 +41,11 @@ impl Object {
 /// Words of a body with this kind and size.
 pub fn body_words(kind: u16, size: u16) -> usize {
     let size = size as usize;
-    if kind == BYTES || kind == METHOD { (size + 1) / 2 } else { size }
+    if kind == BYTES || kind == METHOD {
+        (size + 1) / 2
+    } else {
+        size
+    }
 }
 
 /// The four words of a class.
@@ -65,7 +73,11 @@ pub struct Method {
 impl Method {
     /// Words for temporaries and operands.
     pub fn room(&self) -> usize {
-        if self.large { 32 } else { 12 }
+        if self.large {
+            32
+        } else {
+            12
+        }
     }
 }
 
@@ -82,11 +94,19 @@ impl Objects {
 
     /// The object that a word names.
     pub fn get(&self, word: u16) -> Option<&Object> {
-        if is_integer(word) || !self.valid(word) { None } else { Some(&self.list[(word / 2) as usize - 1]) }
+        if is_integer(word) || !self.valid(word) {
+            None
+        } else {
+            Some(&self.list[(word / 2) as usize - 1])
+        }
     }
 
     pub fn get_mut(&mut self, word: u16) -> Option<&mut Object> {
-        if is_integer(word) || !self.valid(word) { None } else { Some(&mut self.list[(word / 2) as usize - 1]) }
+        if is_integer(word) || !self.valid(word) {
+            None
+        } else {
+            Some(&mut self.list[(word / 2) as usize - 1])
+        }
     }
 
     pub fn has_kind(&self, word: u16, kind: u16) -> bool {

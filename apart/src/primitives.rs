@@ -71,31 +71,51 @@ pub fn arithmetic(number: u16, receiver: u16, argument: u16) -> Option<u16> {
 /// The quotient rounded down. Rust's `/` goes toward zero.
 fn floored(a: i64, b: i64) -> i64 {
     let quotient = a / b;
-    if a % b != 0 && (a < 0) != (b < 0) { quotient - 1 } else { quotient }
+    if a % b != 0 && (a < 0) != (b < 0) {
+        quotient - 1
+    } else {
+        quotient
+    }
 }
 
 /// n × 2^k rounded down. 15 places either way take every integer out of range, or to 0 or -1.
 fn shift(n: i64, k: i64) -> Option<u16> {
-    if k >= 0 { word(n << k.min(15)) } else { word(n >> (-k).min(15)) }
+    if k >= 0 {
+        word(n << k.min(15))
+    } else {
+        word(n >> (-k).min(15))
+    }
 }
 
 /// Size of an object of form 1 or 2, where it is an integer.
 fn indexed_size(objects: &Objects, receiver: u16) -> Option<usize> {
     let object = objects.get(receiver)?;
     let form = objects.class(object.class)?.form;
-    if (form == 1 || form == 2) && object.size <= 16_383 { Some(object.size as usize) } else { None }
+    if (form == 1 || form == 2) && object.size <= 16_383 {
+        Some(object.size as usize)
+    } else {
+        None
+    }
 }
 
 /// An index from 0, for an argument from 1 to the size.
 fn index(objects: &Objects, receiver: u16, argument: u16) -> Option<usize> {
     let size = indexed_size(objects, receiver)?;
-    if is_integer(argument) && 1 <= integer(argument) && integer(argument) as usize <= size { Some(integer(argument) as usize - 1) } else { None }
+    if is_integer(argument) && 1 <= integer(argument) && integer(argument) as usize <= size {
+        Some(integer(argument) as usize - 1)
+    } else {
+        None
+    }
 }
 
 fn at(objects: &Objects, receiver: u16, argument: u16) -> Option<u16> {
     let index = index(objects, receiver, argument)?;
     let object = objects.get(receiver)?;
-    if object.kind == BYTES { word(object.byte(index) as i64) } else { Some(object.body[index]) }
+    if object.kind == BYTES {
+        word(object.byte(index) as i64)
+    } else {
+        Some(object.body[index])
+    }
 }
 
 fn at_put(objects: &mut Objects, receiver: u16, argument: u16, stored: u16) -> Option<u16> {

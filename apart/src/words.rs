@@ -14,16 +14,28 @@ pub fn is_integer(word: u16) -> bool {
 /// The integer that an odd word holds.
 pub fn integer(word: u16) -> i32 {
     let half = (word / 2) as i32;
-    if half >= 16_384 { half - 32_768 } else { half }
+    if half >= 16_384 {
+        half - 32_768
+    } else {
+        half
+    }
 }
 
 /// The word of an integer, where one exists.
 pub fn word(integer: i64) -> Option<u16> {
-    if (-16_384..=16_383).contains(&integer) { Some(((2 * integer + 1) & 0xFFFF) as u16) } else { None }
+    if (-16_384..=16_383).contains(&integer) {
+        Some(((2 * integer + 1) & 0xFFFF) as u16)
+    } else {
+        None
+    }
 }
 
 pub fn boolean(truth: bool) -> u16 {
-    if truth { TRUE } else { FALSE }
+    if truth {
+        TRUE
+    } else {
+        FALSE
+    }
 }
 
 pub fn pointer(object: usize) -> u16 {

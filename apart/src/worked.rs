@@ -38,8 +38,7 @@ fn image(receiver: u16, code: [u16; 2]) -> Vec<u8> {
 fn played(image: &[u8]) -> Result<(u16, u32, u16), Refusal> {
     let (mut contents, mut bodies, mut stack, mut cache) = (vec![0; 8_188], vec![0; 24_000], vec![0; 1_024], vec![0; 192]);
     let mut registers = [0; 7];
-    let mut lent =
-        Lent { contents: &mut contents, bodies: &mut bodies, stack: &mut stack, cache: &mut cache, registers: &mut registers };
+    let mut lent = Lent { contents: &mut contents, bodies: &mut bodies, stack: &mut stack, cache: &mut cache, registers: &mut registers };
     let mut counts = Counts::default();
     load(image, &mut lent)?;
     let [_, _, receiver, selector, ..] = *lent.registers;

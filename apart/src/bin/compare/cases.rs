@@ -44,7 +44,11 @@ impl<'a> Pair<'a> {
     fn world(&self) -> Option<World> {
         let (n, b) = (self.ours.registers[0] as usize, self.ours.registers[1] as usize);
         let [contents, bodies, ..] = &self.ours.words;
-        if n < 5 || 4 * n > contents.len() || b > bodies.len() { None } else { judge(&contents[..4 * n], &bodies[..b]).ok() }
+        if n < 5 || 4 * n > contents.len() || b > bodies.len() {
+            None
+        } else {
+            judge(&contents[..4 * n], &bodies[..b]).ok()
+        }
     }
 }
 
@@ -82,7 +86,7 @@ pub fn case(random: &mut Random, report: &mut Report) -> Result<(), (Buffers, Ve
     compared.map_err(|what| (pair.first, pair.calls, what))
 }
 
-/// A valid image whose start method has random code in the end, sound or not.
+/// An image in which some methods have random code, sound or not.
 fn noisy(random: &mut Random) -> Draft {
     let mut draft = generate::draft(random);
     for made in draft.objects.iter_mut().filter(|made| made.kind == METHOD) {

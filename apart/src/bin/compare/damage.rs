@@ -243,7 +243,8 @@ fn header_out_of_range(random: &mut Random, image: &mut Vec<u8>) {
 
 /// Makes an image nearly as full as one can be: in objects, in words, or with an object too large to index.
 pub fn fill(random: &mut Random, draft: &mut Draft) {
-    let indexed: Vec<u16> = draft.objects.iter().enumerate().filter(|(_, made)| made.kind == CLASS && made.body[3] == 3).map(|(index, _)| pointer(index + 1)).collect();
+    let is_indexed = |made: &Made| made.kind == CLASS && made.body[3] == word(1).unwrap();
+    let indexed = draft.objects.iter().position(is_indexed).map(|index| pointer(index + 1));
     let bytes = draft.objects[draft.selector as usize / 2 - 1].class;
     let used: usize = draft.objects.iter().map(|made| made.body.len()).sum();
     let slack = random.below(6);
@@ -260,7 +261,7 @@ pub fn fill(random: &mut Random, draft: &mut Draft) {
             // Sizes 16,383 and 16,384 lie on both sides of what an integer can hold.
             let size = random.from(16_382, 16_385);
             draft.objects.push(Made { class: bytes, kind: BYTES, size, body: vec![0; (size + 1) / 2] });
-            if let Some(&class) = indexed.first() {
+            if let Some(class) = indexed {
                 let words = random.from(16_382, 16_385).min(MOST_BODY_WORDS - used - (size + 1) / 2);
                 draft.objects.push(Made { class, kind: FIELDS, size: words, body: vec![NIL; words] });
             }

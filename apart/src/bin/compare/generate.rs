@@ -80,9 +80,7 @@ type Dictionaries = Vec<Vec<(u16, u16)>>;
 
 fn plan(random: &mut Random, class_count: usize, selector_count: usize, instance_count: usize) -> (Plan, Dictionaries, Vec<u16>, usize, Numbers) {
     // Which class has methods under which selectors: the root under most, so that sends find something.
-    let has: Vec<Vec<bool>> = (0..class_count)
-        .map(|class| (0..selector_count).map(|_| random.percent(chance(class))).collect())
-        .collect();
+    let has: Vec<Vec<bool>> = (0..class_count).map(|class| (0..selector_count).map(|_| random.percent(chance(class))).collect()).collect();
     let method_count: usize = has.iter().flatten().filter(|has| **has).count();
     let loose_count = random.below(3);
     let count = 5 + (class_count - 1) + class_count + selector_count + instance_count + method_count + loose_count + random.below(3);
@@ -116,13 +114,17 @@ fn chance(class: usize) -> usize {
     }
 }
 
+/// Fields of a class that is planned already.
+fn fields_of(classes: &[PlannedClass], pointer: u16) -> usize {
+    classes.iter().find(|class| class.pointer == pointer).map_or(0, |class| class.fields)
+}
+
 fn plan_classes(random: &mut Random, count: usize, numbers: &mut Numbers) -> Vec<PlannedClass> {
     let root_fields = if random.percent(88) { 0 } else { 2 };
     let mut pointers = vec![INTEGER_CLASS];
     pointers.extend((1..count).map(|_| numbers.take()));
     let mut classes: Vec<PlannedClass> = vec![];
     for (index, &own) in pointers.iter().enumerate() {
-        let above_fields = |classes: &[PlannedClass], above: u16| classes.iter().find(|class| class.pointer == above).map_or(root_fields, |class| class.fields);
         let (superclass, form) = match index {
             INTEGERS | METACLASS | STRINGS => {
                 let above = if root_fields == 0 && random.percent(85) { pointers[ROOT] } else { NIL };
@@ -131,14 +133,14 @@ fn plan_classes(random: &mut Random, count: usize, numbers: &mut Numbers) -> Vec
             ROOT => (NIL, random.pick(&[0, 0, 1])),
             _ => {
                 let above = pointers[random.from(ROOT, index - 1)];
-                let forms: &[u16] = if above_fields(&classes, above) == 0 { &[0, 0, 1, 1, 2, 3] } else { &[0, 1] };
+                let forms: &[u16] = if fields_of(&classes, above) == 0 { &[0, 0, 1, 1, 2, 3] } else { &[0, 1] };
                 (above, random.pick(forms))
             }
         };
         let fields = match index {
             ROOT => root_fields,
             _ if form >= 2 => 0,
-            _ => above_fields(&classes, superclass) + random.pick(&[0, 1, 2, 3, 1, 2, 9, 20]),
+            _ => fields_of(&classes, superclass) + random.pick(&[0, 1, 2, 3, 1, 2, 9, 20]),
         };
         classes.push(PlannedClass { pointer: own, dictionary: numbers.take(), superclass, fields, form });
     }
@@ -175,7 +177,11 @@ fn specials(random: &mut Random, plan: &Plan) -> Vec<u16> {
     (0..32)
         .map(|special| {
             let able: Vec<u16> = plan.selectors.iter().filter(|known| known.1 == special_arguments(special)).map(|known| known.0).collect();
-            if able.is_empty() || random.percent(12) { NIL } else { random.pick(&able) }
+            if able.is_empty() || random.percent(12) {
+                NIL
+            } else {
+                random.pick(&able)
+            }
         })
         .collect()
 }
@@ -260,7 +266,9 @@ fn put_method(random: &mut Random, plan: &Plan, draft: &mut Draft, class: usize,
         5 => random.below(32),
         _ => (arguments + random.pick(&[0, 1, 2, 3, 8, 20])).min(most).max(arguments),
     };
-    let mut coder = Coder { random, plan, fields: home.fields, has_superclass: home.superclass != NIL, temporaries, room: if large { 32 } else { 12 }, literals: vec![] };
+    let room = if large { 32 } else { 12 };
+    let has_superclass = home.superclass != NIL;
+    let mut coder = Coder { random, plan, fields: home.fields, has_superclass, temporaries, room, literals: vec![] };
     let free = (flag == 5 || flag == 6) && coder.random.percent(70);
     let code = if free || temporaries > coder.room { coder.noise(12) } else { coder.method_code() };
     let mut literals = coder.literals;
@@ -515,7 +523,11 @@ impl Coder<'_> {
                 let one = self.expression(depth, fuel - 1);
                 let other = self.expression(depth, fuel - 1);
                 let code = self.fork(depth, one, other);
-                if code.is_empty() { vec![115] } else { code }
+                if code.is_empty() {
+                    vec![115]
+                } else {
+                    code
+                }
             }
             9 => {
                 let mut code = self.expression(depth, fuel - 1);
@@ -533,11 +545,19 @@ impl Coder<'_> {
             3 if depth > 0 => vec![136],
             4 | 5 if self.fields > 0 => {
                 let field = self.random.below(self.fields.min(64)) as u8;
-                if field < 16 && self.random.percent(80) { vec![field] } else { vec![128, field] }
+                if field < 16 && self.random.percent(80) {
+                    vec![field]
+                } else {
+                    vec![128, field]
+                }
             }
             6 | 7 if self.temporaries > 0 => {
                 let temporary = self.random.below(self.temporaries) as u8;
-                if temporary < 16 && self.random.percent(80) { vec![16 + temporary] } else { vec![128, 64 + temporary] }
+                if temporary < 16 && self.random.percent(80) {
+                    vec![16 + temporary]
+                } else {
+                    vec![128, 64 + temporary]
+                }
             }
             8 if !self.plan.variables.is_empty() => {
                 let variable = self.random.pick(&self.plan.variables);

@@ -12,6 +12,7 @@ mod sides;
 use random::Random;
 use report::Report;
 use sides::{Buffers, Call};
+use std::panic::{catch_unwind, AssertUnwindSafe};
 use std::process::exit;
 use std::time::{Duration, Instant};
 
@@ -70,8 +71,14 @@ fn main() {
     };
     while goes_on(case) {
         let mut random = Random::new(seed, case);
-        if let Err((first, calls, what)) = cases::case(&mut random, &mut report) {
-            differs(seed, case, &first, calls, what);
+        // A panic of the plain machine names its case too.
+        match catch_unwind(AssertUnwindSafe(|| cases::case(&mut random, &mut report))) {
+            Ok(Ok(())) => {}
+            Ok(Err((first, calls, what))) => differs(seed, case, &first, calls, what),
+            Err(_) => {
+                println!("seed {seed}, case {case}: the machine written apart has no step here, see above");
+                exit(1);
+            }
         }
         report.cases += 1;
         case += 1;

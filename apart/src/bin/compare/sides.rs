@@ -6,40 +6,102 @@ use apart::refusal::Refusal;
 
 extern "C" {
     fn sofaduck_load(
-        image: *const u8, image_length: usize, contents: *mut u16, contents_length: usize, bodies: *mut u16, bodies_length: usize,
-        cache: *mut u16, cache_length: usize, registers: *mut Registers,
+        image: *const u8,
+        image_length: usize,
+        contents: *mut u16,
+        contents_length: usize,
+        bodies: *mut u16,
+        bodies_length: usize,
+        cache: *mut u16,
+        cache_length: usize,
+        registers: *mut Registers,
     ) -> u32;
     fn sofaduck_begin(
-        contents: *mut u16, contents_length: usize, bodies: *mut u16, bodies_length: usize, stack: *mut u16, stack_length: usize,
-        cache: *const u16, cache_length: usize, registers: *mut Registers, receiver: u16, selector: u16, arguments: *const u16,
+        contents: *mut u16,
+        contents_length: usize,
+        bodies: *mut u16,
+        bodies_length: usize,
+        stack: *mut u16,
+        stack_length: usize,
+        cache: *const u16,
+        cache_length: usize,
+        registers: *mut Registers,
+        receiver: u16,
+        selector: u16,
+        arguments: *const u16,
         arguments_length: usize,
     ) -> u32;
     fn sofaduck_run(
-        contents: *mut u16, contents_length: usize, bodies: *mut u16, bodies_length: usize, stack: *mut u16, stack_length: usize,
-        cache: *mut u16, cache_length: usize, registers: *mut Registers, n: u32, count: *mut u32, reach: *mut u32,
+        contents: *mut u16,
+        contents_length: usize,
+        bodies: *mut u16,
+        bodies_length: usize,
+        stack: *mut u16,
+        stack_length: usize,
+        cache: *mut u16,
+        cache_length: usize,
+        registers: *mut Registers,
+        n: u32,
+        count: *mut u32,
+        reach: *mut u32,
     ) -> u32;
     fn sofaduck_drop(
-        contents: *const u16, contents_length: usize, bodies: *const u16, bodies_length: usize, stack: *const u16, stack_length: usize,
-        cache: *const u16, cache_length: usize, registers: *mut Registers,
+        contents: *const u16,
+        contents_length: usize,
+        bodies: *const u16,
+        bodies_length: usize,
+        stack: *const u16,
+        stack_length: usize,
+        cache: *const u16,
+        cache_length: usize,
+        registers: *mut Registers,
     ) -> u32;
     fn sofaduck_forget(
-        contents: *const u16, contents_length: usize, bodies: *const u16, bodies_length: usize, stack: *const u16, stack_length: usize,
-        cache: *mut u16, cache_length: usize, registers: *const Registers,
+        contents: *const u16,
+        contents_length: usize,
+        bodies: *const u16,
+        bodies_length: usize,
+        stack: *const u16,
+        stack_length: usize,
+        cache: *mut u16,
+        cache_length: usize,
+        registers: *const Registers,
     ) -> u32;
     fn sofaduck_check(
-        contents: *const u16, contents_length: usize, bodies: *const u16, bodies_length: usize, stack: *const u16, stack_length: usize,
-        cache: *const u16, cache_length: usize, registers: *const Registers,
+        contents: *const u16,
+        contents_length: usize,
+        bodies: *const u16,
+        bodies_length: usize,
+        stack: *const u16,
+        stack_length: usize,
+        cache: *const u16,
+        cache_length: usize,
+        registers: *const Registers,
     ) -> u32;
     fn sofaduck_save(
-        contents: *const u16, contents_length: usize, bodies: *const u16, bodies_length: usize, stack: *const u16, stack_length: usize,
-        cache: *const u16, cache_length: usize, registers: *const Registers, output: *mut u8, output_length: usize, length: *mut u32,
+        contents: *const u16,
+        contents_length: usize,
+        bodies: *const u16,
+        bodies_length: usize,
+        stack: *const u16,
+        stack_length: usize,
+        cache: *const u16,
+        cache_length: usize,
+        registers: *const Registers,
+        output: *mut u8,
+        output_length: usize,
+        length: *mut u32,
     ) -> u32;
 }
 
 #[derive(Clone, Debug, PartialEq)]
 pub enum Call {
     Load(Vec<u8>),
-    Begin { receiver: u16, selector: u16, arguments: Vec<u16> },
+    Begin {
+        receiver: u16,
+        selector: u16,
+        arguments: Vec<u16>,
+    },
     Run(u32),
     Drop,
     Forget,
@@ -47,7 +109,11 @@ pub enum Call {
     /// With an output of so many bytes.
     Save(usize),
     /// A word changed from outside: contents, bodies, stack, cache or registers.
-    Write { buffer: usize, index: usize, word: u16 },
+    Write {
+        buffer: usize,
+        index: usize,
+        word: u16,
+    },
     /// The lengths from here on: contents, bodies, stack, cache.
     Lengths([usize; 4]),
 }
@@ -159,12 +225,10 @@ pub fn library(call: &Call, buffers: &mut Buffers) -> Outcome {
     outcome.number = unsafe {
         match call {
             Call::Load(image) => sofaduck_load(image.as_ptr(), image.len(), contents, a, bodies, b, cache, d, registers),
-            Call::Begin { receiver, selector, arguments } => sofaduck_begin(
-                contents, a, bodies, b, stack, c, cache, d, registers, *receiver, *selector, arguments.as_ptr(), arguments.len(),
-            ),
-            Call::Run(n) => {
-                sofaduck_run(contents, a, bodies, b, stack, c, cache, d, registers, *n, &mut outcome.count, &mut outcome.reach)
+            Call::Begin { receiver, selector, arguments } => {
+                sofaduck_begin(contents, a, bodies, b, stack, c, cache, d, registers, *receiver, *selector, arguments.as_ptr(), arguments.len())
             }
+            Call::Run(n) => sofaduck_run(contents, a, bodies, b, stack, c, cache, d, registers, *n, &mut outcome.count, &mut outcome.reach),
             Call::Drop => sofaduck_drop(contents, a, bodies, b, stack, c, cache, d, registers),
             Call::Forget => sofaduck_forget(contents, a, bodies, b, stack, c, cache, d, registers),
             Call::Check => sofaduck_check(contents, a, bodies, b, stack, c, cache, d, registers),
@@ -189,11 +253,8 @@ pub fn difference(plain: &Outcome, proved: &Outcome, ours: &Buffers, theirs: &Bu
     if plain.length != proved.length || plain.output != proved.output {
         return Some(format!("output: plain length {}, library {}", plain.length, proved.length));
     }
-    let reach_right = if plain.reach == UNWRITTEN {
-        proved.reach == UNWRITTEN
-    } else {
-        proved.reach >= plain.reach && proved.reach as usize <= ours.lengths[2]
-    };
+    let reach_right =
+        if plain.reach == UNWRITTEN { proved.reach == UNWRITTEN } else { proved.reach >= plain.reach && proved.reach as usize <= ours.lengths[2] };
     if !reach_right {
         return Some(format!("reach: plain at least {}, library {}, stack {}", plain.reach, proved.reach, ours.lengths[2]));
     }
