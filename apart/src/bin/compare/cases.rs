@@ -74,16 +74,52 @@ pub fn case(random: &mut Random, report: &mut Report) -> Result<(), (Buffers, Ve
     if kind >= 96 {
         fill(random, &mut draft);
     }
+    let deep = kind == 95 && random.percent(30) && recurse(random, &mut draft);
     let image = draft.image();
-    let buffers = buffers(random, &image);
+    let mut buffers = buffers(random, &image);
+    if deep {
+        buffers.lengths[2] = random.from(65_500, 65_600);
+        buffers.words[2] = vec![NIL; buffers.lengths[2] + GUARD];
+    }
     let mut pair = Pair::new(buffers, report);
     let compared = match kind {
+        _ if deep => deep_case(random, &mut pair, &draft),
         0..=9 => noisy_case(random, &mut pair, image),
         10..=39 => damaged_case(random, &mut pair, &draft),
         40..=49 | 97.. => primitive_case(random, &mut pair, image),
         _ => list_case(random, &mut pair, image),
     };
     compared.map_err(|what| (pair.first, pair.calls, what))
+}
+
+/// Lets every method under the start selector send it again to self; false where the selector takes arguments or has no methods.
+fn recurse(random: &mut Random, draft: &mut Draft) -> bool {
+    let selector = draft.selector;
+    let classes = draft.objects.iter().filter(|made| made.kind == CLASS);
+    let pairs: Vec<u16> = classes.flat_map(|class| draft.objects[class.body[1] as usize / 2 - 1].body.clone()).collect();
+    let methods: Vec<u16> = pairs.chunks(2).filter(|pair| pair[0] == selector).map(|pair| pair[1]).collect();
+    let large = if random.percent(50) { 128 } else { 0 };
+    let flags = methods.iter().map(|method| draft.objects[*method as usize / 2 - 1].body[0] >> 13);
+    if methods.is_empty() || !flags.clone().any(|flag| [0, 5, 6].contains(&flag)) {
+        return false;
+    }
+    for method in methods {
+        let made = draft.objects[method as usize / 2 - 1].clone();
+        draft.put_method(method, made.class, vec![large | 3, made.body[1], selector], &[112, 208, 124]);
+    }
+    true
+}
+
+/// Recursion up to the last frame that a stack can have.
+fn deep_case(random: &mut Random, pair: &mut Pair, draft: &Draft) -> Compared<()> {
+    pair.make(Call::Load(draft.image()))?;
+    for receiver in [NIL, draft.receiver, 3] {
+        pair.make(Call::Begin { receiver, selector: draft.selector, arguments: vec![] })?;
+        pair.make(Call::Run(random.from(3_000, 7_000) as u32))?;
+        pair.make(Call::Run(10_000))?;
+        pair.make(Call::Drop)?;
+    }
+    Ok(())
 }
 
 /// An image in which some methods have random code, sound or not.
