@@ -1,0 +1,7 @@
+// Only `compare` calls the proved library, so only it is linked with it.
+fn main() {
+    let here = std::env::var("CARGO_MANIFEST_DIR").unwrap();
+    let library = format!("{here}/../target/staticlib/libsofaduck.a");
+    println!("cargo:rerun-if-changed={library}");
+    println!("cargo:rustc-link-arg-bin=compare={library}");
+}

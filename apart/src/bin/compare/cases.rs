@@ -1,0 +1,524 @@
+//! Cases: random lists of calls, made on both machines and compared after each.
+
+use crate::damage::*;
+use crate::draft::*;
+use crate::generate;
+use crate::random::Random;
+use crate::report::Report;
+use crate::sides::*;
+use apart::machine::RUNNING;
+use apart::objects::*;
+use apart::rules::{judge, World};
+use apart::words::*;
+
+/// Both machines with the calls made so far.
+pub struct Pair<'a> {
+    pub first: Buffers,
+    ours: Buffers,
+    theirs: Buffers,
+    pub calls: Vec<Call>,
+    report: &'a mut Report,
+}
+
+type Compared<T> = Result<T, String>;
+
+impl<'a> Pair<'a> {
+    pub fn new(buffers: Buffers, report: &'a mut Report) -> Pair<'a> {
+        Pair { first: buffers.clone(), ours: buffers.clone(), theirs: buffers, calls: vec![], report }
+    }
+
+    /// Makes a call on both; the refusal's number, or what differs.
+    pub fn make(&mut self, call: Call) -> Compared<Outcome> {
+        self.calls.push(call);
+        let call = self.calls.last().unwrap();
+        let ours = plain(call, &mut self.ours, &mut self.report.counts);
+        let theirs = library(call, &mut self.theirs);
+        self.report.note(call, &ours, &self.ours);
+        match difference(&ours, &theirs, &self.ours, &self.theirs) {
+            None => Ok(ours),
+            Some(what) => Err(what),
+        }
+    }
+
+    /// The objects as they are, if they keep the rules.
+    fn world(&self) -> Option<World> {
+        let (n, b) = (self.ours.registers[0] as usize, self.ours.registers[1] as usize);
+        let [contents, bodies, ..] = &self.ours.words;
+        if n < 5 || 4 * n > contents.len() || b > bodies.len() {
+            None
+        } else {
+            judge(&contents[..4 * n], &bodies[..b]).ok()
+        }
+    }
+}
+
+/// Buffers with so much room beyond an image, filled with anything.
+fn buffers(random: &mut Random, image: &[u8]) -> Buffers {
+    let word = |index: usize| image.get(2 * index..2 * index + 2).map_or(5, |pair| u16::from_be_bytes([pair[0], pair[1]]) as usize);
+    let (n, b) = (word(1).min(MOST_OBJECTS), word(2).min(MOST_BODY_WORDS));
+    let contents = 4 * n + random.pick(&[0, 0, 3, 4, 8, 40, 400, 400]);
+    let bodies = b + random.pick(&[0, 0, 1, 2, 5, 30, 400, 2000, 2000]);
+    let stack = random.pick(&[0, 17, 18, 37, 38, 56, 74, 100, 150, 200, 300, 300, 300, 300, 600, 600, 600, 600, 1024, 1024, 1024, 1024, 1024, 1024]);
+    let stack = if random.below(400) == 0 { random.from(65_530, 65_560) } else { stack };
+    let lengths = [contents, bodies, stack, 192];
+    let words = lengths.map(|length| (0..length + GUARD).map(|_| random.word()).collect());
+    let mut registers = [0; 7];
+    registers.fill_with(|| random.word());
+    Buffers { words, lengths, registers }
+}
+
+/// One case; what differs, with the pair that shows it.
+pub fn case(random: &mut Random, report: &mut Report) -> Result<(), (Buffers, Vec<Call>, String)> {
+    let kind = random.below(100);
+    let mut draft = if kind < 10 { noisy(random) } else { generate::draft(random) };
+    if kind >= 96 {
+        fill(random, &mut draft);
+    }
+    let deep = kind == 95 && random.percent(30) && recurse(random, &mut draft);
+    let image = draft.image();
+    let mut buffers = buffers(random, &image);
+    if deep {
+        buffers.lengths[2] = random.from(65_500, 65_600);
+        buffers.words[2] = vec![NIL; buffers.lengths[2] + GUARD];
+    }
+    let mut pair = Pair::new(buffers, report);
+    let compared = match kind {
+        _ if deep => deep_case(random, &mut pair, &draft),
+        0..=9 => noisy_case(random, &mut pair, image),
+        10..=39 => damaged_case(random, &mut pair, &draft),
+        40..=49 | 97.. => primitive_case(random, &mut pair, image),
+        _ => list_case(random, &mut pair, image),
+    };
+    compared.map_err(|what| (pair.first, pair.calls, what))
+}
+
+/// Lets every method under the start selector send it again to self; false where the selector takes arguments or has no methods.
+fn recurse(random: &mut Random, draft: &mut Draft) -> bool {
+    let selector = draft.selector;
+    let classes = draft.objects.iter().filter(|made| made.kind == CLASS);
+    let pairs: Vec<u16> = classes.flat_map(|class| draft.objects[class.body[1] as usize / 2 - 1].body.clone()).collect();
+    let methods: Vec<u16> = pairs.chunks(2).filter(|pair| pair[0] == selector).map(|pair| pair[1]).collect();
+    let large = if random.percent(50) { 128 } else { 0 };
+    let flags = methods.iter().map(|method| draft.objects[*method as usize / 2 - 1].body[0] >> 13);
+    if methods.is_empty() || !flags.clone().any(|flag| [0, 5, 6].contains(&flag)) {
+        return false;
+    }
+    for method in methods {
+        let made = draft.objects[method as usize / 2 - 1].clone();
+        draft.put_method(method, made.class, vec![large | 3, made.body[1], selector], &[112, 208, 124]);
+    }
+    true
+}
+
+/// Recursion up to the last frame that a stack can have.
+fn deep_case(random: &mut Random, pair: &mut Pair, draft: &Draft) -> Compared<()> {
+    pair.make(Call::Load(draft.image()))?;
+    for receiver in [NIL, draft.receiver, 3] {
+        pair.make(Call::Begin { receiver, selector: draft.selector, arguments: vec![] })?;
+        pair.make(Call::Run(random.from(3_000, 7_000) as u32))?;
+        pair.make(Call::Run(10_000))?;
+        pair.make(Call::Drop)?;
+    }
+    Ok(())
+}
+
+/// An image in which some methods have random code, sound or not.
+fn noisy(random: &mut Random) -> Draft {
+    let mut draft = generate::draft(random);
+    for made in draft.objects.iter_mut().filter(|made| made.kind == METHOD) {
+        let flag = made.body[0] >> 13;
+        if flag == 7 || random.percent(60) {
+            continue;
+        }
+        let words = 2 + ((made.body[0] >> 1) & 63) as usize;
+        let code: Vec<u8> = (0..random.from(1, 6)).map(|_| likely_byte(random)).collect();
+        made.body.truncate(words);
+        made.body.extend(packed(&code));
+        made.size = 2 * words + code.len();
+        if random.percent(60) {
+            break;
+        }
+    }
+    draft
+}
+
+/// Bytes of short code that has a chance to be sound.
+fn likely_byte(random: &mut Random) -> u8 {
+    match random.below(8) {
+        0 => random.byte(),
+        1 => random.from(112, 119) as u8,
+        2 => random.from(120, 124) as u8,
+        3 => random.from(128, 136) as u8,
+        4 => random.from(144, 175) as u8,
+        5 => random.from(176, 207) as u8,
+        6 => random.below(20) as u8,
+        _ => random.pick(&[112, 135, 136, 124, 120, 163, 254, 164, 0, 1, 198, 199]),
+    }
+}
+
+fn noisy_case(random: &mut Random, pair: &mut Pair, image: Vec<u8>) -> Compared<()> {
+    if pair.make(Call::Load(image))?.number == 0 {
+        calls(random, pair, 6)?;
+    }
+    Ok(())
+}
+
+fn damaged_case(random: &mut Random, pair: &mut Pair, draft: &Draft) -> Compared<()> {
+    if random.percent(30) {
+        pair.make(Call::Load(draft.image()))?;
+    }
+    for _ in 0..random.from(4, 12) {
+        if random.percent(5) {
+            let lengths = short_lengths(random, pair);
+            pair.make(Call::Lengths(lengths))?;
+        }
+        let image = damaged(random, draft);
+        if pair.make(Call::Load(image))?.number == 0 && random.percent(50) {
+            calls(random, pair, 3)?;
+        }
+        if random.percent(5) {
+            let call = some_call(random, pair);
+            pair.make(call)?;
+        }
+    }
+    Ok(())
+}
+
+fn list_case(random: &mut Random, pair: &mut Pair, image: Vec<u8>) -> Compared<()> {
+    pair.make(Call::Load(image))?;
+    let most = random.from(3, 24);
+    calls(random, pair, most)
+}
+
+/// Begins of methods with primitives, most on receivers and arguments that they can take.
+fn primitive_case(random: &mut Random, pair: &mut Pair, image: Vec<u8>) -> Compared<()> {
+    pair.make(Call::Load(image))?;
+    for _ in 0..40 {
+        let Some(world) = pair.world() else { return Ok(()) };
+        let left = pair.ours.lengths[1].min(MOST_BODY_WORDS) as i64 - pair.ours.registers[1] as i64;
+        let call = primitive_message(random, &world, left);
+        pair.make(call)?;
+        if pair.ours.registers[4] == RUNNING {
+            let call = if random.percent(50) { run(random) } else { Call::Drop };
+            pair.make(call)?;
+        }
+    }
+    Ok(())
+}
+
+/// Pairs of a selector and a method with a primitive, in all dictionaries.
+fn primitive_methods(world: &World) -> Vec<(u16, u16)> {
+    let objects = &world.objects;
+    let classes = objects.list.iter().filter(|object| object.kind == CLASS);
+    let pairs = classes.flat_map(|class| objects.get(class.body[1]).unwrap().body.chunks(2).map(|pair| (pair[0], pair[1])));
+    pairs.filter(|(_, method)| world.method(*method).flag == 7).collect()
+}
+
+/// `left` are the words that bodies can still take.
+fn primitive_message(random: &mut Random, world: &World, left: i64) -> Call {
+    let objects = &world.objects;
+    let n = objects.list.len();
+    let methods = primitive_methods(world);
+    if methods.is_empty() {
+        return Call::Check;
+    }
+    let (selector, method) = random.pick(&methods);
+    let method = world.method(method);
+    let form_of = |word: u16| objects.class(objects.class_of(word)).map_or(3, |class| class.form);
+    let suits = |word: u16| match method.primitive {
+        1..=17 => is_integer(word),
+        60..=62 => [1, 2].contains(&form_of(word)),
+        70 => objects.class(word).is_some_and(|class| class.form == 0),
+        71 => objects.class(word).is_some_and(|class| [1, 2].contains(&class.form)),
+        _ => true,
+    };
+    let mut receiver = argument(random, n);
+    for _ in 0..200 {
+        if suits(receiver) && objects.in_chain(receiver, method.home) {
+            break;
+        }
+        receiver = argument(random, n);
+    }
+    let size = objects.get(receiver).map_or(0, |object| object.size as i64).min(16_382);
+    let index = |random: &mut Random| word(random.pick(&[0, 1, 1, 1, size - 1, size, size, size + 1])).unwrap();
+    let mut arguments: Vec<u16> = (0..method.arguments).map(|_| argument(random, n)).collect();
+    if [60, 61].contains(&method.primitive) && !arguments.is_empty() && random.percent(80) {
+        arguments[0] = index(random);
+    }
+    if method.primitive == 71 && !arguments.is_empty() && random.percent(50) {
+        let fields = objects.class(receiver).map_or(0, |class| class.fields as i64);
+        let sizes = [left - fields, left - fields + 1, 2 * left, 2 * left - 1, 2 * left + 1];
+        arguments[0] = word(random.pick(&sizes).clamp(-1, 16_383)).unwrap();
+    }
+    Call::Begin { receiver, selector, arguments }
+}
+
+/// So many calls on a state that is right, with spoiled states in between.
+fn calls(random: &mut Random, pair: &mut Pair, most: usize) -> Compared<()> {
+    for _ in 0..most {
+        match random.below(20) {
+            0 | 1 => spoiled(random, pair)?,
+            2 if random.percent(30) => shortened(random, pair)?,
+            4 | 5 if random.percent(50) => made_up(random, pair)?,
+            3 if random.percent(30) => saved_and_loaded(random, pair)?,
+            _ => {
+                let call = some_call(random, pair);
+                pair.make(call)?;
+            }
+        }
+    }
+    pair.make(Call::Check)?;
+    Ok(())
+}
+
+fn some_call(random: &mut Random, pair: &Pair) -> Call {
+    let running = pair.ours.registers[4] == RUNNING;
+    match random.below(40) {
+        0 => Call::Check,
+        1 => Call::Forget,
+        2 => Call::Drop,
+        3 => Call::Save(image_length(pair) + random.pick(&[0, 0, 1, 100]) - random.pick(&[0, 0, 0, 1])),
+        4..=11 => message(random, pair),
+        12..=16 => run(random),
+        _ if running => run(random),
+        _ => message(random, pair),
+    }
+}
+
+fn image_length(pair: &Pair) -> usize {
+    10 + 8 * pair.ours.registers[0] as usize + 2 * pair.ours.registers[1] as usize
+}
+
+fn run(random: &mut Random) -> Call {
+    Call::Run(match random.below(12) {
+        0 => 0,
+        1 | 2 => random.from(1, 3) as u32,
+        3..=6 => random.from(1, 40) as u32,
+        7..=9 => random.from(1, 400) as u32,
+        10 => random.from(1, 2_000) as u32,
+        _ if random.percent(5) => random.from(1, 60_000) as u32,
+        _ => 500,
+    })
+}
+
+fn argument(random: &mut Random, n: usize) -> u16 {
+    match random.below(8) {
+        0..=2 => word(random.from(0, 12) as i64 - 3).unwrap(),
+        3 => word(random.from(0, 32_767) as i64 - 16_384).unwrap(),
+        4 => word(random.pick(&[-16_384, 16_383, 255, 256, 16_382, 128, 127, -128, 1000])).unwrap(),
+        // The last objects are those that were made, or are large.
+        5 => pointer(n - random.below(3)),
+        _ => pointer(random.from(1, n)),
+    }
+}
+
+/// A begin, most often of a method that is there.
+fn message(random: &mut Random, pair: &Pair) -> Call {
+    let Some(world) = pair.world() else {
+        return Call::Begin { receiver: NIL, selector: NIL, arguments: vec![] };
+    };
+    let objects = &world.objects;
+    let n = objects.list.len();
+    let classes: Vec<u16> = (1..=n).map(pointer).filter(|word| objects.has_kind(*word, CLASS)).collect();
+    let mut home = random.pick(&classes);
+    for _ in 0..3 {
+        // Classes whose objects have fields or elements, more often than the others.
+        let class = objects.class(home).unwrap();
+        if class.fields > 0 || class.form == 1 {
+            break;
+        }
+        home = random.pick(&classes);
+    }
+    let pairs = &objects.get(objects.class(home).unwrap().dictionary).unwrap().body;
+    let first = if random.percent(30) { random.pick(&classes) } else { argument(random, n) };
+    let (mut receiver, mut selector, mut count) = (first, pointer(random.from(1, n)), random.below(3));
+    if !pairs.is_empty() {
+        let at = 2 * random.below(pairs.len() / 2);
+        selector = pairs[at];
+        count = world.method(pairs[at + 1]).arguments;
+        for _ in 0..60 {
+            if objects.in_chain(receiver, home) {
+                break;
+            }
+            receiver = argument(random, n);
+        }
+    }
+    let mut arguments: Vec<u16> = (0..count).map(|_| argument(random, n)).collect();
+    match random.below(40) {
+        0 => receiver = random.pick(&[0, pointer(n + 1), 65_534]),
+        1 => selector = random.pick(&[0, 1, NIL, pointer(n + 1), home]),
+        2 => arguments.push(argument(random, n)),
+        3 => arguments.push(random.pick(&[0, pointer(n + 1)])),
+        4 => {
+            arguments.pop();
+        }
+        5 => receiver = argument(random, n),
+        _ => {}
+    }
+    Call::Begin { receiver, selector, arguments }
+}
+
+fn short_lengths(random: &mut Random, pair: &Pair) -> [usize; 4] {
+    let mut lengths = pair.ours.lengths;
+    let (n, b) = (pair.ours.registers[0] as usize, pair.ours.registers[1] as usize);
+    match random.below(5) {
+        0 => lengths[0] = (4 * n).saturating_sub(random.from(1, 3)).min(lengths[0]),
+        1 => lengths[1] = b.saturating_sub(1).min(lengths[1]),
+        2 => lengths[2] = random.below(lengths[2].min(200) + 1),
+        3 => lengths[3] = random.pick(&[0, 191, 193]),
+        _ => lengths = lengths.map(|length| random.below(length + 1)),
+    }
+    lengths
+}
+
+/// Shorter buffers for one or two calls, then the old ones again.
+fn shortened(random: &mut Random, pair: &mut Pair) -> Compared<()> {
+    let old = pair.ours.lengths;
+    let lengths = short_lengths(random, pair);
+    pair.make(Call::Lengths(lengths))?;
+    for _ in 0..random.from(1, 2) {
+        let call = any_call(random, pair);
+        pair.make(call)?;
+    }
+    pair.make(Call::Lengths(old))?;
+    Ok(())
+}
+
+/// Each of the calls but load as often as the others.
+fn any_call(random: &mut Random, pair: &Pair) -> Call {
+    match random.below(6) {
+        0 => Call::Drop,
+        1 => Call::Forget,
+        2 => Call::Save(image_length(pair).min(600_000)),
+        3 => message(random, pair),
+        4 => run(random),
+        _ => Call::Check,
+    }
+}
+
+fn saved_and_loaded(random: &mut Random, pair: &mut Pair) -> Compared<()> {
+    let length = image_length(pair);
+    let saved = pair.make(Call::Save(length + random.below(3)))?;
+    if saved.number == 0 {
+        pair.make(Call::Load(saved.output[..length].to_vec()))?;
+    }
+    Ok(())
+}
+
+/// One word changed from outside, one or two calls, and the old word again.
+fn spoiled(random: &mut Random, pair: &mut Pair) -> Compared<()> {
+    let Some((buffer, index)) = place_to_spoil(random, pair) else { return Ok(()) };
+    let old = if buffer == 4 { pair.ours.registers[index] } else { pair.ours.words[buffer][index] };
+    let n = pair.ours.registers[0].clamp(1, 2_047) as usize;
+    let word = if random.percent(20) && buffer < 4 { neighbour(random, pair, buffer, index) } else { other_word(random, old, n) };
+    pair.make(Call::Write { buffer, index, word })?;
+    for _ in 0..random.from(1, 2) {
+        let call = any_call(random, pair);
+        pair.make(call)?;
+    }
+    pair.make(Call::Write { buffer, index, word: old })?;
+    Ok(())
+}
+
+/// Frames that no send made, written into the stack: any method at any position of its table, flags 5 and 6 too, most of them right.
+fn made_up(random: &mut Random, pair: &mut Pair) -> Compared<()> {
+    let Some(world) = pair.world() else { return Ok(()) };
+    let mut words: Vec<u16> = vec![];
+    let mut base = 0;
+    let count = random.pick(&[1, 1, 2, 3]);
+    for index in 0..count {
+        let sender = base;
+        base = words.len();
+        let frame = made_up_frame(random, &world, sender as u16, index + 1 == count);
+        words.extend(frame);
+    }
+    if words.len() > pair.ours.lengths[2] {
+        return Ok(());
+    }
+    for (index, word) in words.into_iter().enumerate() {
+        pair.make(Call::Write { buffer: 2, index, word })?;
+    }
+    let phase = random.pick(&[1, 1, 1, 3, 4, 5]);
+    set_registers(pair, [phase, base as u16, 0])?;
+    pair.make(Call::Check)?;
+    for _ in 0..random.from(1, 3) {
+        let call = any_call(random, pair);
+        pair.make(call)?;
+    }
+    if pair.make(Call::Check)?.number != 0 {
+        set_registers(pair, [0, 0, 0])?;
+    }
+    Ok(())
+}
+
+/// Phase, top and value.
+fn set_registers(pair: &mut Pair, words: [u16; 3]) -> Compared<()> {
+    for (index, word) in words.into_iter().enumerate() {
+        pair.make(Call::Write { buffer: 4, index: 4 + index, word })?;
+    }
+    Ok(())
+}
+
+fn made_up_frame(random: &mut Random, world: &World, sender: u16, is_top: bool) -> Vec<u16> {
+    let objects = &world.objects;
+    let n = objects.list.len();
+    let methods: Vec<u16> = (1..=n).map(pointer).filter(|word| objects.has_kind(*word, METHOD)).collect();
+    let mut chosen = random.pick(&methods);
+    for _ in 0..if random.percent(40) { 10 } else { 0 } {
+        if [5, 6].contains(&world.method(chosen).flag) {
+            break;
+        }
+        chosen = random.pick(&methods);
+    }
+    let method = world.method(chosen);
+    let mut receiver = argument(random, n);
+    for _ in 0..60 {
+        if objects.in_chain(receiver, method.home) {
+            break;
+        }
+        receiver = argument(random, n);
+    }
+    let table = method.table.clone().unwrap_or_default();
+    let wanted = |depth: &Option<usize>| depth.is_some_and(|depth| is_top || depth > 0);
+    let reached: Vec<usize> = (0..table.len()).filter(|position| wanted(&table[*position])).collect();
+    let (mut position, mut depth) = (0, 0);
+    if !reached.is_empty() {
+        position = random.pick(&reached);
+        depth = table[position].unwrap() - if is_top { 0 } else { 1 };
+    }
+    if random.percent(5) {
+        position += 1;
+    }
+    let mut frame = vec![sender, position as u16, depth as u16, chosen, 0, receiver];
+    frame.extend((0..method.room()).map(|_| argument(random, n)));
+    frame
+}
+
+/// A word of the same buffer in place of another.
+fn neighbour(random: &mut Random, pair: &Pair, buffer: usize, index: usize) -> u16 {
+    let words = &pair.ours.words[buffer];
+    let near = (index + random.from(1, 40)) % words.len();
+    words[near]
+}
+
+fn place_to_spoil(random: &mut Random, pair: &Pair) -> Option<(usize, usize)> {
+    let [n, b, _, _, phase, top, _] = pair.ours.registers.map(|register| register as usize);
+    let lengths = pair.ours.lengths;
+    let spoil_frames = ![0, 2].contains(&phase) && lengths[2] > 0;
+    let (buffer, limit) = match random.below(12) {
+        0 | 1 => (4, 7),
+        2 | 3 => (3, lengths[3]),
+        4 => (0, (4 * n).min(lengths[0])),
+        5 | 6 => (1, b.min(lengths[1])),
+        _ if spoil_frames => (2, (top + 38).min(lengths[2])),
+        _ => (0, (4 * n).min(lengths[0])),
+    };
+    if limit == 0 {
+        return None;
+    }
+    // The six words of the top frame are worth more than those below.
+    if buffer == 2 && random.percent(50) && top + 12 < limit {
+        return Some((2, top + random.below(12)));
+    }
+    Some((buffer, random.below(limit)))
+}

@@ -1,0 +1,274 @@
+//! One call, made on the plain machine and on the proved library.
+
+use apart::calls::{self, Lent, Registers};
+use apart::counts::Counts;
+use apart::refusal::Refusal;
+
+extern "C" {
+    fn sofaduck_load(
+        image: *const u8,
+        image_length: usize,
+        contents: *mut u16,
+        contents_length: usize,
+        bodies: *mut u16,
+        bodies_length: usize,
+        cache: *mut u16,
+        cache_length: usize,
+        registers: *mut Registers,
+    ) -> u32;
+    fn sofaduck_begin(
+        contents: *mut u16,
+        contents_length: usize,
+        bodies: *mut u16,
+        bodies_length: usize,
+        stack: *mut u16,
+        stack_length: usize,
+        cache: *const u16,
+        cache_length: usize,
+        registers: *mut Registers,
+        receiver: u16,
+        selector: u16,
+        arguments: *const u16,
+        arguments_length: usize,
+    ) -> u32;
+    fn sofaduck_run(
+        contents: *mut u16,
+        contents_length: usize,
+        bodies: *mut u16,
+        bodies_length: usize,
+        stack: *mut u16,
+        stack_length: usize,
+        cache: *mut u16,
+        cache_length: usize,
+        registers: *mut Registers,
+        n: u32,
+        count: *mut u32,
+        reach: *mut u32,
+    ) -> u32;
+    fn sofaduck_drop(
+        contents: *const u16,
+        contents_length: usize,
+        bodies: *const u16,
+        bodies_length: usize,
+        stack: *const u16,
+        stack_length: usize,
+        cache: *const u16,
+        cache_length: usize,
+        registers: *mut Registers,
+    ) -> u32;
+    fn sofaduck_forget(
+        contents: *const u16,
+        contents_length: usize,
+        bodies: *const u16,
+        bodies_length: usize,
+        stack: *const u16,
+        stack_length: usize,
+        cache: *mut u16,
+        cache_length: usize,
+        registers: *const Registers,
+    ) -> u32;
+    fn sofaduck_check(
+        contents: *const u16,
+        contents_length: usize,
+        bodies: *const u16,
+        bodies_length: usize,
+        stack: *const u16,
+        stack_length: usize,
+        cache: *const u16,
+        cache_length: usize,
+        registers: *const Registers,
+    ) -> u32;
+    fn sofaduck_save(
+        contents: *const u16,
+        contents_length: usize,
+        bodies: *const u16,
+        bodies_length: usize,
+        stack: *const u16,
+        stack_length: usize,
+        cache: *const u16,
+        cache_length: usize,
+        registers: *const Registers,
+        output: *mut u8,
+        output_length: usize,
+        length: *mut u32,
+    ) -> u32;
+}
+
+#[derive(Clone, Debug, PartialEq)]
+pub enum Call {
+    Load(Vec<u8>),
+    Begin {
+        receiver: u16,
+        selector: u16,
+        arguments: Vec<u16>,
+    },
+    Run(u32),
+    Drop,
+    Forget,
+    Check,
+    /// With an output of so many bytes.
+    Save(usize),
+    /// A word changed from outside: contents, bodies, stack, cache or registers.
+    Write {
+        buffer: usize,
+        index: usize,
+        word: u16,
+    },
+    /// The lengths from here on: contents, bodies, stack, cache.
+    Lengths([usize; 4]),
+}
+
+pub const CALLS: [&str; 7] = ["load", "begin", "run", "drop", "forget", "check", "save"];
+
+impl Call {
+    /// Its place in `CALLS`.
+    pub fn index(&self) -> Option<usize> {
+        match self {
+            Call::Load(_) => Some(0),
+            Call::Begin { .. } => Some(1),
+            Call::Run(_) => Some(2),
+            Call::Drop => Some(3),
+            Call::Forget => Some(4),
+            Call::Check => Some(5),
+            Call::Save(_) => Some(6),
+            _ => None,
+        }
+    }
+
+    pub fn text(&self) -> String {
+        match self {
+            Call::Load(image) => format!("load {} bytes", image.len()),
+            other => format!("{other:?}"),
+        }
+    }
+}
+
+/// Words behind each buffer that no call may touch.
+pub const GUARD: usize = 8;
+
+#[derive(Clone)]
+pub struct Buffers {
+    /// Contents, bodies, stack, cache, each with the guard behind it.
+    pub words: [Vec<u16>; 4],
+    pub lengths: [usize; 4],
+    pub registers: Registers,
+}
+
+pub const UNWRITTEN: u32 = 0xDEAD_BEEF;
+
+#[derive(Clone)]
+pub struct Outcome {
+    pub number: u32,
+    pub count: u32,
+    /// Of the library the reach that it gave, of the plain machine the least that it may be.
+    pub reach: u32,
+    pub length: u32,
+    pub output: Vec<u8>,
+    pub refusal: Option<Refusal>,
+}
+
+fn outcome(call: &Call) -> Outcome {
+    let bytes = if let Call::Save(bytes) = call { bytes + GUARD } else { 0 };
+    Outcome { number: 0, count: UNWRITTEN, reach: UNWRITTEN, length: UNWRITTEN, output: vec![0xA5; bytes], refusal: None }
+}
+
+/// A word changed from outside, or other lengths: the same on both sides.
+fn changed(call: &Call, buffers: &mut Buffers) {
+    match call {
+        Call::Write { buffer: 4, index, word } => buffers.registers[*index] = *word,
+        Call::Write { buffer, index, word } => buffers.words[*buffer][*index] = *word,
+        Call::Lengths(lengths) => buffers.lengths = *lengths,
+        _ => {}
+    }
+}
+
+pub fn plain(call: &Call, buffers: &mut Buffers, counts: &mut Counts) -> Outcome {
+    let mut outcome = outcome(call);
+    changed(call, buffers);
+    let [a, b, c, d] = buffers.lengths;
+    let [contents, bodies, stack, cache] = &mut buffers.words;
+    let mut lent = Lent {
+        contents: &mut contents[..a],
+        bodies: &mut bodies[..b],
+        stack: &mut stack[..c],
+        cache: &mut cache[..d],
+        registers: &mut buffers.registers,
+    };
+    let answer = match call {
+        Call::Load(image) => calls::load(image, &mut lent),
+        Call::Begin { receiver, selector, arguments } => calls::begin(&mut lent, *receiver, *selector, arguments, counts),
+        Call::Run(n) => calls::run(&mut lent, *n, counts).map(|ran| {
+            outcome.count = ran.count;
+            outcome.reach = ran.highest as u32;
+        }),
+        Call::Drop => calls::drop(&mut lent),
+        Call::Forget => calls::forget(&mut lent),
+        Call::Check => calls::check(&lent),
+        Call::Save(bytes) => calls::save(&lent, &mut outcome.output[..*bytes]).map(|length| outcome.length = length),
+        Call::Write { .. } | Call::Lengths(_) => Ok(()),
+    };
+    if let Err(refusal) = answer {
+        outcome.number = refusal.number;
+        outcome.refusal = Some(refusal);
+    }
+    outcome
+}
+
+pub fn library(call: &Call, buffers: &mut Buffers) -> Outcome {
+    let mut outcome = outcome(call);
+    changed(call, buffers);
+    let [a, b, c, d] = buffers.lengths;
+    let [contents, bodies, stack, cache] = &mut buffers.words;
+    let (contents, bodies, stack, cache) = (contents.as_mut_ptr(), bodies.as_mut_ptr(), stack.as_mut_ptr(), cache.as_mut_ptr());
+    let registers: *mut Registers = &mut buffers.registers;
+    // Every pointer has at least as many elements behind it as its length says, and none overlap.
+    outcome.number = unsafe {
+        match call {
+            Call::Load(image) => sofaduck_load(image.as_ptr(), image.len(), contents, a, bodies, b, cache, d, registers),
+            Call::Begin { receiver, selector, arguments } => {
+                sofaduck_begin(contents, a, bodies, b, stack, c, cache, d, registers, *receiver, *selector, arguments.as_ptr(), arguments.len())
+            }
+            Call::Run(n) => sofaduck_run(contents, a, bodies, b, stack, c, cache, d, registers, *n, &mut outcome.count, &mut outcome.reach),
+            Call::Drop => sofaduck_drop(contents, a, bodies, b, stack, c, cache, d, registers),
+            Call::Forget => sofaduck_forget(contents, a, bodies, b, stack, c, cache, d, registers),
+            Call::Check => sofaduck_check(contents, a, bodies, b, stack, c, cache, d, registers),
+            Call::Save(bytes) => {
+                sofaduck_save(contents, a, bodies, b, stack, c, cache, d, registers, outcome.output.as_mut_ptr(), *bytes, &mut outcome.length)
+            }
+            Call::Write { .. } | Call::Lengths(_) => 0,
+        }
+    };
+    outcome
+}
+
+/// What differs after a call, in words.
+pub fn difference(plain: &Outcome, proved: &Outcome, ours: &Buffers, theirs: &Buffers) -> Option<String> {
+    if plain.number != proved.number {
+        let place = plain.refusal.map_or("accepted".to_string(), |refusal| refusal.to_string());
+        return Some(format!("answer: plain {} ({place}), library {}", plain.number, proved.number));
+    }
+    if plain.count != proved.count {
+        return Some(format!("count: plain {}, library {}", plain.count, proved.count));
+    }
+    if plain.length != proved.length || plain.output != proved.output {
+        return Some(format!("output: plain length {}, library {}", plain.length, proved.length));
+    }
+    let reach_right =
+        if plain.reach == UNWRITTEN { proved.reach == UNWRITTEN } else { proved.reach >= plain.reach && proved.reach as usize <= ours.lengths[2] };
+    if !reach_right {
+        return Some(format!("reach: plain at least {}, library {}, stack {}", plain.reach, proved.reach, ours.lengths[2]));
+    }
+    if ours.registers != theirs.registers {
+        return Some(format!("registers: plain {:?}, library {:?}", ours.registers, theirs.registers));
+    }
+    for (buffer, name) in ["contents", "bodies", "stack", "cache"].iter().enumerate() {
+        let (left, right) = (&ours.words[buffer], &theirs.words[buffer]);
+        if left == right {
+            continue;
+        }
+        if let Some(index) = (0..left.len()).find(|index| left[*index] != right[*index]) {
+            return Some(format!("{name} word {index}: plain {}, library {}", left[index], right[index]));
+        }
+    }
+    None
+}

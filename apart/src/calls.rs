@@ -1,0 +1,288 @@
+//! The calls, on lent buffers.
+
+use crate::counts::Counts;
+use crate::machine::*;
+use crate::objects::*;
+use crate::primitives::Room;
+use crate::refusal::Place::*;
+use crate::refusal::*;
+use crate::rules::*;
+
+/// N, B, start receiver, start selector, phase, top, value.
+pub type Registers = [u16; 7];
+pub const PHASE: usize = 4;
+pub const TOP: usize = 5;
+pub const VALUE: usize = 6;
+
+pub const CACHE_WORDS: usize = 192;
+
+/// The whole state as it is lent.
+pub struct Lent<'a> {
+    pub contents: &'a mut [u16],
+    pub bodies: &'a mut [u16],
+    pub stack: &'a mut [u16],
+    pub cache: &'a mut [u16],
+    pub registers: &'a mut Registers,
+}
+
+/// What run gives beside the registers.
+pub struct Ran {
+    pub count: u32,
+    /// The least that reach may be.
+    pub highest: usize,
+}
+
+pub fn load(image: &[u8], lent: &mut Lent) -> Result<(), Refusal> {
+    // A refused load gives registers all zero.
+    *lent.registers = [0; 7];
+    let header = header(image)?;
+    ranges(header.edition, header.n, header.b)?;
+    room(lent, header.n, header.b)?;
+    let words: Vec<u16> = image[10..].chunks(2).map(|pair| u16::from_be_bytes([pair[0], pair[1]])).collect();
+    let (contents, bodies) = words.split_at(4 * header.n);
+    let judged = judge(contents, bodies).and_then(|world| start_words(&world.objects, header.receiver, header.selector));
+    if let Err(refusal) = judged {
+        lent.contents[..contents.len()].fill(0);
+        lent.bodies[..bodies.len()].fill(0);
+        return Err(refusal);
+    }
+    lent.contents[..contents.len()].copy_from_slice(contents);
+    lent.bodies[..bodies.len()].copy_from_slice(bodies);
+    lent.cache.fill(0);
+    *lent.registers = [header.n as u16, header.b as u16, header.receiver, header.selector, IDLE, 0, 0];
+    Ok(())
+}
+
+/// Rule 3.
+fn room(lent: &Lent, n: usize, b: usize) -> Result<(), Refusal> {
+    if lent.contents.len() < 4 * n {
+        return refuse(3, Buffer("contents"), "too short");
+    }
+    if lent.bodies.len() < b {
+        return refuse(3, Buffer("bodies"), "too short");
+    }
+    if lent.cache.len() != CACHE_WORDS {
+        return refuse(3, Buffer("cache"), "not 192 words");
+    }
+    Ok(())
+}
+
+fn state_room(lent: &Lent) -> Result<(), Refusal> {
+    room(lent, lent.registers[0] as usize, lent.registers[1] as usize)
+}
+
+/// Whatever is wrong with a state is 11; the place stays.
+fn state_right(lent: &Lent) -> Result<(World, Vec<Frame>), Refusal> {
+    judge_state(lent).map_err(|refusal| Refusal { number: 11, ..refusal })
+}
+
+fn judge_state(lent: &Lent) -> Result<(World, Vec<Frame>), Refusal> {
+    let [n, b, receiver, selector, ..] = *lent.registers;
+    let (n, b) = (n as usize, b as usize);
+    ranges(1, n, b)?;
+    let world = judge(&lent.contents[..4 * n], &lent.bodies[..b])?;
+    start_words(&world.objects, receiver, selector)?;
+    cache_right(&world.objects, lent.cache)?;
+    registers_right(&world.objects, lent.registers)?;
+    let frames = match lent.registers[PHASE] {
+        IDLE | FINISHED => vec![],
+        _ => frames(&world, lent)?,
+    };
+    Ok((world, frames))
+}
+
+fn cache_right(objects: &Objects, cache: &[u16]) -> Result<(), Refusal> {
+    for (index, entry) in cache.chunks(3).enumerate() {
+        let (selector, class, method) = (entry[0], entry[1], entry[2]);
+        let empty = entry == [0, 0, 0];
+        let found = objects.has_kind(selector, BYTES) && objects.has_kind(class, CLASS) && objects.lookup(class, selector) == Some(method);
+        if !empty && !found {
+            return refuse(11, Cache(index), "neither empty nor what lookup finds");
+        }
+    }
+    Ok(())
+}
+
+fn registers_right(objects: &Objects, registers: &Registers) -> Result<(), Refusal> {
+    let (phase, top, value) = (registers[PHASE], registers[TOP], registers[VALUE]);
+    if phase > NO_STACK_ROOM {
+        return refuse(11, Register(PHASE), "a phase above 5");
+    }
+    let value_right = if phase == FINISHED { objects.valid(value) } else { value == 0 };
+    if !value_right {
+        return refuse(11, Register(VALUE), "a value that this phase cannot have");
+    }
+    if (phase == IDLE || phase == FINISHED) && top != 0 {
+        return refuse(11, Register(TOP), "a top frame in phase 0 or 2");
+    }
+    Ok(())
+}
+
+/// The frames of a state, bottom first.
+fn frames(world: &World, lent: &Lent) -> Result<Vec<Frame>, Refusal> {
+    let mut frames: Vec<Frame> = vec![];
+    let mut base = lent.registers[TOP] as usize;
+    loop {
+        let (frame, end, sender) = frame(world, lent.stack, base, frames.is_empty())?;
+        if let Some(above) = frames.last() {
+            if end != above.base {
+                return refuse(11, FrameWord(base, 0), "the next frame does not start where this one ends");
+            }
+        }
+        frames.push(frame);
+        if base == 0 {
+            if sender != 0 {
+                return refuse(11, FrameWord(0, 0), "the bottom frame has a sender");
+            }
+            frames.reverse();
+            return Ok(frames);
+        }
+        if sender >= base {
+            return refuse(11, FrameWord(base, 0), "a sender that is not below");
+        }
+        base = sender;
+    }
+}
+
+/// One frame, its end and its sender.
+fn frame(world: &World, stack: &[u16], base: usize, is_top: bool) -> Result<(Frame, usize, usize), Refusal> {
+    let at = |word: usize| stack.get(base + word).copied();
+    let Some(receiver) = at(5) else {
+        return refuse(11, FrameWord(base, 5), "outside the stack");
+    };
+    let (sender, position, depth, method_word) = (stack[base] as usize, stack[base + 1] as usize, stack[base + 2] as usize, stack[base + 3]);
+    if !world.objects.has_kind(method_word, METHOD) {
+        return refuse(11, FrameWord(base, 3), "no method");
+    }
+    let method = world.method(method_word);
+    let end = base + 6 + method.room();
+    if end > stack.len() || end > 65_536 {
+        return refuse(11, FrameWord(base, 3), "a frame that does not fit");
+    }
+    if stack[base + 4] != 0 {
+        return refuse(11, FrameWord(base, 4), "not zero");
+    }
+    if !world.objects.valid(receiver) || !world.objects.in_chain(receiver, method.home) {
+        return refuse(11, FrameWord(base, 5), "the method's home is not in the receiver's chain");
+    }
+    let reached = method.table.as_ref().and_then(|table| table.get(position).copied().flatten());
+    let Some(table_depth) = reached else {
+        return refuse(11, FrameWord(base, 1), "a position that is not reached");
+    };
+    let expected = if is_top { depth } else { depth + 1 };
+    if expected != table_depth {
+        return refuse(11, FrameWord(base, 2), "another depth than the table's");
+    }
+    let temporaries = base + 6..base + 6 + method.temporaries;
+    let operands = temporaries.end..temporaries.end + depth;
+    if let Some(word) = (temporaries.start..operands.end).find(|index| !world.objects.valid(stack[*index])) {
+        return refuse(11, FrameWord(base, word - base), "an invalid word");
+    }
+    let frame = Frame { base, method: method_word, receiver, position, temporaries: stack[temporaries].to_vec(), operands: stack[operands].to_vec() };
+    Ok((frame, end, sender))
+}
+
+pub fn check(lent: &Lent) -> Result<(), Refusal> {
+    state_room(lent)?;
+    state_right(lent)?;
+    Ok(())
+}
+
+pub fn drop(lent: &mut Lent) -> Result<(), Refusal> {
+    check(lent)?;
+    lent.registers[PHASE..].copy_from_slice(&[IDLE, 0, 0]);
+    Ok(())
+}
+
+pub fn forget(lent: &mut Lent) -> Result<(), Refusal> {
+    check(lent)?;
+    lent.cache.fill(0);
+    Ok(())
+}
+
+/// Writes an image at the output's front and gives its length.
+pub fn save(lent: &Lent, output: &mut [u8]) -> Result<u32, Refusal> {
+    state_room(lent)?;
+    let (n, b) = (lent.registers[0] as usize, lent.registers[1] as usize);
+    let length = 10 + 8 * n + 2 * b;
+    if output.len() < length {
+        return refuse(3, Buffer("output"), "too short");
+    }
+    state_right(lent)?;
+    let header = [1, lent.registers[0], lent.registers[1], lent.registers[2], lent.registers[3]];
+    let words = header.iter().chain(&lent.contents[..4 * n]).chain(&lent.bodies[..b]);
+    for (pair, word) in output.chunks_mut(2).zip(words) {
+        pair.copy_from_slice(&word.to_be_bytes());
+    }
+    Ok(length as u32)
+}
+
+fn machine<'a>(world: World, frames: Vec<Frame>, stack: &'a mut [u16], cache: &'a mut [u16], room: Room, counts: &'a mut Counts) -> Machine<'a> {
+    let mut machine = Machine { world, frames, stack, cache, room, highest: 0, counts };
+    machine.highest = machine.frames.last().map_or(0, |frame| machine.end_of(frame));
+    machine
+}
+
+/// What a machine leaves in the lent words, its stack and cache aside.
+fn settle(world: &World, contents: &mut [u16], bodies: &mut [u16], registers: &mut Registers, last: [u16; 3]) {
+    world.objects.flat(contents, bodies);
+    registers[0] = world.objects.list.len() as u16;
+    registers[1] = world.objects.body_total() as u16;
+    registers[PHASE..].copy_from_slice(&last);
+}
+
+pub fn begin(lent: &mut Lent, receiver: u16, selector: u16, arguments: &[u16], counts: &mut Counts) -> Result<(), Refusal> {
+    state_room(lent)?;
+    let (world, _) = state_right(lent)?;
+    if lent.registers[PHASE] == RUNNING {
+        return refuse(12, Register(PHASE), "a handler is running");
+    }
+    let objects = &world.objects;
+    if !objects.valid(receiver) || arguments.iter().any(|word| !objects.valid(*word)) || !objects.has_kind(selector, BYTES) {
+        return refuse(8, Message, "an invalid word, or a selector that is no byte object");
+    }
+    let Some(method) = objects.lookup(objects.class_of(receiver), selector) else {
+        return refuse(9, Message, "no method");
+    };
+    if world.method(method).arguments != arguments.len() {
+        return refuse(10, Message, "another count of arguments");
+    }
+    let room = Room { contents: lent.contents.len(), bodies: lent.bodies.len() };
+    let mut machine = machine(world, vec![], lent.stack, lent.cache, room, counts);
+    let last = match machine.activate(method, receiver, arguments) {
+        Ok(Activation::Answer(word)) => [FINISHED, 0, word],
+        Ok(Activation::Frame) if !machine.fits(0, method) => return refuse(13, Buffer("stack"), "the first frame does not fit"),
+        Ok(Activation::Frame) => {
+            machine.enter(0, method, receiver, arguments.to_vec());
+            [RUNNING, 0, 0]
+        }
+        Err(_) => unreachable!("a lookup from the receiver's class finds what the receiver can run"),
+    };
+    settle(&machine.world, lent.contents, lent.bodies, lent.registers, last);
+    Ok(())
+}
+
+pub fn run(lent: &mut Lent, n: u32, counts: &mut Counts) -> Result<Ran, Refusal> {
+    state_room(lent)?;
+    let (world, frames) = state_right(lent)?;
+    if lent.registers[PHASE] != RUNNING {
+        return refuse(12, Register(PHASE), "no handler is running");
+    }
+    let room = Room { contents: lent.contents.len(), bodies: lent.bodies.len() };
+    let mut machine = machine(world, frames, lent.stack, lent.cache, room, counts);
+    let mut count = 0;
+    let mut end = (RUNNING, 0);
+    while count < n && end.0 == RUNNING {
+        match machine.step() {
+            Ok(Made::Goes) => count += 1,
+            Ok(Made::Finishes(value)) => {
+                count += 1;
+                end = (FINISHED, value);
+            }
+            Err(phase) => end = (phase, 0),
+        }
+    }
+    let top = machine.frames.last().map_or(0, |frame| frame.base) as u16;
+    settle(&machine.world, lent.contents, lent.bodies, lent.registers, [end.0, top, end.1]);
+    Ok(Ran { count, highest: machine.highest })
+}

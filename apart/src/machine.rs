@@ -1,0 +1,343 @@
+//! Frames and the step. The frames are structs; `stack` is their flat view, in which the words of frames that are gone stay as they were.
+
+use crate::code::*;
+use crate::counts::Counts;
+use crate::objects::*;
+use crate::primitives::*;
+use crate::rules::World;
+use crate::words::*;
+
+pub const IDLE: u16 = 0;
+pub const RUNNING: u16 = 1;
+pub const FINISHED: u16 = 2;
+pub const NOT_UNDERSTOOD: u16 = 3;
+pub const NO_BOOLEAN: u16 = 4;
+pub const NO_STACK_ROOM: u16 = 5;
+
+pub struct Frame {
+    pub base: usize,
+    pub method: u16,
+    pub receiver: u16,
+    pub position: usize,
+    pub temporaries: Vec<u16>,
+    pub operands: Vec<u16>,
+}
+
+pub struct Machine<'a> {
+    pub world: World,
+    pub frames: Vec<Frame>,
+    pub stack: &'a mut [u16],
+    pub cache: &'a mut [u16],
+    pub room: Room,
+    /// The end of the highest frame that stood.
+    pub highest: usize,
+    pub counts: &'a mut Counts,
+}
+
+/// What a bytecode that was made leads to.
+pub enum Made {
+    Goes,
+    Finishes(u16),
+}
+
+/// A method that answers at once, or the frame that it needs.
+pub enum Activation {
+    Answer(u16),
+    Frame,
+}
+
+impl Machine<'_> {
+    fn top(&mut self) -> &mut Frame {
+        self.frames.last_mut().unwrap()
+    }
+
+    pub fn end_of(&self, frame: &Frame) -> usize {
+        frame.base + 6 + self.world.method(frame.method).room()
+    }
+
+    /// Where the next frame would start.
+    fn next_base(&self) -> usize {
+        self.frames.last().map_or(0, |frame| self.end_of(frame))
+    }
+
+    pub fn fits(&self, base: usize, method: u16) -> bool {
+        let end = base + 6 + self.world.method(method).room();
+        end <= self.stack.len() && end <= 65_536
+    }
+
+    /// Writes the words of one frame, up to its depth, into the flat view.
+    fn show(&mut self, index: usize) {
+        let frame = &self.frames[index];
+        let sender = if index == 0 { 0 } else { self.frames[index - 1].base };
+        let six = [sender as u16, frame.position as u16, frame.operands.len() as u16, frame.method, 0, frame.receiver];
+        let words = six.iter().chain(&frame.temporaries).chain(&frame.operands);
+        for (place, word) in self.stack[frame.base..].iter_mut().zip(words) {
+            *place = *word;
+        }
+    }
+
+    /// One bytecode. A halt gives its phase and changes nothing.
+    pub fn step(&mut self) -> Result<Made, u16> {
+        let frame = self.frames.last().unwrap();
+        let code = &self.world.method(frame.method).code;
+        let byte = code[frame.position];
+        let (instruction, next) = decode(code, frame.position).expect("a reached position");
+        let before = self.frames.len();
+        let made = self.execute(instruction, next)?;
+        self.counts.bytecodes[byte as usize] += 1;
+        if let Made::Goes = made {
+            // A send writes its caller too, whose operands are fewer and whose position is past the send.
+            if self.frames.len() > before {
+                self.show(before - 1);
+            }
+            self.show(self.frames.len() - 1);
+        }
+        Ok(made)
+    }
+
+    fn execute(&mut self, instruction: Instruction, next: usize) -> Result<Made, u16> {
+        match instruction {
+            Instruction::Push(place) => {
+                let word = self.read(place);
+                self.push(word);
+            }
+            Instruction::PushSelf => {
+                let receiver = self.top().receiver;
+                self.push(receiver);
+            }
+            Instruction::PushWord(word) => self.push(word),
+            Instruction::Store(place) => {
+                let word = *self.top().operands.last().unwrap();
+                self.write(place, word);
+            }
+            Instruction::PopInto(place) => {
+                let word = self.pop();
+                self.write(place, word);
+            }
+            Instruction::Pop => {
+                self.pop();
+            }
+            Instruction::Duplicate => {
+                let word = *self.top().operands.last().unwrap();
+                self.push(word);
+            }
+            Instruction::ReturnSelf => {
+                let receiver = self.top().receiver;
+                return Ok(self.give_back(receiver));
+            }
+            Instruction::ReturnWord(word) => return Ok(self.give_back(word)),
+            Instruction::ReturnTop => {
+                let word = self.pop();
+                return Ok(self.give_back(word));
+            }
+            Instruction::Jump(distance) => {
+                self.top().position = (next as i64 + distance as i64) as usize;
+                return Ok(Made::Goes);
+            }
+            Instruction::JumpOn(truth, distance) => return self.jump_on(truth, distance, next),
+            Instruction::Special(special) => return self.special(special, next),
+            Instruction::Send { arguments, literal } => {
+                let selector = self.literal(literal);
+                let class = self.world.objects.class_of(self.receiver_below(arguments));
+                return self.send(selector, class, arguments, next);
+            }
+            Instruction::SuperSend { arguments, literal } => {
+                let selector = self.literal(literal);
+                let method = self.top().method;
+                let home = self.world.method(method).home;
+                let above = self.world.objects.class(home).unwrap().superclass;
+                return self.send(selector, above, arguments, next);
+            }
+        }
+        self.top().position = next;
+        Ok(Made::Goes)
+    }
+
+    fn push(&mut self, word: u16) {
+        self.top().operands.push(word);
+    }
+
+    fn pop(&mut self) -> u16 {
+        self.top().operands.pop().expect("an operand")
+    }
+
+    fn literal(&mut self, index: usize) -> u16 {
+        let method = self.top().method;
+        self.world.method(method).literals[index]
+    }
+
+    /// The receiver of a send lies below its arguments.
+    fn receiver_below(&self, arguments: usize) -> u16 {
+        let operands = &self.frames.last().unwrap().operands;
+        operands[operands.len() - 1 - arguments]
+    }
+
+    fn read(&mut self, place: Place) -> u16 {
+        match place {
+            Place::Field(index) => {
+                let receiver = self.top().receiver;
+                self.world.objects.get(receiver).unwrap().body[index]
+            }
+            Place::Temporary(index) => self.top().temporaries[index],
+            Place::Literal(index) => self.literal(index),
+            Place::Variable(index) => {
+                let variable = self.literal(index);
+                self.world.objects.get(variable).unwrap().body[1]
+            }
+        }
+    }
+
+    fn write(&mut self, place: Place, word: u16) {
+        match place {
+            Place::Field(index) => {
+                let receiver = self.top().receiver;
+                self.world.objects.get_mut(receiver).unwrap().body[index] = word;
+            }
+            Place::Temporary(index) => self.top().temporaries[index] = word,
+            Place::Literal(_) => unreachable!("no table has a store to a literal"),
+            Place::Variable(index) => {
+                let variable = self.literal(index);
+                self.world.objects.get_mut(variable).unwrap().body[1] = word;
+            }
+        }
+    }
+
+    fn give_back(&mut self, word: u16) -> Made {
+        self.frames.pop();
+        if self.frames.is_empty() {
+            return Made::Finishes(word);
+        }
+        self.push(word);
+        Made::Goes
+    }
+
+    fn jump_on(&mut self, truth: u16, distance: i32, next: usize) -> Result<Made, u16> {
+        let word = *self.top().operands.last().unwrap();
+        if word != TRUE && word != FALSE {
+            return Err(NO_BOOLEAN);
+        }
+        self.pop();
+        self.top().position = if word == truth { next + distance as usize } else { next };
+        Ok(Made::Goes)
+    }
+
+    fn special(&mut self, special: usize, next: usize) -> Result<Made, u16> {
+        let arguments = special_arguments(special);
+        let receiver = self.receiver_below(arguments);
+        if special == CLASS_OF {
+            let class = self.world.objects.class_of(receiver);
+            return self.answer(arguments, class, next);
+        }
+        let argument = *self.top().operands.last().unwrap();
+        if special == IDENTITY {
+            return self.answer(arguments, boolean(receiver == argument), next);
+        }
+        let number = special_primitive(special);
+        if number != 0 {
+            let answer = arithmetic(number, receiver, argument);
+            self.counts.event(if answer.is_some() { "special arithmetic answered" } else { "special arithmetic sent" });
+            if let Some(word) = answer {
+                return self.answer(arguments, word, next);
+            }
+        }
+        let selector = self.world.objects.get(SPECIALS).unwrap().body[special];
+        self.send(selector, self.world.objects.class_of(receiver), arguments, next)
+    }
+
+    /// Takes receiver and arguments away and puts an answer in their stead.
+    fn answer(&mut self, arguments: usize, word: u16, next: usize) -> Result<Made, u16> {
+        self.take(arguments, next);
+        self.push(word);
+        Ok(Made::Goes)
+    }
+
+    /// Takes receiver and arguments away; gives the arguments.
+    fn take(&mut self, arguments: usize, next: usize) -> Vec<u16> {
+        let frame = self.top();
+        let taken = frame.operands.split_off(frame.operands.len() - arguments);
+        frame.operands.pop();
+        frame.position = next;
+        taken
+    }
+
+    fn send(&mut self, selector: u16, class: u16, arguments: usize, next: usize) -> Result<Made, u16> {
+        let Some(method) = self.world.objects.lookup(class, selector) else {
+            self.counts.event("halt: no method");
+            return Err(NOT_UNDERSTOOD);
+        };
+        let receiver = self.receiver_below(arguments);
+        let operands = &self.frames.last().unwrap().operands;
+        let words = operands[operands.len() - arguments..].to_vec();
+        match self.activate(method, receiver, &words)? {
+            Activation::Answer(word) => {
+                self.fill(selector, class, method);
+                self.answer(arguments, word, next)
+            }
+            Activation::Frame => {
+                let base = self.next_base();
+                if !self.fits(base, method) {
+                    return Err(NO_STACK_ROOM);
+                }
+                self.fill(selector, class, method);
+                self.take(arguments, next);
+                self.enter(base, method, receiver, words);
+                Ok(Made::Goes)
+            }
+        }
+    }
+
+    /// Flags 5 and 6 and primitives answer; a frame asks that the home is in the receiver's chain.
+    pub fn activate(&mut self, method: u16, receiver: u16, arguments: &[u16]) -> Result<Activation, u16> {
+        let Method { flag, temporaries, primitive: number, home, .. } = *self.world.method(method);
+        if flag == 5 {
+            self.counts.event("answered by flag 5");
+            return Ok(Activation::Answer(receiver));
+        }
+        if flag == 6 {
+            return self.field_answer(receiver, temporaries);
+        }
+        if flag == 7 {
+            let answer = primitive(&mut self.world.objects, self.room, number, receiver, arguments);
+            self.counts.primitive(number, answer.is_some());
+            if let Some(word) = answer {
+                return Ok(Activation::Answer(word));
+            }
+        }
+        if !self.world.objects.in_chain(receiver, home) {
+            self.counts.event("halt: home not in the receiver's chain");
+            return Err(NOT_UNDERSTOOD);
+        }
+        Ok(Activation::Frame)
+    }
+
+    fn field_answer(&mut self, receiver: u16, field: usize) -> Result<Activation, u16> {
+        let object = self.world.objects.get(receiver).filter(|object| object.kind == FIELDS);
+        match object.and_then(|object| object.body.get(field)) {
+            Some(word) => {
+                self.counts.event("answered by flag 6");
+                Ok(Activation::Answer(*word))
+            }
+            None => {
+                self.counts.event("halt: no such field");
+                Err(NOT_UNDERSTOOD)
+            }
+        }
+    }
+
+    /// The entry of a lookup that found. Where it hits, the words are the same.
+    fn fill(&mut self, selector: u16, class: u16, method: u16) {
+        let at = 3 * (((selector & class) / 2) % 64) as usize;
+        let hit = self.cache[at] == selector && self.cache[at + 1] == class;
+        self.counts.event(if hit { "cache hit" } else { "cache filled" });
+        self.cache[at..at + 3].copy_from_slice(&[selector, class, method]);
+    }
+
+    /// A new frame on top.
+    pub fn enter(&mut self, base: usize, method: u16, receiver: u16, arguments: Vec<u16>) {
+        let mut temporaries = arguments;
+        temporaries.resize(self.world.method(method).temporaries, NIL);
+        self.frames.push(Frame { base, method, receiver, position: 0, temporaries, operands: vec![] });
+        self.highest = self.highest.max(self.next_base());
+        self.show(self.frames.len() - 1);
+    }
+}
