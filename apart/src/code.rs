@@ -187,7 +187,7 @@ fn instruction_fine(around: &Surroundings, method: &Method, instruction: Instruc
 }
 
 /// Operands that an instruction needs, and what it leaves in their stead.
-fn need_and_left(instruction: Instruction) -> (usize, usize) {
+pub fn need_and_left(instruction: Instruction) -> (usize, usize) {
     match instruction {
         Instruction::Push(_) | Instruction::PushSelf | Instruction::PushWord(_) => (0, 1),
         Instruction::Store(_) => (1, 1),
@@ -201,7 +201,7 @@ fn need_and_left(instruction: Instruction) -> (usize, usize) {
 }
 
 /// Where an instruction leads.
-fn successors(instruction: Instruction, next: usize) -> Vec<i64> {
+pub fn successors(instruction: Instruction, next: usize) -> Vec<i64> {
     let next = next as i64;
     match instruction {
         Instruction::ReturnSelf | Instruction::ReturnWord(_) | Instruction::ReturnTop => vec![],

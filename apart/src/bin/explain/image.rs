@@ -1,0 +1,193 @@
+//! The words of an image as they stand, and names for what they hold. Nothing here trusts the image: what cannot be read is said to be so.
+
+use apart::objects::*;
+use apart::words::*;
+use std::collections::HashMap;
+
+pub const KINDS: [&str; 5] = ["fields", "bytes", "class", "list", "method"];
+pub const FORMS: [&str; 4] = ["fields", "indexed", "bytes", "code"];
+/// No right image has as many pairs in its dictionaries.
+const MOST_PAIRS: usize = MOST_BODY_WORDS / 2;
+
+pub struct Image {
+    pub contents: Vec<u16>,
+    pub bodies: Vec<u16>,
+    /// The classes and selectors, by number, that a method stands under.
+    pub places: HashMap<usize, Vec<(usize, usize)>>,
+    /// The first class that names a list as its dictionary.
+    pub owners: HashMap<usize, usize>,
+}
+
+fn object_number(word: u16) -> Option<usize> {
+    (!is_integer(word) && word != 0).then_some(word as usize / 2)
+}
+
+impl Image {
+    /// Of the bytes after the header.
+    pub fn new(n: usize, bytes: &[u8]) -> Image {
+        let words: Vec<u16> = bytes.chunks_exact(2).map(|pair| u16::from_be_bytes([pair[0], pair[1]])).collect();
+        let (contents, bodies) = words.split_at(words.len().min(4 * n));
+        let mut image = Image { contents: contents.to_vec(), bodies: bodies.to_vec(), places: HashMap::new(), owners: HashMap::new() };
+        let mut pairs = 0;
+        for class in 1..=n {
+            let Some(list) = image.of_kind(class, CLASS).then(|| image.word(class, 1)).flatten().and_then(object_number) else { continue };
+            image.owners.entry(list).or_insert(class);
+            let length = if image.of_kind(list, LIST) { image.length(list) } else { 0 };
+            for at in (0..length).step_by(2) {
+                let pair = (image.word(list, at).and_then(object_number), image.word(list, at + 1).and_then(object_number));
+                pairs += 1;
+                if pairs > MOST_PAIRS {
+                    return image;
+                }
+                if let (Some(selector), Some(method)) = pair {
+                    image.places.entry(method).or_default().push((class, selector));
+                }
+            }
+        }
+        image
+    }
+
+    /// Class, kind, start and size.
+    pub fn entry(&self, number: usize) -> Option<[u16; 4]> {
+        let at = 4 * number.checked_sub(1)?;
+        self.contents.get(at..at + 4)?.try_into().ok()
+    }
+
+    pub fn of_kind(&self, number: usize, kind: u16) -> bool {
+        self.entry(number).is_some_and(|entry| entry[1] == kind)
+    }
+
+    /// Words of the body, as the entry tells.
+    pub fn length(&self, number: usize) -> usize {
+        self.entry(number).map_or(0, |entry| body_words(entry[1], entry[3]))
+    }
+
+    pub fn word(&self, number: usize, index: usize) -> Option<u16> {
+        let start = self.entry(number)?[2] as usize;
+        (index < self.length(number)).then(|| self.bodies.get(start + index).copied())?
+    }
+
+    /// The bytes of the body that are there.
+    pub fn bytes(&self, number: usize) -> Vec<u8> {
+        let size = self.entry(number).map_or(0, |entry| entry[3] as usize);
+        let words = (0..self.length(number)).map_while(|index| self.word(number, index));
+        words.flat_map(u16::to_be_bytes).take(size).collect()
+    }
+
+    /// A byte object: its text if that can be printed.
+    pub fn text(&self, number: usize) -> String {
+        let bytes = self.bytes(number);
+        if !self.of_kind(number, BYTES) || bytes.is_empty() || bytes.len() > 60 || !bytes.iter().all(|byte| (33..127).contains(byte)) {
+            return format!("object {number}");
+        }
+        bytes.iter().map(|byte| *byte as char).collect()
+    }
+
+    /// A method by class and selector.
+    pub fn method_name(&self, number: usize) -> String {
+        let names = self.places.get(&number).into_iter().flatten().take(4);
+        let names: Vec<String> = names.map(|(class, selector)| format!("class {class}>>{}", self.text(*selector))).collect();
+        if names.is_empty() {
+            "in no dictionary".to_string()
+        } else {
+            names.join(", ")
+        }
+    }
+
+    pub fn object_name(&self, number: usize) -> String {
+        match (number, self.entry(number)) {
+            (1..=3, Some(_)) => ["nil", "false", "true"][number - 1].to_string(),
+            (4, Some(_)) => "class 4 (of integers)".to_string(),
+            (5, Some(_)) => "list 5 (special selectors)".to_string(),
+            (_, None) => format!("object {number}, which is not there"),
+            (_, Some([_, CLASS, ..])) => format!("class {number}"),
+            (_, Some([_, METHOD, ..])) => format!("method {number} ({})", self.method_name(number)),
+            (_, Some([_, LIST, ..])) => match self.owners.get(&number) {
+                Some(class) => format!("list {number} (dictionary of class {class})"),
+                None => format!("list {number}"),
+            },
+            (_, Some([_, BYTES, ..])) if self.text(number) != format!("object {number}") => format!("#{} (object {number})", self.text(number)),
+            (_, Some([_, BYTES, ..])) => format!("bytes {number}"),
+            (_, Some([class, ..])) => match object_number(class) {
+                Some(class) => format!("object {number} of class {class}"),
+                None => format!("object {number}"),
+            },
+        }
+    }
+
+    /// What a word stands for.
+    pub fn name(&self, word: u16) -> String {
+        match object_number(word) {
+            None if word == 0 => "invalid word 0".to_string(),
+            None => integer(word).to_string(),
+            Some(number) if self.entry(number).is_none() => format!("invalid word {word}"),
+            Some(number) => self.object_name(number),
+        }
+    }
+
+    /// A word as it stands and what it stands for.
+    pub fn found(&self, word: u16) -> String {
+        match self.name(word) {
+            name if is_integer(word) => format!("word {word}, the integer {name}"),
+            name if name.starts_with("invalid") => name,
+            name => format!("word {word}, {name}"),
+        }
+    }
+
+    /// What a word of a body is for.
+    pub fn role(&self, number: usize, index: usize) -> String {
+        let kind = self.entry(number).map_or(FIELDS, |entry| entry[1]);
+        match kind {
+            CLASS if index < 4 => ["superclass", "dictionary", "F, the number of fields", "form"][index].to_string(),
+            LIST if number == 5 => format!("selector of bytecode {}", 176 + index),
+            LIST if self.owners.contains_key(&number) => format!("{} of pair {}", ["selector", "method"][index % 2], index / 2),
+            METHOD if index < 2 => ["header", "home"][index].to_string(),
+            METHOD if self.method(number).is_some_and(|method| index - 2 < method.literals.len()) => format!("literal {}", index - 2),
+            METHOD | BYTES => format!("bytes {} and {}", 2 * index, 2 * index + 1),
+            FIELDS => format!("field {index}"),
+            _ => format!("word {index}"),
+        }
+    }
+
+    /// Entry and body in one line, the body shortened.
+    pub fn shown(&self, number: usize) -> String {
+        let Some([class, kind, start, size]) = self.entry(number) else { return self.object_name(number) };
+        let kind_name = KINDS.get(kind as usize).unwrap_or(&"none");
+        let words = (0..self.length(number)).map_while(|index| self.word(number, index));
+        let mut parts: Vec<String> = match kind {
+            BYTES | METHOD => self.bytes(number).iter().take(17).map(u8::to_string).collect(),
+            _ => words.take(17).map(|word| self.name(word)).collect(),
+        };
+        if parts.len() > 16 {
+            parts[16] = "...".to_string();
+        }
+        let body = parts.join(if kind == BYTES || kind == METHOD { " " } else { ", " });
+        let name = if kind == FIELDS && number > 5 || kind > METHOD { format!("object {number}") } else { self.object_name(number) };
+        let colon = if parts.is_empty() { "" } else { ": " };
+        format!("{name}: class {}, kind {kind} ({kind_name}), start {start}, size {size}{colon}{body}", self.class_shown(class))
+    }
+
+    /// A class with what decides on its instances.
+    fn class_shown(&self, word: u16) -> String {
+        let Some(number) = object_number(word).filter(|number| self.of_kind(*number, CLASS)) else { return self.name(word) };
+        let (Some(fields), Some(form)) = (self.word(number, 2), self.word(number, 3)) else { return number.to_string() };
+        format!("{number} (form {}, F {})", self.name(form), self.name(fields))
+    }
+
+    /// A method taken apart as far as it can be.
+    pub fn method(&self, number: usize) -> Option<Method> {
+        let header = self.word(number, 0).filter(|_| self.of_kind(number, METHOD))?;
+        let count = (header >> 1 & 63) as usize;
+        let literals: Vec<u16> = (2..2 + count).map_while(|index| self.word(number, index)).collect();
+        let flag = header >> 13;
+        let extension = if count >= 2 { literals.get(count - 2).copied().unwrap_or(0) } else { 0 };
+        let (arguments, primitive) = match flag {
+            0..=4 => (flag as usize, 0),
+            7 => ((extension >> 9) as usize, extension >> 1 & 255),
+            _ => (0, 0),
+        };
+        let code = self.bytes(number).into_iter().skip(4 + 2 * count).collect();
+        let (temporaries, large, home) = ((header >> 8 & 31) as usize, header >> 7 & 1 == 1, self.word(number, 1)?);
+        Some(Method { flag, temporaries, large, home, literals, arguments, primitive, code, table: None })
+    }
+}
