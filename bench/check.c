@@ -3,9 +3,9 @@
 // registers and every word have to agree. Argument: a file to which the goals are added.
 #include "images.h"
 #include "machine.h"
+#include "measure.h"
 #include <stdio.h>
 #include <string.h>
-#include <time.h>
 
 enum { CONTENTS = 4 * 2047, BODIES = 24000, STACK = 65536, CACHE = 192, SIZE = CONTENTS + BODIES + STACK + CACHE };
 enum { IMAGES = 1000, HANDLERS = 8, SPOILED = 4 };
@@ -17,16 +17,9 @@ static uint8_t image[MOST_IMAGE];
 static uint16_t words[4][SIZE];
 static uint64_t seed = 11;
 
-static unsigned below(unsigned n) {
-    seed = seed * 6364136223846793005u + 1442695040888963407u;
-    return (unsigned)(seed >> 33) % n;
-}
+static unsigned below(unsigned n) { return random_below(&seed, n); }
 
-static double now(void) {
-    struct timespec t;
-    clock_gettime(CLOCK_MONOTONIC, &t);
-    return t.tv_sec * 1e9 + t.tv_nsec;
-}
+static double now(void) { return nanoseconds(CLOCK_MONOTONIC); }
 
 // A machine whose buffers have these lengths.
 static machine on(uint16_t *at, size_t contents, size_t bodies, size_t stack) {

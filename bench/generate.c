@@ -2,13 +2,11 @@
 // them back, so that no two visits are neighbours.
 #include "walk.h"
 #include "generate.h"
+#include "measure.h"
 
 static uint64_t seed = 1;
 
-static unsigned below(unsigned n) {
-    seed = seed * 6364136223846793005u + 1442695040888963407u;
-    return (unsigned)(seed >> 33) % n;
-}
+static unsigned below(unsigned n) { return random_below(&seed, n); }
 
 static void put(uint16_t *words, size_t at, unsigned b) {
     const unsigned w = words[at / 2];

@@ -1,13 +1,11 @@
 // Images for the benchmarks.
 #include "images.h"
+#include "measure.h"
 #include <string.h>
 
 static uint64_t state;
 
-static unsigned below(unsigned n) {
-    state = state * 6364136223846793005u + 1442695040888963407u;
-    return (unsigned)(state >> 33) % n;
-}
+static unsigned below(unsigned n) { return random_below(&state, n); }
 
 static unsigned bytes(unsigned size) {
     const unsigned k = new_object(STRINGS, BYTES, size);

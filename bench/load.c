@@ -1,10 +1,10 @@
 // Times reading and checking images, ours and C's by turns; the least of all runs counts. Both have to answer and leave the same.
 #include "image.h"
 #include "images.h"
+#include "measure.h"
 #include "walk.h"
 #include <stdio.h>
 #include <string.h>
-#include <time.h>
 
 enum { CONTENTS = 4 * 2047, BODIES = 24000, NOTES = 48000, EDITS = 100000 };
 
@@ -19,16 +19,9 @@ static uint16_t contents[2][CONTENTS], bodies[2][BODIES];
 static uint8_t notes[2][NOTES];
 static uint64_t seed = 7;
 
-static unsigned below(unsigned n) {
-    seed = seed * 6364136223846793005u + 1442695040888963407u;
-    return (unsigned)(seed >> 33) % n;
-}
+static unsigned below(unsigned n) { return random_below(&seed, n); }
 
-static double now(void) {
-    struct timespec t;
-    clock_gettime(CLOCK_MONOTONIC, &t);
-    return t.tv_sec * 1e9 + t.tv_nsec;
-}
+static double now(void) { return nanoseconds(CLOCK_MONOTONIC); }
 
 static unsigned word(const uint8_t *of, size_t i) { return of[2 * i] << 8 | of[2 * i + 1]; }
 

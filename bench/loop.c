@@ -1,10 +1,10 @@
 // Times runs, ours, C's and Lua's by turns; the least of all runs counts. After each run the library and its C peer have to agree in
 // registers, count, reach and every word of the four buffers. Arguments: a file to which the goals are added, and the command of Lua if there is one.
 #include "machine.h"
+#include "measure.h"
 #include "programs.h"
 #include <stdio.h>
 #include <string.h>
-#include <time.h>
 
 enum { CONTENTS = 4 * 2047, BODIES = 24000, STACK = 4096, CACHE = 192, RUNS = 20, LUA_RUNS = 10 };
 
@@ -16,11 +16,7 @@ static uint16_t words[3][CONTENTS + BODIES + STACK + CACHE];
 static machine begun, ours, theirs;
 
 // Processor time, as Lua's clock gives it.
-static double now(void) {
-    struct timespec t;
-    clock_gettime(CLOCK_PROCESS_CPUTIME_ID, &t);
-    return t.tv_sec * 1e9 + t.tv_nsec;
-}
+static double now(void) { return nanoseconds(CLOCK_PROCESS_CPUTIME_ID); }
 
 static machine on(uint16_t *at) {
     return (machine){{at, CONTENTS}, {at + CONTENTS, BODIES}, {at + CONTENTS + BODIES, STACK}, {at + CONTENTS + BODIES + STACK, CACHE}, {0}};

@@ -1,9 +1,9 @@
 // Times the proved walk and its C peer, by turns, on the same code; the least of all runs counts. Both have to note the same.
 #include "walk.h"
 #include "generate.h"
+#include "measure.h"
 #include <stdio.h>
 #include <string.h>
-#include <time.h>
 
 enum { SIZE = 48000, RUNS = 400 };
 
@@ -13,11 +13,7 @@ void bench_table(uint16_t *table);
 static uint16_t entries[256], words[SIZE / 2], pending[SIZE];
 static uint8_t ours[SIZE], theirs[SIZE];
 
-static double now(void) {
-    struct timespec t;
-    clock_gettime(CLOCK_MONOTONIC, &t);
-    return t.tv_sec * 1e9 + t.tv_nsec;
-}
+static double now(void) { return nanoseconds(CLOCK_MONOTONIC); }
 
 static int measure(const char *name) {
     const slice w = {words, SIZE / 2}, n = {ours, SIZE}, p = {pending, SIZE};
