@@ -9,7 +9,7 @@
  * A state runs one handler at a time: another contact waits, or has the handler dropped first, or goes to a state of its own.
  *
  * The library is target/staticlib/libsofaduck.a, made by `rt staticlib sofaduck`, for x86-64 with the System V calling convention. It calls memcpy
- * and memset and nothing else: it allocates nothing and has no global state. Calls on different states may run on different threads at once; calls
+ * and memset and nothing else: it allocates nothing and has no global state. Threads may call at once, each on a state of its own; calls
  * on one state come one after the other. No call takes SOFADUCK_CALL_STACK bytes of the C stack, whatever the image and the handler do.
  *
  * Buffers are the caller's. A length counts elements: words of 16 bits, or an image's bytes. The library trusts that behind every pointer there are
@@ -94,7 +94,7 @@ static inline uint16_t sofaduck_word(int integer) { return (uint16_t)(2 * intege
 static inline size_t sofaduck_start(const uint16_t *contents, uint16_t object) { return contents[4 * (object / 2u - 1) + 2]; }
 static inline size_t sofaduck_size(const uint16_t *contents, uint16_t object) { return contents[4 * (object / 2u - 1) + 3]; }
 
-/* Load puts an image's contents and bodies in place, empties the cache and sets the registers, in phase idle. Any bytes may be given; they are not
+/* Load copies an accepted image into contents and bodies, clears the cache and sets the registers, in phase idle. Any bytes may be given; they are not
  * needed afterwards.
  *
  *   image       all bytes of the image and no more

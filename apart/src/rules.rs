@@ -1,4 +1,4 @@
-//! The rules of an image, 1 to 8. Those of one number are looked at over the whole image before those of the next.
+//! The rules of an image, number by number: one that breaks several is refused by the lowest.
 
 use crate::code::{depth_table, Surroundings};
 use crate::objects::*;
