@@ -147,8 +147,9 @@ fn frames(world: &World, lent: &Lent) -> Result<Vec<Frame>, Refusal> {
 /// One frame, its end and its sender.
 fn frame(world: &World, stack: &[u16], base: usize, is_top: bool) -> Result<(Frame, usize, usize), Refusal> {
     let at = |word: usize| stack.get(base + word).copied();
-    let Some(receiver) = at(5) else {
-        return refuse(11, FrameWord(base, 5), "outside the stack");
+    let receiver = match at(5) {
+        Some(receiver) => receiver,
+        None => return refuse(11, FrameWord(base, 5), "outside the stack"),
     };
     let (sender, position, depth, method_word) = (stack[base] as usize, stack[base + 1] as usize, stack[base + 2] as usize, stack[base + 3]);
     if !world.objects.has_kind(method_word, METHOD) {
@@ -166,8 +167,9 @@ fn frame(world: &World, stack: &[u16], base: usize, is_top: bool) -> Result<(Fra
         return refuse(11, FrameWord(base, 5), "the method's home is not in the receiver's chain");
     }
     let reached = method.table.as_ref().and_then(|table| table.get(position).copied().flatten());
-    let Some(table_depth) = reached else {
-        return refuse(11, FrameWord(base, 1), "a position that is not reached");
+    let table_depth = match reached {
+        Some(table_depth) => table_depth,
+        None => return refuse(11, FrameWord(base, 1), "a position that is not reached"),
     };
     let expected = if is_top { depth } else { depth + 1 };
     if expected != table_depth {
@@ -241,8 +243,9 @@ pub fn begin(lent: &mut Lent, receiver: u16, selector: u16, arguments: &[u16], c
     if !objects.valid(receiver) || arguments.iter().any(|word| !objects.valid(*word)) || !objects.has_kind(selector, BYTES) {
         return refuse(8, Message, "an invalid word, or a selector that is no byte object");
     }
-    let Some(method) = objects.lookup(objects.class_of(receiver), selector) else {
-        return refuse(9, Message, "no method");
+    let method = match objects.lookup(objects.class_of(receiver), selector) {
+        Some(method) => method,
+        None => return refuse(9, Message, "no method"),
     };
     if world.method(method).arguments != arguments.len() {
         return refuse(10, Message, "another count of arguments");

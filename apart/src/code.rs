@@ -156,7 +156,7 @@ fn place_fine(around: &Surroundings, method: &Method, place: Place) -> Found {
         Place::Variable(index) => {
             ask(index < method.literals.len(), "a literal that the method has not")?;
             let variable = around.objects.get(method.literals[index]);
-            ask(variable.is_some_and(|object| object.kind == FIELDS && object.size >= 2), "a literal variable without field 1")
+            ask(variable.map_or(false, |object| object.kind == FIELDS && object.size >= 2), "a literal variable without field 1")
         }
     }
 }
@@ -164,7 +164,7 @@ fn place_fine(around: &Surroundings, method: &Method, place: Place) -> Found {
 fn selector_fine(around: &Surroundings, selector: u16, arguments: usize) -> Found {
     ask(selector == NIL || around.objects.has_kind(selector, BYTES), "a selector that is neither nil nor bytes")?;
     let count = around.counts.get(&selector);
-    ask(count.is_none_or(|count| *count == arguments), "a send with another count than the methods under its selector")
+    ask(count.map_or(true, |count| *count == arguments), "a send with another count than the methods under its selector")
 }
 
 /// The rules of one instruction that do not depend on the depth.
@@ -222,8 +222,9 @@ pub fn depth_table(around: &Surroundings, method: &Method) -> Result<Vec<Option<
             }
             continue;
         }
-        let Some((instruction, next)) = decode(&method.code, position) else {
-            return Err((position, "outside the code, not whole or unused"));
+        let (instruction, next) = match decode(&method.code, position) {
+            Some(found) => found,
+            None => return Err((position, "outside the code, not whole or unused")),
         };
         table[position] = Some(depth);
         let after = judge(around, method, instruction, depth).map_err(|why| (position, why))?;

@@ -4,6 +4,8 @@
 pub mod calls;
 pub mod code;
 pub mod counts;
+pub mod image;
+pub mod listing;
 pub mod machine;
 pub mod objects;
 pub mod primitives;

@@ -261,9 +261,12 @@ impl Machine<'_> {
     }
 
     fn send(&mut self, selector: u16, class: u16, arguments: usize, next: usize) -> Result<Made, u16> {
-        let Some(method) = self.world.objects.lookup(class, selector) else {
-            self.counts.event("halt: no method");
-            return Err(NOT_UNDERSTOOD);
+        let method = match self.world.objects.lookup(class, selector) {
+            Some(method) => method,
+            None => {
+                self.counts.event("halt: no method");
+                return Err(NOT_UNDERSTOOD);
+            }
         };
         let receiver = self.receiver_below(arguments);
         let operands = &self.frames.last().unwrap().operands;

@@ -110,7 +110,7 @@ impl Objects {
     }
 
     pub fn has_kind(&self, word: u16, kind: u16) -> bool {
-        self.get(word).is_some_and(|object| object.kind == kind)
+        self.get(word).map_or(false, |object| object.kind == kind)
     }
 
     pub fn class_of(&self, word: u16) -> u16 {

@@ -209,8 +209,9 @@ fn dictionary(objects: &Objects, number: usize) -> Result<(), Refusal> {
 /// Rule 6: each object has a class, and fits its form.
 fn entries(objects: &Objects) -> Result<(), Refusal> {
     for (number, object) in numbered(objects) {
-        let Some(class) = objects.class(object.class) else {
-            return refuse(6, Entry(number, 0), "a class that is none");
+        let class = match objects.class(object.class) {
+            Some(class) => class,
+            None => return refuse(6, Entry(number, 0), "a class that is none"),
         };
         let size = object.size as usize;
         let fits = match object.kind {
@@ -232,7 +233,7 @@ fn first_objects(objects: &Objects) -> Result<(), Refusal> {
             return refuse(6, Entry(number, 1), "nil, false or true of another kind than 0");
         }
     }
-    if objects.class(INTEGER_CLASS).is_none_or(|class| class.form != 3) {
+    if objects.class(INTEGER_CLASS).map_or(true, |class| class.form != 3) {
         return refuse(6, Entry(4, 1), "the class of integers is no class of form 3");
     }
     let specials = objects.get(SPECIALS).unwrap();
@@ -254,7 +255,10 @@ fn methods(objects: &Objects) -> Result<Vec<Option<Method>>, Refusal> {
     }
     let counts = counts_under_selectors(objects, &methods)?;
     for (index, slot) in methods.iter_mut().enumerate() {
-        let Some(method) = slot else { continue };
+        let method = match slot {
+            Some(method) => method,
+            None => continue,
+        };
         let fields = objects.class(method.home).unwrap().fields;
         let table = depth_table(&Surroundings { objects, fields, counts: &counts }, method);
         match table {
@@ -282,8 +286,9 @@ fn method(objects: &Objects, number: usize, object: &Object) -> Result<Method, R
         return refuse(7, Entry(number, 3), "a method without room for its literals");
     }
     let home = object.body[1];
-    let Some(home_class) = objects.class(home) else {
-        return refuse(7, Body(number, 1), "a home that is no class");
+    let home_class = match objects.class(home) {
+        Some(home_class) => home_class,
+        None => return refuse(7, Body(number, 1), "a home that is no class"),
     };
     let literals = object.body[2..2 + literal_count].to_vec();
     if let Some(word) = literals.iter().position(|word| !objects.valid(*word)) {

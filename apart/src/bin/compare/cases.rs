@@ -194,7 +194,10 @@ fn list_case(random: &mut Random, pair: &mut Pair, image: Vec<u8>) -> Compared<(
 fn primitive_case(random: &mut Random, pair: &mut Pair, image: Vec<u8>) -> Compared<()> {
     pair.make(Call::Load(image))?;
     for _ in 0..40 {
-        let Some(world) = pair.world() else { return Ok(()) };
+        let world = match pair.world() {
+            Some(world) => world,
+            None => return Ok(()),
+        };
         let left = pair.ours.lengths[1].min(MOST_BODY_WORDS) as i64 - pair.ours.registers[1] as i64;
         let call = primitive_message(random, &world, left);
         pair.make(call)?;
@@ -228,8 +231,8 @@ fn primitive_message(random: &mut Random, world: &World, left: i64) -> Call {
     let suits = |word: u16| match method.primitive {
         1..=17 => is_integer(word),
         60..=62 => [1, 2].contains(&form_of(word)),
-        70 => objects.class(word).is_some_and(|class| class.form == 0),
-        71 => objects.class(word).is_some_and(|class| [1, 2].contains(&class.form)),
+        70 => objects.class(word).map_or(false, |class| class.form == 0),
+        71 => objects.class(word).map_or(false, |class| [1, 2].contains(&class.form)),
         _ => true,
     };
     let mut receiver = argument(random, n);
@@ -314,8 +317,9 @@ fn argument(random: &mut Random, n: usize) -> u16 {
 
 /// A begin, most often of a method that is there.
 fn message(random: &mut Random, pair: &Pair) -> Call {
-    let Some(world) = pair.world() else {
-        return Call::Begin { receiver: NIL, selector: NIL, arguments: vec![] };
+    let world = match pair.world() {
+        Some(world) => world,
+        None => return Call::Begin { receiver: NIL, selector: NIL, arguments: vec![] },
     };
     let objects = &world.objects;
     let n = objects.list.len();
@@ -407,7 +411,10 @@ fn saved_and_loaded(random: &mut Random, pair: &mut Pair) -> Compared<()> {
 
 /// One word changed from outside, one or two calls, and the old word again.
 fn spoiled(random: &mut Random, pair: &mut Pair) -> Compared<()> {
-    let Some((buffer, index)) = place_to_spoil(random, pair) else { return Ok(()) };
+    let (buffer, index) = match place_to_spoil(random, pair) {
+        Some(place) => place,
+        None => return Ok(()),
+    };
     let old = if buffer == 4 { pair.ours.registers[index] } else { pair.ours.words[buffer][index] };
     let n = pair.ours.registers[0].clamp(1, 2_047) as usize;
     let word = if random.percent(20) && buffer < 4 { neighbour(random, pair, buffer, index) } else { other_word(random, old, n) };
@@ -422,7 +429,10 @@ fn spoiled(random: &mut Random, pair: &mut Pair) -> Compared<()> {
 
 /// Frames that no send made, written into the stack: any method at any position of its table, flags 5 and 6 too, most of them right.
 fn made_up(random: &mut Random, pair: &mut Pair) -> Compared<()> {
-    let Some(world) = pair.world() else { return Ok(()) };
+    let world = match pair.world() {
+        Some(world) => world,
+        None => return Ok(()),
+    };
     let mut words: Vec<u16> = vec![];
     let mut base = 0;
     let count = random.pick(&[1, 1, 2, 3]);
@@ -479,7 +489,7 @@ fn made_up_frame(random: &mut Random, world: &World, sender: u16, is_top: bool) 
         receiver = argument(random, n);
     }
     let table = method.table.clone().unwrap_or_default();
-    let wanted = |depth: &Option<usize>| depth.is_some_and(|depth| is_top || depth > 0);
+    let wanted = |depth: &Option<usize>| depth.map_or(false, |depth| is_top || depth > 0);
     let reached: Vec<usize> = (0..table.len()).filter(|position| wanted(&table[*position])).collect();
     let (mut position, mut depth) = (0, 0);
     if !reached.is_empty() {

@@ -470,7 +470,10 @@ impl Coder<'_> {
             return vec![];
         }
         let counter = self.random.below(self.temporaries) as u8;
-        let Some(most) = self.literal(number(3)) else { return vec![] };
+        let most = match self.literal(number(3)) {
+            Some(most) => most,
+            None => return vec![],
+        };
         let mut head = vec![128, 64 + counter, 128, 128 + most as u8, 178];
         let mut body = self.statement(depth, fuel - 1);
         body.extend([128, 64 + counter, 118, 176, 130, 64 + counter]);
@@ -600,7 +603,10 @@ impl Coder<'_> {
         for index in 0..arguments {
             code.extend(self.expression(depth + 1 + index, fuel - 1));
         }
-        let Some(literal) = self.literal(selector) else { return vec![118] };
+        let literal = match self.literal(selector) {
+            Some(literal) => literal,
+            None => return vec![118],
+        };
         let above = self.random.percent(if self.has_superclass { 25 } else { 3 });
         let short = literal < 32 && arguments < 8;
         if !above && literal < 16 && arguments < 3 && self.random.percent(80) {

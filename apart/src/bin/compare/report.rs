@@ -56,7 +56,10 @@ const PRIMITIVES: [u16; 24] = [1, 2, 3, 4, 5, 6, 7, 8, 9, 10, 11, 12, 13, 14, 15
 
 impl Report {
     pub fn note(&mut self, call: &Call, outcome: &Outcome, after: &Buffers) {
-        let Some(index) = call.index() else { return };
+        let index = match call.index() {
+            Some(index) => index,
+            None => return,
+        };
         *self.answers.entry((index, outcome.number)).or_insert(0) += 1;
         if let Some(refusal) = outcome.refusal {
             *self.reasons.entry((refusal.number, refusal.why)).or_insert(0) += 1;

@@ -20,7 +20,10 @@ fn differs(first: &Buffers, calls: &[Call]) -> Option<(usize, String)> {
 pub fn shrink(first: &Buffers, calls: Vec<Call>, what: String) -> (Vec<Call>, String) {
     let (mut calls, mut what) = (calls, what);
     loop {
-        let Some((smaller, difference)) = smaller(first, &calls) else { return (calls, what) };
+        let (smaller, difference) = match smaller(first, &calls) {
+            Some(found) => found,
+            None => return (calls, what),
+        };
         (calls, what) = (smaller, difference);
     }
 }

@@ -1,7 +1,5 @@
 //! Says what an image holds, or why load refuses it and where.
 
-mod image;
-mod listing;
 mod report;
 
 use std::io::{Read, Write};
@@ -58,8 +56,8 @@ fn main() {
 
 #[cfg(test)]
 mod tests {
-    use crate::{image::Image, listing, report};
-    use apart::rules;
+    use crate::report;
+    use apart::{image::Image, listing, rules};
 
     const ADDER: &[u8] = include_bytes!("../../../../examples/adder.image");
 
@@ -79,7 +77,7 @@ mod tests {
         let mut seeds = vec![ADDER.to_vec()];
         if let Ok(directory) = std::env::var("EXPLAIN_IMAGES") {
             let mut paths: Vec<_> = std::fs::read_dir(directory).unwrap().map(|entry| entry.unwrap().path()).collect();
-            paths.retain(|path| path.extension().is_some_and(|extension| extension == "image"));
+            paths.retain(|path| path.extension().map_or(false, |extension| extension == "image"));
             paths.sort();
             seeds.extend(paths.iter().step_by(10).map(|path| std::fs::read(path).unwrap()).filter(|bytes| bytes.len() < 4_000));
         }
@@ -120,11 +118,20 @@ mod tests {
     #[test]
     fn walks_are_depth_tables() {
         for bytes in seeds() {
-            let Ok(header) = rules::header(&bytes) else { continue };
+            let header = match rules::header(&bytes) {
+                Ok(header) => header,
+                Err(_) => continue,
+            };
             let image = Image::new(header.n, &bytes[10..]);
-            let Ok(world) = report::judge(&header, &image) else { continue };
+            let world = match report::judge(&header, &image) {
+                Ok(world) => world,
+                Err(_) => continue,
+            };
             for method in world.methods.iter().flatten() {
-                let (Some(table), reached) = (&method.table, listing::walk(&method.code)) else { continue };
+                let (table, reached) = match (&method.table, listing::walk(&method.code)) {
+                    (Some(table), reached) => (table, reached),
+                    _ => continue,
+                };
                 for (position, depth) in table.iter().enumerate() {
                     let walked = reached.get(&(position as i64)).map(|here| here.depths.clone());
                     assert_eq!(walked, depth.map(|depth| vec![depth]));

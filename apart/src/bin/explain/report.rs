@@ -1,8 +1,8 @@
 //! What is said of an image.
 
-use crate::image::{Image, FORMS, KINDS};
-use crate::listing::{listing, sent, walk};
 use apart::code::decode;
+use apart::image::{Image, FORMS, KINDS};
+use apart::listing::{listing, sent, walk};
 use apart::objects::*;
 use apart::refusal::{Place, Refusal};
 use apart::rules::{self, Header, World};
@@ -112,7 +112,10 @@ fn under(image: &Image, selector: u16) -> String {
 }
 
 fn code_refused(image: &Image, number: usize, position: usize) -> String {
-    let Some(method) = image.method(number) else { return format!("at: method {number}, code position {position}\n") };
+    let method = match image.method(number) {
+        Some(method) => method,
+        None => return format!("at: method {number}, code position {position}\n"),
+    };
     let mut out = format!("at: code position {position} of method {number} ({})\n", image.method_name(number));
     out += &format!("object: {}\n", method_head(image, &method));
     let reached = walk(&method.code);

@@ -1,9 +1,9 @@
 //! Code, one instruction a line, in the words of examples/assemble; what follows `;` is for the reader.
 
+use crate::code::*;
 use crate::image::Image;
-use apart::code::*;
-use apart::objects::*;
-use apart::words::*;
+use crate::objects::*;
+use crate::words::*;
 use std::collections::BTreeMap;
 
 /// How a position is reached: with which depths, at most two, and from where.
@@ -26,7 +26,10 @@ pub fn walk(code: &[u8]) -> BTreeMap<i64, Reached> {
             continue;
         }
         here.depths.push(depth);
-        let Some((instruction, next)) = usize::try_from(position).ok().and_then(|position| decode(code, position)) else { continue };
+        let (instruction, next) = match usize::try_from(position).ok().and_then(|position| decode(code, position)) {
+            Some(found) => found,
+            None => continue,
+        };
         let (need, left) = need_and_left(instruction);
         if depth >= need {
             let after = depth - need + left;

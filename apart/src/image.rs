@@ -1,7 +1,7 @@
 //! The words of an image as they stand, and names for what they hold. Nothing here trusts the image: what cannot be read is said to be so.
 
-use apart::objects::*;
-use apart::words::*;
+use crate::objects::*;
+use crate::words::*;
 use std::collections::HashMap;
 
 pub const KINDS: [&str; 5] = ["fields", "bytes", "class", "list", "method"];
@@ -30,7 +30,10 @@ impl Image {
         let mut image = Image { contents: contents.to_vec(), bodies: bodies.to_vec(), places: HashMap::new(), owners: HashMap::new() };
         let mut pairs = 0;
         for class in 1..=n {
-            let Some(list) = image.of_kind(class, CLASS).then(|| image.word(class, 1)).flatten().and_then(object_number) else { continue };
+            let list = match image.of_kind(class, CLASS).then(|| image.word(class, 1)).flatten().and_then(object_number) {
+                Some(list) => list,
+                None => continue,
+            };
             image.owners.entry(list).or_insert(class);
             let length = if image.of_kind(list, LIST) { image.length(list) } else { 0 };
             for at in (0..length).step_by(2) {
@@ -54,7 +57,7 @@ impl Image {
     }
 
     pub fn of_kind(&self, number: usize, kind: u16) -> bool {
-        self.entry(number).is_some_and(|entry| entry[1] == kind)
+        self.entry(number).map_or(false, |entry| entry[1] == kind)
     }
 
     /// Words of the body, as the entry tells.
@@ -142,7 +145,7 @@ impl Image {
             LIST if number == 5 => format!("selector of bytecode {}", 176 + index),
             LIST if self.owners.contains_key(&number) => format!("{} of pair {}", ["selector", "method"][index % 2], index / 2),
             METHOD if index < 2 => ["header", "home"][index].to_string(),
-            METHOD if self.method(number).is_some_and(|method| index - 2 < method.literals.len()) => format!("literal {}", index - 2),
+            METHOD if self.method(number).map_or(false, |method| index - 2 < method.literals.len()) => format!("literal {}", index - 2),
             METHOD | BYTES => format!("bytes {} and {}", 2 * index, 2 * index + 1),
             FIELDS => format!("field {index}"),
             _ => format!("word {index}"),
@@ -151,7 +154,10 @@ impl Image {
 
     /// Entry and body in one line, the body shortened.
     pub fn shown(&self, number: usize) -> String {
-        let Some([class, kind, start, size]) = self.entry(number) else { return self.object_name(number) };
+        let [class, kind, start, size] = match self.entry(number) {
+            Some(entry) => entry,
+            None => return self.object_name(number),
+        };
         let kind_name = KINDS.get(kind as usize).unwrap_or(&"none");
         let words = (0..self.length(number)).map_while(|index| self.word(number, index));
         let mut parts: Vec<String> = match kind {
@@ -169,8 +175,14 @@ impl Image {
 
     /// A class with what decides on its instances.
     fn class_shown(&self, word: u16) -> String {
-        let Some(number) = object_number(word).filter(|number| self.of_kind(*number, CLASS)) else { return self.name(word) };
-        let (Some(fields), Some(form)) = (self.word(number, 2), self.word(number, 3)) else { return number.to_string() };
+        let number = match object_number(word).filter(|number| self.of_kind(*number, CLASS)) {
+            Some(number) => number,
+            None => return self.name(word),
+        };
+        let (fields, form) = match (self.word(number, 2), self.word(number, 3)) {
+            (Some(fields), Some(form)) => (fields, form),
+            _ => return number.to_string(),
+        };
         format!("{number} (form {}, F {})", self.name(form), self.name(fields))
     }
 
