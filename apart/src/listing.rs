@@ -69,6 +69,12 @@ pub fn listing(image: &Image, method: &Method) -> Vec<(usize, String)> {
     lines
 }
 
+/// One instruction in words, without what surrounds it in a listing.
+pub fn instruction_words(image: &Image, method: &Method, position: usize) -> Option<String> {
+    let (instruction, next) = decode(&method.code, position)?;
+    Some(format!("{}{}", form(method.code[position], instruction), words(image, method, instruction, next)))
+}
+
 /// The assembler's word for a form that is not the shortest.
 fn form(byte: u8, instruction: Instruction) -> &'static str {
     use Instruction::*;
