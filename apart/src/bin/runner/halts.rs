@@ -8,47 +8,48 @@ use apart::objects::*;
 use apart::rules::World;
 use apart::words::*;
 
-/// Why the top frame's bytecode could not be made, in a line.
+/// Why the top frame's bytecode could not be made.
 pub fn cause(names: &Names, world: &World, frames: &[Frame], phase: u16, stack: usize) -> String {
     let frame = match frames.last() {
         Some(frame) => frame,
         None => return String::new(),
     };
     match (phase, asked(world, frame)) {
-        (NOT_UNDERSTOOD, Asked::Lookup(lookup)) => not_understood(names, world, &lookup),
-        (NO_BOOLEAN, _) => match frame.operands.last() {
-            Some(word) => format!("a jump on {}, which is neither true nor false", names.name(*word)),
-            None => String::new(),
-        },
-        (NO_STACK_ROOM, Asked::Lookup(Lookup { found: Some(found), selector, .. })) => {
-            let base = frame.base + 6 + world.method(frame.method).room();
-            let needed = 6 + world.method(found).room();
-            let end = base + needed;
-            let (sent, found) = (names.name(selector), names.name(found));
-            format!("{sent} was sent: {found} needs a frame of {needed} words from {base} to {end}, and the stack has {stack}")
+        (NO_BOOLEAN, _) => format!("  operand: {}, neither true nor false\n", frame.operands.last().map_or(String::new(), |word| names.name(*word))),
+        (_, Asked::Lookup(lookup)) => {
+            let (receiver, class) = (names.name(lookup.receiver), names.name(world.objects.class_of(lookup.receiver)));
+            let mut out = format!("  selector: {}\n  receiver: {receiver}, its class is {class}\n", names.name(lookup.selector));
+            if !lookup.arguments.is_empty() {
+                out += &format!("  arguments: {}\n", names.list(&lookup.arguments));
+            }
+            out += &format!("  lookup: {}\n", found(names, world, &lookup, phase));
+            if let (NO_STACK_ROOM, Some(found)) = (phase, lookup.found) {
+                let base = frame.base + 6 + world.method(frame.method).room();
+                let needed = 6 + world.method(found).room();
+                out += &format!("  frame: {needed} words at {base}, so {} in all; the stack has {stack}\n", base + needed);
+            }
+            out
         }
         _ => String::new(),
     }
 }
 
-fn not_understood(names: &Names, world: &World, lookup: &Lookup) -> String {
-    let (receiver, class) = (names.name(lookup.receiver), names.name(world.objects.class_of(lookup.receiver)));
-    let by = if lookup.is_super { "by a super send" } else { "by a send" };
-    let with = if lookup.arguments.is_empty() { String::new() } else { format!(" with {}", names.list(&lookup.arguments)) };
-    let sent = format!("{} was sent{with} to {receiver} (its class is {class}) {by}", names.name(lookup.selector));
+fn found(names: &Names, world: &World, lookup: &Lookup, phase: u16) -> String {
+    let send = if lookup.is_super { "a super send" } else { "a send" };
+    let start = names.name(lookup.start);
     let found = match lookup.found {
         Some(found) => found,
-        None if lookup.selector == NIL => return format!("{sent}: nil is no selector, so nothing is found"),
-        None if lookup.start == NIL => return format!("{sent}: there is no class above the method's home"),
-        None => return format!("{sent}: no method from {} upwards", names.name(lookup.start)),
+        None if lookup.selector == NIL => return format!("{send} of nil, which is no selector and finds nothing"),
+        None if lookup.start == NIL => return format!("{send} from a home without a superclass finds no method"),
+        None => return format!("{send}, from {start} upwards, finds no method"),
     };
+    let finds = format!("{send}, from {start} upwards, finds {}", names.name(found));
     let method = world.method(found);
-    let why = if method.flag == 6 {
-        format!("it answers field {}, which the receiver has not", method.temporaries)
-    } else {
-        format!("its home, {}, is not in the receiver's class chain", names.name(method.home))
-    };
-    format!("{sent}: {} was found and cannot run on the receiver: {why}", names.name(found))
+    match (phase, method.flag) {
+        (NOT_UNDERSTOOD, 6) => format!("{finds}; it answers field {}, which the receiver has not", method.temporaries),
+        (NOT_UNDERSTOOD, _) => format!("{finds}; its home, {}, is not in the receiver's class chain", names.name(method.home)),
+        _ => finds,
+    }
 }
 
 /// The frames from the top: at most so many, and the bottom one.

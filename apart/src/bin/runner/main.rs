@@ -42,7 +42,7 @@ fn main() {
         let _ = std::io::stderr().write_all(HELP.as_bytes());
         exit(2);
     }
-    if given.iter().any(|word| word == "--help" || word == "-h") {
+    if given[0] == "-h" || given.iter().any(|word| word == "--help") {
         out.text(HELP);
         out.end();
         exit(0);

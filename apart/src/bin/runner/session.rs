@@ -209,7 +209,7 @@ impl<'a> Session<'a> {
         if let (true, 0, Some((world, found))) = (self.options.trace, began.number, found) {
             let (start, method) = (self.names.name(world.objects.class_of(receiver)), world.method(found));
             let came = if self.phase() == FINISHED { answered(&self.names, method, self.proved.registers[VALUE]) } else { framed(method, 0) };
-            self.out.line(&format!("         looks up {} from {start}, {}, {came}", self.names.name(selector), self.names.name(found)));
+            self.out.line(&format!("         lookup from {start} finds {}: {came}", self.names.name(found)));
         }
         Ok(())
     }
@@ -232,7 +232,8 @@ impl<'a> Session<'a> {
         let (phase, stack, most) = (self.phase(), self.options.lengths[2], self.options.frames.unwrap_or(FRAMES));
         if let Ok((world, frames)) = self.opened() {
             if phase != RUNNING {
-                self.out.line(&format!("halted: {}", cause(&self.names, &world, &frames, phase, stack)));
+                let name = PHASES.get(phase as usize).copied().unwrap_or("no phase");
+                self.out.text(&format!("halted: {name}\n{}", cause(&self.names, &world, &frames, phase, stack)));
             }
             self.out.text(&format!("frames, the top first:\n{}", frames_shown(&self.names, &world, &frames, most)));
         }

@@ -40,20 +40,26 @@ impl<'a> Trace<'a> {
         Trace { out, names, made, line: String::new(), before: Before::default(), writes: 0 }
     }
 
+    fn refresh(&mut self, machine: &Machine) {
+        if self.writes != writes(machine) {
+            self.writes = writes(machine);
+            self.names.refresh(&machine.world.objects);
+        }
+    }
+
     fn looked_up(&self, machine: &Machine, lookup: &Lookup, grown: bool, answer: Option<u16>) -> String {
         let start = if lookup.start == NIL { "above the last class".to_string() } else { format!("from {}", self.names.name(lookup.start)) };
         let cached = if self.before.cached { "in the cache" } else { "not in the cache" };
-        let what = format!("looks up {} {start}, {cached}", self.names.name(lookup.selector));
         let found = match lookup.found {
             Some(found) => found,
-            None => return format!("{what}, no method"),
+            None => return format!("lookup {start}, {cached}, finds nothing"),
         };
+        let what = format!("lookup {start}, {cached}, finds {}", self.names.name(found));
         let method = machine.world.method(found);
-        let name = self.names.name(found);
         match (grown, answer) {
-            (true, _) => format!("{what}, {name}, {}", framed(method, machine.frames.last().map_or(0, |frame| frame.base))),
-            (false, Some(answer)) => format!("{what}, {name}, {}", answered(self.names, method, answer)),
-            _ => format!("{what}, {name}"),
+            (true, _) => format!("{what}: {}", framed(method, machine.frames.last().map_or(0, |frame| frame.base))),
+            (false, Some(answer)) => format!("{what}: {}", answered(self.names, method, answer)),
+            _ => what,
         }
     }
 
@@ -86,10 +92,7 @@ impl Watch for Trace<'_> {
             Some(frame) if self.out.is_open() => frame,
             _ => return,
         };
-        if self.writes != writes(machine) {
-            self.writes = writes(machine);
-            self.names.refresh(&machine.world.objects);
-        }
+        self.refresh(machine);
         let method = machine.world.method(frame.method);
         let indent = "  ".repeat((machine.frames.len() - 1).min(MOST_INDENT));
         let (name, position) = (self.names.method(frame.method), frame.position);
@@ -106,16 +109,13 @@ impl Watch for Trace<'_> {
         if !self.out.is_open() {
             return;
         }
-        if self.writes != writes(machine) {
-            self.writes = writes(machine);
-            self.names.refresh(&machine.world.objects);
-        }
+        self.refresh(machine);
         let outcome = match (made, &self.before.asked) {
             (Ok(made), _) => self.outcome(machine, made),
             (Err(phase), Some(Asked::Lookup(lookup))) => {
-                format!("{}, halts: {}", self.looked_up(machine, lookup, false, None), PHASES[*phase as usize])
+                format!("{}: halts, {}", self.looked_up(machine, lookup, false, None), PHASES[*phase as usize])
             }
-            (Err(phase), _) => format!("halts: {}", PHASES[*phase as usize]),
+            (Err(phase), _) => format!("halts, {}", PHASES[*phase as usize]),
         };
         let line = std::mem::take(&mut self.line);
         self.out.line(&if outcome.is_empty() { line } else { format!("{line}  {outcome}") });
