@@ -69,12 +69,6 @@ pub fn listing(image: &Image, method: &Method) -> Vec<(usize, String)> {
     lines
 }
 
-/// One instruction in words, without what surrounds it in a listing.
-pub fn instruction_words(image: &Image, method: &Method, position: usize) -> Option<String> {
-    let (instruction, next) = decode(&method.code, position)?;
-    Some(format!("{}{}", form(method.code[position], instruction), words(image, method, instruction, next)))
-}
-
 /// The assembler's word for a form that is not the shortest.
 fn form(byte: u8, instruction: Instruction) -> &'static str {
     use Instruction::*;
@@ -141,4 +135,10 @@ pub fn sent(image: &Image, method: &Method, instruction: Instruction) -> Option<
         Instruction::Special(special) => Some((image.word(5, special)?, special_arguments(special))),
         _ => None,
     }
+}
+
+/// One instruction in words, without what surrounds it in a listing.
+pub fn instruction_words(image: &Image, method: &Method, position: usize) -> Option<String> {
+    let (instruction, next) = decode(&method.code, position)?;
+    Some(format!("{}{}", form(method.code[position], instruction), words(image, method, instruction, next)))
 }
