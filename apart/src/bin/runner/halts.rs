@@ -17,8 +17,7 @@ pub fn cause(names: &Names, world: &World, frames: &[Frame], phase: u16, stack: 
     match (phase, asked(world, frame)) {
         (NO_BOOLEAN, _) => format!("  operand: {}, neither true nor false\n", frame.operands.last().map_or(String::new(), |word| names.name(*word))),
         (_, Asked::Lookup(lookup)) => {
-            let (receiver, class) = (names.name(lookup.receiver), names.name(world.objects.class_of(lookup.receiver)));
-            let mut out = format!("  selector: {}\n  receiver: {receiver}, its class is {class}\n", names.name(lookup.selector));
+            let mut out = format!("  selector: {}\n  receiver: {}\n", names.name(lookup.selector), with_class(names, world, lookup.receiver));
             if !lookup.arguments.is_empty() {
                 out += &format!("  arguments: {}\n", names.list(&lookup.arguments));
             }
@@ -31,6 +30,16 @@ pub fn cause(names: &Names, world: &World, frames: &[Frame], phase: u16, stack: 
             out
         }
         _ => String::new(),
+    }
+}
+
+/// A word with its class, which some names say already.
+fn with_class(names: &Names, world: &World, word: u16) -> String {
+    let (name, class) = (names.name(word), world.objects.class_of(word));
+    if name.ends_with(&format!(" of {}", names.image.class_name(class as usize / 2))) {
+        name
+    } else {
+        format!("{name}, of {}", names.name(class))
     }
 }
 
