@@ -8,6 +8,9 @@ use apart::objects::*;
 use apart::rules::World;
 use apart::words::*;
 
+/// No frame ends beyond.
+const MOST_STACK: usize = 65_536;
+
 /// Why the top frame's bytecode could not be made.
 pub fn cause(names: &Names, world: &World, frames: &[Frame], phase: u16, stack: usize) -> String {
     let frame = match frames.last() {
@@ -25,7 +28,8 @@ pub fn cause(names: &Names, world: &World, frames: &[Frame], phase: u16, stack: 
             if let (NO_STACK_ROOM, Some(found)) = (phase, lookup.found) {
                 let base = frame.base + 6 + world.method(frame.method).room();
                 let needed = 6 + world.method(found).room();
-                out += &format!("  frame: {needed} words at {base}, so {} in all; the stack has {stack}\n", base + needed);
+                let of_use = if stack > MOST_STACK { format!(", of which {MOST_STACK} are of use") } else { String::new() };
+                out += &format!("  frame: {needed} words at {base}, so {} in all; the stack has {stack}{of_use}\n", base + needed);
             }
             out
         }
