@@ -166,7 +166,10 @@ impl<'a> Session<'a> {
         if self.phase() == RUNNING {
             self.call(&Call::Drop, None, |session, _, _| format!("drop: {}, the handler was not done", session.phase_words("")))?;
         }
-        self.begin(begun)?;
+        // A refused begin leaves the frames of a handler that halted before.
+        if !self.begin(begun)? {
+            return Ok(());
+        }
         let mut made = 0;
         for _ in 0..self.options.runs {
             if self.phase() != RUNNING {
@@ -191,7 +194,8 @@ impl<'a> Session<'a> {
         Ok(())
     }
 
-    fn begin(&mut self, Begun(receiver, selector, arguments): Begun) -> Result<(), End> {
+    /// Whether it was not refused.
+    fn begin(&mut self, Begun(receiver, selector, arguments): Begun) -> Result<bool, End> {
         let opened = self.opened().ok();
         let call = Call::Begin { receiver, selector, arguments: arguments.clone() };
         let began = self.call(&call, None, |session, outcome, refusal| {
@@ -211,7 +215,7 @@ impl<'a> Session<'a> {
             let came = if self.phase() == FINISHED { answered(&self.names, method, self.proved.registers[VALUE]) } else { framed(method, 0) };
             self.out.line(&format!("         lookup from {start} finds {}: {came}", self.names.name(found)));
         }
-        Ok(())
+        Ok(began.number == 0)
     }
 
     fn begin_refused(&self, number: u32, world: &World, receiver: u16, selector: u16, count: usize) -> String {

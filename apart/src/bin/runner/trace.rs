@@ -12,10 +12,10 @@ use apart::words::*;
 const MOST_INDENT: usize = 30;
 
 pub struct Trace<'a> {
-    pub out: &'a mut Out,
-    pub names: &'a mut Names,
+    out: &'a mut Out,
+    names: &'a mut Names,
     /// Bytecodes since begin.
-    pub made: u64,
+    made: u64,
     line: String,
     before: Before,
     writes: u64,
