@@ -74,6 +74,9 @@ crates_for() {
 proved() {
   local crate all=0 new=0 began=$SECONDS
   needs rt
+  # An archive is written anew at each call, half a minute even where nothing changed.
+  if [ "$1" = staticlib ] && [ "$(cat "target/progress/$2.made" 2> /dev/null)" = "$(rt version)" ] && [ -e "target/staticlib/lib$2.a" ] &&
+    [ -z "$(find crates crates.txt -newer "target/staticlib/lib$2.a" -print -quit)" ]; then return; fi
   for crate in $(crates_for "$2"); do
     all=$((all + 1))
     [ -e "target/stamp/$crate" ] || new=$((new + 1))
@@ -88,6 +91,7 @@ proved() {
     echo "$0: $2 is not proved; target/progress/$2 has all that rt said" >&2
     exit 1
   fi
+  [ "$1" != staticlib ] || rt version > "target/progress/$2.made"
   if [ "$new" -gt 0 ]; then echo "proved: $2, in $((SECONDS - began)) seconds" >&2; fi
 }
 
