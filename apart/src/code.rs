@@ -216,7 +216,7 @@ pub fn undecoded(code: &[u8], position: usize) -> &'static str {
     match code.get(position) {
         None => "outside the code",
         Some(125) => "an unused bytecode: Smalltalk-80's return from a block, and there are no blocks",
-        Some(137) => "an unused bytecode: Smalltalk-80's push of the active context, which makes blocks, and there are no blocks",
+        Some(137) => "an unused bytecode: Smalltalk-80's push of the active context, for blocks, and there are no blocks",
         Some(126 | 127 | 138..=143) => "an unused bytecode",
         Some(_) => "an instruction that is not whole: the code ends before its last byte",
     }
@@ -262,7 +262,7 @@ pub fn depth_table(around: &Surroundings, method: &Method) -> Result<Vec<Option<
                 continue;
             }
             let falls = successor == next as i64;
-            pending.push((successor as usize, after, if falls { "code that falls off its end" } else { "a jump past the end of the code" }));
+            pending.push((successor as usize, after, if falls { "code that falls off the end" } else { "a jump past the end of the code" }));
         }
     }
     if faults.is_empty() {

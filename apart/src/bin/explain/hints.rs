@@ -11,7 +11,6 @@ pub fn byte_order(first: &Refusal, bytes: &[u8], image: &Image) -> Option<String
         (1 | 2, _) => header(bytes),
         (4, Place::Body(number, index)) => padding(image.word(number, index)?),
         (4, _) => entries(image),
-        (_, Place::Code(..)) => code(image),
         _ => bodies(image),
     }
 }
@@ -52,20 +51,4 @@ fn bodies(image: &Image) -> Option<String> {
     let swapped = |form: &Option<u16>| form.map_or(false, |form| [256, 768, 1280, 1792].contains(&form));
     let text = "the bodies look byte-swapped: the form of each class is an integer from 0 to 3 read low byte first; words stand high byte first";
     (!forms.is_empty() && forms.iter().all(swapped)).then(|| text.to_string())
-}
-
-/// Whether the image is right once the bytes of each word of code are swapped.
-fn code(image: &Image) -> Option<String> {
-    let mut bodies = image.bodies.clone();
-    for number in 1..=image.contents.len() / 4 {
-        let (start, literals) = match (image.entry(number)?, image.method(number)) {
-            (entry, Some(method)) => (entry[2] as usize, method.literals.len()),
-            _ => continue,
-        };
-        for word in bodies.get_mut(start + 2 + literals..start + image.length(number))? {
-            *word = word.swap_bytes();
-        }
-    }
-    let text = "the bytes of the code look swapped: with those of each word exchanged, all methods are right; the first byte stands in the high half of a word";
-    rules::judge(&image.contents, &bodies).ok().map(|_| text.to_string())
 }
