@@ -88,7 +88,7 @@ fn layout(contents: &[u16], bodies: &[u16]) -> Result<Objects, Faults> {
         let size_right = faults.ask(kind != CLASS || size == 4, Entry(number, 3), "a class without 4 words");
         let words = body_words(kind, size);
         let inside = start + words <= bodies.len();
-        if start_right && !inside && !past_end {
+        if kind_right && start_right && !inside && !past_end {
             faults.add(Entry(number, 3), "a body past the end of the bodies");
             past_end = true;
         }

@@ -9,7 +9,7 @@ use apart::rules;
 pub fn byte_order(first: &Refusal, bytes: &[u8], image: &Image) -> Option<String> {
     match (first.number, first.place) {
         (1 | 2, _) => header(bytes),
-        (4, Place::Body(number, index)) => padding(image.word(number, index)?),
+        (4, Place::Body(number, index)) => bodies(image).or_else(|| padding(image.word(number, index)?)),
         (4, _) => entries(image),
         _ => bodies(image),
     }
@@ -26,9 +26,9 @@ fn header(bytes: &[u8]) -> Option<String> {
         return Some("the edition looks byte-swapped: 256 is 1 read low byte first; words stand high byte first".to_string());
     }
     let length = 10 + 8 * n + 2 * b;
-    let told =
-        if bytes.len() == length { format!(", which make {length} bytes") } else { format!(", which make {length} bytes, not {}", bytes.len()) };
-    Some(format!("the words look byte-swapped: read low byte first, the header is edition 1, N {n}, B {b}{told}; words stand high byte first"))
+    let other = if bytes.len() == length { String::new() } else { format!(" (it has {})", bytes.len()) };
+    let header = format!("read low byte first, the header is edition 1, N {n}, B {b} and the file {length} bytes{other}");
+    Some(format!("the words look byte-swapped: {header}; words stand high byte first"))
 }
 
 /// Objects 4 and 5 are a class and a list, so swapped entries have at least two such kinds.

@@ -137,9 +137,10 @@ fn found(fault: &Refusal, bytes: &[u8], image: &Image) -> String {
 fn instances(image: &Image, class: u16) -> String {
     let number = class as usize / 2;
     let (fields, form) = (image.word(number, 2).unwrap_or(0), image.word(number, 3).unwrap_or(0));
+    let words = if integer(fields) == 1 { "1 word".to_string() } else { format!("{} words", integer(fields)) };
     let asked = match integer(form) {
-        0 => format!("kind 0 (fields) with exactly {} words", integer(fields)),
-        1 => format!("kind 0 (fields) with at least {} words", integer(fields)),
+        0 => format!("kind 0 (fields) with exactly {words}"),
+        1 => format!("kind 0 (fields) with at least {words}"),
         2 => "kind 1 (bytes)".to_string(),
         _ => "kind 2, 3 or 4 (class, list or method)".to_string(),
     };

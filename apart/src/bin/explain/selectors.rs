@@ -30,7 +30,7 @@ fn uses<'a>(header: &Header, image: &'a Image) -> Uses<'a> {
     uses.add(header.selector, "start selector".to_string());
     for number in 1..=header.n {
         for (class, selector) in image.places.get(&number).into_iter().flatten() {
-            uses.add(2 * *selector as u16, format!("class {class} has method {number} under it"));
+            uses.add(2 * *selector as u16, format!("method {number} of class {class} is under it"));
         }
     }
     for special in (0..32).filter(|special| ![IDENTITY, CLASS_OF].contains(special)) {
@@ -49,7 +49,7 @@ fn uses<'a>(header: &Header, image: &'a Image) -> Uses<'a> {
                 _ => continue,
             };
             if let Some((selector, _)) = sent(image, &method, instruction) {
-                uses.add(selector, format!("method {number} sends it at {position}"));
+                uses.add(selector, format!("{} sends it at {position}", image.object_name(number)));
             }
         }
     }
