@@ -211,14 +211,13 @@ pub fn successors(instruction: Instruction, next: usize) -> Vec<i64> {
     }
 }
 
-/// Why nothing can be decoded at a position.
-pub fn undecoded(code: &[u8], position: usize) -> &'static str {
-    match code.get(position) {
-        None => "outside the code",
-        Some(125) => "an unused bytecode: Smalltalk-80's return from a block, and there are no blocks",
-        Some(137) => "an unused bytecode: Smalltalk-80's push of the active context, for blocks, and there are no blocks",
-        Some(126 | 127 | 138..=143) => "an unused bytecode",
-        Some(_) => "an instruction that is not whole: the code ends before its last byte",
+/// Why a byte of the code cannot be decoded. What the unused ones are in Smalltalk-80 is said where they are used there.
+fn undecoded(byte: u8) -> &'static str {
+    match byte {
+        125 => "an unused bytecode: Smalltalk-80's return from a block, and there are no blocks",
+        137 => "an unused bytecode: Smalltalk-80's push of the active context, for blocks, and there are no blocks",
+        126 | 127 | 138..=143 => "an unused bytecode",
+        _ => "an instruction that is not whole: the code ends before its last byte",
     }
 }
 
@@ -241,7 +240,7 @@ pub fn depth_table(around: &Surroundings, method: &Method) -> Result<Vec<Option<
         let (instruction, next) = match decode(&method.code, position) {
             Some(found) => found,
             None => {
-                faults.push((position, if position < table.len() { undecoded(&method.code, position) } else { past_end }));
+                faults.push((position, method.code.get(position).map_or(past_end, |byte| undecoded(*byte))));
                 continue;
             }
         };

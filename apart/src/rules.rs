@@ -152,10 +152,13 @@ fn classes(objects: &Objects, faults: &mut Faults) {
     for (number, object) in numbered(objects).filter(|(_, object)| object.kind == CLASS) {
         class_body(objects, number, &object.body, faults);
     }
-    let mut circles = HashSet::new();
-    for (number, _) in numbered(objects).filter(|(_, object)| object.kind == CLASS) {
+    let (mut circles, mut dictionaries) = (HashSet::new(), HashSet::new());
+    for (number, object) in numbered(objects).filter(|(_, object)| object.kind == CLASS) {
         class_chain(objects, number, &mut circles, faults);
-        dictionary(objects, number, faults);
+        // Classes may share one.
+        if dictionaries.insert(object.body[1]) {
+            dictionary(objects, object.body[1], faults);
+        }
     }
 }
 
@@ -193,8 +196,7 @@ fn class_chain(objects: &Objects, number: usize, circles: &mut HashSet<u16>, fau
     }
 }
 
-fn dictionary(objects: &Objects, number: usize, faults: &mut Faults) {
-    let list = objects.class(pointer(number)).unwrap().dictionary;
+fn dictionary(objects: &Objects, list: u16, faults: &mut Faults) {
     let body = match objects.get(list) {
         Some(object) if object.kind == LIST => &object.body,
         _ => return,
