@@ -76,14 +76,14 @@ pub fn start_words(objects: &Objects, receiver: u16, selector: u16) -> Result<()
 fn layout(contents: &[u16], bodies: &[u16]) -> Result<Objects, Faults> {
     let mut faults = Faults::new(4);
     let mut objects = Objects::default();
-    // Where a body may start. After a fault these are all places that one wrong word would explain, or any place.
-    let mut starts = Some(vec![0]);
+    // A body starts at the end of the one before. After a fault it may start wherever one wrong word would explain it, or anywhere.
+    let (mut end, mut other_ends, mut anywhere) = (0, vec![], false);
     let mut past_end = false;
     for (index, entry) in contents.chunks(4).enumerate() {
         let number = index + 1;
         let (class, kind, start, size) = (entry[0], entry[1], entry[2] as usize, entry[3]);
         let kind_right = faults.ask(kind <= METHOD, Entry(number, 1), "a kind above 4");
-        let start_right = starts.as_ref().map_or(true, |starts| starts.contains(&start));
+        let start_right = start == end || anywhere || other_ends.contains(&start);
         faults.ask(start_right, Entry(number, 2), "a start that is not the end of the body before");
         let size_right = faults.ask(kind != CLASS || size == 4, Entry(number, 3), "a class without 4 words");
         let words = body_words(kind, size);
@@ -92,14 +92,17 @@ fn layout(contents: &[u16], bodies: &[u16]) -> Result<Objects, Faults> {
             faults.add(Entry(number, 3), "a body past the end of the bodies");
             past_end = true;
         }
-        let mut ends = vec![start + words];
-        if !start_right {
-            ends.extend(starts.iter().flatten().map(|start| start + words));
+        if start_right {
+            other_ends.clear();
+        } else {
+            other_ends.push(end);
+            other_ends.iter_mut().for_each(|end| *end += words);
         }
         if !size_right {
-            ends.push(start + 4);
+            other_ends.push(start + 4);
         }
-        starts = if kind_right && inside { Some(ends) } else { None };
+        end = start + words;
+        anywhere = !kind_right || !inside;
         if !(kind_right && start_right && inside) {
             continue;
         }
@@ -110,7 +113,7 @@ fn layout(contents: &[u16], bodies: &[u16]) -> Result<Objects, Faults> {
         }
         objects.list.push(Object { class, kind, start: entry[2], size, body });
     }
-    faults.ask(starts.map_or(true, |starts| starts.contains(&bodies.len())), Image, "bodies do not end at B");
+    faults.ask(end == bodies.len() || anywhere || other_ends.contains(&bodies.len()), Image, "bodies do not end at B");
     faults.none(objects)
 }
 
@@ -152,12 +155,14 @@ fn classes(objects: &Objects, faults: &mut Faults) {
     for (number, object) in numbered(objects).filter(|(_, object)| object.kind == CLASS) {
         class_body(objects, number, &object.body, faults);
     }
-    let (mut circles, mut dictionaries) = (HashSet::new(), HashSet::new());
+    let (mut circles, mut judged) = (HashSet::new(), vec![false; objects.list.len() + 1]);
     for (number, object) in numbered(objects).filter(|(_, object)| object.kind == CLASS) {
         class_chain(objects, number, &mut circles, faults);
-        // Classes may share one.
-        if dictionaries.insert(object.body[1]) {
-            dictionary(objects, object.body[1], faults);
+        // Classes may share a dictionary.
+        let list = (object.body[1] / 2) as usize;
+        if objects.has_kind(object.body[1], LIST) && !judged[list] {
+            judged[list] = true;
+            dictionary(objects, list, faults);
         }
     }
 }
@@ -196,12 +201,8 @@ fn class_chain(objects: &Objects, number: usize, circles: &mut HashSet<u16>, fau
     }
 }
 
-fn dictionary(objects: &Objects, list: u16, faults: &mut Faults) {
-    let body = match objects.get(list) {
-        Some(object) if object.kind == LIST => &object.body,
-        _ => return,
-    };
-    let list = (list / 2) as usize;
+fn dictionary(objects: &Objects, list: usize, faults: &mut Faults) {
+    let body = &objects.list[list - 1].body;
     if !faults.ask(body.len() % 2 == 0, Entry(list, 3), "a dictionary with half a pair") {
         return;
     }
