@@ -41,10 +41,10 @@ pub fn load(image: &[u8], lent: &mut Lent) -> Result<(), Refusal> {
     let words: Vec<u16> = image[10..].chunks(2).map(|pair| u16::from_be_bytes([pair[0], pair[1]])).collect();
     let (contents, bodies) = words.split_at(4 * header.n);
     let judged = judge(contents, bodies).and_then(|world| start_words(&world.objects, header.receiver, header.selector));
-    if let Err(refusal) = judged {
+    if let Err(faults) = judged {
         lent.contents[..contents.len()].fill(0);
         lent.bodies[..bodies.len()].fill(0);
-        return Err(refusal);
+        return Err(faults.into());
     }
     lent.contents[..contents.len()].copy_from_slice(contents);
     lent.bodies[..bodies.len()].copy_from_slice(bodies);

@@ -211,36 +211,68 @@ pub fn successors(instruction: Instruction, next: usize) -> Vec<i64> {
     }
 }
 
-/// The depth at each reached position, or the position where no table can exist.
-pub fn depth_table(around: &Surroundings, method: &Method) -> Result<Vec<Option<usize>>, (usize, &'static str)> {
+/// Why a byte of the code cannot be decoded. What the unused ones are in Smalltalk-80 is said where they are used there.
+fn undecoded(byte: u8) -> &'static str {
+    match byte {
+        125 => "an unused bytecode: Smalltalk-80's return from a block, and there are no blocks",
+        137 => "an unused bytecode: Smalltalk-80's push of the active context, for blocks, and there are no blocks",
+        126 | 127 | 138..=143 => "an unused bytecode",
+        _ => "an instruction that is not whole: the code ends before its last byte",
+    }
+}
+
+/// Positions where no table can exist, and why. The first is the one that counts.
+pub type CodeFaults = Vec<(usize, &'static str)>;
+
+/// The depth at each reached position. After a fault the walk goes on where the depth is known.
+pub fn depth_table(around: &Surroundings, method: &Method) -> Result<Vec<Option<usize>>, CodeFaults> {
     let mut table = vec![None; method.code.len()];
-    let mut pending = vec![(0usize, 0usize)];
-    while let Some((position, depth)) = pending.pop() {
+    let mut faults = vec![];
+    // With each position, what is wrong if it is past the end.
+    let mut pending = vec![(0usize, 0usize, "a method without code")];
+    while let Some((position, depth, past_end)) = pending.pop() {
         if position < table.len() && table[position].is_some() {
             if table[position] != Some(depth) {
-                return Err((position, "reached with two depths"));
+                faults.push((position, "reached with two depths"));
             }
             continue;
         }
         let (instruction, next) = match decode(&method.code, position) {
             Some(found) => found,
-            None => return Err((position, "outside the code, not whole or unused")),
+            None => {
+                faults.push((position, method.code.get(position).map_or(past_end, |byte| undecoded(*byte))));
+                continue;
+            }
         };
         table[position] = Some(depth);
-        let after = judge(around, method, instruction, depth).map_err(|why| (position, why))?;
+        if let Err(why) = instruction_fine(around, method, instruction) {
+            faults.push((position, why));
+        }
+        let after = match depth_after(method, instruction, depth) {
+            Ok(after) => after,
+            Err(why) => {
+                faults.push((position, why));
+                continue;
+            }
+        };
         for successor in successors(instruction, next) {
             if successor < 0 {
-                return Err((position, "a jump before the code"));
+                faults.push((position, "a jump before the code"));
+                continue;
             }
-            pending.push((successor as usize, after));
+            let falls = successor == next as i64;
+            pending.push((successor as usize, after, if falls { "code that falls off the end" } else { "a jump past the end of the code" }));
         }
     }
-    Ok(table)
+    if faults.is_empty() {
+        Ok(table)
+    } else {
+        Err(faults)
+    }
 }
 
 /// The depth after an instruction, if it is right at this depth.
-fn judge(around: &Surroundings, method: &Method, instruction: Instruction, depth: usize) -> Result<usize, &'static str> {
-    instruction_fine(around, method, instruction)?;
+fn depth_after(method: &Method, instruction: Instruction, depth: usize) -> Result<usize, &'static str> {
     ask(method.temporaries + depth <= method.room(), "more temporaries and operands than the frame has")?;
     let (need, left) = need_and_left(instruction);
     ask(depth >= need, "fewer operands than needed")?;

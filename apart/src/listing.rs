@@ -58,7 +58,7 @@ pub fn listing(image: &Image, method: &Method) -> Vec<(usize, String)> {
         let whole = |next: &usize| !found.is_empty() || (position + 1..*next).all(|inner| depths(inner).is_empty());
         let (end, text) = match decode(code, position).filter(|(_, next)| whole(next)) {
             Some((instruction, next)) => (next, format!("{}{}", form(code[position], instruction), words(image, method, instruction, next))),
-            None => (position + 1, format!("bytes {}    ; no whole instruction", code[position])),
+            None => (position + 1, format!("bytes {}    ; {}", code[position], no_instruction(code, position))),
         };
         let bytes: Vec<String> = code[position..end].iter().map(u8::to_string).collect();
         let depth = if found.is_empty() { "unreached".to_string() } else { format!("depth {}", found.join(" and ")) };
@@ -67,6 +67,16 @@ pub fn listing(image: &Image, method: &Method) -> Vec<(usize, String)> {
         covered = covered.max(end);
     }
     lines
+}
+
+fn no_instruction(code: &[u8], position: usize) -> &'static str {
+    match code[position] {
+        125 => "unused: a return from a block",
+        126 | 127 | 138..=143 => "unused",
+        137 => "unused: a push of the active context",
+        _ if decode(code, position).is_some() => "its operand bytes are instructions",
+        _ => "not whole",
+    }
 }
 
 /// The assembler's word for a form that is not the shortest.

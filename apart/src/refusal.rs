@@ -1,8 +1,9 @@
 //! A refused call: its number, and where the reason was found.
 
+use std::collections::HashSet;
 use std::fmt;
 
-#[derive(Clone, Copy, Debug, PartialEq)]
+#[derive(Clone, Copy, Debug, PartialEq, Eq, Hash)]
 pub enum Place {
     /// The image as a whole.
     Image,
@@ -35,6 +36,58 @@ pub struct Refusal {
 
 pub fn refuse<T>(number: u32, place: Place, why: &'static str) -> Result<T, Refusal> {
     Err(Refusal { number, place, why })
+}
+
+/// The faults of one number in the order in which they are found, one for each place: a second one there mostly follows from the first.
+#[derive(Debug)]
+pub struct Faults {
+    number: u32,
+    pub list: Vec<Refusal>,
+    places: HashSet<Place>,
+}
+
+impl Faults {
+    pub fn new(number: u32) -> Faults {
+        Faults { number, list: vec![], places: HashSet::new() }
+    }
+
+    pub fn add(&mut self, place: Place, why: &'static str) {
+        if self.places.insert(place) {
+            self.list.push(Refusal { number: self.number, place, why });
+        }
+    }
+
+    /// Adds a fault unless this is so; answers whether it is.
+    pub fn ask(&mut self, truth: bool, place: Place, why: &'static str) -> bool {
+        if !truth {
+            self.add(place, why);
+        }
+        truth
+    }
+
+    /// What was judged, if there is no fault.
+    pub fn none<T>(self, judged: T) -> Result<T, Faults> {
+        if self.list.is_empty() {
+            Ok(judged)
+        } else {
+            Err(self)
+        }
+    }
+}
+
+/// A call is refused by the first fault.
+impl From<Faults> for Refusal {
+    fn from(faults: Faults) -> Refusal {
+        faults.list[0]
+    }
+}
+
+impl From<Refusal> for Faults {
+    fn from(refusal: Refusal) -> Faults {
+        let mut faults = Faults::new(refusal.number);
+        faults.add(refusal.place, refusal.why);
+        faults
+    }
 }
 
 impl fmt::Display for Place {

@@ -1,11 +1,15 @@
-//! The rules of an image, number by number: one that breaks several is refused by the lowest.
+//! The rules of an image, number by number: one that breaks several is refused by the lowest. Each number gives all its faults, but not those that merely
+//! follow from others.
 
 use crate::code::{depth_table, Surroundings};
 use crate::objects::*;
 use crate::refusal::Place::*;
 use crate::refusal::*;
 use crate::words::*;
-use std::collections::HashMap;
+use std::collections::{HashMap, HashSet};
+
+/// The fault that takes an object and its class to be seen.
+pub const DOES_NOT_FIT: &str = "an object that does not fit its class";
 
 /// The words of a header.
 pub struct Header {
@@ -43,73 +47,74 @@ pub fn header(image: &[u8]) -> Result<Header, Refusal> {
 }
 
 /// Rule 2.
-pub fn ranges(edition: u16, n: usize, b: usize) -> Result<(), Refusal> {
-    if edition != 1 {
-        return refuse(2, HeaderWord(0), "another edition than 1");
-    }
-    if !(5..=MOST_OBJECTS).contains(&n) {
-        return refuse(2, HeaderWord(1), "objects not from 5 to 2047");
-    }
-    if b > MOST_BODY_WORDS {
-        return refuse(2, HeaderWord(2), "more than 24000 words of bodies");
-    }
-    Ok(())
+pub fn ranges(edition: u16, n: usize, b: usize) -> Result<(), Faults> {
+    let mut faults = Faults::new(2);
+    faults.ask(edition == 1, HeaderWord(0), "another edition than 1");
+    faults.ask((5..=MOST_OBJECTS).contains(&n), HeaderWord(1), "objects not from 5 to 2047");
+    faults.ask(b <= MOST_BODY_WORDS, HeaderWord(2), "more than 24000 words of bodies");
+    faults.none(())
 }
 
 /// Rules 4 to 7 on 4N words of contents and B words of bodies.
-pub fn judge(contents: &[u16], bodies: &[u16]) -> Result<World, Refusal> {
+pub fn judge(contents: &[u16], bodies: &[u16]) -> Result<World, Faults> {
     let objects = layout(contents, bodies)?;
     words_valid(&objects)?;
-    classes(&objects)?;
-    entries(&objects)?;
-    first_objects(&objects)?;
+    classes_and_entries(&objects)?;
     let methods = methods(&objects)?;
     Ok(World { objects, methods })
 }
 
 /// Rule 8 on the start words.
-pub fn start_words(objects: &Objects, receiver: u16, selector: u16) -> Result<(), Refusal> {
-    if !objects.valid(receiver) {
-        return refuse(8, HeaderWord(3), "the start receiver is invalid");
-    }
-    if !objects.has_kind(selector, BYTES) {
-        return refuse(8, HeaderWord(4), "the start selector is no byte object");
-    }
-    Ok(())
+pub fn start_words(objects: &Objects, receiver: u16, selector: u16) -> Result<(), Faults> {
+    let mut faults = Faults::new(8);
+    faults.ask(objects.valid(receiver), HeaderWord(3), "the start receiver is invalid");
+    faults.ask(objects.has_kind(selector, BYTES), HeaderWord(4), "the start selector is no byte object");
+    faults.none(())
 }
 
 /// Rule 4: where bodies lie. It gives the objects.
-fn layout(contents: &[u16], bodies: &[u16]) -> Result<Objects, Refusal> {
+fn layout(contents: &[u16], bodies: &[u16]) -> Result<Objects, Faults> {
+    let mut faults = Faults::new(4);
     let mut objects = Objects::default();
-    let mut end = 0;
+    // A body starts at the end of the one before. After a fault it may start wherever one wrong word would explain it, or anywhere.
+    let (mut end, mut other_ends, mut anywhere) = (0, vec![], false);
+    let mut past_end = false;
     for (index, entry) in contents.chunks(4).enumerate() {
         let number = index + 1;
-        let (class, kind, start, size) = (entry[0], entry[1], entry[2], entry[3]);
-        if kind > METHOD {
-            return refuse(4, Entry(number, 1), "a kind above 4");
-        }
-        if start as usize != end {
-            return refuse(4, Entry(number, 2), "a start that is not the end of the body before");
-        }
-        if kind == CLASS && size != 4 {
-            return refuse(4, Entry(number, 3), "a class without 4 words");
-        }
+        let (class, kind, start, size) = (entry[0], entry[1], entry[2] as usize, entry[3]);
+        let kind_right = faults.ask(kind <= METHOD, Entry(number, 1), "a kind above 4");
+        let start_right = start == end || anywhere || other_ends.contains(&start);
+        faults.ask(start_right, Entry(number, 2), "a start that is not the end of the body before");
+        let size_right = faults.ask(kind != CLASS || size == 4, Entry(number, 3), "a class without 4 words");
         let words = body_words(kind, size);
-        if end + words > bodies.len() {
-            return refuse(4, Entry(number, 3), "a body past the end of the bodies");
+        let inside = start + words <= bodies.len();
+        if kind_right && start_right && !inside && !past_end {
+            faults.add(Entry(number, 3), "a body past the end of the bodies");
+            past_end = true;
         }
-        let body = bodies[end..end + words].to_vec();
+        if start_right {
+            other_ends.clear();
+        } else {
+            other_ends.push(end);
+            other_ends.iter_mut().for_each(|end| *end += words);
+        }
+        if !size_right {
+            other_ends.push(start + 4);
+        }
+        end = start + words;
+        anywhere = !kind_right || !inside;
+        if !(kind_right && start_right && inside) {
+            continue;
+        }
+        let body = bodies[start..start + words].to_vec();
         let halved = (kind == BYTES || kind == METHOD) && size % 2 == 1;
-        if halved && body[words - 1] % 256 != 0 {
-            return refuse(4, Body(number, words - 1), "an odd last half-word that is not zero");
+        if halved {
+            faults.ask(body[words - 1] % 256 == 0, Body(number, words - 1), "an odd last half-word that is not zero");
         }
-        end += words;
-        objects.list.push(Object { class, kind, start, size, body });
+        objects.list.push(Object { class, kind, start: entry[2], size, body });
     }
-    if end != bodies.len() {
-        return refuse(4, Image, "bodies do not end at B");
-    }
-    Ok(objects)
+    faults.ask(end == bodies.len() || anywhere || other_ends.contains(&bodies.len()), Image, "bodies do not end at B");
+    faults.none(objects)
 }
 
 /// The objects with their numbers.
@@ -118,100 +123,109 @@ fn numbered(objects: &Objects) -> impl Iterator<Item = (usize, &Object)> {
 }
 
 /// Rule 5: entries' classes, and the words of kinds 0, 2, 3.
-fn words_valid(objects: &Objects) -> Result<(), Refusal> {
+fn words_valid(objects: &Objects) -> Result<(), Faults> {
+    let mut faults = Faults::new(5);
     for (number, object) in numbered(objects) {
-        if !objects.valid(object.class) {
-            return refuse(5, Entry(number, 0), "an invalid word");
-        }
+        faults.ask(objects.valid(object.class), Entry(number, 0), "an invalid word");
         if object.kind == BYTES || object.kind == METHOD {
             continue;
         }
-        if let Some(word) = object.body.iter().position(|word| !objects.valid(*word)) {
-            return refuse(5, Body(number, word), "an invalid word");
+        for (index, word) in object.body.iter().enumerate() {
+            faults.ask(objects.valid(*word), Body(number, index), "an invalid word");
         }
     }
-    Ok(())
+    faults.none(())
+}
+
+/// Rule 6.
+fn classes_and_entries(objects: &Objects) -> Result<(), Faults> {
+    let mut faults = Faults::new(6);
+    classes(objects, &mut faults);
+    entries(objects, &mut faults);
+    first_objects(objects, &mut faults);
+    faults.none(())
 }
 
 fn integer_up_to(word: u16, most: i32) -> bool {
     is_integer(word) && (0..=most).contains(&integer(word))
 }
 
-/// Rule 6: class bodies, chains and dictionaries.
-fn classes(objects: &Objects) -> Result<(), Refusal> {
+/// Class bodies, chains and dictionaries.
+fn classes(objects: &Objects, faults: &mut Faults) {
     for (number, object) in numbered(objects).filter(|(_, object)| object.kind == CLASS) {
-        class_body(objects, number, &object.body)?;
+        class_body(objects, number, &object.body, faults);
     }
-    for (number, _) in numbered(objects).filter(|(_, object)| object.kind == CLASS) {
-        class_chain(objects, number)?;
-        dictionary(objects, number)?;
-    }
-    Ok(())
-}
-
-fn class_body(objects: &Objects, number: usize, body: &[u16]) -> Result<(), Refusal> {
-    if body[0] != NIL && !objects.has_kind(body[0], CLASS) {
-        return refuse(6, Body(number, 0), "a superclass that is neither nil nor a class");
-    }
-    if !objects.has_kind(body[1], LIST) {
-        return refuse(6, Body(number, 1), "a dictionary that is no list");
-    }
-    if !integer_up_to(body[2], 255) {
-        return refuse(6, Body(number, 2), "fields not from 0 to 255");
-    }
-    if !integer_up_to(body[3], 3) {
-        return refuse(6, Body(number, 3), "a form not from 0 to 3");
-    }
-    if integer(body[3]) >= 2 && integer(body[2]) != 0 {
-        return refuse(6, Body(number, 2), "fields in a class of form 2 or 3");
-    }
-    Ok(())
-}
-
-fn class_chain(objects: &Objects, number: usize) -> Result<(), Refusal> {
-    let class = objects.class(pointer(number)).unwrap();
-    if let Some(above) = objects.class(class.superclass) {
-        if class.fields < above.fields {
-            return refuse(6, Body(number, 2), "fewer fields than the superclass");
+    let (mut circles, mut judged) = (HashSet::new(), vec![false; objects.list.len() + 1]);
+    for (number, object) in numbered(objects).filter(|(_, object)| object.kind == CLASS) {
+        class_chain(objects, number, &mut circles, faults);
+        // Classes may share a dictionary.
+        let list = (object.body[1] / 2) as usize;
+        if objects.has_kind(object.body[1], LIST) && !judged[list] {
+            judged[list] = true;
+            dictionary(objects, list, faults);
         }
+    }
+}
+
+fn class_body(objects: &Objects, number: usize, body: &[u16], faults: &mut Faults) {
+    faults.ask(body[0] == NIL || objects.has_kind(body[0], CLASS), Body(number, 0), "a superclass that is neither nil nor a class");
+    faults.ask(objects.has_kind(body[1], LIST), Body(number, 1), "a dictionary that is no list");
+    let fields_right = faults.ask(integer_up_to(body[2], 255), Body(number, 2), "fields not from 0 to 255");
+    let form_right = faults.ask(integer_up_to(body[3], 3), Body(number, 3), "a form not from 0 to 3");
+    if fields_right && form_right {
+        faults.ask(integer(body[3]) < 2 || integer(body[2]) == 0, Body(number, 2), "fields in a class of form 2 or 3");
+    }
+}
+
+/// Whether F and form of a class can be judged by.
+fn numbers_right(objects: &Objects, class: u16) -> bool {
+    objects.get(class).map_or(false, |object| integer_up_to(object.body[2], 255) && integer_up_to(object.body[3], 3))
+}
+
+/// The classes of circles that were found are kept: what leads into one has no fault of its own.
+fn class_chain(objects: &Objects, number: usize, circles: &mut HashSet<u16>, faults: &mut Faults) {
+    let class = objects.class(pointer(number)).unwrap();
+    if let Some(above) = objects.class(class.superclass).filter(|_| numbers_right(objects, class.superclass)) {
+        faults.ask(class.fields >= above.fields, Body(number, 2), "fewer fields than the superclass");
     }
     let mut at = pointer(number);
     for _ in 0..=objects.list.len() {
         match objects.class(at) {
-            Some(class) => at = class.superclass,
-            None => return Ok(()),
+            Some(class) if !circles.contains(&at) => at = class.superclass,
+            _ => return,
         }
     }
-    refuse(6, Body(number, 0), "a chain of superclasses without end")
+    faults.add(Body(number, 0), "a chain of superclasses without end");
+    while circles.insert(at) {
+        at = objects.class(at).unwrap().superclass;
+    }
 }
 
-fn dictionary(objects: &Objects, number: usize) -> Result<(), Refusal> {
-    let list = objects.class(pointer(number)).unwrap().dictionary;
-    let body = &objects.get(list).unwrap().body;
-    let list = (list / 2) as usize;
-    if body.len() % 2 == 1 {
-        return refuse(6, Entry(list, 3), "a dictionary with half a pair");
+fn dictionary(objects: &Objects, list: usize, faults: &mut Faults) {
+    let body = &objects.list[list - 1].body;
+    if !faults.ask(body.len() % 2 == 0, Entry(list, 3), "a dictionary with half a pair") {
+        return;
     }
+    let mut last = 0;
     for at in (0..body.len()).step_by(2) {
-        if !objects.has_kind(body[at], BYTES) {
-            return refuse(6, Body(list, at), "a dictionary's selector that is no byte object");
-        }
-        if !objects.has_kind(body[at + 1], METHOD) {
-            return refuse(6, Body(list, at + 1), "a dictionary's method that is none");
-        }
-        if at > 0 && body[at - 2] >= body[at] {
-            return refuse(6, Body(list, at), "a dictionary's selectors do not rise");
+        let selector_right = faults.ask(objects.has_kind(body[at], BYTES), Body(list, at), "a dictionary's selector that is no byte object");
+        faults.ask(objects.has_kind(body[at + 1], METHOD), Body(list, at + 1), "a dictionary's method that is none");
+        if selector_right {
+            faults.ask(last < body[at], Body(list, at), "a dictionary's selectors do not rise");
+            last = body[at];
         }
     }
-    Ok(())
 }
 
-/// Rule 6: each object has a class, and fits its form.
-fn entries(objects: &Objects) -> Result<(), Refusal> {
+/// Each object has a class, and fits its form.
+fn entries(objects: &Objects, faults: &mut Faults) {
     for (number, object) in numbered(objects) {
         let class = match objects.class(object.class) {
             Some(class) => class,
-            None => return refuse(6, Entry(number, 0), "a class that is none"),
+            None => {
+                faults.add(Entry(number, 0), "a class that is none");
+                continue;
+            }
         };
         let size = object.size as usize;
         let fits = match object.kind {
@@ -219,125 +233,126 @@ fn entries(objects: &Objects) -> Result<(), Refusal> {
             BYTES => class.form == 2,
             _ => class.form == 3,
         };
-        if !fits {
-            return refuse(6, Entry(number, 3), "an object that does not fit the form of its class");
-        }
+        faults.ask(fits || !numbers_right(objects, object.class), Entry(number, 3), DOES_NOT_FIT);
     }
-    Ok(())
 }
 
-/// Rule 6 on objects 1 to 5.
-fn first_objects(objects: &Objects) -> Result<(), Refusal> {
+/// Objects 1 to 5.
+fn first_objects(objects: &Objects, faults: &mut Faults) {
     for number in 1..=3 {
-        if !objects.has_kind(pointer(number), FIELDS) {
-            return refuse(6, Entry(number, 1), "nil, false or true of another kind than 0");
+        faults.ask(objects.has_kind(pointer(number), FIELDS), Entry(number, 1), "nil, false or true of another kind than 0");
+    }
+    let form = objects.class(INTEGER_CLASS).map(|class| class.form);
+    faults.ask(form == Some(3), Entry(4, 1), "the class of integers is no class of form 3");
+    let specials = objects.get(SPECIALS).unwrap();
+    if faults.ask(specials.kind == LIST && specials.size == 32, Entry(5, 3), "object 5 is no list of 32") {
+        for (index, selector) in specials.body.iter().enumerate() {
+            let fine = *selector == NIL || objects.has_kind(*selector, BYTES);
+            faults.ask(fine, Body(5, index), "a special selector that is neither nil nor bytes");
         }
     }
-    if objects.class(INTEGER_CLASS).map_or(true, |class| class.form != 3) {
-        return refuse(6, Entry(4, 1), "the class of integers is no class of form 3");
-    }
-    let specials = objects.get(SPECIALS).unwrap();
-    if specials.kind != LIST || specials.size != 32 {
-        return refuse(6, Entry(5, 3), "object 5 is no list of 32");
-    }
-    let fine = |selector: &u16| *selector == NIL || objects.has_kind(*selector, BYTES);
-    if let Some(word) = specials.body.iter().position(|selector| !fine(selector)) {
-        return refuse(6, Body(5, word), "a special selector that is neither nil nor bytes");
-    }
-    Ok(())
 }
 
 /// Rule 7. It gives the methods, with a depth table for each that has one.
-fn methods(objects: &Objects) -> Result<Vec<Option<Method>>, Refusal> {
+fn methods(objects: &Objects) -> Result<Vec<Option<Method>>, Faults> {
+    let mut faults = Faults::new(7);
     let mut methods: Vec<Option<Method>> = vec![];
     for (number, object) in numbered(objects) {
-        methods.push(if object.kind == METHOD { Some(method(objects, number, object)?) } else { None });
+        methods.push(if object.kind == METHOD { method(objects, number, object, &mut faults) } else { None });
     }
-    let counts = counts_under_selectors(objects, &methods)?;
+    let counts = counts_under_selectors(objects, &mut methods, &mut faults);
     for (index, slot) in methods.iter_mut().enumerate() {
         let method = match slot {
             Some(method) => method,
             None => continue,
         };
         let fields = objects.class(method.home).unwrap().fields;
-        let table = depth_table(&Surroundings { objects, fields, counts: &counts }, method);
-        match table {
+        match depth_table(&Surroundings { objects, fields, counts: &counts }, method) {
             Ok(table) => method.table = Some(table),
             // The code of flags 5 and 6 is free.
             Err(_) if method.flag == 5 || method.flag == 6 => {}
-            Err((position, why)) => return refuse(7, Code(index + 1, position), why),
+            Err(found) => found.iter().for_each(|(position, why)| faults.add(Code(index + 1, *position), why)),
         }
     }
-    Ok(methods)
+    faults.none(methods)
 }
 
-/// One method's own words.
-fn method(objects: &Objects, number: usize, object: &Object) -> Result<Method, Refusal> {
+/// One method's own words; none where they are not right.
+fn method(objects: &Objects, number: usize, object: &Object, faults: &mut Faults) -> Option<Method> {
     let size = object.size as usize;
-    if size < 4 {
-        return refuse(7, Entry(number, 3), "a method without header and home");
+    let before = faults.list.len();
+    if !faults.ask(size >= 2, Entry(number, 3), "a method without a header")
+        || !faults.ask(size >= 4, Entry(number, 3), "a method without a home word")
+    {
+        return None;
     }
     let header = object.body[0];
-    if header % 2 == 0 {
-        return refuse(7, Body(number, 0), "a header without tag");
+    if !faults.ask(header % 2 == 1, Body(number, 0), "a header without tag") {
+        return None;
     }
     let (flag, temporaries, large, literal_count) = (header >> 13, (header >> 8) & 31, (header >> 7) & 1, ((header >> 1) & 63) as usize);
-    if size < 4 + 2 * literal_count {
-        return refuse(7, Entry(number, 3), "a method without room for its literals");
+    if !faults.ask(size >= 4 + 2 * literal_count, Entry(number, 3), "a method without room for its literals") {
+        return None;
     }
     let home = object.body[1];
-    let home_class = match objects.class(home) {
-        Some(home_class) => home_class,
-        None => return refuse(7, Body(number, 1), "a home that is no class"),
-    };
+    let home_class = objects.class(home);
+    faults.ask(home_class.is_some(), Body(number, 1), "a home that is no class");
     let literals = object.body[2..2 + literal_count].to_vec();
-    if let Some(word) = literals.iter().position(|word| !objects.valid(*word)) {
-        return refuse(7, Body(number, 2 + word), "an invalid literal");
+    for (index, literal) in literals.iter().enumerate() {
+        faults.ask(objects.valid(*literal), Body(number, 2 + index), "an invalid literal");
     }
-    if flag == 6 && temporaries as usize >= home_class.fields {
-        return refuse(7, Body(number, 0), "answers a field that the home class has not");
-    }
-    let (arguments, primitive) = extension(number, flag, &literals)?;
-    if arguments > temporaries as usize {
-        return refuse(7, Body(number, 0), "more arguments than temporaries");
+    let answers_field = flag != 6 || home_class.map_or(true, |class| (temporaries as usize) < class.fields);
+    faults.ask(answers_field, Body(number, 0), "answers a field that the home class has not");
+    let (arguments, primitive) = extension(number, flag, &literals, faults)?;
+    faults.ask(arguments <= temporaries as usize, Body(number, 0), "more arguments than temporaries");
+    if faults.list.len() > before {
+        return None;
     }
     let code = (4 + 2 * literal_count..size).map(|index| object.byte(index)).collect();
-    Ok(Method { flag, temporaries: temporaries as usize, large: large == 1, home, literals, arguments, primitive, code, table: None })
+    Some(Method { flag, temporaries: temporaries as usize, large: large == 1, home, literals, arguments, primitive, code, table: None })
 }
 
 /// The count of arguments and the primitive; 0 stands for none.
-fn extension(number: usize, flag: u16, literals: &[u16]) -> Result<(usize, u16), Refusal> {
+fn extension(number: usize, flag: u16, literals: &[u16], faults: &mut Faults) -> Option<(usize, u16)> {
     match flag {
-        0..=4 => Ok((flag as usize, 0)),
-        5 | 6 => Ok((0, 0)),
+        0..=4 => Some((flag as usize, 0)),
+        5 | 6 => Some((0, 0)),
         _ => {
-            if literals.len() < 2 {
-                return refuse(7, Body(number, 0), "flag 7 with less than 2 literals");
+            if !faults.ask(literals.len() >= 2, Body(number, 0), "flag 7 with less than 2 literals") {
+                return None;
             }
             let word = literals[literals.len() - 2];
-            if !is_integer(word) || word >> 14 != 0 {
-                return refuse(7, Body(number, literals.len()), "an extension that is no such word");
-            }
-            Ok(((word >> 9) as usize, (word >> 1) & 255))
+            let right = faults.ask(is_integer(word) && word >> 14 == 0, Body(number, literals.len()), "an extension that is no such word");
+            right.then(|| ((word >> 9) as usize, (word >> 1) & 255))
         }
     }
 }
 
-/// The count of arguments under each selector of a dictionary: homes are those of the class, and counts agree.
-fn counts_under_selectors(objects: &Objects, methods: &[Option<Method>]) -> Result<HashMap<u16, usize>, Refusal> {
-    let mut counts = HashMap::new();
+/// The count of arguments under each selector of a dictionary: homes are those of the class, and counts agree. A method with another home is taken out, and
+/// so is a selector whose counts differ: what follows from these is not said.
+fn counts_under_selectors(objects: &Objects, methods: &mut [Option<Method>], faults: &mut Faults) -> HashMap<u16, usize> {
+    let (mut counts, mut differ) = (HashMap::new(), vec![]);
     for (number, object) in numbered(objects).filter(|(_, object)| object.kind == CLASS) {
         let list = object.body[1];
         for (index, pair) in objects.get(list).unwrap().body.chunks(2).enumerate() {
-            let method = methods[(pair[1] / 2) as usize - 1].as_ref().unwrap();
-            if method.home != pointer(number) {
-                return refuse(7, Body((pair[1] / 2) as usize, 1), "another home than the class whose dictionary holds the method");
+            let found = (pair[1] / 2) as usize;
+            let (home, arguments) = match &methods[found - 1] {
+                Some(method) => (method.home, method.arguments),
+                None => continue,
+            };
+            if !faults.ask(home == pointer(number), Body(found, 1), "another home than the class whose dictionary holds the method") {
+                methods[found - 1] = None;
+                continue;
             }
-            let count = *counts.entry(pair[0]).or_insert(method.arguments);
-            if count != method.arguments {
-                return refuse(7, Body((list / 2) as usize, 2 * index + 1), "another count of arguments than under this selector elsewhere");
+            let count = *counts.entry(pair[0]).or_insert(arguments);
+            let place = Body((list / 2) as usize, 2 * index + 1);
+            if !faults.ask(count == arguments, place, "another count of arguments than under this selector elsewhere") {
+                differ.push(pair[0]);
             }
         }
     }
-    Ok(counts)
+    for selector in differ {
+        counts.remove(&selector);
+    }
+    counts
 }

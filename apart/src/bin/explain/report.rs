@@ -1,10 +1,11 @@
 //! What is said of an image.
 
+use crate::{hints, selectors};
 use apart::code::decode;
 use apart::image::{Image, FORMS, KINDS};
 use apart::listing::{listing, sent, walk};
 use apart::objects::*;
-use apart::refusal::{Place, Refusal};
+use apart::refusal::{Faults, Place, Refusal};
 use apart::rules::{self, Header, World};
 use apart::words::*;
 
@@ -20,73 +21,142 @@ const RULES: [&str; 9] = [
     "the start receiver is a valid word, the start selector has kind 1",
 ];
 
+/// How many faults are said after the first.
+const MOST_OTHERS: usize = 10;
+
 /// The number that load gives, 0 where the image is right, and the text.
 pub fn explain(bytes: &[u8]) -> (u32, String) {
     let header = match rules::header(bytes) {
         Ok(header) => header,
-        Err(refusal) => return (refusal.number, refused(&refusal, bytes, &Image::new(0, &[]))),
+        Err(refusal) => return (refusal.number, refused(&refusal.into(), bytes, &Image::new(0, &[]))),
     };
     let image = Image::new(header.n, &bytes[10..]);
     match judge(&header, &image) {
         Ok(world) => (0, right(&header, &image, &world)),
-        Err(refusal) => (refusal.number, refused(&refusal, bytes, &image)),
+        Err(faults) => {
+            let mut text = refused(&faults, bytes, &image);
+            // Before rule 5 it is not known where bodies are.
+            if faults.list[0].number >= 5 {
+                text += &selectors::warnings(&header, &image);
+            }
+            (faults.list[0].number, text)
+        }
     }
 }
 
-pub fn judge(header: &Header, image: &Image) -> Result<World, Refusal> {
+pub fn judge(header: &Header, image: &Image) -> Result<World, Faults> {
     rules::ranges(header.edition, header.n, header.b)?;
     let world = rules::judge(&image.contents, &image.bodies)?;
     rules::start_words(&world.objects, header.receiver, header.selector)?;
     Ok(world)
 }
 
-fn refused(refusal: &Refusal, bytes: &[u8], image: &Image) -> String {
-    let mut out = format!("refused {}\nrule: {}\nbroken: {}\n", refusal.number, RULES[refusal.number as usize], refusal.why);
-    let header = |index: usize| bytes.get(2 * index..2 * index + 2).map(|pair| u16::from_be_bytes([pair[0], pair[1]]));
-    let (n, b) = (header(1).unwrap_or(0) as usize, header(2).unwrap_or(0) as usize);
-    match refusal.place {
-        Place::Image if refusal.number == 1 => {
-            out += &format!("found: {} bytes", bytes.len());
-            if bytes.len() >= 10 {
-                out += &format!("; N {n} and B {b} make {}", 10 + 8 * n + 2 * b);
-            }
-            out += "\n";
+/// The first fault in full, then a line for each of the others.
+fn refused(faults: &Faults, bytes: &[u8], image: &Image) -> String {
+    let first = &faults.list[0];
+    let mut out = format!("refused {}\nrule: {}\nbroken: {}\n", first.number, RULES[first.number as usize], first.why);
+    if first.place != Place::Image {
+        out += &format!("at: {}\n", at(first, image));
+    }
+    out += &format!("found: {}\n", found(first, bytes, image));
+    out += &match first.place {
+        Place::Image if first.number == 1 => String::new(),
+        Place::Image => format!("object: {}\n", image.shown(image.contents.len() / 4)),
+        Place::Entry(number, _) => format!("object: {}\n", image.shown(number)),
+        Place::Body(number, index) if image.of_kind(number, LIST) && first.number == 7 => {
+            format!("object: {}\n{}", image.shown(number), under(image, image.word(number, index & !1).unwrap_or(0)))
         }
-        Place::Image => out += &format!("found: the last body ends at {}, B is {b}\nobject: {}\n", body_end(image, n), image.shown(n)),
-        Place::HeaderWord(index) => {
-            let word = header(index).unwrap_or(0);
-            let found = if index >= 3 { image.found(word) } else { word.to_string() };
-            out += &format!("at: header word {index} ({})\nfound: {found}\n", ["edition", "N", "B", "start receiver", "start selector"][index]);
-        }
+        Place::Body(number, _) => format!("object: {}\n", image.shown(number)),
+        Place::Code(number, position) => code_refused(image, number, position),
+        _ => String::new(),
+    };
+    if let Some(hint) = hints::byte_order(first, bytes, image) {
+        out += &format!("hint: {hint}\n");
+    }
+    for other in faults.list.iter().skip(1).take(MOST_OTHERS) {
+        out += &format!("also: {}: {}; found {}\n", at(other, image), other.why, found(other, bytes, image));
+    }
+    if faults.list.len() > 1 + MOST_OTHERS {
+        out += &format!("and {} more\n", faults.list.len() - 1 - MOST_OTHERS);
+    }
+    out
+}
+
+/// The place of a fault.
+fn at(fault: &Refusal, image: &Image) -> String {
+    match fault.place {
+        Place::Image => "the end of the bodies".to_string(),
+        Place::HeaderWord(index) => format!("header word {index} ({})", ["edition", "N", "B", "start receiver", "start selector"][index]),
+        Place::Entry(number, _) if fault.why == rules::DOES_NOT_FIT => format!("kind and size of object {number}"),
+        Place::Entry(number, index) => format!("{} of object {number}", ["class", "kind", "start", "size"][index]),
+        Place::Body(number, index) => format!("body word {index} of object {number} ({})", image.role(number, index)),
+        Place::Code(number, position) => format!("code position {position} of method {number} ({})", image.method_name(number)),
+        place => place.to_string(),
+    }
+}
+
+/// What stands there.
+fn found(fault: &Refusal, bytes: &[u8], image: &Image) -> String {
+    let header = |index: usize| bytes.get(2 * index..2 * index + 2).map_or(0, |pair| u16::from_be_bytes([pair[0], pair[1]]));
+    let (n, b) = (header(1) as usize, header(2) as usize);
+    match fault.place {
+        Place::Image if bytes.len() < 10 => format!("{} bytes", bytes.len()),
+        Place::Image if fault.number == 1 => format!("{} bytes; N {n} and B {b} make {}", bytes.len(), 10 + 8 * n + 2 * b),
+        Place::Image => format!("the last body ends at {}, B is {b}", body_end(image, n)),
+        Place::HeaderWord(index) if index < 3 => header(index).to_string(),
+        Place::HeaderWord(index) => image.found(header(index)),
         Place::Entry(number, index) => {
             let entry = image.entry(number).unwrap_or([0; 4]);
             let (word, kind) = (entry[index], KINDS.get(entry[1] as usize).unwrap_or(&"no kind"));
-            let found = match index {
+            match index {
                 0 => image.found(word),
                 1 => format!("{word}, {kind}"),
                 2 => format!("{word}; the body before ends at {}", body_end(image, number - 1)),
+                _ if fault.why == rules::DOES_NOT_FIT => format!("kind {} ({kind}), size {word}; {}", entry[1], instances(image, entry[0])),
                 _ => format!("{word}, of kind {} ({kind})", entry[1]),
-            };
-            out += &format!("at: {} of object {number}\nfound: {found}\n", ["class", "kind", "start", "size"][index]);
-            out += &format!("object: {}\n", image.shown(number));
+            }
         }
         Place::Body(number, index) => {
             let word = image.word(number, index).unwrap_or(0);
-            out += &format!("at: body word {index} of object {number} ({})\nfound: ", image.role(number, index));
             if image.of_kind(number, METHOD) && index == 0 {
                 let (flag, temporaries, large, literals, tag) = (word >> 13, word >> 8 & 31, word >> 7 & 1, word >> 1 & 63, word & 1);
-                out += &format!("word {word}: flag {flag}, T {temporaries}, large {large}, L {literals}, tag {tag}");
-            } else {
-                // A word with padding is two bytes.
-                out += &if refusal.number == 4 { format!("bytes {} {}", word >> 8, word & 255) } else { image.found(word) };
+                return format!("word {word}: flag {flag}, T {temporaries}, large {large}, L {literals}, tag {tag}");
             }
-            out += &format!("\nobject: {}\n", image.shown(number));
-            if image.of_kind(number, LIST) && refusal.number == 7 {
-                out += &under(image, image.word(number, index & !1).unwrap_or(0));
+            // A word with padding is two bytes.
+            if fault.number == 4 {
+                return format!("bytes {} {}", word >> 8, word & 255);
             }
+            image.found(word)
         }
-        Place::Code(number, position) => out += &code_refused(image, number, position),
-        place => out += &format!("at: {place}\n"),
+        Place::Code(number, position) => reached(image, number, position),
+        place => place.to_string(),
+    }
+}
+
+/// A class, and what its instances have to be.
+fn instances(image: &Image, class: u16) -> String {
+    let number = class as usize / 2;
+    let (fields, form) = (image.word(number, 2).unwrap_or(0), image.word(number, 3).unwrap_or(0));
+    let words = if integer(fields) == 1 { "1 word".to_string() } else { format!("{} words", integer(fields)) };
+    let asked = match integer(form) {
+        0 => format!("kind 0 (fields) with exactly {words}"),
+        1 => format!("kind 0 (fields) with at least {words}"),
+        2 => "kind 1 (bytes)".to_string(),
+        _ => "kind 2, 3 or 4 (class, list or method)".to_string(),
+    };
+    format!("class {number} has form {} and F {}: {asked}", integer(form), integer(fields))
+}
+
+/// The bytecode at a position, its depths and where it is reached from.
+fn reached(image: &Image, number: usize, position: usize) -> String {
+    let code = image.method(number).map_or(vec![], |method| method.code);
+    let mut out = code.get(position).map_or("no bytecode".to_string(), |byte| format!("bytecode {byte}"));
+    if let Some(here) = walk(&code).get(&(position as i64)) {
+        let list = |numbers: &[usize]| numbers.iter().map(usize::to_string).collect::<Vec<_>>().join(" and ");
+        out += &format!(", depth {}", list(&here.depths));
+        if !here.from.is_empty() {
+            out += &format!(", reached from {}", list(&here.from));
+        }
     }
     out
 }
@@ -111,19 +181,13 @@ fn under(image: &Image, selector: u16) -> String {
     out
 }
 
+/// The method's head, what it sends there, and the lines around.
 fn code_refused(image: &Image, number: usize, position: usize) -> String {
     let method = match image.method(number) {
         Some(method) => method,
-        None => return format!("at: method {number}, code position {position}\n"),
+        None => return String::new(),
     };
-    let mut out = format!("at: code position {position} of method {number} ({})\n", image.method_name(number));
-    out += &format!("object: {}\n", method_head(image, &method));
-    let reached = walk(&method.code);
-    if let Some(here) = reached.get(&(position as i64)) {
-        let list = |numbers: &[usize]| numbers.iter().map(usize::to_string).collect::<Vec<_>>().join(" and ");
-        out += &format!("found: depth {}", list(&here.depths));
-        out += &if here.from.is_empty() { "\n".to_string() } else { format!(", reached from {}\n", list(&here.from)) };
-    }
+    let mut out = format!("object: {}\n", method_head(image, &method));
     if let Some((selector, count)) = decode(&method.code, position).and_then(|(instruction, _)| sent(image, &method, instruction)) {
         out += &format!("sent: {} with {count}\n{}", image.name(selector), under(image, selector));
     }
@@ -148,7 +212,7 @@ fn method_head(image: &Image, method: &Method) -> String {
     let temporaries = if method.flag == 6 { 0 } else { method.temporaries.saturating_sub(method.arguments) };
     let (arguments, room, home) = (method.arguments, method.room(), image.name(method.home));
     let (literals, code) = (method.literals.len(), method.code.len());
-    format!("{kind}, arguments {arguments}, temporaries {temporaries}, frame {room} words, home {home}, literals {literals}, code {code} bytes")
+    format!("{kind}, arguments {arguments}, other temporaries {temporaries}, frame {room} words, home {home}, literals {literals}, code {code} bytes")
 }
 
 fn right(header: &Header, image: &Image, world: &World) -> String {
@@ -160,6 +224,7 @@ fn right(header: &Header, image: &Image, world: &World) -> String {
         Some((word, 0)) => format!("begin without arguments: {}\n", image.name(word)),
         Some((word, count)) => format!("begin without arguments: refused 10, {} takes {count}\n", image.name(word)),
     };
+    out += &selectors::warnings(header, image);
     for number in 1..=header.n {
         out += &match image.entry(number).map_or(FIELDS, |entry| entry[1]) {
             CLASS => class_shown(image, world, number),
