@@ -295,7 +295,7 @@ static inline const uint16_t *sofaduck_body(const sofaduck_state *state, uint16_
 }
 
 /* Byte k, from 0, of a body that is bytes. */
-static inline unsigned sofaduck_byte(const uint16_t *body, size_t k) { return (body[k / 2] >> (k % 2 == 0 ? 8 : 0)) & 255u; }
+static inline unsigned sofaduck_byte(const uint16_t *body, size_t k) { return (unsigned)body[k / 2] >> (k % 2 == 0 ? 8 : 0) & 255u; }
 
 /* Copies the bytes of an object of bytes, such as a selector, as many as fit before a zero that ends them. Returns how many it has; 0 for another
  * object. */
@@ -405,8 +405,8 @@ static inline uint16_t sofaduck_operand(const sofaduck_state *state, const sofad
     return at < state->stack_length ? state->stack[at] : (uint16_t)0;
 }
 
-/* The send that a frame stands before: its selector and how many arguments it has. In phases not understood and no stack room the top frame stands
- * before one, and operand `count` is its receiver. Returns 1, or 0 where there is no send. */
+/* The send that a frame stands before: its selector, which may be nil, and how many arguments it has. In phases not understood and no stack room the
+ * top frame stands before one, and operand `count` is its receiver. Returns 1, or 0 where there is no send. */
 static inline int sofaduck_send(const sofaduck_state *state, const sofaduck_frame *frame, uint16_t *selector, unsigned *count) {
     static const uint8_t counts[] = {1, 2, 0, 0, 1, 0, 1, 0, 1, 0, 1, 1, 0, 1, 0, 0}; /* of bytecodes 192 to 207 */
     const int code = sofaduck_code(state, frame->method, frame->position);

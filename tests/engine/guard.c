@@ -1,5 +1,5 @@
 /* The library with every buffer at the end of its memory: a page that nobody may touch lies behind each. Images are edited at random, what is
- * accepted is begun and run, states are spoiled. An access past a buffer ends the program; otherwise it fails where check refuses a state that the
+ * accepted is begun and run, states are spoiled and read. An access past a buffer ends the program; otherwise it fails where check refuses a state that the
  * calls left. Usage: guard IMAGE... */
 #define _DEFAULT_SOURCE /* MAP_ANONYMOUS */
 #include "sofaduck.h"
@@ -77,6 +77,19 @@ static bool handled(bool start) {
     return counted(sofaduck_state_check(s)) == 0 && fine;
 }
 
+/* The header's readers, whatever the words are. */
+static void readers(void) {
+    sofaduck_frame frame;
+    uint16_t selector = 0;
+    unsigned arguments = 0;
+    char text[8];
+    for (int more = sofaduck_top_frame(s, &frame); more; more = sofaduck_next_frame(s, &frame)) {
+        sofaduck_text(s, sofaduck_method_selector(s, frame.method), text, sizeof text);
+        if (sofaduck_send(s, &frame, &selector, &arguments)) sofaduck_operand(s, &frame, arguments);
+    }
+    sofaduck_find_selector(s, "a", 1);
+}
+
 /* One word of the state changed: the calls answer something. */
 static void spoiled(void) {
     uint16_t *const buffers[] = {s->contents, s->bodies, s->stack, s->cache, s->registers};
@@ -85,6 +98,7 @@ static void spoiled(void) {
     const unsigned which = below(5);
     uint32_t length;
     if (lengths[which] > 0) buffers[which][below(lengths[which])] ^= (uint16_t)(1u << below(16));
+    readers();
     counted(sofaduck_state_run(s, 100, count, reach));
     counted(sofaduck_state_forget(s));
     counted(sofaduck_state_save(s, last(7, output_length), output_length, &length));
@@ -108,7 +122,7 @@ int main(int argc, char **argv) {
         fprintf(stderr, "usage: guard IMAGE...\n");
         return 2;
     }
-    s = last(5, sizeof *s); /* the registers are its last words */
+    s = last(5, sizeof *s); /* the registers are its last words, but for two bytes of padding */
     s->cache = last(4, 2 * SOFADUCK_CACHE);
     s->cache_length = SOFADUCK_CACHE;
     count = last(6, 8);
