@@ -3,7 +3,8 @@
  * A studio compiles its handlers to an image: classes, methods and objects in a table of contents and their bodies. The engine loads the image into
  * buffers of its own, begins a handler at a contact, and runs it for as many bytecodes as the frame has time for; a handler that is not done goes
  * on in the next frame. A wrong image is refused by a number, and an accepted one runs without ever leaving its buffers. Answers, objects and frames
- * follow from the image, the lengths of the buffers and the calls made: machines that agree in these agree in all of it.
+ * follow from the image, the lengths of the buffers, the calls made and what the engine wrote into fields itself: machines that agree in these agree
+ * in all of it.
  *
  * Order of use: load once; for each contact begin, then run until the phase is no longer SOFADUCK_RUNNING; save whenever the objects are to be kept.
  * A state runs one handler at a time: another contact waits, or has the handler dropped first, or goes to a state of its own.
@@ -136,8 +137,9 @@ uint32_t sofaduck_load(const uint8_t *image, size_t image_length,
  *
  * Each call checks all of it first, so a spoiled state does no harm. It is refused by 3 where contents have less than 4 * N words, bodies less than
  * B, or the cache other than 192, and by 11 where objects, cache, registers or frames break a rule that every call keeps. The time for that grows
- * with the image and the frames, and is spent once a call: one run of a thousand bytecodes takes far less than a thousand runs of one. For images
- * of 1,000, 6,000 and 24,000 words of bodies it was about MICROSECONDS (bench/run prints it).
+ * with the image and the frames, and is spent once a call: one run of a thousand bytecodes takes far less than a thousand runs of one. On a shared
+ * two-core x86-64 machine it took about 7, 100 and 450 microseconds for images of 1,000, 6,000 and 24,000 words of bodies with one frame, and 40
+ * milliseconds for a state made to be slow, a chain of 2,000 classes and 3,640 frames (bench/run prints it).
  *
  * What an engine may write itself, between calls and in any phase: into a field of an object of kind SOFADUCK_FIELDS, any integer and any word that
  * names an object; into an object of kind SOFADUCK_BYTES, any bytes, but for the one behind an odd number of them, which stays 0. Check accepts it.
@@ -150,8 +152,9 @@ uint32_t sofaduck_load(const uint8_t *image, size_t image_length,
  * Objects that handlers make are never reclaimed. Where contents or bodies have no room for another, or N is SOFADUCK_OBJECTS, or B would pass
  * SOFADUCK_BODIES, the primitive that makes it fails and the code of its method runs: the image says what happens then, often that nil is answered.
  * That is neither a halt nor a refusal; an engine sees it coming in N and B. What helps: longer buffers, up to SOFADUCK_CONTENTS and
- * SOFADUCK_BODIES, into which contents and bodies are copied between two calls; or the image loaded anew, or a snapshot put back, with the
- * fields that are to be kept written into it. Saving and loading does not help: save writes all objects. */
+ * SOFADUCK_BODIES, into which contents and bodies are copied between two calls; or the image loaded anew, or a snapshot put back, with
+ * what is to be kept written into its fields (a word that names an object made since names nothing there). Saving and loading does not help: save
+ * writes all objects. */
 
 /* Begin sends `selector` with the arguments to `receiver`. Frames of a handler that halted are removed.
  *

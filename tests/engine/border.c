@@ -262,8 +262,8 @@ static void runs(void) {
     test("begin: after a halt", begin(&s, OBJECT_box, SELECTOR_a) == 0 && s.registers[SOFADUCK_PHASE] == SOFADUCK_FINISHED);
     loaded();
     test("begin: two arguments in order",
-         sofaduck_begin(SOFADUCK_STATE(&s), OBJECT_box, SELECTOR_a_b_, two, 2) == 0 && sofaduck_run(SOFADUCK_STATE(&s), 0, &count, &reach) == 0 && count == 0
-             && reach == SOFADUCK_FRAME && sofaduck_run(SOFADUCK_STATE(&s), 4294967295u, &count, &reach) == 0 && count == 8
+         sofaduck_begin(SOFADUCK_STATE(&s), OBJECT_box, SELECTOR_a_b_, two, 2) == 0
+             && sofaduck_run(SOFADUCK_STATE(&s), 0, &count, &reach) == 0 && count == 0 && reach == SOFADUCK_FRAME && sofaduck_run(SOFADUCK_STATE(&s), 4294967295u, &count, &reach) == 0 && count == 8
              && s.registers[SOFADUCK_PHASE] == SOFADUCK_FINISHED && sofaduck_integer(s.registers[SOFADUCK_VALUE]) == -42
              && s.bodies[sofaduck_start(s.contents, OBJECT_box) + FIELD_Box_b] == two[1] && sofaduck_size(s.contents, OBJECT_box) == 2);
     goes("run: an object is made", SELECTOR_more, SOFADUCK_FINISHED, 5, (uint16_t)(2 * get(1) + 2));
@@ -274,8 +274,8 @@ static void runs(void) {
     test("N and B count it", s.registers[SOFADUCK_N] == get(1) + 1 && s.registers[SOFADUCK_B] == get(2) + 2);
     loaded();
     s.contents_length = 4 * get(1);
-    test("run: no room for an object, new answers nil", begin(&s, OBJECT_box, SELECTOR_more) == 0 && sofaduck_run(SOFADUCK_STATE(&s), 9, &count, &reach) == 0
-                                                             && count == 6 && s.registers[SOFADUCK_VALUE] == SOFADUCK_NIL);
+    test("run: no room for an object, new answers nil", begin(&s, OBJECT_box, SELECTOR_more) == 0
+                                                             && sofaduck_run(SOFADUCK_STATE(&s), 9, &count, &reach) == 0 && count == 6 && s.registers[SOFADUCK_VALUE] == SOFADUCK_NIL);
     bool kept = true;
     for (int k = -16384; k < 16384; k++)
         kept = kept && sofaduck_is_integer(sofaduck_word(k)) && sofaduck_integer(sofaduck_word(k)) == k;

@@ -1,6 +1,6 @@
 /* The library with every buffer at the end of its memory: a page that nobody may touch lies behind each. Images are edited at random, what is
- * accepted is begun and run, states are spoiled and read. An access past a buffer ends the program; otherwise it fails where check refuses a state that the
- * calls left. Usage: guard IMAGE... */
+ * accepted is begun and run, states are spoiled and read. An access past a buffer ends the program; otherwise it fails where check refuses a state
+ * that the calls left. Usage: guard IMAGE... */
 #define _DEFAULT_SOURCE /* MAP_ANONYMOUS */
 #include "sofaduck.h"
 #include <stdbool.h>
@@ -77,17 +77,18 @@ static bool handled(bool start) {
     return counted(sofaduck_state_check(s)) == 0 && fine;
 }
 
-/* The header's readers, whatever the words are. */
+/* The header's readers, whatever the words are. Adding up keeps the compiler from leaving them out. */
 static void readers(void) {
+    static volatile unsigned long sum;
     sofaduck_frame frame;
     uint16_t selector = 0;
     unsigned arguments = 0;
-    char text[8];
     for (int more = sofaduck_top_frame(s, &frame); more; more = sofaduck_next_frame(s, &frame)) {
-        sofaduck_text(s, sofaduck_method_selector(s, frame.method), text, sizeof text);
-        if (sofaduck_send(s, &frame, &selector, &arguments)) sofaduck_operand(s, &frame, arguments);
+        char text[8] = "";
+        sum += sofaduck_text(s, sofaduck_method_selector(s, frame.method), text, sizeof text) + (unsigned char)text[1];
+        if (sofaduck_send(s, &frame, &selector, &arguments)) sum += selector + (unsigned long)sofaduck_operand(s, &frame, arguments);
     }
-    sofaduck_find_selector(s, "a", 1);
+    sum += sofaduck_find_selector(s, "a", 1);
 }
 
 /* One word of the state changed: the calls answer something. */

@@ -97,9 +97,10 @@ static void selectors(void) {
                                                     && sofaduck_text(&s, SELECTOR_forever, text, 1) == 7 && text[0] == 0
                                                     && sofaduck_text(&s, SELECTOR_forever, NULL, 0) == 7);
     test("what is no object of bytes has none", reads(&s, OBJECT_box, "") && reads(&s, 1, "") && reads(&s, 0, "") && reads(&s, 65534, ""));
+    const uint16_t *const box = s.bodies + sofaduck_start(s.contents, OBJECT_box);
     test("a body is given by its kind", sofaduck_body(&s, OBJECT_box, SOFADUCK_BYTES, &size) == NULL && size == 77
-                                            && sofaduck_body(&s, OBJECT_box, SOFADUCK_FIELDS, &size) == s.bodies + sofaduck_start(s.contents, OBJECT_box)
-                                            && size == 2 && sofaduck_body(&s, SOFADUCK_INTEGER_CLASS, SOFADUCK_CLASS, &size) != NULL && size == 4
+                                            && sofaduck_body(&s, OBJECT_box, SOFADUCK_FIELDS, &size) == box && size == 2
+                                            && sofaduck_body(&s, SOFADUCK_INTEGER_CLASS, SOFADUCK_CLASS, &size) != NULL && size == 4
                                             && sofaduck_body(&s, SOFADUCK_SPECIAL_SELECTORS, SOFADUCK_LIST, &size) != NULL && size == 32);
     /* an engine may write bytes: two selectors with the same ones */
     s.bodies[sofaduck_start(s.contents, SELECTOR_lost)] = 'w' * 256 + 'i';
@@ -107,6 +108,19 @@ static void selectors(void) {
     const uint16_t lower = SELECTOR_lost < SELECTOR_wide ? SELECTOR_lost : SELECTOR_wide;
     test("of two with equal bytes the lower is found", find(&s, "wide") == lower && find(&s, "lost") == 0 && sofaduck_state_check(&s) == 0);
     end(&s);
+}
+
+/* As much as a snapshot needs, put back into other buffers. */
+static sofaduck_state restored(const sofaduck_state *s, size_t contents, size_t bodies) {
+    const size_t n = 4 * (size_t)s->registers[SOFADUCK_N], b = s->registers[SOFADUCK_B];
+    const size_t reach = (size_t)s->registers[SOFADUCK_TOP] + SOFADUCK_LARGE_FRAME;
+    sofaduck_state to = lend(contents, bodies, s->stack_length);
+    memcpy(to.contents, s->contents, 2 * n);
+    memcpy(to.bodies, s->bodies, 2 * b);
+    memcpy(to.stack, s->stack, 2 * (reach < s->stack_length ? reach : s->stack_length));
+    memcpy(to.cache, s->cache, 2 * SOFADUCK_CACHE);
+    memcpy(to.registers, s->registers, sizeof to.registers);
+    return to;
 }
 
 static int stands(const sofaduck_frame *f, unsigned base, unsigned position, unsigned depth) {
@@ -158,7 +172,12 @@ static void frames(void) {
                                            && selector == SOFADUCK_NIL && sofaduck_operand(&s, &f, 0) == two[1]
                                            && sofaduck_operand(&s, &f, 1) == two[0] && sofaduck_operand(&s, &f, 2) == 0
                                            && s.stack[f.base + SOFADUCK_FRAME_TEMPORARIES] == two[0] && s.stack[f.base + SOFADUCK_FRAME_ZERO] == 0);
-    end(&s);
+    const uint16_t n = s.registers[SOFADUCK_N], b = s.registers[SOFADUCK_B];
+    sofaduck_state t = restored(&s, 4 * (size_t)n, b);
+    uint16_t *const specials = t.contents + 4 * (SOFADUCK_SPECIAL_SELECTORS / 2 - 1);
+    specials[2] = (uint16_t)(b - 1), specials[3] = 1;
+    test("no special send where its selector is missing", !sofaduck_send(&t, &f, &selector, &count));
+    end(&s), end(&t);
 }
 
 /* Bytecode by bytecode: where a frame was made, it is that of the send which was read before. */
@@ -188,19 +207,6 @@ static void every_send(void) {
     test("every send is read as it is made", fine && s.registers[SOFADUCK_PHASE] == SOFADUCK_FINISHED && made == 12);
     test("by every kind of bytecode", seen[131] == 2 && seen[132] == 1 && seen[133] > 0 && seen[134] == 1 && seen[177] == 1 && seen[193] == 1);
     end(&s);
-}
-
-/* As much as a snapshot needs, put back into other buffers. */
-static sofaduck_state restored(const sofaduck_state *s, size_t contents, size_t bodies) {
-    const size_t n = 4 * (size_t)s->registers[SOFADUCK_N], b = s->registers[SOFADUCK_B];
-    const size_t reach = (size_t)s->registers[SOFADUCK_TOP] + SOFADUCK_LARGE_FRAME;
-    sofaduck_state to = lend(contents, bodies, s->stack_length);
-    memcpy(to.contents, s->contents, 2 * n);
-    memcpy(to.bodies, s->bodies, 2 * b);
-    memcpy(to.stack, s->stack, 2 * (reach < s->stack_length ? reach : s->stack_length));
-    memcpy(to.cache, s->cache, 2 * SOFADUCK_CACHE);
-    memcpy(to.registers, s->registers, sizeof to.registers);
-    return to;
 }
 
 static int same(const sofaduck_state *s, const sofaduck_state *t) {
