@@ -55,34 +55,44 @@ only_debian() {
   export PATH=$rt_alone:/usr/sbin:/usr/bin:/sbin:/bin
 }
 
-# CRATE: how many crates are proved for it, itself included.
+# CRATE: it and the crates that it rests on, a line each.
 crates_for() {
   awk -F: -v wanted="$1" '
     !/^#/ && NF > 1 { on[$1] = $2 }
     END {
       list[1] = wanted; seen[wanted] = 1; n = 1
-      for (i = 1; i <= n; i++) { k = split(on[list[i]], part, " "); for (j = 1; j <= k; j++) if ((part[j] in on) && !seen[part[j]]++) list[++n] = part[j] }
-      print n
+      for (i = 1; i <= n; i++) {
+        print list[i]
+        k = split(on[list[i]], part, " ")
+        for (j = 1; j <= k; j++) if ((part[j] in on) && !seen[part[j]]++) list[++n] = part[j]
+      }
     }' crates.txt
 }
 
-# check|staticlib CRATE: the crate is proved and built, with a line for each crate as it is proved and the number of those left. All that rt says is in
-# target/progress/CRATE.
+# check|staticlib CRATE: the crate is proved and built, with a line for each crate as it is proved and the number of those that come after it. What was proved
+# before and has not changed since is not proved again. All that rt says is in target/progress/CRATE.
 proved() {
-  local all began=$SECONDS
+  local crate all=0 new=0 began=$SECONDS
   needs rt
-  all=$(crates_for "$2")
+  # An archive is written anew at each call, half a minute even where nothing changed.
+  if [ "$1" = staticlib ] && [ "$(cat "target/progress/$2.made" 2> /dev/null)" = "$(rt version)" ] && [ -e "target/staticlib/lib$2.a" ] &&
+    [ -z "$(find crates crates.txt -newer "target/staticlib/lib$2.a" -print -quit)" ]; then return; fi
+  for crate in $(crates_for "$2"); do
+    all=$((all + 1))
+    [ -e "target/stamp/$crate" ] || new=$((new + 1))
+  done
   mkdir -p target/progress
-  echo "proving $2: $all crates, about 8 minutes in all on two cores where none of them is proved yet" >&2
+  if [ "$new" -gt 0 ]; then echo "proving $2: $new of $all crates are not proved here yet; all $all take about 8 minutes on two cores" >&2; fi
   rt "$1" "$2" 2>&1 | tee "target/progress/$2" | awk -v all="$all" '
-    /^rt: [a-z0-9]+ proved/ { done++; if (!/unchanged/) { sub(/^rt: /, ""); printf "  %s, %d left\n", $0, all - done; fflush() } }
+    /^rt: [a-z0-9]+ proved/ { done++; if (!/unchanged/) { sub(/^rt: /, ""); printf "  %s, %d to go\n", $0, all - done; fflush() } }
     /^rt: .*NOT PROVED/ { sub(/^rt: /, ""); print "  " $0; fflush() }' >&2
   if [ "${PIPESTATUS[0]}" -ne 0 ]; then
     tail -n 20 "target/progress/$2" >&2
-    echo "$0: $2 is not proved; target/progress/$2 has all that was said" >&2
+    echo "$0: $2 is not proved; target/progress/$2 has all that rt said" >&2
     exit 1
   fi
-  echo "proved: $2 ($((SECONDS - began)) s)" >&2
+  [ "$1" != staticlib ] || rt version > "target/progress/$2.made"
+  if [ "$new" -gt 0 ]; then echo "proved: $2, in $((SECONDS - began)) seconds" >&2; fi
 }
 
 # PROGRAM...: programs of apart/ are built, in target/apart/release. `compare` and `runner` are linked with the proved library, which has to be there.

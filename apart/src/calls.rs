@@ -184,9 +184,14 @@ fn frame(world: &World, stack: &[u16], base: usize, is_top: bool) -> Result<(Fra
     Ok((frame, end, sender))
 }
 
-pub fn check(lent: &Lent) -> Result<(), Refusal> {
+/// The objects and frames of a state that keeps the rules.
+pub fn opened(lent: &Lent) -> Result<(World, Vec<Frame>), Refusal> {
     state_room(lent)?;
-    state_right(lent)?;
+    state_right(lent)
+}
+
+pub fn check(lent: &Lent) -> Result<(), Refusal> {
+    opened(lent)?;
     Ok(())
 }
 
@@ -266,6 +271,10 @@ pub fn begin(lent: &mut Lent, receiver: u16, selector: u16, arguments: &[u16], c
 }
 
 pub fn run(lent: &mut Lent, n: u32, counts: &mut Counts) -> Result<Ran, Refusal> {
+    run_watched(lent, n, counts, &mut Unwatched)
+}
+
+pub fn run_watched<W: Watch>(lent: &mut Lent, n: u32, counts: &mut Counts, watch: &mut W) -> Result<Ran, Refusal> {
     state_room(lent)?;
     let (world, frames) = state_right(lent)?;
     if lent.registers[PHASE] != RUNNING {
@@ -276,7 +285,10 @@ pub fn run(lent: &mut Lent, n: u32, counts: &mut Counts) -> Result<Ran, Refusal>
     let mut count = 0;
     let mut end = (RUNNING, 0);
     while count < n && end.0 == RUNNING {
-        match machine.step() {
+        watch.before(&machine);
+        let made = machine.step();
+        watch.after(&machine, &made);
+        match made {
             Ok(Made::Goes) => count += 1,
             Ok(Made::Finishes(value)) => {
                 count += 1;

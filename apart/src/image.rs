@@ -9,6 +9,7 @@ pub const FORMS: [&str; 4] = ["fields", "indexed", "bytes", "code"];
 /// No right image has as many pairs in its dictionaries.
 const MOST_PAIRS: usize = MOST_BODY_WORDS / 2;
 
+#[derive(Default)]
 pub struct Image {
     pub contents: Vec<u16>,
     pub bodies: Vec<u16>,
@@ -16,6 +17,8 @@ pub struct Image {
     pub places: HashMap<usize, Vec<(usize, usize)>>,
     /// The first class that names a list as its dictionary.
     pub owners: HashMap<usize, usize>,
+    /// Names from elsewhere, by number: an image has none.
+    pub given: HashMap<usize, String>,
 }
 
 fn object_number(word: u16) -> Option<usize> {
@@ -27,7 +30,7 @@ impl Image {
     pub fn new(n: usize, bytes: &[u8]) -> Image {
         let words: Vec<u16> = bytes.chunks_exact(2).map(|pair| u16::from_be_bytes([pair[0], pair[1]])).collect();
         let (contents, bodies) = words.split_at(words.len().min(4 * n));
-        let mut image = Image { contents: contents.to_vec(), bodies: bodies.to_vec(), places: HashMap::new(), owners: HashMap::new() };
+        let mut image = Image { contents: contents.to_vec(), bodies: bodies.to_vec(), ..Image::default() };
         let mut pairs = 0;
         for class in 1..=n {
             let list = match image.of_kind(class, CLASS).then(|| image.word(class, 1)).flatten().and_then(object_number) {
@@ -89,7 +92,7 @@ impl Image {
     /// A method by class and selector.
     pub fn method_name(&self, number: usize) -> String {
         let names = self.places.get(&number).into_iter().flatten().take(4);
-        let names: Vec<String> = names.map(|(class, selector)| format!("class {class}>>{}", self.text(*selector))).collect();
+        let names: Vec<String> = names.map(|(class, selector)| format!("{}>>{}", self.class_name(*class), self.text(*selector))).collect();
         if names.is_empty() {
             "in no dictionary".to_string()
         } else {
@@ -97,7 +100,15 @@ impl Image {
         }
     }
 
+    /// A class where it stands for another object.
+    pub fn class_name(&self, number: usize) -> String {
+        self.given.get(&number).cloned().unwrap_or(format!("class {number}"))
+    }
+
     pub fn object_name(&self, number: usize) -> String {
+        if let Some(name) = self.given.get(&number) {
+            return format!("{name} ({} {number})", if self.of_kind(number, CLASS) { "class" } else { "object" });
+        }
         match (number, self.entry(number)) {
             (1..=3, Some(_)) => ["nil", "false", "true"][number - 1].to_string(),
             (4, Some(_)) => "class 4 (of integers)".to_string(),
@@ -112,7 +123,7 @@ impl Image {
             (_, Some([_, BYTES, ..])) if self.text(number) != format!("object {number}") => format!("#{} (object {number})", self.text(number)),
             (_, Some([_, BYTES, ..])) => format!("bytes {number}"),
             (_, Some([class, ..])) => match object_number(class) {
-                Some(class) => format!("object {number} of class {class}"),
+                Some(class) => format!("object {number} of {}", self.class_name(class)),
                 None => format!("object {number}"),
             },
         }

@@ -136,3 +136,9 @@ pub fn sent(image: &Image, method: &Method, instruction: Instruction) -> Option<
         _ => None,
     }
 }
+
+/// One instruction in words, without what surrounds it in a listing.
+pub fn instruction_words(image: &Image, method: &Method, position: usize) -> Option<String> {
+    let (instruction, next) = decode(&method.code, position)?;
+    Some(format!("{}{}", form(method.code[position], instruction), words(image, method, instruction, next)))
+}

@@ -46,6 +46,24 @@ pub enum Activation {
     Frame,
 }
 
+/// Is told of each bytecode, before it is made and after.
+pub trait Watch {
+    fn before(&mut self, machine: &Machine);
+    fn after(&mut self, machine: &Machine, made: &Result<Made, u16>);
+}
+
+pub struct Unwatched;
+
+impl Watch for Unwatched {
+    fn before(&mut self, _: &Machine) {}
+    fn after(&mut self, _: &Machine, _: &Result<Made, u16>) {}
+}
+
+/// Where the cache has the entry of a selector and a class.
+fn cache_index(selector: u16, class: u16) -> usize {
+    3 * (((selector & class) / 2) % 64) as usize
+}
+
 impl Machine<'_> {
     fn top(&mut self) -> &mut Frame {
         self.frames.last_mut().unwrap()
@@ -327,11 +345,16 @@ impl Machine<'_> {
         }
     }
 
+    /// Whether the cache has a lookup.
+    pub fn cached(&self, selector: u16, class: u16) -> bool {
+        let at = cache_index(selector, class);
+        self.cache[at] == selector && self.cache[at + 1] == class
+    }
+
     /// The entry of a lookup that found. Where it hits, the words are the same.
     fn fill(&mut self, selector: u16, class: u16, method: u16) {
-        let at = 3 * (((selector & class) / 2) % 64) as usize;
-        let hit = self.cache[at] == selector && self.cache[at + 1] == class;
-        self.counts.event(if hit { "cache hit" } else { "cache filled" });
+        self.counts.event(if self.cached(selector, class) { "cache hit" } else { "cache filled" });
+        let at = cache_index(selector, class);
         self.cache[at..at + 3].copy_from_slice(&[selector, class, method]);
     }
 

@@ -7,6 +7,9 @@ mod generate;
 mod random;
 mod report;
 mod shrink;
+// `runner` uses another part of it.
+#[allow(dead_code)]
+#[path = "../../sides.rs"]
 mod sides;
 
 use random::Random;

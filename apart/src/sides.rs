@@ -2,6 +2,7 @@
 
 use apart::calls::{self, Lent, Registers};
 use apart::counts::Counts;
+use apart::machine::{Unwatched, Watch};
 use apart::refusal::Refusal;
 
 extern "C" {
@@ -183,6 +184,11 @@ fn changed(call: &Call, buffers: &mut Buffers) {
 }
 
 pub fn plain(call: &Call, buffers: &mut Buffers, counts: &mut Counts) -> Outcome {
+    plain_watched(call, buffers, counts, &mut Unwatched)
+}
+
+/// A call on the plain machine; `watch` is told of each bytecode of a run.
+pub fn plain_watched<W: Watch>(call: &Call, buffers: &mut Buffers, counts: &mut Counts, watch: &mut W) -> Outcome {
     let mut outcome = outcome(call);
     changed(call, buffers);
     let [a, b, c, d] = buffers.lengths;
@@ -197,7 +203,7 @@ pub fn plain(call: &Call, buffers: &mut Buffers, counts: &mut Counts) -> Outcome
     let answer = match call {
         Call::Load(image) => calls::load(image, &mut lent),
         Call::Begin { receiver, selector, arguments } => calls::begin(&mut lent, *receiver, *selector, arguments, counts),
-        Call::Run(n) => calls::run(&mut lent, *n, counts).map(|ran| {
+        Call::Run(n) => calls::run_watched(&mut lent, *n, counts, watch).map(|ran| {
             outcome.count = ran.count;
             outcome.reach = ran.highest as u32;
         }),

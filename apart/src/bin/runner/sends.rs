@@ -1,0 +1,88 @@
+//! What a send looks up, and what comes of it.
+
+use crate::names::Names;
+use apart::code::*;
+use apart::listing::instruction_words;
+use apart::machine::Frame;
+use apart::objects::Method;
+use apart::primitives::arithmetic;
+use apart::rules::World;
+use apart::words::*;
+
+/// A send that looks its selector up.
+pub struct Lookup {
+    pub selector: u16,
+    pub receiver: u16,
+    pub arguments: Vec<u16>,
+    /// The class where it starts; nil above the last class.
+    pub start: u16,
+    pub is_super: bool,
+    pub found: Option<u16>,
+}
+
+/// What an instruction of a frame asks for.
+pub enum Asked {
+    Lookup(Lookup),
+    /// A special send that its primitive answers.
+    Primitive(u16),
+    /// No send, or one that looks nothing up.
+    Nothing,
+}
+
+pub fn asked(world: &World, frame: &Frame) -> Asked {
+    let method = world.method(frame.method);
+    let instruction = match decode(&method.code, frame.position) {
+        Some((instruction, _)) => instruction,
+        None => return Asked::Nothing,
+    };
+    let (selector, count, is_super) = match instruction {
+        Instruction::Send { arguments, literal } => (method.literals.get(literal).copied(), arguments, false),
+        Instruction::SuperSend { arguments, literal } => (method.literals.get(literal).copied(), arguments, true),
+        Instruction::Special(IDENTITY | CLASS_OF) => return Asked::Nothing,
+        Instruction::Special(special) => {
+            let selectors = world.objects.get(SPECIALS).map(|object| &object.body);
+            (selectors.and_then(|body| body.get(special)).copied(), special_arguments(special), false)
+        }
+        _ => return Asked::Nothing,
+    };
+    let (selector, below) = match (selector, frame.operands.len().checked_sub(count + 1)) {
+        (Some(selector), Some(below)) => (selector, below),
+        _ => return Asked::Nothing,
+    };
+    let (receiver, arguments) = (frame.operands[below], frame.operands[below + 1..].to_vec());
+    if let (Instruction::Special(special), [argument]) = (instruction, &arguments[..]) {
+        let number = special_primitive(special);
+        if number != 0 && arithmetic(number, receiver, *argument).is_some() {
+            return Asked::Primitive(number);
+        }
+    }
+    let above = world.objects.class(method.home).map_or(NIL, |home| home.superclass);
+    let start = if is_super { above } else { world.objects.class_of(receiver) };
+    let found = world.objects.lookup(start, selector);
+    Asked::Lookup(Lookup { selector, receiver, arguments, start, is_super, found })
+}
+
+/// The instruction at a position; what listings have behind `;` stands in brackets.
+pub fn words(names: &Names, method: &Method, position: usize) -> String {
+    let text = instruction_words(&names.image, method, position).unwrap_or_default();
+    match text.split_once("    ; ") {
+        Some((text, note)) => format!("{text} ({note})"),
+        None => text,
+    }
+}
+
+/// How a method that was found answered without a frame.
+pub fn answered(names: &Names, method: &Method, answer: u16) -> String {
+    let answer = names.name(answer);
+    match method.flag {
+        5 => format!("answers its receiver, {answer}"),
+        6 => format!("answers field {}, {answer}", method.temporaries),
+        _ => format!("primitive {} answers {answer}", method.primitive),
+    }
+}
+
+/// The frame that a method has, or would have.
+pub fn framed(method: &Method, base: usize) -> String {
+    let fails = if method.flag == 7 { format!("primitive {} fails, ", method.primitive) } else { String::new() };
+    format!("{fails}a frame of {} words at {base}", 6 + method.room())
+}

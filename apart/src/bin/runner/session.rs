@@ -1,0 +1,269 @@
+//! The calls, each on both machines, and a line for each.
+
+use crate::halts::*;
+use crate::names::Names;
+use crate::options::{Message, Options};
+use crate::out::Out;
+use crate::sends::*;
+use crate::sides::*;
+use crate::trace::Trace;
+use apart::calls::{self, Lent, CACHE_WORDS, PHASE, VALUE};
+use apart::counts::Counts;
+use apart::machine::*;
+use apart::objects::Objects;
+use apart::refusal::Refusal;
+use apart::rules::World;
+
+pub const PHASES: [&str; 6] = ["idle", "running", "finished", "not understood", "no boolean", "no stack room"];
+
+const REFUSALS: [&str; 14] = [
+    "",
+    "the length is not the one that the header tells",
+    "a wrong header",
+    "a buffer is too short",
+    "a wrong layout",
+    "an invalid word",
+    "a wrong class, dictionary or object",
+    "a wrong method",
+    "a receiver or argument is an invalid word, or the selector is no object of bytes",
+    "no method is found",
+    "another number of arguments",
+    "the state is not right",
+    "not in this phase",
+    "no room for the first frame",
+];
+
+/// Bytes of the largest image.
+const MOST_BYTES: usize = 64_386;
+const FRAMES: usize = 20;
+
+pub enum End {
+    /// The two machines differ.
+    Differs,
+    /// The arguments are wrong, or a file cannot be written.
+    Wrong(String),
+}
+
+pub struct Session<'a> {
+    options: &'a Options,
+    out: &'a mut Out,
+    plain: Buffers,
+    proved: Buffers,
+    counts: Counts,
+    names: Names,
+    refused: bool,
+    halted: bool,
+}
+
+/// What is begun: receiver, selector, arguments.
+struct Begun(u16, u16, Vec<u16>);
+
+impl<'a> Session<'a> {
+    pub fn new(options: &'a Options, out: &'a mut Out) -> Session<'a> {
+        let [contents, bodies, stack] = options.lengths;
+        let lengths = [contents, bodies, stack, CACHE_WORDS];
+        let buffers = Buffers { words: lengths.map(|length| vec![0; length + GUARD]), lengths, registers: [0; 7] };
+        let names = Names::new(&Objects::default(), "");
+        Session { options, out, plain: buffers.clone(), proved: buffers, counts: Counts::default(), names, refused: false, halted: false }
+    }
+
+    /// Everything that the options ask for; the status.
+    pub fn all(&mut self, image: Vec<u8>, names: &str) -> Result<i32, End> {
+        if !self.load(image, names)? {
+            return Ok(1);
+        }
+        let messages: Vec<Begun> = self.options.messages.iter().map(|message| self.begun(message)).collect::<Result<_, _>>()?;
+        let shown: Vec<u16> = self.options.show.iter().map(|text| self.names.value(text).map_err(End::Wrong)).collect::<Result<_, _>>()?;
+        for message in messages {
+            self.handler(message)?;
+        }
+        for (word, text) in shown.iter().zip(&self.options.show) {
+            let is_object = word % 2 == 0 && *word != 0;
+            let what = if is_object { self.names.image.shown(*word as usize / 2) } else { self.names.name(*word) };
+            self.out.line(&format!("show {text}: {what}"));
+        }
+        self.save()?;
+        Ok(if self.refused {
+            1
+        } else if self.halted {
+            4
+        } else {
+            0
+        })
+    }
+
+    fn begun(&self, message: &Message) -> Result<Begun, End> {
+        let values = |texts: &[String]| texts.iter().map(|text| self.names.value(text)).collect::<Result<Vec<u16>, String>>();
+        let registers = &self.proved.registers;
+        let begun = match message {
+            Message::Start(arguments) => values(arguments).map(|arguments| Begun(registers[2], registers[3], arguments)),
+            Message::Send { receiver, selector, arguments } => self.names.value(receiver).and_then(|receiver| {
+                let selector = self.names.selector(selector)?;
+                Ok(Begun(receiver, selector, values(arguments)?))
+            }),
+        };
+        begun.map_err(End::Wrong)
+    }
+
+    /// A call on both machines. The line has what the library gave.
+    fn call(&mut self, call: &Call, traced: Option<u64>, line: impl FnOnce(&Session, &Outcome, Option<Refusal>) -> String) -> Result<Outcome, End> {
+        let proved = library(call, &mut self.proved);
+        let plain = match traced {
+            Some(made) => plain_watched(call, &mut self.plain, &mut self.counts, &mut Trace::new(self.out, &mut self.names, made)),
+            None => plain(call, &mut self.plain, &mut self.counts),
+        };
+        if let Ok((world, _)) = self.opened() {
+            self.names.refresh(&world.objects);
+        }
+        let line = line(self, &proved, plain.refusal);
+        self.out.line(&line);
+        self.refused |= proved.number != 0;
+        if let Some(what) = difference(&plain, &proved, &self.plain, &self.proved) {
+            self.out.line(&format!("THE TWO MACHINES DIFFER: {what}"));
+            return Err(End::Differs);
+        }
+        Ok(proved)
+    }
+
+    /// The state of the plain machine, taken apart.
+    fn opened(&mut self) -> Result<(World, Vec<Frame>), Refusal> {
+        let [a, b, c, d] = self.plain.lengths;
+        let [contents, bodies, stack, cache] = &mut self.plain.words;
+        calls::opened(&Lent {
+            contents: &mut contents[..a],
+            bodies: &mut bodies[..b],
+            stack: &mut stack[..c],
+            cache: &mut cache[..d],
+            registers: &mut self.plain.registers,
+        })
+    }
+
+    fn phase(&self) -> u16 {
+        self.proved.registers[PHASE]
+    }
+
+    /// Phase, and the value in phase finished.
+    fn phase_words(&self, between: &str) -> String {
+        let name = PHASES.get(self.phase() as usize).copied().unwrap_or("no phase");
+        let value = self.proved.registers[VALUE];
+        let shown = if self.phase() == FINISHED { format!(", value {} (word {value})", self.names.name(value)) } else { String::new() };
+        format!("{name}{between}{shown}")
+    }
+
+    fn load(&mut self, image: Vec<u8>, names: &str) -> Result<bool, End> {
+        let loaded = self.call(&Call::Load(image), None, |session, outcome, refusal| match outcome.number {
+            0 => format!("load: objects {}, body words {}", session.proved.registers[0], session.proved.registers[1]),
+            number => format!("load: {}", refused(number, refusal)),
+        })?;
+        if let Ok((world, _)) = self.opened() {
+            self.names = Names::new(&world.objects, names);
+        }
+        Ok(loaded.number == 0)
+    }
+
+    /// One message from begin to its last run.
+    fn handler(&mut self, begun: Begun) -> Result<(), End> {
+        if self.phase() == RUNNING {
+            self.call(&Call::Drop, None, |session, _, _| format!("drop: {}, the handler was not done", session.phase_words("")))?;
+        }
+        // A refused begin leaves the frames of a handler that halted before.
+        if !self.begin(begun)? {
+            return Ok(());
+        }
+        let mut made = 0;
+        for _ in 0..self.options.runs {
+            if self.phase() != RUNNING {
+                break;
+            }
+            let traced = if self.options.trace { Some(made) } else { None };
+            let ran = self.call(&Call::Run(self.options.grant), traced, |session, outcome, refusal| {
+                let between = format!(", count {}, reach {}", outcome.count, outcome.reach);
+                let what = if outcome.number == 0 { session.phase_words(&between) } else { refused(outcome.number, refusal) };
+                format!("run {}: {what}", session.options.grant)
+            })?;
+            if ran.number != 0 {
+                break;
+            }
+            made += ran.count as u64;
+        }
+        let halted = self.phase() > FINISHED;
+        if halted || self.phase() == RUNNING && self.options.frames.is_some() {
+            self.show_frames();
+        }
+        self.halted |= halted;
+        Ok(())
+    }
+
+    /// Whether it was not refused.
+    fn begin(&mut self, Begun(receiver, selector, arguments): Begun) -> Result<bool, End> {
+        let opened = self.opened().ok();
+        let call = Call::Begin { receiver, selector, arguments: arguments.clone() };
+        let began = self.call(&call, None, |session, outcome, refusal| {
+            let with = if arguments.is_empty() { String::new() } else { format!(" with {}", session.names.list(&arguments)) };
+            let sent = format!("begin: {} is sent {}{with}", session.names.name(receiver), session.names.name(selector));
+            let what = match (outcome.number, &opened) {
+                (0, _) => session.phase_words(""),
+                (number @ (9 | 10 | 13), Some((world, _))) => session.begin_refused(number, world, receiver, selector, arguments.len()),
+                (number, _) => refused(number, refusal),
+            };
+            format!("{sent}: {what}")
+        })?;
+        let found =
+            opened.as_ref().and_then(|(world, _)| world.objects.lookup(world.objects.class_of(receiver), selector).map(|found| (world, found)));
+        if let (true, 0, Some((world, found))) = (self.options.trace, began.number, found) {
+            let (start, method) = (self.names.name(world.objects.class_of(receiver)), world.method(found));
+            let came = if self.phase() == FINISHED { answered(&self.names, method, self.proved.registers[VALUE]) } else { framed(method, 0) };
+            self.out.line(&format!("         lookup from {start} finds {}: {came}", self.names.name(found)));
+        }
+        Ok(began.number == 0)
+    }
+
+    fn begin_refused(&self, number: u32, world: &World, receiver: u16, selector: u16, count: usize) -> String {
+        let class = world.objects.class_of(receiver);
+        let found = world.objects.lookup(class, selector);
+        let why = match (number, found) {
+            (9, None) => format!("no method under {} from {} upwards", self.names.name(selector), self.names.name(class)),
+            (10, Some(found)) => format!("{} takes {} arguments, not {count}", self.names.name(found), world.method(found).arguments),
+            (13, Some(found)) => {
+                format!("the first frame needs {} words, and the stack has {}", 6 + world.method(found).room(), self.options.lengths[2])
+            }
+            _ => REFUSALS[number as usize].to_string(),
+        };
+        format!("refused {number}, {why}")
+    }
+
+    fn show_frames(&mut self) {
+        let (phase, stack, most) = (self.phase(), self.options.lengths[2], self.options.frames.unwrap_or(FRAMES));
+        if let Ok((world, frames)) = self.opened() {
+            if phase != RUNNING {
+                let name = PHASES.get(phase as usize).copied().unwrap_or("no phase");
+                self.out.text(&format!("halted: {name}\n{}", cause(&self.names, &world, &frames, phase, stack)));
+            }
+            self.out.text(&format!("frames, the top first:\n{}", frames_shown(&self.names, &world, &frames, most)));
+        }
+    }
+
+    fn save(&mut self) -> Result<(), End> {
+        let file = match &self.options.save {
+            Some(file) => file,
+            None => return Ok(()),
+        };
+        let name = file.to_string_lossy();
+        let saved = self.call(&Call::Save(MOST_BYTES), None, |_, outcome, refusal| match outcome.number {
+            0 => format!("save: {} bytes in {name}", outcome.length),
+            number => format!("save: {}", refused(number, refusal)),
+        })?;
+        if saved.number == 0 {
+            let bytes = saved.output.get(..saved.length as usize).unwrap_or(&[]);
+            std::fs::write(file, bytes).map_err(|error| End::Wrong(format!("{name}: {error}")))?;
+        }
+        Ok(())
+    }
+}
+
+/// A refusal by its number, and where the plain machine found the reason.
+fn refused(number: u32, refusal: Option<Refusal>) -> String {
+    let words = REFUSALS.get(number as usize).copied().unwrap_or("no such number");
+    let place = refusal.map_or(String::new(), |refusal| format!("; {}: {}", refusal.place, refusal.why));
+    format!("refused {number}, {words}{place}")
+}
