@@ -48,14 +48,14 @@ static inline bool arithmetic(unsigned k, uint16_t v, uint16_t w, uint16_t *answ
 }
 
 static inline objects objects_of(const machine *m) {
-    return (objects){(const entry *)m->contents.at, m->bodies.at, m->registers[N], m->registers[B]};
+    return (objects){(const entry *)m->contents, m->bodies, m->registers[N], m->registers[B]};
 }
 
 static bool make(machine *m, uint16_t class, uint16_t kind, unsigned size, unsigned count, uint16_t word, uint16_t *answer) {
     const size_t n = m->registers[N], b = m->registers[B];
-    if (n == MOST_OBJECTS || b + count > MOST_WORDS || m->contents.length < 4 * (n + 1) || m->bodies.length < b + count) return false;
-    ((entry *)m->contents.at)[n] = (entry){class, kind, b, size};
-    for (unsigned i = 0; i < count; i++) m->bodies.at[b + i] = word;
+    if (n == MOST_OBJECTS || b + count > MOST_WORDS || m->contents_length < 4 * (n + 1) || m->bodies_length < b + count) return false;
+    ((entry *)m->contents)[n] = (entry){class, kind, b, size};
+    for (unsigned i = 0; i < count; i++) m->bodies[b + i] = word;
     m->registers[N] = n + 1;
     m->registers[B] = b + count;
     *answer = 2 * (n + 1);
@@ -91,8 +91,8 @@ static bool primitive(machine *m, unsigned extension, const uint16_t *receiver, 
     const unsigned takes = k == 61 ? 2 : k == 62 || k == 70 || k == 111 ? 0 : 1;
     if (count != takes) return false;
     switch (k) {
-    case 60: return (w & 1) == 0 && element(&o, m->bodies.at, k, w, receiver[1], 0, answer);
-    case 61: return (w & 1) == 0 && element(&o, m->bodies.at, k, w, receiver[1], receiver[2], answer);
+    case 60: return (w & 1) == 0 && element(&o, m->bodies, k, w, receiver[1], 0, answer);
+    case 61: return (w & 1) == 0 && element(&o, m->bodies, k, w, receiver[1], receiver[2], answer);
     case 62: {
         if (w & 1) return false;
         const entry *e = of(&o, w);
@@ -128,9 +128,9 @@ static inline uint16_t field(const objects *o, unsigned header, uint16_t receive
 static const uint8_t counts[16] = {1, 2, 0, 0, 1, 0, 1, 0, 1, 0, 1, 1, 0, 1, 0, 0};
 
 static void run(machine *m, uint32_t grant, uint32_t *made, uint32_t *reach) {
-    const entry *const contents = (const entry *)m->contents.at - 1; // by object number
-    uint16_t *const bodies = m->bodies.at, *const stack = m->stack.at, *const cache = m->cache.at;
-    const size_t room = m->stack.length < 65536 ? m->stack.length : 65536;
+    const entry *const contents = (const entry *)m->contents - 1; // by object number
+    uint16_t *const bodies = m->bodies, *const stack = m->stack, *const cache = m->cache;
+    const size_t room = m->stack_length < 65536 ? m->stack_length : 65536;
     uint16_t *frame = stack + m->registers[TOP], *operands, *sp;
     const uint16_t *method, *literals, *code;
     size_t at, before;

@@ -19,11 +19,11 @@ static machine begun, ours, theirs;
 static double now(void) { return nanoseconds(CLOCK_PROCESS_CPUTIME_ID); }
 
 static machine on(uint16_t *at) {
-    return (machine){{at, CONTENTS}, {at + CONTENTS, BODIES}, {at + CONTENTS + BODIES, STACK}, {at + CONTENTS + BODIES + STACK, CACHE}, {0}};
+    return (machine){at, CONTENTS, at + CONTENTS, BODIES, at + CONTENTS + BODIES, STACK, at + CONTENTS + BODIES + STACK, CACHE, {0}};
 }
 
 static void copy(machine *to, const machine *from) {
-    memcpy(to->contents.at, from->contents.at, sizeof words[0]);
+    memcpy(to->contents, from->contents, sizeof words[0]);
     memcpy(to->registers, from->registers, sizeof to->registers);
 }
 
@@ -36,7 +36,7 @@ static outcome whole(machine *m, bool peer, uint32_t grant) {
     outcome r = {0, 0, 0};
     while (r.number == 0 && m->registers[PHASE] == 1) {
         uint32_t count = 0, reach = 0;
-        r.number = peer ? c_run(entries, m, grant, &count, &reach) : our_run(m, grant, &count, &reach);
+        r.number = peer ? c_run(entries, m, grant, &count, &reach) : sofaduck_state_run(m, grant, &count, &reach);
         r.count += count;
         if (r.reach < reach) r.reach = reach;
     }
@@ -82,8 +82,9 @@ static bool measure(const program *p, const char *lua, FILE *goals) {
     outcome r = {0, 0, 0}, s = {0, 0, 0};
     memset(words, 0, sizeof words);
     begun = on(words[0]), ours = on(words[1]), theirs = on(words[2]);
-    const uint32_t loaded = our_load(&begun, image, p->make(image));
-    const uint32_t number = loaded != 0 ? loaded : our_begin(&begun, begun.registers[START_RECEIVER], begun.registers[START_SELECTOR], NULL, 0);
+    const uint32_t loaded = sofaduck_state_load(&begun, image, p->make(image));
+    const uint16_t *const start = begun.registers + START_RECEIVER;
+    const uint32_t number = loaded != 0 ? loaded : sofaduck_state_begin(&begun, start[0], start[1], NULL, 0);
     if (number != 0) return printf("%s: refused by %u\n", p->name, number), false;
     for (int run = 0; run < RUNS; run++) {
         for (int g = 0; g < 2; g++) {

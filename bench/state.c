@@ -35,16 +35,16 @@ static bool cache_fine(const objects *o, const uint16_t *cache) {
 
 static bool fine(const uint16_t *entries, const machine *m) {
     const uint16_t *const r = m->registers;
-    const objects o = {(const entry *)m->contents.at, m->bodies.at, r[N], r[B]};
+    const objects o = {(const entry *)m->contents, m->bodies, r[N], r[B]};
     uint8_t notes[2 * MOST_WORDS];
     if (r[N] < 5 || r[N] > MOST_OBJECTS || r[B] > MOST_WORDS || r[PHASE] > 5) return false;
     if (r[PHASE] == 2 ? !valid(&o, r[VALUE]) : r[VALUE] != 0) return false;
-    if (c_judge(entries, m->contents.at, m->bodies.at, r[N], r[B], r[START_RECEIVER], r[START_SELECTOR], notes) != 0) return false;
-    if (r[PHASE] == 0 || r[PHASE] == 2 ? r[TOP] != 0 : !frames_fine(&o, m->stack.at, m->stack.length, notes, r[TOP])) return false;
-    return cache_fine(&o, m->cache.at);
+    if (c_judge(entries, m->contents, m->bodies, r[N], r[B], r[START_RECEIVER], r[START_SELECTOR], notes) != 0) return false;
+    if (r[PHASE] == 0 || r[PHASE] == 2 ? r[TOP] != 0 : !frames_fine(&o, m->stack, m->stack_length, notes, r[TOP])) return false;
+    return cache_fine(&o, m->cache);
 }
 
 uint32_t c_check(const uint16_t *entries, const machine *m) {
-    if (m->contents.length < 4u * m->registers[N] || m->bodies.length < m->registers[B] || m->cache.length != CACHE_WORDS) return 3;
+    if (m->contents_length < 4u * m->registers[N] || m->bodies_length < m->registers[B] || m->cache_length != CACHE_WORDS) return 3;
     return fine(entries, m) ? 0 : 11;
 }

@@ -3,14 +3,18 @@
  * A studio compiles its handlers to an image: classes, methods and objects in a table of contents and their bodies. The engine loads the image into
  * buffers of its own, begins a handler at a contact, and runs it for as many bytecodes as the frame has time for; a handler that is not done goes
  * on in the next frame. A wrong image is refused by a number, and an accepted one runs without ever leaving its buffers. Answers, objects and frames
- * follow from the image, the lengths of the buffers and the calls made: machines that agree in these agree in all of it.
+ * follow from the image, the lengths of the buffers, the calls made and what the engine wrote into fields itself: machines that agree in these agree
+ * in all of it.
  *
  * Order of use: load once; for each contact begin, then run until the phase is no longer SOFADUCK_RUNNING; save whenever the objects are to be kept.
  * A state runs one handler at a time: another contact waits, or has the handler dropped first, or goes to a state of its own.
  *
- * The library is target/staticlib/libsofaduck.a, made by `rt staticlib sofaduck`, for x86-64 with the System V calling convention. It calls memcpy
- * and memset and nothing else: it allocates nothing and has no global state. Threads may call at once, each on a state of its own; calls
- * on one state come one after the other. No call takes SOFADUCK_CALL_STACK bytes of the C stack, whatever the image and the handler do.
+ * There are the functions of the library, which take buffers, lengths and registers one by one, and behind them a struct that holds these, with
+ * the same calls on it, and readers of objects and frames. What is behind the functions is inline: the library knows nothing of it.
+ *
+ * The library is libsofaduck.a, for x86-64 with the System V calling convention. It calls memcpy and memset and nothing else: it allocates nothing
+ * and has no global state. Threads may call at once, each on a state of its own; calls on one state come one after the other. No call takes
+ * SOFADUCK_CALL_STACK bytes of the C stack, whatever the image and the handler do.
  *
  * Buffers are the caller's. A length counts elements: words of 16 bits, or an image's bytes. The library trusts that behind every pointer there are
  * as many elements as its length says, that no two buffers of a call overlap, and that `registers`, `count`, `reach` and `length` are not null.
@@ -25,6 +29,12 @@
 #ifdef __cplusplus
 extern "C" {
 #endif
+
+/* The version of header and library, and the edition of the images that load accepts. */
+#define SOFADUCK_VERSION_MAJOR 1
+#define SOFADUCK_VERSION_MINOR 0
+#define SOFADUCK_VERSION_PATCH 0
+#define SOFADUCK_EDITION 1
 
 /* Sizes */
 enum {
@@ -82,7 +92,16 @@ enum {
 
 /* Words. An odd word is an integer, -16,384 to 16,383. An even word names an object: twice its number, from 1 to N. In the buffers a word is a
  * uint16_t as C has it, in an image the high byte comes first. */
-enum { SOFADUCK_NIL = 2, SOFADUCK_FALSE = 4, SOFADUCK_TRUE = 6 };
+enum {
+    SOFADUCK_NIL = 2,
+    SOFADUCK_FALSE = 4,
+    SOFADUCK_TRUE = 6,
+    SOFADUCK_INTEGER_CLASS = 8,
+    SOFADUCK_SPECIAL_SELECTORS = 10 /* the list of those that bytecodes 176 to 207 send */
+};
+
+/* Kinds of objects. */
+enum { SOFADUCK_FIELDS, SOFADUCK_BYTES, SOFADUCK_CLASS, SOFADUCK_LIST, SOFADUCK_METHOD };
 
 static inline int sofaduck_is_integer(uint16_t word) { return word & 1; }
 /* The integer of an odd word, and the word of an integer in range. */
@@ -118,7 +137,24 @@ uint32_t sofaduck_load(const uint8_t *image, size_t image_length,
  *
  * Each call checks all of it first, so a spoiled state does no harm. It is refused by 3 where contents have less than 4 * N words, bodies less than
  * B, or the cache other than 192, and by 11 where objects, cache, registers or frames break a rule that every call keeps. The time for that grows
- * with the image and the frames, and is spent once a call: one run of a thousand bytecodes takes far less than a thousand runs of one. */
+ * with the image and the frames, and is spent once a call: one run of a thousand bytecodes takes far less than a thousand runs of one. On a shared
+ * two-core x86-64 machine it took about 7, 100 and 450 microseconds for images of 1,000, 6,000 and 24,000 words of bodies with one frame, and 40
+ * milliseconds for a state made to be slow, a chain of 2,000 classes and 3,640 frames (bench/run prints it).
+ *
+ * What an engine may write itself, between calls and in any phase: into a field of an object of kind SOFADUCK_FIELDS, any integer and any word that
+ * names an object; into an object of kind SOFADUCK_BYTES, any bytes, but for the one behind an odd number of them, which stays 0. Check accepts it.
+ * A global variable of the image is a field as well. Classes, lists, methods, contents, cache, registers and frames are for the calls alone.
+ *
+ * A copy of all buffers and registers is a snapshot, in any phase. Put back into buffers of the same lengths it goes on, a running handler too, and
+ * comes to the same words. It is enough to copy 4 * N words of contents, B of bodies, the cache, the registers, and of the stack, except in phases
+ * idle and finished, the first TOP + SOFADUCK_LARGE_FRAME words, or all where it is shorter. Save writes less: objects, and no handler.
+ *
+ * Objects that handlers make are never reclaimed. Where contents or bodies have no room for another, or N is SOFADUCK_OBJECTS, or B would pass
+ * SOFADUCK_BODIES, the primitive that makes it fails and the code of its method runs: the image says what happens then, often that nil is answered.
+ * That is neither a halt nor a refusal; an engine sees it coming in N and B. What helps: longer buffers, up to SOFADUCK_CONTENTS and
+ * SOFADUCK_BODIES, into which contents and bodies are copied between two calls; or the image loaded anew, or a snapshot put back, with
+ * what is to be kept written into its fields (a word that names an object made since names nothing there). Saving and loading does not help: save
+ * writes all objects. */
 
 /* Begin sends `selector` with the arguments to `receiver`. Frames of a handler that halted are removed.
  *
@@ -184,6 +220,218 @@ uint32_t sofaduck_save(const uint16_t *contents, size_t contents_length,
                        const uint16_t *cache, size_t cache_length,
                        const uint16_t registers[SOFADUCK_REGISTERS],
                        uint8_t *output, size_t output_length, uint32_t *length);
+
+/* A state: the buffers that are lent, and the registers. The engine sets pointers and lengths and loads; registers need not be set before. */
+typedef struct sofaduck_state {
+    uint16_t *contents;
+    size_t contents_length;
+    uint16_t *bodies;
+    size_t bodies_length;
+    uint16_t *stack;
+    size_t stack_length;
+    uint16_t *cache;
+    size_t cache_length;
+    uint16_t registers[SOFADUCK_REGISTERS];
+} sofaduck_state;
+
+/* A state as the functions above take it, from a pointer without side effects. */
+#define SOFADUCK_STATE(state) \
+    (state)->contents, (state)->contents_length, (state)->bodies, (state)->bodies_length, (state)->stack, (state)->stack_length, \
+        (state)->cache, (state)->cache_length, (state)->registers
+
+/* The functions above on a state. */
+static inline uint32_t sofaduck_state_load(sofaduck_state *state, const uint8_t *image, size_t image_length) {
+    return sofaduck_load(image, image_length, state->contents, state->contents_length, state->bodies, state->bodies_length, state->cache,
+                         state->cache_length, state->registers);
+}
+static inline uint32_t sofaduck_state_begin(sofaduck_state *state, uint16_t receiver, uint16_t selector, const uint16_t *arguments,
+                                            size_t arguments_length) {
+    return sofaduck_begin(SOFADUCK_STATE(state), receiver, selector, arguments, arguments_length);
+}
+static inline uint32_t sofaduck_state_run(sofaduck_state *state, uint32_t n, uint32_t *count, uint32_t *reach) {
+    return sofaduck_run(SOFADUCK_STATE(state), n, count, reach);
+}
+static inline uint32_t sofaduck_state_drop(sofaduck_state *state) { return sofaduck_drop(SOFADUCK_STATE(state)); }
+static inline uint32_t sofaduck_state_forget(sofaduck_state *state) { return sofaduck_forget(SOFADUCK_STATE(state)); }
+static inline uint32_t sofaduck_state_check(const sofaduck_state *state) { return sofaduck_check(SOFADUCK_STATE(state)); }
+static inline uint32_t sofaduck_state_save(const sofaduck_state *state, uint8_t *output, size_t output_length, uint32_t *length) {
+    return sofaduck_save(SOFADUCK_STATE(state), output, output_length, length);
+}
+
+/* A refusal and a phase in words; any number has some. */
+static inline const char *sofaduck_refusal_text(uint32_t number) {
+    static const char *const texts[] = {
+        "not refused",
+        "the image has another length than its header says",
+        "the image's edition, number of objects or length of bodies",
+        "a buffer is too short, or the cache has not 192 words",
+        "the layout of the image's objects",
+        "a word of the image is no integer and names no object",
+        "a class of the image, or an object that does not fit its class",
+        "a method of the image",
+        "a receiver or argument is no integer and names no object, or the selector is no object of bytes",
+        "the receiver has no method under the selector",
+        "the method takes another number of arguments",
+        "the state was spoiled",
+        "the phase is not one for this call",
+        "the first frame does not fit in the stack"
+    };
+    return number < sizeof texts / sizeof *texts ? texts[number] : "no number of a refusal";
+}
+static inline const char *sofaduck_phase_text(unsigned phase) {
+    static const char *const texts[] = {"idle", "running", "finished", "not understood", "no boolean", "no stack room"};
+    return phase < sizeof texts / sizeof *texts ? texts[phase] : "no number of a phase";
+}
+
+/* Readers. What they say is of use for a state that check accepts. For another they read inside of the buffers all the same, and answer something. */
+
+/* The body of the object that a word names, if it has this kind, and its size, in bytes for SOFADUCK_BYTES and SOFADUCK_METHOD, else in words.
+ * Null for another word, or another kind. */
+static inline const uint16_t *sofaduck_body(const sofaduck_state *state, uint16_t object, unsigned kind, size_t *size) {
+    const size_t number = object / 2u;
+    if (object % 2 != 0 || number == 0 || number > state->registers[SOFADUCK_N] || 4 * number > state->contents_length) return NULL;
+    const uint16_t *const entry = state->contents + 4 * (number - 1);
+    const size_t words = kind == SOFADUCK_BYTES || kind == SOFADUCK_METHOD ? (entry[3] + 1u) / 2 : entry[3];
+    if (entry[1] != kind || state->bodies_length == 0 || entry[2] + words > state->bodies_length) return NULL;
+    *size = entry[3];
+    return state->bodies + entry[2];
+}
+
+/* Byte k, from 0, of a body that is bytes. */
+static inline unsigned sofaduck_byte(const uint16_t *body, size_t k) { return (unsigned)body[k / 2] >> (k % 2 == 0 ? 8 : 0) & 255u; }
+
+/* Copies the bytes of an object of bytes, such as a selector, as many as fit before a zero that ends them. Returns how many it has; 0 for another
+ * object. */
+static inline size_t sofaduck_text(const sofaduck_state *state, uint16_t object, char *text, size_t room) {
+    size_t size = 0, k = 0;
+    const uint16_t *const body = sofaduck_body(state, object, SOFADUCK_BYTES, &size);
+    for (; body != NULL && k < size && k + 1 < room; k++) text[k] = (char)sofaduck_byte(body, k);
+    if (room > 0) text[k] = 0;
+    return size;
+}
+
+/* The selector that has these bytes: an object of bytes under which some class has a method. 0 where there is none. Two objects with equal bytes are
+ * two selectors; the one with the lower number is found. */
+static inline uint16_t sofaduck_find_selector(const sofaduck_state *state, const char *bytes, size_t length) {
+    uint16_t found = 0;
+    for (unsigned number = 1; number <= state->registers[SOFADUCK_N]; number++) {
+        size_t words = 0, size = 0;
+        const uint16_t *const of_class = sofaduck_body(state, (uint16_t)(2 * number), SOFADUCK_CLASS, &words);
+        const uint16_t *const pairs = of_class == NULL || words < 2 ? NULL : sofaduck_body(state, of_class[1], SOFADUCK_LIST, &words);
+        for (size_t i = 0; pairs != NULL && i + 1 < words; i += 2) {
+            const uint16_t *const selector = sofaduck_body(state, pairs[i], SOFADUCK_BYTES, &size);
+            if (selector == NULL || size != length || (found != 0 && found <= pairs[i])) continue;
+            size_t k = 0;
+            while (k < length && sofaduck_byte(selector, k) == (unsigned char)bytes[k]) k++;
+            if (k == length) found = pairs[i];
+        }
+    }
+    return found;
+}
+
+/* The selector under which a method stands in the dictionary of its home class; 0 where it stands in none. */
+static inline uint16_t sofaduck_method_selector(const sofaduck_state *state, uint16_t method) {
+    size_t size = 0;
+    const uint16_t *body = sofaduck_body(state, method, SOFADUCK_METHOD, &size);
+    if (body != NULL && size >= 4) body = sofaduck_body(state, body[1], SOFADUCK_CLASS, &size);
+    else body = NULL;
+    if (body != NULL && size >= 2) body = sofaduck_body(state, body[1], SOFADUCK_LIST, &size);
+    else body = NULL;
+    for (size_t i = 0; body != NULL && i + 1 < size; i += 2)
+        if (body[i + 1] == method) return body[i];
+    return 0;
+}
+
+/* Literal k of a method; 0 where it has none. */
+static inline uint16_t sofaduck_literal(const sofaduck_state *state, uint16_t method, size_t k) {
+    size_t size = 0;
+    const uint16_t *const body = sofaduck_body(state, method, SOFADUCK_METHOD, &size);
+    return body != NULL && size >= 4 && k < (body[0] >> 1 & 63u) && 2 * (k + 3) <= size ? body[2 + k] : (uint16_t)0;
+}
+
+/* The byte of a method's code at a position, from 0; -1 where it has none. */
+static inline int sofaduck_code(const sofaduck_state *state, uint16_t method, size_t position) {
+    size_t size = 0;
+    const uint16_t *const body = sofaduck_body(state, method, SOFADUCK_METHOD, &size);
+    if (body == NULL || size < 4) return -1;
+    const size_t code = 4 + 2 * (body[0] >> 1 & 63u);
+    return code < size && position < size - code ? (int)sofaduck_byte(body, code + position) : -1;
+}
+
+/* The words of a frame, from its base in the stack on. */
+enum {
+    SOFADUCK_FRAME_SENDER,     /* the base of the frame below; 0 for the bottom frame, whose base is 0 */
+    SOFADUCK_FRAME_POSITION,   /* where in the code it stands, in bytes from 0 */
+    SOFADUCK_FRAME_DEPTH,      /* how many operands it has */
+    SOFADUCK_FRAME_METHOD,
+    SOFADUCK_FRAME_ZERO,       /* always 0 */
+    SOFADUCK_FRAME_RECEIVER,
+    SOFADUCK_FRAME_TEMPORARIES /* from here on: arguments, other temporaries, operands */
+};
+
+/* Where a handler stands: its top frame, and the frames that wait for it. The top one stands before the bytecode that is made next, or that could not
+ * be made; each below it behind its send, where it goes on with the answer. */
+typedef struct sofaduck_frame {
+    uint16_t base, method, position, receiver, depth;
+} sofaduck_frame;
+
+/* For the two below: the frame at a base, if its words are in the stack. */
+static inline int sofaduck_frame_at(const sofaduck_state *state, uint16_t base, sofaduck_frame *frame) {
+    if ((size_t)base + SOFADUCK_FRAME_TEMPORARIES > state->stack_length) return 0;
+    const uint16_t *const words = state->stack + base;
+    frame->base = base;
+    frame->method = words[SOFADUCK_FRAME_METHOD];
+    frame->position = words[SOFADUCK_FRAME_POSITION];
+    frame->receiver = words[SOFADUCK_FRAME_RECEIVER];
+    frame->depth = words[SOFADUCK_FRAME_DEPTH];
+    return 1;
+}
+
+/* The top frame; and from a frame the one below it, its sender. Each returns 1; or 0 and leaves the frame, where there is none: the first in phases
+ * idle and finished, the second at the bottom frame. */
+static inline int sofaduck_top_frame(const sofaduck_state *state, sofaduck_frame *frame) {
+    const unsigned phase = state->registers[SOFADUCK_PHASE];
+    return phase != SOFADUCK_IDLE && phase != SOFADUCK_FINISHED && sofaduck_frame_at(state, state->registers[SOFADUCK_TOP], frame);
+}
+static inline int sofaduck_next_frame(const sofaduck_state *state, sofaduck_frame *frame) {
+    if (frame->base == 0 || frame->base >= state->stack_length) return 0;
+    const uint16_t sender = state->stack[frame->base + SOFADUCK_FRAME_SENDER];
+    return sender < frame->base && sofaduck_frame_at(state, sender, frame); /* always lower, so that a loop over frames ends */
+}
+
+/* Operand k of a frame, from 0 at the top; 0 where it has none. In phase no boolean the top frame's operand 0 is what the jump found. */
+static inline uint16_t sofaduck_operand(const sofaduck_state *state, const sofaduck_frame *frame, size_t k) {
+    size_t size = 0;
+    const uint16_t *const body = sofaduck_body(state, frame->method, SOFADUCK_METHOD, &size);
+    if (body == NULL || size < 4 || k >= frame->depth) return 0;
+    const size_t at = frame->base + SOFADUCK_FRAME_TEMPORARIES + (body[0] >> 8 & 31u) + frame->depth - 1 - k;
+    return at < state->stack_length ? state->stack[at] : (uint16_t)0;
+}
+
+/* The send that a frame stands before: its selector, which may be nil, and how many arguments it has. In phases not understood and no stack room the
+ * top frame stands before one, and operand `count` is its receiver. Returns 1, or 0 where there is no send. */
+static inline int sofaduck_send(const sofaduck_state *state, const sofaduck_frame *frame, uint16_t *selector, unsigned *count) {
+    static const uint8_t counts[] = {1, 2, 0, 0, 1, 0, 1, 0, 1, 0, 1, 1, 0, 1, 0, 0}; /* of bytecodes 192 to 207 */
+    const int code = sofaduck_code(state, frame->method, frame->position);
+    const int second = sofaduck_code(state, frame->method, frame->position + (size_t)1);
+    const int third = sofaduck_code(state, frame->method, frame->position + (size_t)2);
+    size_t size = 0;
+    if (code >= 176 && code < 208) {
+        const uint16_t *const selectors = sofaduck_body(state, SOFADUCK_SPECIAL_SELECTORS, SOFADUCK_LIST, &size);
+        if (selectors == NULL || size < 32) return 0;
+        *selector = selectors[code - 176];
+        *count = code < 192 ? 1u : counts[code - 192];
+        return 1;
+    }
+    int literal = 0, arguments = 0;
+    if (code >= 208) literal = code % 16, arguments = (code - 208) / 16;
+    else if ((code == 131 || code == 133) && second >= 0) literal = second % 32, arguments = second / 32;
+    else if ((code == 132 || code == 134) && third >= 0) literal = third, arguments = second;
+    else return 0;
+    *count = (unsigned)arguments;
+    *selector = sofaduck_literal(state, frame->method, (size_t)literal);
+    return 1;
+}
 
 #ifdef __cplusplus
 }

@@ -1,4 +1,5 @@
-/* The functions for C from outside: every call, every refusal, what is written and what is not, null pointers, small C stacks, two threads.
+/* The functions for C from outside: every call, every refusal, what is written and what is not, null pointers, what an engine may write
+ * itself, small C stacks, two threads.
  * A line for each test; the exit status says whether all passed. Usage: border IMAGE, of border.source. */
 #define _DEFAULT_SOURCE /* MAP_ANONYMOUS */
 #include "sofaduck.h"
@@ -12,54 +13,57 @@
 
 enum { STACK = 1024, GUARD = 65536, OWN_STACK = 32768, PAINT = 0x5c, ROUNDS = 2000 };
 
+/* The words that a state lends. */
 typedef struct {
-    uint16_t contents[SOFADUCK_CONTENTS], bodies[SOFADUCK_BODIES], stack[STACK], cache[SOFADUCK_CACHE + 1], registers[SOFADUCK_REGISTERS];
-    size_t contents_length, bodies_length, stack_length, cache_length;
-} state;
-
-/* A buffer of length 0 goes as a null pointer. */
-#define LENT(s, buffer) (s)->buffer##_length == 0 ? NULL : (s)->buffer, (s)->buffer##_length
-#define STATE(s) LENT(s, contents), LENT(s, bodies), LENT(s, stack), LENT(s, cache), (s)->registers
+    uint16_t contents[SOFADUCK_CONTENTS], bodies[SOFADUCK_BODIES], stack[STACK], cache[SOFADUCK_CACHE + 1];
+} words;
 
 static uint8_t image[SOFADUCK_IMAGE], other[SOFADUCK_IMAGE + 1], output[SOFADUCK_IMAGE + 1];
 static size_t length;
 static bool failed;
-static state s, before;
+static sofaduck_state s, before;
+static words lent, lent_before;
 
 static void test(const char *what, bool passed) {
     printf("%s: %s\n", passed ? "passed" : "FAILED", what);
     failed = failed || !passed;
 }
 
-/* Buffers full of old words, of the whole lengths. */
-static void fresh(state *t) {
-    memset(t, 0xa5, sizeof *t);
-    t->contents_length = SOFADUCK_CONTENTS;
-    t->bodies_length = SOFADUCK_BODIES;
-    t->stack_length = STACK;
-    t->cache_length = SOFADUCK_CACHE;
+/* A state whose buffers have the whole lengths and are full of old words. */
+static void fresh(sofaduck_state *t, words *of) {
+    memset(of, 0xa5, sizeof *of);
+    memset(t->registers, 0xa5, sizeof t->registers);
+    t->contents = of->contents, t->contents_length = SOFADUCK_CONTENTS;
+    t->bodies = of->bodies, t->bodies_length = SOFADUCK_BODIES;
+    t->stack = of->stack, t->stack_length = STACK;
+    t->cache = of->cache, t->cache_length = SOFADUCK_CACHE;
 }
 
-static uint32_t load(state *t, const uint8_t *bytes, size_t count) {
-    return sofaduck_load(count == 0 ? NULL : bytes, count, LENT(t, contents), LENT(t, bodies), LENT(t, cache), t->registers);
+static uint32_t begin(sofaduck_state *t, uint16_t receiver, uint16_t selector) {
+    return sofaduck_begin(SOFADUCK_STATE(t), receiver, selector, NULL, 0);
 }
-
-static uint32_t begin(state *t, uint16_t receiver, uint16_t selector) { return sofaduck_begin(STATE(t), receiver, selector, NULL, 0); }
 
 static void loaded(void) {
-    fresh(&s);
-    if (load(&s, image, length) != 0) test("the image is loaded", false);
+    fresh(&s, &lent);
+    if (sofaduck_state_load(&s, image, length) != 0) test("the image is loaded", false);
 }
 
 /* The state that a call is about to see. */
-static void note(void) { before = s; }
+static void note(void) {
+    before = s;
+    lent_before = lent;
+}
+
+static bool unchanged(void) {
+    return memcmp(&lent, &lent_before, sizeof lent) == 0 && memcmp(s.registers, before.registers, sizeof s.registers) == 0;
+}
 
 /* A call that was refused, by the right number and with every word of the state as it was noted. */
 static void refused(const char *what, uint32_t wanted, uint32_t got) {
     char line[200];
     snprintf(line, sizeof line, "refused by %u: %s", (unsigned)wanted, what);
     if (got != wanted) printf("it gave %u\n", (unsigned)got);
-    test(line, got == wanted && memcmp(&s, &before, sizeof s) == 0);
+    test(line, got == wanted && unchanged());
 }
 
 static bool all(const uint16_t *words, size_t count, uint16_t word) {
@@ -85,14 +89,14 @@ static unsigned get(size_t place) { return image[2 * place] * 256u + image[2 * p
 static void load_refused(const char *what, uint32_t wanted, size_t count) {
     const size_t n = wanted < 4 ? 0 : 4 * get(1), b = wanted < 4 ? 0 : get(2);
     note();
-    const uint32_t got = load(&s, other, count);
-    const bool zero = all(s.registers, SOFADUCK_REGISTERS, 0) && all(s.contents, n, 0) && all(s.bodies, b, 0);
+    const uint32_t got = sofaduck_state_load(&s, count == 0 ? NULL : other, count);
+    const bool zero = all(s.registers, SOFADUCK_REGISTERS, 0) && all(lent.contents, n, 0) && all(lent.bodies, b, 0);
     memcpy(s.registers, before.registers, sizeof s.registers);
-    memcpy(s.contents, before.contents, n * sizeof *s.contents);
-    memcpy(s.bodies, before.bodies, b * sizeof *s.bodies);
+    memcpy(lent.contents, lent_before.contents, n * sizeof *lent.contents);
+    memcpy(lent.bodies, lent_before.bodies, b * sizeof *lent.bodies);
     if (!zero) test("registers and words of a refused load are zero", false);
     refused(what, wanted, got);
-    fresh(&s);
+    fresh(&s, &lent);
     memcpy(other, image, sizeof image);
 }
 
@@ -100,7 +104,7 @@ static void loads(void) {
     const unsigned n = get(1), b = get(2);
     size_t method = 5;
     while (get(method + 1) != 4) method += 4;
-    fresh(&s);
+    fresh(&s, &lent);
     memcpy(other, image, sizeof image);
     load_refused("load: no bytes, a null pointer", 1, 0);
     load_refused("load: nine bytes", 1, 9);
@@ -110,17 +114,17 @@ static void loads(void) {
     load_refused("load: edition 2", 2, length);
     s.contents_length = 4 * n - 1;
     load_refused("load: contents a word short", 3, length);
-    s.contents_length = 0;
+    s.contents = NULL, s.contents_length = 0;
     load_refused("load: no contents, a null pointer", 3, length);
     s.bodies_length = b - 1;
     load_refused("load: bodies a word short", 3, length);
-    s.bodies_length = 0;
+    s.bodies = NULL, s.bodies_length = 0;
     load_refused("load: no bodies, a null pointer", 3, length);
     s.cache_length = SOFADUCK_CACHE - 1;
     load_refused("load: a cache of 191 words", 3, length);
     s.cache_length = SOFADUCK_CACHE + 1;
     load_refused("load: a cache of 193 words", 3, length);
-    s.cache_length = 0;
+    s.cache = NULL, s.cache_length = 0;
     load_refused("load: no cache, a null pointer", 3, length);
     put(6, 9);
     load_refused("load: kind 9", 4, length);
@@ -133,9 +137,9 @@ static void loads(void) {
     put(4, SOFADUCK_NIL);
     load_refused("load: nil as start selector", 8, length);
 
-    fresh(&s);
+    fresh(&s, &lent);
     const uint16_t expected[] = {(uint16_t)n, (uint16_t)b, OBJECT_box, SELECTOR_a, SOFADUCK_IDLE, 0, 0};
-    test("load: accepted", load(&s, image, length) == 0);
+    test("load: accepted", sofaduck_state_load(&s, image, length) == 0);
     test("load: registers", memcmp(s.registers, expected, sizeof expected) == 0);
     test("load: the cache is empty, what lies behind contents, bodies and cache is untouched",
          all(s.cache, SOFADUCK_CACHE, 0) && s.cache[SOFADUCK_CACHE] == 0xa5a5 && all(s.contents + 4 * n, SOFADUCK_CONTENTS - 4 * n, 0xa5a5)
@@ -145,7 +149,7 @@ static void loads(void) {
     for (size_t i = 0; i < b; i++) same = same && s.bodies[i] == get(5 + 4 * n + i);
     test("load: words are in host order", same);
     s.contents_length = 4 * n, s.bodies_length = b;
-    test("load: buffers that just fit", load(&s, image, length) == 0);
+    test("load: buffers that just fit", sofaduck_state_load(&s, image, length) == 0);
 }
 
 /* Every call but load on this state: refused by the number, results unwritten. */
@@ -155,12 +159,12 @@ static void all_refused(const char *why, uint32_t wanted) {
     note();
 #define ONE(name, call) snprintf(line, sizeof line, name ": %s", why), refused(line, wanted, call)
     ONE("begin", begin(&s, OBJECT_box, SELECTOR_a));
-    ONE("run", sofaduck_run(STATE(&s), 1, &count, &reach));
-    ONE("drop", sofaduck_drop(STATE(&s)));
-    ONE("forget", sofaduck_forget(STATE(&s)));
-    ONE("check", sofaduck_check(STATE(&s)));
+    ONE("run", sofaduck_run(SOFADUCK_STATE(&s), 1, &count, &reach));
+    ONE("drop", sofaduck_drop(SOFADUCK_STATE(&s)));
+    ONE("forget", sofaduck_forget(SOFADUCK_STATE(&s)));
+    ONE("check", sofaduck_check(SOFADUCK_STATE(&s)));
     memset(output, 0x5a, sizeof output);
-    ONE("save", sofaduck_save(STATE(&s), output, sizeof output, &bytes));
+    ONE("save", sofaduck_save(SOFADUCK_STATE(&s), output, sizeof output, &bytes));
 #undef ONE
     snprintf(line, sizeof line, "count, reach, length and output stay unwritten: %s", why);
     test(line, count == 77 && reach == 78 && bytes == 79 && all_bytes(output, sizeof output, 0x5a));
@@ -171,7 +175,7 @@ static void states(void) {
     s.contents_length = 4 * s.registers[SOFADUCK_N] - 1u;
     all_refused("contents a word short", 3);
     loaded();
-    s.bodies_length = 0;
+    s.bodies = NULL, s.bodies_length = 0;
     all_refused("no bodies, a null pointer", 3);
     loaded();
     s.cache_length = SOFADUCK_CACHE - 1;
@@ -187,13 +191,13 @@ static void states(void) {
     all_refused("phase 6", 11);
     loaded();
     begin(&s, OBJECT_box, SELECTOR_forever);
-    s.stack_length = 0;
+    s.stack = NULL, s.stack_length = 0;
     all_refused("a frame, but no stack, a null pointer", 11);
     loaded();
     begin(&s, OBJECT_box, SELECTOR_forever);
-    memset(s.stack, 0x33, sizeof s.stack);
+    memset(lent.stack, 0x33, sizeof lent.stack);
     all_refused("other words in the stack of a handler", 11);
-    fresh(&s);
+    fresh(&s, &lent);
     memset(s.registers, 0, sizeof s.registers);
     all_refused("registers of a refused load", 11);
 }
@@ -203,37 +207,37 @@ static void begins(void) {
     uint32_t count = 77, reach = 78;
     loaded();
     note();
-    refused("run: nothing begun", 12, sofaduck_run(STATE(&s), 0, &count, &reach));
+    refused("run: nothing begun", 12, sofaduck_run(SOFADUCK_STATE(&s), 0, &count, &reach));
     test("count and reach stay unwritten: nothing begun", count == 77 && reach == 78);
     refused("begin: receiver 0", 8, begin(&s, 0, SELECTOR_a));
     refused("begin: a receiver behind the last object", 8, begin(&s, (uint16_t)(2 * s.registers[SOFADUCK_N] + 2), SELECTOR_a));
     refused("begin: nil as selector", 8, begin(&s, OBJECT_box, SOFADUCK_NIL));
     refused("begin: an integer as selector", 8, begin(&s, OBJECT_box, sofaduck_word(1)));
-    refused("begin: an argument 0", 8, sofaduck_begin(STATE(&s), OBJECT_box, SELECTOR_a_b_, wrong, 2));
+    refused("begin: an argument 0", 8, sofaduck_begin(SOFADUCK_STATE(&s), OBJECT_box, SELECTOR_a_b_, wrong, 2));
     refused("begin: no method", 9, begin(&s, SOFADUCK_TRUE, SELECTOR_a));
-    refused("begin: no method, and another count", 9, sofaduck_begin(STATE(&s), sofaduck_word(5), SELECTOR_a, two, 2));
+    refused("begin: no method, and another count", 9, sofaduck_begin(SOFADUCK_STATE(&s), sofaduck_word(5), SELECTOR_a, two, 2));
     refused("begin: no arguments, a null pointer, where two are taken", 10, begin(&s, OBJECT_box, SELECTOR_a_b_));
-    refused("begin: an argument where none is taken", 10, sofaduck_begin(STATE(&s), OBJECT_box, SELECTOR_a, two, 1));
+    refused("begin: an argument where none is taken", 10, sofaduck_begin(SOFADUCK_STATE(&s), OBJECT_box, SELECTOR_a, two, 1));
     s.stack_length = SOFADUCK_FRAME - 1;
     note();
     refused("begin: a stack of 17 words", 13, begin(&s, OBJECT_box, SELECTOR_forever));
     s.stack_length = SOFADUCK_LARGE_FRAME - 1;
     note();
     refused("begin: a stack of 37 words for a large frame", 13, begin(&s, OBJECT_box, SELECTOR_wide));
-    s.stack_length = 0;
+    s.stack = NULL, s.stack_length = 0;
     note();
     refused("begin: no stack, a null pointer", 13, begin(&s, OBJECT_box, SELECTOR_forever));
     test("begin: a field is answered without a stack",
          begin(&s, OBJECT_box, SELECTOR_a) == 0 && s.registers[SOFADUCK_PHASE] == SOFADUCK_FINISHED
              && sofaduck_integer(s.registers[SOFADUCK_VALUE]) == 7);
-    test("check: no stack, a null pointer", sofaduck_check(STATE(&s)) == 0);
-    s.stack_length = SOFADUCK_FRAME;
+    test("check: no stack, a null pointer", sofaduck_check(SOFADUCK_STATE(&s)) == 0);
+    s.stack = lent.stack, s.stack_length = SOFADUCK_FRAME;
     test("begin: a stack of 18 words", begin(&s, OBJECT_box, SELECTOR_forever) == 0 && s.registers[SOFADUCK_PHASE] == SOFADUCK_RUNNING);
     note();
     refused("begin: a handler is running", 12, begin(&s, OBJECT_box, SELECTOR_a));
     s.stack_length = SOFADUCK_LARGE_FRAME;
     test("drop: phase, top and value are 0",
-         sofaduck_drop(STATE(&s)) == 0 && all(s.registers + SOFADUCK_PHASE, 3, 0) && sofaduck_check(STATE(&s)) == 0);
+         sofaduck_drop(SOFADUCK_STATE(&s)) == 0 && all(s.registers + SOFADUCK_PHASE, 3, 0) && sofaduck_check(SOFADUCK_STATE(&s)) == 0);
     test("begin: a stack of 38 words for a large frame", begin(&s, OBJECT_box, SELECTOR_wide) == 0);
 }
 
@@ -241,9 +245,9 @@ static void begins(void) {
 static void goes(const char *what, uint16_t selector, unsigned phase, uint32_t made, uint16_t value) {
     uint32_t count = 77, reach = 0;
     loaded();
-    const bool ran = begin(&s, OBJECT_box, selector) == 0 && sofaduck_run(STATE(&s), 500, &count, &reach) == 0;
+    const bool ran = begin(&s, OBJECT_box, selector) == 0 && sofaduck_run(SOFADUCK_STATE(&s), 500, &count, &reach) == 0;
     test(what, ran && s.registers[SOFADUCK_PHASE] == phase && count == made && s.registers[SOFADUCK_VALUE] == value
-                   && reach % SOFADUCK_FRAME == 0 && reach <= STACK && sofaduck_check(STATE(&s)) == 0);
+                   && reach % SOFADUCK_FRAME == 0 && reach <= STACK && sofaduck_check(SOFADUCK_STATE(&s)) == 0);
 }
 
 static void runs(void) {
@@ -254,24 +258,24 @@ static void runs(void) {
     goes("run: no boolean", SELECTOR_undecided, SOFADUCK_NO_BOOLEAN, 1, 0);
     goes("run: no stack room, 56 frames fit", SELECTOR_deeper, SOFADUCK_NO_STACK_ROOM, 111, 0);
     note();
-    refused("run: after a halt", 12, sofaduck_run(STATE(&s), 1, &count, &reach));
+    refused("run: after a halt", 12, sofaduck_run(SOFADUCK_STATE(&s), 1, &count, &reach));
     test("begin: after a halt", begin(&s, OBJECT_box, SELECTOR_a) == 0 && s.registers[SOFADUCK_PHASE] == SOFADUCK_FINISHED);
     loaded();
     test("begin: two arguments in order",
-         sofaduck_begin(STATE(&s), OBJECT_box, SELECTOR_a_b_, two, 2) == 0 && sofaduck_run(STATE(&s), 0, &count, &reach) == 0 && count == 0
-             && reach == SOFADUCK_FRAME && sofaduck_run(STATE(&s), 4294967295u, &count, &reach) == 0 && count == 8
+         sofaduck_begin(SOFADUCK_STATE(&s), OBJECT_box, SELECTOR_a_b_, two, 2) == 0
+             && sofaduck_run(SOFADUCK_STATE(&s), 0, &count, &reach) == 0 && count == 0 && reach == SOFADUCK_FRAME && sofaduck_run(SOFADUCK_STATE(&s), 4294967295u, &count, &reach) == 0 && count == 8
              && s.registers[SOFADUCK_PHASE] == SOFADUCK_FINISHED && sofaduck_integer(s.registers[SOFADUCK_VALUE]) == -42
              && s.bodies[sofaduck_start(s.contents, OBJECT_box) + FIELD_Box_b] == two[1] && sofaduck_size(s.contents, OBJECT_box) == 2);
     goes("run: an object is made", SELECTOR_more, SOFADUCK_FINISHED, 5, (uint16_t)(2 * get(1) + 2));
     test("forget: the cache was filled and is empty",
-         !all(s.cache, SOFADUCK_CACHE, 0) && sofaduck_forget(STATE(&s)) == 0 && all(s.cache, SOFADUCK_CACHE, 0));
-    memset(s.stack, 0x33, sizeof s.stack);
-    test("check: the stack's words are free after a handler has finished", sofaduck_check(STATE(&s)) == 0);
+         !all(s.cache, SOFADUCK_CACHE, 0) && sofaduck_forget(SOFADUCK_STATE(&s)) == 0 && all(s.cache, SOFADUCK_CACHE, 0));
+    memset(lent.stack, 0x33, sizeof lent.stack);
+    test("check: the stack's words are free after a handler has finished", sofaduck_check(SOFADUCK_STATE(&s)) == 0);
     test("N and B count it", s.registers[SOFADUCK_N] == get(1) + 1 && s.registers[SOFADUCK_B] == get(2) + 2);
     loaded();
     s.contents_length = 4 * get(1);
-    test("run: no room for an object, new answers nil", begin(&s, OBJECT_box, SELECTOR_more) == 0 && sofaduck_run(STATE(&s), 9, &count, &reach) == 0
-                                                             && count == 6 && s.registers[SOFADUCK_VALUE] == SOFADUCK_NIL);
+    test("run: no room for an object, new answers nil", begin(&s, OBJECT_box, SELECTOR_more) == 0
+                                                             && sofaduck_run(SOFADUCK_STATE(&s), 9, &count, &reach) == 0 && count == 6 && s.registers[SOFADUCK_VALUE] == SOFADUCK_NIL);
     bool kept = true;
     for (int k = -16384; k < 16384; k++)
         kept = kept && sofaduck_is_integer(sofaduck_word(k)) && sofaduck_integer(sofaduck_word(k)) == k;
@@ -283,27 +287,68 @@ static void saves(void) {
     loaded();
     note();
     memset(output, 0x5a, sizeof output);
-    refused("save: no output, a null pointer", 3, sofaduck_save(STATE(&s), NULL, 0, &bytes));
-    refused("save: output a byte short", 3, sofaduck_save(STATE(&s), output, length - 1, &bytes));
+    refused("save: no output, a null pointer", 3, sofaduck_save(SOFADUCK_STATE(&s), NULL, 0, &bytes));
+    refused("save: output a byte short", 3, sofaduck_save(SOFADUCK_STATE(&s), output, length - 1, &bytes));
     test("length and output stay unwritten: output too short", bytes == 79 && all_bytes(output, sizeof output, 0x5a));
     test("save: just enough output, the image's own bytes",
-         sofaduck_save(STATE(&s), output, length, &bytes) == 0 && bytes == length && memcmp(output, image, length) == 0);
-    test("save: what lies behind the image is untouched", sofaduck_save(STATE(&s), output, sizeof output, &bytes) == 0 && bytes == length
+         sofaduck_save(SOFADUCK_STATE(&s), output, length, &bytes) == 0 && bytes == length && memcmp(output, image, length) == 0);
+    test("save: what lies behind the image is untouched", sofaduck_save(SOFADUCK_STATE(&s), output, sizeof output, &bytes) == 0 && bytes == length
                                                               && all_bytes(output + length, sizeof output - length, 0x5a));
-    test("save: the state is untouched", memcmp(&s, &before, sizeof s) == 0);
+    test("save: the state is untouched", unchanged());
     begin(&s, OBJECT_box, SELECTOR_forever);
-    test("save: while a handler runs", sofaduck_save(STATE(&s), output, sizeof output, &bytes) == 0 && bytes == length);
+    test("save: while a handler runs", sofaduck_save(SOFADUCK_STATE(&s), output, sizeof output, &bytes) == 0 && bytes == length);
+}
+
+static unsigned below(unsigned n) {
+    static uint64_t seed = 1;
+    seed = seed * 6364136223846793005u + 1442695040888963407u;
+    return (unsigned)(seed >> 33) % n;
+}
+
+/* What an engine may write itself: valid words into fields, bytes into objects of bytes, while a handler runs. */
+static void writes(void) {
+    unsigned fields = 0, bytes = 0;
+    uint32_t count, reach;
+    bool accepted = true;
+    loaded();
+    begin(&s, OBJECT_box, SELECTOR_deeper);
+    for (unsigned i = 0; i < 10 * ROUNDS; i++) {
+        const unsigned n = s.registers[SOFADUCK_N];
+        const uint16_t object = (uint16_t)(2 + 2 * below(n));
+        const unsigned kind = s.contents[4 * (object / 2 - 1) + 1], size = (unsigned)sofaduck_size(s.contents, object);
+        uint16_t *const body = s.bodies + sofaduck_start(s.contents, object);
+        if (size == 0 || kind > SOFADUCK_BYTES) continue;
+        const unsigned k = below(size), old = body[k / 2];
+        if (kind == SOFADUCK_FIELDS) body[k] = (uint16_t)(below(2) == 0 ? 2 * below(32768) + 1 : 2 + 2 * below(n)), fields++;
+        else body[k / 2] = (uint16_t)(k % 2 == 0 ? old % 256 + 256 * below(256) : old - old % 256 + below(256)), bytes++;
+        accepted = accepted && sofaduck_check(SOFADUCK_STATE(&s)) == 0;
+        if (i % 500 == 0) accepted = accepted && sofaduck_run(SOFADUCK_STATE(&s), 1, &count, &reach) == 0;
+    }
+    test("check: accepts valid words that an engine wrote into fields, and bytes", accepted && fields > 100 && bytes > 100);
+    uint16_t *const field = s.bodies + sofaduck_start(s.contents, OBJECT_box) + FIELD_Box_b;
+    const uint16_t old = *field;
+    *field = 0;
+    note();
+    refused("check: a field that is 0", 11, sofaduck_check(SOFADUCK_STATE(&s)));
+    *field = (uint16_t)(2 * s.registers[SOFADUCK_N] + 2);
+    note();
+    refused("check: a field that names an object behind the last", 11, sofaduck_check(SOFADUCK_STATE(&s)));
+    *field = old;
+    test("the selector a has one byte", sofaduck_size(s.contents, SELECTOR_a) == 1 && sofaduck_check(SOFADUCK_STATE(&s)) == 0);
+    s.bodies[sofaduck_start(s.contents, SELECTOR_a)] |= 1;
+    note();
+    refused("check: a byte behind an odd number of them", 11, sofaduck_check(SOFADUCK_STATE(&s)));
 }
 
 /* Each call on a C stack of SOFADUCK_CALL_STACK bytes and some for the thread itself, a guard below, painted to see how far it went. */
 static uint32_t count_made, reach_made, bytes_made;
-static uint32_t call_load(void) { return load(&s, image, length); }
+static uint32_t call_load(void) { return sofaduck_state_load(&s, image, length); }
 static uint32_t call_begin(void) { return begin(&s, OBJECT_box, SELECTOR_deeper); }
-static uint32_t call_run(void) { return sofaduck_run(STATE(&s), 500, &count_made, &reach_made); }
-static uint32_t call_drop(void) { return sofaduck_drop(STATE(&s)); }
-static uint32_t call_forget(void) { return sofaduck_forget(STATE(&s)); }
-static uint32_t call_check(void) { return sofaduck_check(STATE(&s)); }
-static uint32_t call_save(void) { return sofaduck_save(STATE(&s), output, sizeof output, &bytes_made); }
+static uint32_t call_run(void) { return sofaduck_run(SOFADUCK_STATE(&s), 500, &count_made, &reach_made); }
+static uint32_t call_drop(void) { return sofaduck_drop(SOFADUCK_STATE(&s)); }
+static uint32_t call_forget(void) { return sofaduck_forget(SOFADUCK_STATE(&s)); }
+static uint32_t call_check(void) { return sofaduck_check(SOFADUCK_STATE(&s)); }
+static uint32_t call_save(void) { return sofaduck_save(SOFADUCK_STATE(&s), output, sizeof output, &bytes_made); }
 
 static uint32_t (*called)(void);
 static uint32_t answered;
@@ -342,7 +387,7 @@ static void small_stack(const char *name, uint32_t (*call)(void)) {
 }
 
 static void small_stacks(void) {
-    fresh(&s);
+    fresh(&s, &lent);
     small_stack("load", call_load);
     small_stack("begin", call_begin);
     small_stack("run", call_run);
@@ -353,27 +398,30 @@ static void small_stacks(void) {
 }
 
 /* The same calls on two states at once. */
-static void *play(void *lent) {
-    state *const t = lent;
+static void *play(void *state) {
+    sofaduck_state *const t = state;
     static const uint16_t selectors[] = {SELECTOR_more, SELECTOR_deeper, SELECTOR_a, SELECTOR_lost};
     uint32_t count, reach;
-    load(t, image, length);
+    sofaduck_state_load(t, image, length);
     for (unsigned i = 0; i < ROUNDS; i++) {
         begin(t, OBJECT_box, selectors[i % 4]);
-        sofaduck_run(STATE(t), i % 200, &count, &reach);
-        if (t->registers[SOFADUCK_PHASE] == SOFADUCK_RUNNING && i % 3 == 0) sofaduck_drop(STATE(t));
+        sofaduck_state_run(t, i % 200, &count, &reach);
+        if (t->registers[SOFADUCK_PHASE] == SOFADUCK_RUNNING && i % 3 == 0) sofaduck_state_drop(t);
     }
     return NULL;
 }
 
 static void threads(void) {
-    static state one, two, alone;
+    static sofaduck_state one, two, alone;
+    static words of_one, of_two, of_alone;
     pthread_t first, second;
-    fresh(&one), fresh(&two), fresh(&alone);
+    fresh(&one, &of_one), fresh(&two, &of_two), fresh(&alone, &of_alone);
     const bool started = pthread_create(&first, NULL, play, &one) == 0 && pthread_create(&second, NULL, play, &two) == 0;
     test("two states on two threads come to the same words, and to those of one alone",
          started && pthread_join(first, NULL) == 0 && pthread_join(second, NULL) == 0 && play(&alone) == NULL
-             && memcmp(&one, &two, sizeof one) == 0 && memcmp(&one, &alone, sizeof one) == 0 && one.registers[SOFADUCK_N] > get(1));
+             && memcmp(&of_one, &of_two, sizeof of_one) == 0 && memcmp(&of_one, &of_alone, sizeof of_one) == 0
+             && memcmp(one.registers, two.registers, sizeof one.registers) == 0
+             && memcmp(one.registers, alone.registers, sizeof one.registers) == 0 && one.registers[SOFADUCK_N] > get(1));
 }
 
 int main(int argc, char **argv) {
@@ -389,6 +437,7 @@ int main(int argc, char **argv) {
     begins();
     runs();
     saves();
+    writes();
     threads();
     return failed;
 }

@@ -1,6 +1,6 @@
 /* The library with every buffer at the end of its memory: a page that nobody may touch lies behind each. Images are edited at random, what is
- * accepted is begun and run, states are spoiled. An access past a buffer ends the program; otherwise it fails where check refuses a state that the
- * calls left. Usage: guard IMAGE... */
+ * accepted is begun and run, states are spoiled and read. An access past a buffer ends the program; otherwise it fails where check refuses a state
+ * that the calls left. Usage: guard IMAGE... */
 #define _DEFAULT_SOURCE /* MAP_ANONYMOUS */
 #include "sofaduck.h"
 #include <stdbool.h>
@@ -31,12 +31,9 @@ static void *last(int buffer, size_t bytes) {
     return ends[buffer] - bytes;
 }
 
-static uint16_t *contents, *bodies, *stack, *cache, *registers;
-static size_t contents_length, bodies_length, stack_length;
+static sofaduck_state *s;
 static uint32_t *count, *reach;
 static unsigned long answers[SOFADUCK_NO_FIRST_FRAME + 1];
-
-#define STATE contents, contents_length, bodies, bodies_length, stack, stack_length, cache, SOFADUCK_CACHE, registers
 
 static uint32_t counted(uint32_t answer) {
     answers[answer]++;
@@ -53,14 +50,14 @@ static void edit(uint8_t *image, size_t words) {
     }
 }
 
-static uint16_t any_word(void) { return (uint16_t)(below(2) == 0 ? 2 * below(200) + 1 : 2 * (1 + below(registers[SOFADUCK_N]))); }
+static uint16_t any_word(void) { return (uint16_t)(below(2) == 0 ? 2 * below(200) + 1 : 2 * (1 + below(s->registers[SOFADUCK_N]))); }
 
 static uint16_t any_selector(void) {
     for (int tries = 0; tries < 200; tries++) {
-        const unsigned object = below(registers[SOFADUCK_N]);
-        if (contents[4 * object + 1] == 1) return (uint16_t)(2 * (object + 1));
+        const unsigned object = below(s->registers[SOFADUCK_N]);
+        if (s->contents[4 * object + 1] == 1) return (uint16_t)(2 * (object + 1));
     }
-    return registers[SOFADUCK_START_SELECTOR];
+    return s->registers[SOFADUCK_START_SELECTOR];
 }
 
 /* Begin something and run it for some grants. Returns whether check accepts what is left and no call found the state wrong. */
@@ -68,31 +65,46 @@ static bool handled(bool start) {
     const size_t given = below(3);
     uint16_t *const arguments = last(7, 2 * given);
     for (size_t i = 0; i < given; i++) arguments[i] = any_word();
-    const uint16_t receiver = start ? registers[SOFADUCK_START_RECEIVER] : any_word();
-    const uint16_t selector = start ? registers[SOFADUCK_START_SELECTOR] : any_selector();
-    const uint32_t begun = counted(sofaduck_begin(STATE, receiver, selector, arguments, given));
+    const uint16_t receiver = start ? s->registers[SOFADUCK_START_RECEIVER] : any_word();
+    const uint16_t selector = start ? s->registers[SOFADUCK_START_SELECTOR] : any_selector();
+    const uint32_t begun = counted(sofaduck_state_begin(s, receiver, selector, arguments, given));
     bool fine = begun != SOFADUCK_NO_ROOM && begun != SOFADUCK_BAD_STATE;
-    while (registers[SOFADUCK_PHASE] == SOFADUCK_RUNNING && below(8) > 0) {
+    while (s->registers[SOFADUCK_PHASE] == SOFADUCK_RUNNING && below(8) > 0) {
         const uint32_t n = below(60);
-        fine = counted(sofaduck_run(STATE, n, count, reach)) == 0 && *count <= n && *reach <= stack_length && fine;
+        fine = counted(sofaduck_state_run(s, n, count, reach)) == 0 && *count <= n && *reach <= s->stack_length && fine;
     }
-    if (below(2) == 0) fine = counted(sofaduck_drop(STATE)) == 0 && fine;
-    return counted(sofaduck_check(STATE)) == 0 && fine;
+    if (below(2) == 0) fine = counted(sofaduck_state_drop(s)) == 0 && fine;
+    return counted(sofaduck_state_check(s)) == 0 && fine;
+}
+
+/* The header's readers, whatever the words are. Adding up keeps the compiler from leaving them out. */
+static void readers(void) {
+    static volatile unsigned long sum;
+    sofaduck_frame frame;
+    uint16_t selector = 0;
+    unsigned arguments = 0;
+    for (int more = sofaduck_top_frame(s, &frame); more; more = sofaduck_next_frame(s, &frame)) {
+        char text[8] = "";
+        sum += sofaduck_text(s, sofaduck_method_selector(s, frame.method), text, sizeof text) + (unsigned char)text[1];
+        if (sofaduck_send(s, &frame, &selector, &arguments)) sum += selector + (unsigned long)sofaduck_operand(s, &frame, arguments);
+    }
+    sum += sofaduck_find_selector(s, "a", 1);
 }
 
 /* One word of the state changed: the calls answer something. */
 static void spoiled(void) {
-    uint16_t *const buffers[] = {contents, bodies, stack, cache, registers};
-    const size_t lengths[] = {contents_length, bodies_length, stack_length, SOFADUCK_CACHE, SOFADUCK_REGISTERS};
-    const size_t output_length = 10 + 8 * (size_t)registers[SOFADUCK_N] + 2 * (size_t)registers[SOFADUCK_B];
+    uint16_t *const buffers[] = {s->contents, s->bodies, s->stack, s->cache, s->registers};
+    const size_t lengths[] = {s->contents_length, s->bodies_length, s->stack_length, SOFADUCK_CACHE, SOFADUCK_REGISTERS};
+    const size_t output_length = 10 + 8 * (size_t)s->registers[SOFADUCK_N] + 2 * (size_t)s->registers[SOFADUCK_B];
     const unsigned which = below(5);
     uint32_t length;
     if (lengths[which] > 0) buffers[which][below(lengths[which])] ^= (uint16_t)(1u << below(16));
-    counted(sofaduck_run(STATE, 100, count, reach));
-    counted(sofaduck_forget(STATE));
-    counted(sofaduck_save(STATE, last(7, output_length), output_length, &length));
-    counted(sofaduck_begin(STATE, SOFADUCK_NIL, SOFADUCK_NIL, NULL, 0));
-    counted(sofaduck_drop(STATE));
+    readers();
+    counted(sofaduck_state_run(s, 100, count, reach));
+    counted(sofaduck_state_forget(s));
+    counted(sofaduck_state_save(s, last(7, output_length), output_length, &length));
+    counted(sofaduck_state_begin(s, SOFADUCK_NIL, SOFADUCK_NIL, NULL, 0));
+    counted(sofaduck_state_drop(s));
 }
 
 int main(int argc, char **argv) {
@@ -111,8 +123,9 @@ int main(int argc, char **argv) {
         fprintf(stderr, "usage: guard IMAGE...\n");
         return 2;
     }
-    cache = last(4, 2 * SOFADUCK_CACHE);
-    registers = last(5, 2 * SOFADUCK_REGISTERS);
+    s = last(5, sizeof *s); /* the registers are its last words, but for two bytes of padding */
+    s->cache = last(4, 2 * SOFADUCK_CACHE);
+    s->cache_length = SOFADUCK_CACHE;
     count = last(6, 8);
     reach = count + 1;
     for (int k = 0; k < EDITS; k++) {
@@ -121,13 +134,13 @@ int main(int argc, char **argv) {
         uint8_t *const image = last(0, length);
         memcpy(image, images[which], length);
         for (unsigned edits = below(4); edits > 0 && length > 1; edits--) edit(image, length / 2);
-        contents_length = 4 * (images[which][2] * 256u + images[which][3] + below(3));
-        bodies_length = images[which][4] * 256u + images[which][5] + below(20);
-        stack_length = below(3) == 0 ? below(60) : below(400);
-        contents = last(1, 2 * contents_length);
-        bodies = last(2, 2 * bodies_length);
-        stack = last(3, 2 * stack_length);
-        if (counted(sofaduck_load(image, length, contents, contents_length, bodies, bodies_length, cache, SOFADUCK_CACHE, registers)) != 0) continue;
+        s->contents_length = 4 * (images[which][2] * 256u + images[which][3] + below(3));
+        s->bodies_length = images[which][4] * 256u + images[which][5] + below(20);
+        s->stack_length = below(3) == 0 ? below(60) : below(400);
+        s->contents = last(1, 2 * s->contents_length);
+        s->bodies = last(2, 2 * s->bodies_length);
+        s->stack = last(3, 2 * s->stack_length);
+        if (counted(sofaduck_state_load(s, image, length)) != 0) continue;
         for (int turn = 0; turn < 4; turn++)
             if (!handled(turn == 0)) {
                 printf("FAILED: edit %d: the calls left a state that check refuses\n", k);
