@@ -409,13 +409,14 @@ static inline uint16_t sofaduck_operand(const sofaduck_state *state, const sofad
 }
 
 /* The send that a frame stands before: its selector, which may be nil, and how many arguments it has. In phases not understood and no stack room the
- * top frame stands before one, and operand `count` is its receiver. Returns 1, or 0 where there is no send. */
+ * top frame stands before one, and operand `count` is its receiver. Returns 1, or 0 where there is no send; 198 (==) and 199 (class) are none. */
 static inline int sofaduck_send(const sofaduck_state *state, const sofaduck_frame *frame, uint16_t *selector, unsigned *count) {
     static const uint8_t counts[] = {1, 2, 0, 0, 1, 0, 1, 0, 1, 0, 1, 1, 0, 1, 0, 0}; /* of bytecodes 192 to 207 */
     const int code = sofaduck_code(state, frame->method, frame->position);
     const int second = sofaduck_code(state, frame->method, frame->position + (size_t)1);
     const int third = sofaduck_code(state, frame->method, frame->position + (size_t)2);
     size_t size = 0;
+    if (code == 198 || code == 199) return 0;
     if (code >= 176 && code < 208) {
         const uint16_t *const selectors = sofaduck_body(state, SOFADUCK_SPECIAL_SELECTORS, SOFADUCK_LIST, &size);
         if (selectors == NULL || size < 32) return 0;

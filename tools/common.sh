@@ -83,10 +83,11 @@ proved() {
   done
   mkdir -p target/progress
   if [ "$new" -gt 0 ]; then echo "proving $2: $new of $all crates are not proved here yet; all $all take about 8 minutes on two cores" >&2; fi
-  rt "$1" "$2" 2>&1 | tee "target/progress/$2" | awk -v all="$all" '
+  rm -f "target/progress/$2.failed"
+  { rt "$1" "$2" 2>&1 || touch "target/progress/$2.failed"; } | tee "target/progress/$2" | awk -v all="$all" '
     /^rt: [a-z0-9]+ proved/ { done++; if (!/unchanged/) { sub(/^rt: /, ""); printf "  %s, %d to go\n", $0, all - done; fflush() } }
     /^rt: .*NOT PROVED/ { sub(/^rt: /, ""); print "  " $0; fflush() }' >&2
-  if [ "${PIPESTATUS[0]}" -ne 0 ]; then
+  if [ -e "target/progress/$2.failed" ]; then
     tail -n 20 "target/progress/$2" >&2
     echo "$0: $2 is not proved; target/progress/$2 has all that rt said" >&2
     exit 1
