@@ -79,10 +79,14 @@ proved() {
     [ -z "$(find crates crates.txt -newer "target/staticlib/lib$2.a" -print -quit)" ]; then return; fi
   for crate in $(crates_for "$2"); do
     all=$((all + 1))
-    [ -e "target/stamp/$crate" ] || new=$((new + 1))
+    [ -e "target/stamp/$crate" ] || [ "$1 $crate" = "staticlib $2" ] || new=$((new + 1))
   done
   mkdir -p target/progress
-  if [ "$new" -gt 0 ]; then echo "proving $2: $new of $all crates are not proved here yet; all $all take about 8 minutes on two cores" >&2; fi
+  if [ "$new" -gt 0 ]; then
+    echo "proving $2: $new of $all crates are not proved here yet; all $all take about 8 minutes on two cores" >&2
+  elif [ "$1" = staticlib ]; then
+    echo "building lib$2.a, half a minute" >&2
+  fi
   rm -f "target/progress/$2.failed"
   { rt "$1" "$2" 2>&1 || touch "target/progress/$2.failed"; } | tee "target/progress/$2" | awk -v all="$all" '
     /^rt: [a-z0-9]+ proved/ { done++; if (!/unchanged/) { sub(/^rt: /, ""); printf "  %s, %d to go\n", $0, all - done; fflush() } }
