@@ -6,6 +6,7 @@ use mathlib.Core.Bool.{Bool, true, false, _||_}
 use native.Mathlib.Omega.{arith}
 use borrow.Author.Tests.{eq-eqb, ne-eqb, eqb-true}
 use lib.Dec.{T, eqb, eqb→eq}
+use Rattle.bytecode.specs.Constant.{nilWord}
 use Rattle.bytecode.specs.Test.{below, implies}
 use Rattle.bytecode.proofs.Choice.{if-yes, if-no}
 use Rattle.bytecode.proofs.TestLaws.{true→T, T→true, or-cases, implied, upTo-at, below-at}
@@ -122,6 +123,21 @@ module _ {e : ℕ} {o : Objects} (r : Right e o) where
         homes = subst (λ (x : ℕ). T (inChainWithin (o .n) o x c)) (sym home-is) (true→T (h .chain));
         counts = λ n t. count-at (h .holder) s m n (h .classes) q t;
       }
+
+  -- nil as a selector finds nothing (01, "Image"): selectors of dictionaries have kind 1, and nil has kind 0.
+  pub nil-finds-nothing : (c : ℕ) → lookup o nilWord c ≡ Nothing
+  unfolding lookup
+  nil-finds-nothing c = go (lookup o nilWord c) refl
+    where
+      go : (f : Found) → lookup o nilWord c ≡ f → f ≡ Nothing
+      go Nothing p = refl
+      go (Method m) p =
+          let h = holder-of (o .n) nilWord c (m .0) p in
+          let q = h .pair in
+          let t = subst (λ (x : ℕ). T (isKind o bytesKind x)) (q .selector) (pair-facts r (h .holder) (q .place) (h .classes) (q .inside) .selector) in
+          let k : kind o 1 ≡ 1 = named o bytesKind nilWord t .kinds in
+          let z : kind o 1 ≡ 0 = known-facts r .nil in
+          absurd (omega arith)
 
   -- F is not below that of a class above
   record Above (a c : ℕ) : Type 0 where
