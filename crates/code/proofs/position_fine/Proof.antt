@@ -22,7 +22,9 @@ instruction-fine-requires : tie.Need-instruction-fine-requires
 instruction-fine-requires c κs = ((c .before .before .before .before .before .before .before .before .pre) .0, small-special _ _ _ _ (c .decode .ensures))
 
 returns-2 : tie.Need-returns-2
-returns-2 c = c .instruction-fine .ensures ∙ linked-noted _ _ _ _ _ _ (c .before .before .if1 .left) ((c .before .before .before .before .before .before .before .before .before .pre) .1) (c .before .decode .ensures)
+returns-2 c =
+    let at-start = c .before .before .before .before .before .before .before .before .before in
+    c .instruction-fine .ensures ∙ linked-noted _ _ _ _ _ _ (c .before .before .if1 .left) ((at-start .pre) .1) (c .before .decode .ensures)
 
 pub position-fine-spec : {M : Type 1} → statement M
 position-fine-spec =

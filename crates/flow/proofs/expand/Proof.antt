@@ -17,7 +17,11 @@ same-length-2 : tie.Need-same-length-2
 same-length-2 c = search needs
 
 returns : tie.Need-returns
-returns c = expand-plain _ _ _ _ _ _ _ _ (omega arith) (c .before .before .before .before .before .before .before .before .before .before .before .pre .1) _ _ _ _ _ _ (c .before .before .before .before .before .before .before .if1 .taken) (c .before .before .before .before .plain .ensures)
+returns c =
+    let at-plain = c .before .before .before .before in
+    let at-if1 = at-plain .before .before .before in
+    let at-start = at-if1 .before .before .before .before in
+    expand-plain _ _ _ _ _ _ _ _ (omega arith) (at-start .pre .1) _ _ _ _ _ _ (at-if1 .if1 .taken) (at-plain .plain .ensures)
 
 returns-2 : tie.Need-returns-2
 returns-2 c = expand-return _ _ _ _ _ _ _ _ (omega arith) (c .before .before .before .before .before .before .pre .1) _ _ _ _ _ _ (c .before .if2 .taken) (step-no _ _ _ _ _ _ _ _ _ (lt-leb _ _ (c .if3 .taken)))
