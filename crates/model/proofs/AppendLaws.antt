@@ -170,7 +170,8 @@ module _ {e : ℕ} {o : Objects} (r : Right e o) (c kd sz : ℕ) (body : List �
         record {
           kinds = omega arith;
           first = λ p. absurd (omega arith);
-          next = λ p. new-entry k 2 h ∙ sym (last-end r) ∙ sym (ap₂ _+_ (ap (start grown) (before-new k h) ∙ appended-entry (o .n) 2 (omega arith) (omega arith) (omega arith)) (ap (bodyWords grown) (before-new k h) ∙ words-same ext (o .n) (omega arith) (omega arith)));
+          next = λ p. new-entry k 2 h ∙ sym (last-end r) ∙ sym (ap₂ _+_ (ap (start grown) (before-new k h) ∙ appended-entry (o .n) 2 (omega arith)
+              (omega arith) (omega arith)) (ap (bodyWords grown) (before-new k h) ∙ words-same ext (o .n) (omega arith) (omega arith)));
           four = λ p. absurd (omega arith);
           padded = new-padded k h;
         }

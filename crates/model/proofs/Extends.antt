@@ -208,7 +208,8 @@ module _ {e : ℕ} {o o′ : Objects} (x : Extends o o′) (r : Right e o) where
         ap₂ (λ (a b : ℕ). part (o′ .bodies) (a + (2 + b)) (bodyWords o′ (m / 2) - (2 + b))) s literal-count-same
         ∙ ap (λ (a : ℕ). part (o′ .bodies) (start o (m / 2) + (2 + literalCount o m)) (a - (2 + literalCount o m))) (words-same x (m / 2) (h .least) (h .most))
         ∙ part-same (o .bodies) (o′ .bodies) (start o (m / 2) + (2 + literalCount o m)) (bodyWords o (m / 2) - (2 + literalCount o m)) (omega arith) (omega arith)
-        (λ i b. ap (λ (a : ℕ). getD (o′ .bodies) a 0) (ap (λ (a : ℕ). a + (2 + literalCount o m) + i) (sym s) ∙ moved (start o′ (m / 2)) (literalCount o m) i) ∙ method-word-same m (2 + literalCount o m + i) t (omega arith) ∙ ap (λ (a : ℕ). getD (o .bodies) a 0) (sym (moved (start o (m / 2)) (literalCount o m) i)))
+        (λ i b. ap (λ (a : ℕ). getD (o′ .bodies) a 0) (ap (λ (a : ℕ). a + (2 + literalCount o m) + i) (sym s) ∙ moved (start o′ (m / 2)) (literalCount o m) i)
+        ∙ method-word-same m (2 + literalCount o m + i) t (omega arith) ∙ ap (λ (a : ℕ). getD (o .bodies) a 0) (sym (moved (start o (m / 2)) (literalCount o m) i)))
       where
         moved : (a b i : ℕ) → a + (2 + b) + i ≡ a + (2 + b + i)
         moved a b i = omega arith
@@ -224,7 +225,8 @@ module _ {e : ℕ} {o o′ : Objects} (x : Extends o o′) (r : Right e o) where
 
     pub arguments-same : argumentCount o′ m ≡ argumentCount o m
     unfolding argumentCount
-    arguments-same = ap (λ (a : ℕ). if leb a lastCountFlag then a else if eqb a primitiveFlag then extension o′ m / 512 % 32 else 0) flag-same ∙ ap (λ (a : ℕ). if leb (flag o m) lastCountFlag then flag o m else a) (go (ℕ-discrete (flag o m) primitiveFlag))
+    arguments-same = ap (λ (a : ℕ). if leb a lastCountFlag then a else if eqb a primitiveFlag then extension o′ m / 512 % 32 else 0) flag-same
+        ∙ ap (λ (a : ℕ). if leb (flag o m) lastCountFlag then flag o m else a) (go (ℕ-discrete (flag o m) primitiveFlag))
       where
         go : Dec (flag o m ≡ primitiveFlag) → (if eqb (flag o m) primitiveFlag then extension o′ m / 512 % 32 else 0) ≡ (if eqb (flag o m) primitiveFlag then extension o m / 512 % 32 else 0)
         go (yes q) = ap (λ (a : ℕ). if eqb (flag o m) primitiveFlag then a / 512 % 32 else 0) (extension-same q)

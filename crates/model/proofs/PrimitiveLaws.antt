@@ -118,7 +118,8 @@ module _ {e : ℕ} {o : Objects} (r : Right e o) where
   unfolding arithmetic
   arithmetic-valid k v w =
       if-cases (ValidWord o) (isInteger v && isInteger w) _ Failed
-      (λ p. if-cases (ValidWord o) _ _ _ (λ q. bits-valid k v w (eqb→eq (v % 2) 1 (and-left (isInteger v) (isInteger w) (true→T p))) (eqb→eq (w % 2) 1 (and-right (isInteger v) (isInteger w) (true→T p)))) (λ q. integers-valid k (valueOf v) (valueOf w)))
+      (λ p. if-cases (ValidWord o) _ _ _ (λ q. bits-valid k v w (eqb→eq (v % 2) 1 (and-left (isInteger v) (isInteger w) (true→T p)))
+      (eqb→eq (w % 2) 1 (and-right (isInteger v) (isInteger w) (true→T p)))) (λ q. integers-valid k (valueOf v) (valueOf w)))
       (λ p. tt)
 
   module _ (room : Room) where
@@ -155,13 +156,15 @@ module _ {e : ℕ} {o : Objects} (r : Right e o) where
           forms (inr q) = inr (eqb→eq (form o (classOf o w)) bytesForm q)
 
           go : Valid (o .n) w → Element o w
-          go (odd h) = absurd (T-not (isInteger w) (and-left (not (isInteger w)) ((eqb (form o (classOf o w)) indexedForm || eqb (form o (classOf o w)) bytesForm) && leb (size o (w / 2)) mostElements) t) (true→T (eq-eqb (w % 2) 1 h)))
+          go (odd h) = absurd (T-not (isInteger w) (and-left (not (isInteger w))
+              ((eqb (form o (classOf o w)) indexedForm || eqb (form o (classOf o w)) bytesForm) && leb (size o (w / 2)) mostElements) t) (true→T (eq-eqb (w % 2) 1 h)))
           go (names a b c) =
               record {
                 first = b;
                 last = c;
                 classed = if-no _ _ (ne-eqb (w % 2) 1 (omega arith));
-                forms = forms (or-cases (eqb (form o (classOf o w)) indexedForm) (eqb (form o (classOf o w)) bytesForm) (and-left (eqb (form o (classOf o w)) indexedForm || eqb (form o (classOf o w)) bytesForm) (leb (size o (w / 2)) mostElements) rest));
+                forms = forms (or-cases (eqb (form o (classOf o w)) indexedForm) (eqb (form o (classOf o w)) bytesForm)
+                    (and-left (eqb (form o (classOf o w)) indexedForm || eqb (form o (classOf o w)) bytesForm) (leb (size o (w / 2)) mostElements) rest));
               }
 
       fits-class : (h : Element o w) → Fits o (w / 2) (classOf o w)
@@ -282,7 +285,8 @@ module _ {e : ℕ} {o : Objects} (r : Right e o) where
     new-law c =
         if-cases (Kept room e o) (isKind o classKind c && eqb (form o c) fixedForm) _ fails
         (λ p. make-law c fieldsKind (fieldCount o c) (fieldCount o c) nilWord (and-left (isKind o classKind c) (eqb (form o c) fixedForm) (true→T p))
-        (asMany refl (eqb→eq (form o c) fixedForm (and-right (isKind o classKind c) (eqb (form o c) fixedForm) (true→T p))) refl (length-replicate (fieldCount o c) nilWord) (fill-valid (fieldCount o c))))
+        (asMany refl (eqb→eq (form o c) fixedForm (and-right (isKind o classKind c) (eqb (form o c) fixedForm) (true→T p))) refl
+        (length-replicate (fieldCount o c) nilWord) (fill-valid (fieldCount o c))))
         (λ p. tt)
 
     pub newWith-law : (c x : ℕ) → Kept room e o (newWith room o c x)

@@ -72,7 +72,8 @@ module _ {e : ℕ} {o : Objects} (r : Right e o) where
   holder-of zero s c m p = absurd (nothing-found m p)
   holder-of (suc left) s c m p = go (isKind o classKind c) (findIn o (dictionaryWord o c) s) refl refl (holder-of left s (superclassWord o c) m)
     where
-      go : (b : Bool) (f : Found) → isKind o classKind c ≡ b → findIn o (dictionaryWord o c) s ≡ f → (lookupWithin left o s (superclassWord o c) ≡ found m → Holder o left s (superclassWord o c) m) → Holder o (suc left) s c m
+      go : (b : Bool) (f : Found) → isKind o classKind c ≡ b → findIn o (dictionaryWord o c) s ≡ f → (lookupWithin left o s (superclassWord o c) ≡ found m
+          → Holder o left s (superclassWord o c) m) → Holder o (suc left) s c m
       go true (Method w) q f ih =
           record {
             holder = c;
@@ -99,11 +100,13 @@ module _ {e : ℕ} {o : Objects} (r : Right e o) where
   unfolding takesCount
   count-at c s m n t p q =
       let h = named o classKind c t in
-      let all = implied (eqb (kind o (c / 2)) classKind) (counted (pointer (c / 2))) (upTo-at (o .n) (λ k. implies (eqb (kind o k) classKind) (counted (pointer k))) q (c / 2) (h .least) (h .most)) (true→T (eq-eqb (kind o (c / 2)) classKind (h .kinds))) in
+      let all = implied (eqb (kind o (c / 2)) classKind) (counted (pointer (c / 2)))
+      (upTo-at (o .n) (λ k. implies (eqb (kind o k) classKind) (counted (pointer k))) q (c / 2) (h .least) (h .most)) (true→T (eq-eqb (kind o (c / 2)) classKind (h .kinds))) in
       let mine : T (counted c) = subst (λ (x : ℕ). T (counted x)) (pointer-of c (h .even)) all in
       ap (argumentCount o) (sym (p .method))
       ∙ eqb→eq (argumentCount o (pairMethod o (dictionaryWord o c) (p .place))) n
-      (implied (eqb (pairSelector o (dictionaryWord o c) (p .place)) s) (eqb (argumentCount o (pairMethod o (dictionaryWord o c) (p .place))) n) (below-at (pairCount o (dictionaryWord o c)) (pair-test c) mine (p .place) (p .inside)) (true→T (eq-eqb (pairSelector o (dictionaryWord o c) (p .place)) s (p .selector))))
+      (implied (eqb (pairSelector o (dictionaryWord o c) (p .place)) s) (eqb (argumentCount o (pairMethod o (dictionaryWord o c) (p .place))) n)
+      (below-at (pairCount o (dictionaryWord o c)) (pair-test c) mine (p .place) (p .inside)) (true→T (eq-eqb (pairSelector o (dictionaryWord o c) (p .place)) s (p .selector))))
     where
       pair-test : ℕ → ℕ → Bool
       pair-test x i = implies (eqb (pairSelector o (dictionaryWord o x) i) s) (eqb (argumentCount o (pairMethod o (dictionaryWord o x) i)) n)

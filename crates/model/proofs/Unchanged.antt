@@ -203,14 +203,16 @@ module _ {e : ℕ} {o o′ : Objects} (x : Extends o o′) (r : Right e o) where
       let d : ℕ = dictionaryWord o c in
       ap (counts o′ s n) (dictionary-same x r c t)
       ∙ ap (λ (k : ℕ). below k (λ i. implies (eqb (pairSelector o′ d i) s) (eqb (argumentCount o′ (pairMethod o′ d i)) n))) (pair-count-same x r d l)
-      ∙ below-same (pairCount o d) (λ i. implies (eqb (pairSelector o d i) s) (eqb (argumentCount o (pairMethod o d i)) n)) (λ i. implies (eqb (pairSelector o′ d i) s) (eqb (argumentCount o′ (pairMethod o′ d i)) n))
+      ∙ below-same (pairCount o d) (λ i. implies (eqb (pairSelector o d i) s) (eqb (argumentCount o (pairMethod o d i)) n))
+      (λ i. implies (eqb (pairSelector o′ d i) s) (eqb (argumentCount o′ (pairMethod o′ d i)) n))
       (λ i h. ap₂ (λ (a b : ℕ). implies (eqb a s) (eqb b n)) (pair-selector-same x r d i l h)
       (ap (argumentCount o′) (pair-method-same x r d i l h) ∙ arguments-same x r (pairMethod o d i) (pair-facts r c i t h .method)))
 
   pub count-same : (s n : ℕ) → takesCount o′ s n ≡ takesCount o s n
   unfolding takesCount
   count-same s n =
-      upTo-same (o .n) (o′ .n) (λ k. implies (eqb (kind o k) classKind) (counts o s n (dictionaryWord o (pointer k)))) (λ k. implies (eqb (kind o′ k) classKind) (counts o′ s n (dictionaryWord o′ (pointer k)))) (x .grows)
+      upTo-same (o .n) (o′ .n) (λ k. implies (eqb (kind o k) classKind) (counts o s n (dictionaryWord o (pointer k))))
+      (λ k. implies (eqb (kind o′ k) classKind) (counts o′ s n (dictionaryWord o′ (pointer k)))) (x .grows)
       (λ k h g. implies-same (eqb (kind o k) classKind) (eqb (kind o′ k) classKind) (counts o s n (dictionaryWord o (pointer k))) (counts o′ s n (dictionaryWord o′ (pointer k)))
       (ap (λ (z : ℕ). eqb z classKind) (x .entries k 1 h g (omega arith)))
       (λ t. counts-same s n (pointer k) (subst (λ (z : ℕ). T (isKind o z (pointer k))) (eqb→eq (kind o k) classKind t) (naming o (kind o k) (pointer k) (named-pointer o k h g)))))

@@ -61,7 +61,15 @@ body-words o o′ x k a b =
 
 keeps-trans : (o o′ o″ : Objects) → Keeps o o′ → Keeps o′ o″ → Keeps o o″
 keeps-trans o o′ o″ x y =
-    record { objects = let a = x .objects in let b = y .objects in omega arith; words = let a = x .words in let b = y .words in omega arith; entries = λ k i a b c. y .entries k i a (let d = x .objects in omega arith) c ∙ x .entries k i a b c; bodies = λ k i a b c d. y .bodies k i a (let e = x .objects in omega arith) (subst (λ (z : ℕ). classKind ≤ z) (sym (x .entries k 1 a b (omega arith))) c) (subst (λ (z : ℕ). i < z) (sym (body-words o o′ x k a b)) d) ∙ x .bodies k i a b c d }
+    record {
+      objects = let a = x .objects in let b = y .objects in omega arith;
+      words = let a = x .words in let b = y .words in omega arith;
+      entries = λ k i a
+          b c. y .entries k i a (let d = x .objects in omega arith) c ∙ x .entries k i a b c;
+      bodies = λ k i a b c d. y .bodies k i a
+          (let e = x .objects in omega arith) (subst (λ (z : ℕ). classKind ≤ z) (sym (x .entries k 1 a b (omega arith))) c)
+          (subst (λ (z : ℕ). i < z) (sym (body-words o o′ x k a b)) d) ∙ x .bodies k i a b c d;
+    }
 
 kept-next : (room : Room) (c : Call) (cs : List Call) (s : Flat) (g : Given) (h : Called)
     → ((s′ : Flat) (p′ : Plain) → plainOf s′ ≡ p′ → Agrees room cs s′ p′ → Keeps (flatObjects s′) (flatObjects (lastState s′ cs)))
@@ -114,4 +122,6 @@ cache-kept s (beginCall receiver selector arguments) h = begin-keeps s (check s)
 cache-kept s (runCall n) h =
     ap (λ (x : Flat). x .cache) (unchanged s (check s) (F.runIf s n (eqb (s .registers .phase) running)) (run-refused s n (eqb (s .registers .phase) running)) (h tt))
 cache-kept s dropCall h = drop-keeps s (check s) (dropped (plainOf s))
-cache-kept s forgetCall h = ap (λ (x : Flat). x .cache) (unchanged s (check s) (gives done (record { registers = s .registers; contents = s .contents; bodies = s .bodies; stack = s .stack; cache = emptyCache })) (λ r. absurd r) (h tt))
+cache-kept s forgetCall h = ap (λ (x : Flat). x .cache)
+    (unchanged s (check s) (gives done (record { registers = s .registers; contents = s .contents; bodies = s .bodies; stack = s .stack; cache = emptyCache }))
+    (λ r. absurd r) (h tt))

@@ -139,15 +139,41 @@ module _ (room : Room) (worlds : Worlds room) where
       → ((p .registers .phase ≡ idle → ⊥) → p′ .registers .phase ≡ idle → ⊥) → RanRight n p stack cache 0 p′ []
   unfolding stackAfter cacheAfter highestEnd
   none n p p′ stack cache r r′ e s c w h i =
-      record { made = omega arith; whole = w; halts = h; busy = i; right = r′; extends = subst (Extends (objects p)) (sym e) (extends-refl (objects p)); stood = s; cached = subst (λ (o : Objects). T (cacheFine o cache)) (sym e) c; stackLength = refl; cacheLength = refl; reach = top-end room p (r .stands) }
+      record {
+        made = omega arith;
+        whole = w;
+        halts = h;
+        busy = i;
+        right = r′;
+        extends = subst (Extends (objects p)) (sym e) (extends-refl (objects p));
+        stood = s;
+        cached = subst (λ (o : Objects). T (cacheFine o cache)) (sym e) c;
+        stackLength = refl;
+        cacheLength = refl;
+        reach = top-end room p (r .stands);
+      }
 
   -- one step and a run
-  more : (n : ℕ) (p p₁ : Plain) (l : Looked) (stack cache : List ℕ) → PlainRight room p → (p₁ .registers .phase ≡ idle → ⊥) → p₁ .registers .phase < 3 → Extends (objects p) (objects p₁) → length (filled cache l) ≡ length cache
+  more : (n : ℕ) (p p₁ : Plain) (l : Looked) (stack cache : List ℕ) → PlainRight room p → (p₁ .registers .phase ≡ idle → ⊥) → p₁ .registers .phase < 3
+      → Extends (objects p) (objects p₁) → length (filled cache l) ≡ length cache
       → length (laid stack (p₁ .registers .top) (p₁ .frames)) ≡ length stack → (x : Ran)
       → RunGoes n p₁ (laid stack (p₁ .registers .top) (p₁ .frames)) (filled cache l) x → RunGoes (suc n) p stack cache (counted (taken l p₁) x)
   unfolding stackAfter cacheAfter highestEnd
   more n p p₁ l stack cache r i b e lc ls (ran k p′ ts) g =
-      record { made = let m = g .made in omega arith; whole = λ q. ap suc (g .whole q); halts = λ q. g .halts b; busy = λ q. g .busy i; right = g .right; extends = extends-trans e (g .extends); stood = g .stood; cached = g .cached; stackLength = g .stackLength ∙ ls; cacheLength = g .cacheLength ∙ lc; reach = let a = top-end room p (r .stands) in let d = g .reach in omega arith }
+      record {
+        made = let m = g .made in omega arith;
+        whole = λ q. ap suc (g .whole q);
+        halts = λ q. g .halts b;
+        busy = λ q. g .busy i;
+        right = g .right;
+        extends = extends-trans e (g .extends);
+        stood = g .stood;
+        cached = g .cached;
+        stackLength = g .stackLength ∙ ls;
+        cacheLength = g .cacheLength
+            ∙ lc;
+        reach = let a = top-end room p (r .stands) in let d = g .reach in omega arith;
+      }
   more n p p₁ l stack cache r i b e lc ls stuck g = g
 
   shape-busy : (p : Plain) → Shape (room .stack) p → p .registers .phase ≡ idle → ⊥
@@ -185,7 +211,8 @@ module _ (room : Room) (worlds : Worlds room) where
           (again p₁ (laid stack (p₁ .registers .top) (p₁ .frames)) (filled cache l) r₁ (ls₁ ∙ ls) (lc₁ ∙ lc) (shape-stood p₁ stack ls (g .0 .shape))
           (cache-kept (objects p) (objects p₁) (lookup-same d (r .image)) (filled cache l) (cache-filled (objects p) cache l lc (g .1) c)))
       after-step (halts cause) x g e again =
-          none (suc n) p (halted p cause) stack cache r (halted-right p r e cause) refl (λ q. s (ap hasFrames e)) c (λ q. absurd (let h = cause-least cause in omega arith)) (λ a b. (cause, refl, halts-for room p cause x)) (λ i q. let h = cause-least cause in omega arith)
+          none (suc n) p (halted p cause) stack cache r (halted-right p r e cause) refl (λ q. s (ap hasFrames e)) c
+          (λ q. absurd (let h = cause-least cause in omega arith)) (λ a b. (cause, refl, halts-for room p cause x)) (λ i q. let h = cause-least cause in omega arith)
       after-step missing x g e again = absurd g
 
       by-phase : (b : Bool) → eqb (p .registers .phase) running ≡ b → Again → RunGoes (suc n) p stack cache (ifRunning (λ s′. steps room n s′) room p b)

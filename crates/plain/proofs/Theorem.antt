@@ -89,7 +89,19 @@ module _ (s : Flat) (right : FlatRight s) where
   refuses : (c : Call) (k : ℕ) → OwnNumber k → Ends room c p (refusedBy k) → Both c (gives (refusedBy k) s) (called (refusedBy k) p [])
   unfolding highestEnd number-of
   refuses c k n e = (
-    record { answer = refl; state = refl; checks = right-check s right; lengths = refl; never3 = other-number (refusedBy k) 3 (n .not-3); never11 = other-number (refusedBy k) 11 (n .not-11); ends = e; reach = top-end room p (right .plain .stands); keeps = keeps (objects p) (objects p) (right .plain .image) (right .plain .image) (extends-refl (objects p)) },
+    record {
+      answer = refl;
+      state = refl;
+      checks = right-check s right;
+      lengths = refl;
+      never3 = other-number (refusedBy k) 3 (n .not-3);
+      never11 =
+          other-number (refusedBy k) 11 (n .not-11);
+      ends = e;
+      reach = top-end room p (right .plain .stands);
+      keeps = keeps (objects p) (objects p)
+          (right .plain .image) (right .plain .image) (extends-refl (objects p));
+    },
     (right, refl, refl),
   )
 
@@ -99,7 +111,18 @@ module _ (s : Flat) (right : FlatRight s) where
       → Both c (gives a (withPlain s p′ stack cache)) (called a p′ ts)
   leads c a p′ ts stack cache r x st ls lc t n3 n11 e h =
       let f = flat-back s p′ stack cache r st ls lc (right .cacheLength) t in (
-        record { answer = refl; state = plain-back s p′ stack cache r st; checks = right-check (withPlain s p′ stack cache) f; lengths = room-back s p′ stack cache r st ls lc; never3 = n3; never11 = n11; ends = e; reach = h; keeps = keeps (objects p) (objects p′) (right .plain .image) (r .image) x },
+        record {
+          answer = refl;
+          state = plain-back s p′ stack cache r st;
+          checks = right-check (withPlain s p′ stack cache) f;
+          lengths = room-back s p′ stack
+              cache r st ls lc;
+          never3 = n3;
+          never11 = n11;
+          ends = e;
+          reach = h;
+          keeps = keeps (objects p) (objects p′) (right .plain .image) (r .image) x;
+        },
         (f, plain-back s p′ stack cache r st, room-back s p′ stack cache r st ls lc),
       )
 
@@ -127,7 +150,8 @@ module _ (s : Flat) (right : FlatRight s) where
   unfolding number-of
   run-agrees n i (ran k p′ ts) g =
       leads (runCall n) (result (p′ .registers .phase) k (p′ .registers .value)) p′ ts (stackAfter (s .stack) ts) (cacheAfter (s .cache) ts) (g .right) (g .extends) (g .stood)
-      (g .stackLength) (g .cacheLength) (g .cached) (other-number (result (p′ .registers .phase) k (p′ .registers .value)) 3 (λ e. omega arith)) (other-number (result (p′ .registers .phase) k (p′ .registers .value)) 11 (λ e. omega arith))
+      (g .stackLength) (g .cacheLength) (g .cached) (other-number (result (p′ .registers .phase) k (p′ .registers .value)) 3 (λ e. omega arith))
+      (other-number (result (p′ .registers .phase) k (p′ .registers .value)) 11 (λ e. omega arith))
       (run-ends room n k p′ (g .made) (g .whole) (g .busy (λ e. omega arith)) (g .halts (omega arith)) (g .right .stands)) (g .reach)
   run-agrees n i stuck g = absurd g
 
@@ -142,7 +166,19 @@ module _ (s : Flat) (right : FlatRight s) where
   forget-agrees : Both forgetCall (gives done (record { registers = s .registers; contents = s .contents; bodies = s .bodies; stack = s .stack; cache = emptyCache })) (called done p [])
   unfolding plainOf highestEnd number-of
   forget-agrees = (
-    record { answer = refl; state = refl; checks = right-check s₁ right₁; lengths = lengths₁; never3 = other-number done 3 (λ e. omega arith); never11 = other-number done 11 (λ e. omega arith); ends = refl; reach = top-end room p (right .plain .stands); keeps = keeps (objects p) (objects p) (right .plain .image) (right .plain .image) (extends-refl (objects p)) },
+    record {
+      answer = refl;
+      state = refl;
+      checks = right-check s₁ right₁;
+      lengths = lengths₁;
+      never3 = other-number done 3 (λ e. omega arith);
+      never11 =
+          other-number done 11 (λ e. omega arith);
+      ends = refl;
+      reach = top-end room p (right .plain .stands);
+      keeps = keeps (objects p) (objects p)
+          (right .plain .image) (right .plain .image) (extends-refl (objects p));
+    },
     (right₁, refl, lengths₁),
   )
     where
@@ -157,12 +193,20 @@ module _ (s : Flat) (right : FlatRight s) where
 
       right₁ : FlatRight s₁
       right₁ =
-          record { contents = right .contents; bodies = right .bodies; cacheLength = empty; plain = subst (λ (x : Room). PlainRight x p) (sym lengths₁) (right .plain); cached = cache-empty (flatObjects s) }
+          record {
+            contents = right .contents;
+            bodies = right .bodies;
+            cacheLength = empty;
+            plain = subst (λ (x : Room). PlainRight x p) (sym lengths₁)
+                (right .plain);
+            cached = cache-empty (flatObjects s);
+          }
 
   call-agrees : (c : Call) → Both c (flatCall s c) (call room p c)
   unfolding flatCall call flatBegin flatRun flatDrop flatForget
   call-agrees (beginCall receiver selector arguments) =
-      subst (λ (g : Given). Both (beginCall receiver selector arguments) g (afterBegin p (begin room p receiver selector arguments))) (sym (passes (F.afterBegin s (begin room p receiver selector arguments))))
+      subst (λ (g : Given). Both (beginCall receiver selector arguments) g (afterBegin p (begin room p receiver selector arguments)))
+      (sym (passes (F.afterBegin s (begin room p receiver selector arguments))))
       (begin-agrees receiver selector arguments (begin room p receiver selector arguments) (begins room (worlds room) p (right .plain) receiver selector arguments))
   call-agrees (runCall n) =
       subst (λ (g : Given). Both (runCall n) g (runIf room n p (eqb (p .registers .phase) running))) (sym (passes (F.runIf s n (eqb (s .registers .phase) running))))
@@ -175,7 +219,8 @@ module _ (s : Flat) (right : FlatRight s) where
           leads dropCall done (dropped p) [] (s .stack) (s .cache) (dropped-right room p (right .plain)) (extends-refl (objects p)) (λ e. absurd (subst T (sym e) tt)) refl refl cached
           (other-number done 3 (λ e. omega arith)) (other-number done 11 (λ e. omega arith)) refl (top-end room p (right .plain .stands))
   call-agrees forgetCall =
-      subst (λ (g : Given). Both forgetCall g (called done p [])) (sym (passes (gives done (record { registers = s .registers; contents = s .contents; bodies = s .bodies; stack = s .stack; cache = emptyCache })))) forget-agrees
+      subst (λ (g : Given). Both forgetCall g (called done p []))
+      (sym (passes (gives done (record { registers = s .registers; contents = s .contents; bodies = s .bodies; stack = s .stack; cache = emptyCache })))) forget-agrees
 
 -- ---- a list of calls
 
@@ -201,8 +246,16 @@ from-checked s e cs = agrees cs s (check-right s e)
 
 -- and from an accepted load
 pub from-load : FromLoad
-from-load s image e =
-    (s₀, record { gave = gave′; start = start′; checks = right-check s₀ right₀; agrees = λ cs. subst (λ (x : Room). Agrees x cs s₀ (loaded image)) lengths′ (subst (λ (x : Plain). Agrees (roomOf s₀) cs s₀ x) start′ (agrees cs s₀ right₀)) })
+from-load s image e = (
+  s₀,
+  record {
+    gave = gave′;
+    start = start′;
+    checks = right-check s₀ right₀;
+    agrees = λ cs. subst (λ (x : Room). Agrees x cs s₀ (loaded image)) lengths′
+        (subst (λ (x : Plain). Agrees (roomOf s₀) cs s₀ x) start′ (agrees cs s₀ right₀));
+  },
+)
   where
     a : Accepted (roomOf s) image
     a = accepts (roomOf s) image e

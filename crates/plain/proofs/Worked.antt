@@ -55,4 +55,22 @@ pub record Worked : Type 0 where
 pub worked : Worked
 unfolding computing addTwo digits decimal lineBytes
 worked =
-    record { minusOne = refl; least = refl; sumFails = refl; quotientDown = refl; remainder = refl; quotientTowardZero = refl; exactFails = refl; downFails = refl; towardZeroFails = refl; shiftThirteen = refl; shiftFourteenFails = refl; loopSound = refl; loopItself = refl; finishes = refl; halts = refl; empty = refl }
+    record {
+      minusOne = refl;
+      least = refl;
+      sumFails = refl;
+      quotientDown = refl;
+      remainder = refl;
+      quotientTowardZero = refl;
+      exactFails = refl;
+      downFails =
+          refl;
+      towardZeroFails = refl;
+      shiftThirteen = refl;
+      shiftFourteenFails = refl;
+      loopSound = refl;
+      loopItself = refl;
+      finishes = refl;
+      halts = refl;
+      empty = refl;
+    }

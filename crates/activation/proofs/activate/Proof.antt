@@ -24,7 +24,8 @@ same-length-2 c = search needs
 returns : tie.Need-returns
 returns c =
     let at-start = c .before .before .before .before .before .before .before in
-    λ arguments p q room s t. answers-same (at-start .pre) _ _ (by-receiver (at-start .pre) room arguments _ (c .before .flag .ensures ∙ ap flagOf (c .before .before .header .ensures)) (c .if1 .taken))
+    λ arguments p q room s t. answers-same (at-start .pre) _ _ (by-receiver (at-start .pre) room arguments _ (c .before .flag .ensures
+    ∙ ap flagOf (c .before .before .header .ensures)) (c .if1 .taken))
 
 temporary-count-requires : tie.Need-temporary-count-requires
 temporary-count-requires c κs = search needs
@@ -44,12 +45,21 @@ returns-2 c =
     let at-flag = at-if2 .before .before in
     let at-header = at-flag .before in
     let at-start = at-header .before .before .before .before .before in
-    λ arguments p q room s t. record { leads = no-fields (at-start .pre) room arguments _ (at-flag .flag .ensures ∙ ap flagOf (at-header .header .ensures)) (at-if2 .if2 .taken) (sym (c .before .is-kind .ensures (at-start .args .b) (at-start .args .bodies .now)) ∙ not-true _ (c .if3 .taken)); entries = refl; words = refl }
+    λ arguments p q room s t. record {
+      leads = no-fields (at-start .pre) room arguments _ (at-flag .flag .ensures ∙ ap flagOf (at-header .header .ensures))
+          (at-if2 .if2 .taken) (sym (c .before .is-kind .ensures (at-start .args .b) (at-start .args .bodies .now)) ∙ not-true _ (c .if3 .taken));
+      entries = refl;
+      words = refl;
+    }
 
 size-of-requires : tie.Need-size-of-requires
 size-of-requires c κs =
     let at-start = c .before .before .before .before .before .before .before .before .before .before .before .before .before in
-    holds-listed (record { right = (at-start .pre .right); kinds = true→T (sym (c .before .before .is-kind .ensures (at-start .args .b) (at-start .args .bodies .now)) ∙ not-false _ (c .before .if3 .left)) })
+    holds-listed (record {
+      right = (at-start .pre .right);
+      kinds = true→T
+          (sym (c .before .before .is-kind .ensures (at-start .args .b) (at-start .args .bodies .now)) ∙ not-false _ (c .before .if3 .left));
+    })
 
 same-length-5 : tie.Need-same-length-5
 same-length-5 c = search needs
@@ -65,14 +75,26 @@ returns-3 c =
     let at-flag = at-if2 .before .before in
     let at-header = at-flag .before in
     let at-start = at-header .before .before .before .before .before in
-    λ arguments p q room s t. record { leads = no-field (at-start .pre) room arguments _ (at-flag .flag .ensures ∙ ap flagOf (at-header .header .ensures)) (at-if2 .if2 .taken) (sym (at-is-kind .is-kind .ensures (at-start .args .b) (at-start .args .bodies .now)) ∙ not-false _ (c .before .before .before .if3 .left)) (let i = at-temporary-count .temporary-count .ensures ∙ ap temporariesOf (at-header .header .ensures) in let z = c .before .size-of .ensures in let l = c .if4 .taken in omega arith); entries = refl; words = refl }
+    λ arguments p q room s t. record {
+      leads = no-field (at-start .pre) room arguments _ (at-flag .flag .ensures ∙ ap flagOf (at-header .header .ensures))
+          (at-if2 .if2 .taken) (sym (at-is-kind .is-kind .ensures (at-start .args .b) (at-start .args .bodies .now))
+          ∙ not-false _ (c .before .before .before .if3 .left)) (let i = at-temporary-count .temporary-count .ensures
+          ∙ ap temporariesOf (at-header .header .ensures) in let z = c .before .size-of .ensures in let l = c .if4 .taken in omega arith);
+      entries = refl;
+      words = refl;
+    }
 
 word-of-requires : tie.Need-word-of-requires
 word-of-requires c κs =
     let at-if3 = c .before .before .before .before .before in
     let at-is-kind = at-if3 .before in
     let at-start = at-is-kind .before .before .before .before .before .before .before .before .before .before .before in
-    field-inside _ (let z = c .before .before .before .size-of .ensures in let l = c .before .before .if4 .left in omega arith) (record { right = (at-start .pre .right); kinds = true→T (sym (at-is-kind .is-kind .ensures (at-start .args .b) (at-start .args .bodies .now)) ∙ not-false _ (at-if3 .if3 .left)) })
+    field-inside _ (let z = c .before .before .before .size-of .ensures in let l = c .before .before .if4 .left in omega arith)
+    (record {
+      right = (at-start .pre .right);
+      kinds = true→T (sym (at-is-kind .is-kind .ensures (at-start .args .b) (at-start .args .bodies .now))
+          ∙ not-false _ (at-if3 .if3 .left));
+    })
 
 same-length-7 : tie.Need-same-length-7
 same-length-7 c = search needs
@@ -90,7 +112,11 @@ returns-4 c =
     let at-flag = at-if2 .before .before in
     let at-header = at-flag .before in
     let at-start = at-header .before .before .before .before .before in
-    λ arguments p q room s t. answers-same (at-start .pre) _ _ (the-field (at-start .pre) room arguments _ (at-flag .flag .ensures ∙ ap flagOf (at-header .header .ensures)) (at-if2 .if2 .taken) (sym (at-is-kind .is-kind .ensures (at-start .args .b) (at-start .args .bodies .now)) ∙ not-false _ (at-if3 .if3 .left)) _ (at-temporary-count .temporary-count .ensures ∙ ap temporariesOf (at-header .header .ensures)) _ (c .word-of .ensures) (let i = at-temporary-count .temporary-count .ensures ∙ ap temporariesOf (at-header .header .ensures) in let z = at-size-of .size-of .ensures in let l = c .before .before .before .if4 .left in omega arith))
+    λ arguments p q room s t. answers-same (at-start .pre) _ _ (the-field (at-start .pre) room arguments _ (at-flag .flag .ensures
+    ∙ ap flagOf (at-header .header .ensures)) (at-if2 .if2 .taken) (sym (at-is-kind .is-kind .ensures (at-start .args .b) (at-start .args .bodies .now))
+    ∙ not-false _ (at-if3 .if3 .left)) _ (at-temporary-count .temporary-count .ensures ∙ ap temporariesOf (at-header .header .ensures)) _ (c .word-of .ensures)
+    (let i = at-temporary-count .temporary-count .ensures ∙ ap temporariesOf (at-header .header .ensures) in let z = at-size-of .size-of .ensures in let l =
+    c .before .before .before .if4 .left in omega arith))
 
 same-length-9 : tie.Need-same-length-9
 same-length-9 c = search needs
@@ -103,7 +129,12 @@ returns-5 c =
     let at-flag = c .before .before .before in
     let at-header = at-flag .before in
     let at-start = at-header .before .before .before .before .before in
-    λ arguments p q room s t. record { leads = by-code (at-start .pre) room arguments _ (at-flag .flag .ensures ∙ ap flagOf (at-header .header .ensures)) (c .before .before .if1 .left) (c .before .if2 .left) (c .if5 .taken); entries = refl; words = refl }
+    λ arguments p q room s t. record {
+      leads = by-code (at-start .pre) room arguments _ (at-flag .flag .ensures ∙ ap flagOf (at-header .header .ensures))
+          (c .before .before .if1 .left) (c .before .if2 .left) (c .if5 .taken);
+      entries = refl;
+      words = refl;
+    }
 
 primitive-number-requires : tie.Need-primitive-number-requires
 primitive-number-requires c κs =
@@ -143,7 +174,9 @@ returns-6 c =
     let at-flag = at-if1 .before in
     let at-header = at-flag .before in
     let at-start = at-header .before .before .before .before .before in
-    λ arguments p q room s t. primitive-word (at-start .pre) room arguments _ (at-flag .flag .ensures ∙ ap flagOf (at-header .header .ensures)) (at-if1 .if1 .left) (at-if2 .if2 .left) (at-if5 .if5 .left) s t _ _ _ (performed (at-start .pre) arguments (at-primitive-number .primitive-number .ensures) (at-argument-count .argument-count .ensures) p q (at-perform .perform .ensures)) _ (c .before .answer .given .1)
+    λ arguments p q room s t. primitive-word (at-start .pre) room arguments _ (at-flag .flag .ensures ∙ ap flagOf (at-header .header .ensures))
+    (at-if1 .if1 .left) (at-if2 .if2 .left) (at-if5 .if5 .left) s t _ _ _ (performed (at-start .pre) arguments (at-primitive-number .primitive-number .ensures)
+    (at-argument-count .argument-count .ensures) p q (at-perform .perform .ensures)) _ (c .before .answer .given .1)
 
 same-length-13 : tie.Need-same-length-13
 same-length-13 c = search needs
@@ -162,7 +195,9 @@ returns-7 c =
     let at-flag = at-if1 .before in
     let at-header = at-flag .before in
     let at-start = at-header .before .before .before .before .before in
-    λ arguments p q room s t. primitive-failed (at-start .pre) room arguments _ (at-flag .flag .ensures ∙ ap flagOf (at-header .header .ensures)) (at-if1 .if1 .left) (at-if2 .if2 .left) (at-if5 .if5 .left) s t _ _ _ (performed (at-start .pre) arguments (at-primitive-number .primitive-number .ensures) (at-argument-count .argument-count .ensures) p q (at-perform .perform .ensures)) (c .enum-told .given .1)
+    λ arguments p q room s t. primitive-failed (at-start .pre) room arguments _ (at-flag .flag .ensures ∙ ap flagOf (at-header .header .ensures))
+    (at-if1 .if1 .left) (at-if2 .if2 .left) (at-if5 .if5 .left) s t _ _ _ (performed (at-start .pre) arguments (at-primitive-number .primitive-number .ensures)
+    (at-argument-count .argument-count .ensures) p q (at-perform .perform .ensures)) (c .enum-told .given .1)
 
 pub activate-spec : {M : Type 1} → statement M
 activate-spec =

@@ -13,7 +13,11 @@ is-arithmetic-requires : tie.Need-is-arithmetic-requires
 is-arithmetic-requires c κs = search needs
 
 primitive-requires : tie.Need-primitive-requires
-primitive-requires c κs = ((c .before .before .before .before .before .before .pre), not-arithmetic _ _ (c .before .before .before .is-arithmetic .ensures) (not-true _ (c .before .before .if1 .taken)))
+primitive-requires c κs = (
+  (c .before .before .before .before .before .before .pre),
+  not-arithmetic _ _ (c .before .before .before .is-arithmetic .ensures)
+      (not-true _ (c .before .before .if1 .taken)),
+)
 
 same-length : tie.Need-same-length
 same-length c = search needs
@@ -28,7 +32,9 @@ returns-2 : tie.Need-returns-2
 returns-2 c =
     let at-start = c .before .before .before .before .before in
     let args = at-start .args in
-    does-none (args .n) (args .b) (args .contents .now) (args .bodies .now) (at-start .pre .right) (arithmetic-other (roomOf (args .contents .now) (args .bodies .now)) (objectsAt (args .n) (args .b) (args .contents .now) (args .bodies .now)) (args .k) (args .count) (args .w) (args .x) (args .y) (arithmetic-range _ _ (c .before .before .is-arithmetic .ensures) (not-false _ (c .before .if1 .left))) (c .if2 .taken))
+    does-none (args .n) (args .b) (args .contents .now) (args .bodies .now) (at-start .pre .right)
+    (arithmetic-other (roomOf (args .contents .now) (args .bodies .now)) (objectsAt (args .n) (args .b) (args .contents .now) (args .bodies .now)) (args .k)
+    (args .count) (args .w) (args .x) (args .y) (arithmetic-range _ _ (c .before .before .is-arithmetic .ensures) (not-false _ (c .before .if1 .left))) (c .if2 .taken))
 
 cast-compute : tie.Need-cast-compute
 cast-compute c = let r = arithmetic-range (c .before .before .before .before .before .args .k) _ (c .before .before .is-arithmetic .ensures) (not-false _ (c .before .if1 .left)) in omega arith
@@ -40,7 +46,10 @@ returns-3 : tie.Need-returns-3
 returns-3 c =
     let at-start = c .before .before .before .before .before .before in
     let args = at-start .args in
-    does-computed (args .n) (args .b) (args .contents .now) (args .bodies .now) (c .compute .result) (at-start .pre .right) (arithmetic-is (roomOf (args .contents .now) (args .bodies .now)) (objectsAt (args .n) (args .b) (args .contents .now) (args .bodies .now)) (args .k) (args .count) (args .w) (args .x) (args .y) (c .compute .result) (arithmetic-range _ _ (c .before .before .before .is-arithmetic .ensures) (not-false _ (c .before .before .if1 .left))) (c .before .if2 .left) (c .compute .ensures))
+    does-computed (args .n) (args .b) (args .contents .now) (args .bodies .now) (c .compute .result) (at-start .pre .right)
+    (arithmetic-is (roomOf (args .contents .now) (args .bodies .now)) (objectsAt (args .n) (args .b) (args .contents .now) (args .bodies .now)) (args .k)
+    (args .count) (args .w) (args .x) (args .y) (c .compute .result) (arithmetic-range _ _ (c .before .before .before .is-arithmetic .ensures)
+    (not-false _ (c .before .before .if1 .left))) (c .before .if2 .left) (c .compute .ensures))
 
 pub perform-spec : {M : Type 1} → statement M
 perform-spec =

@@ -42,21 +42,30 @@ returns : tie.Need-returns
 returns c =
     let at-start = c .before .before .before .before .before .before .before in
     let args = at-start .args in
-    refused-8 (args .n) (args .b) (args .contents .now) (args .bodies .now) (args .stack .now) (at-start .pre) (args .receiver) (args .selector) (args .arguments .now) (sym (c .before .words-fine .ensures (args .b) (args .bodies .now)) ∙ not-true _ (c .if1 .taken))
+    refused-8 (args .n) (args .b) (args .contents .now) (args .bodies .now) (args .stack .now) (at-start .pre) (args .receiver) (args .selector)
+    (args .arguments .now) (sym (c .before .words-fine .ensures (args .b) (args .bodies .now)) ∙ not-true _ (c .if1 .taken))
 
 class-of-requires : tie.Need-class-of-requires
 class-of-requires c κs =
     let at-start = c .before .before .before .before .before .before .before .before in
-    let args = at-start .args in
-    (receiver-valid (args .n) (args .b) (args .contents .now) (args .bodies .now) (args .stack .now) (at-start .pre) (args .receiver) (args .selector) (args .arguments .now) (sym (c .before .before .words-fine .ensures (args .b) (args .bodies .now)) ∙ not-false _ (c .before .if1 .left)), contents-room (args .n) (args .b) (args .contents .now) (args .bodies .now) (at-start .pre))
+    let args = at-start .args in (
+      receiver-valid (args .n) (args .b) (args .contents .now) (args .bodies .now) (args .stack .now) (at-start .pre) (args .receiver) (args .selector)
+          (args .arguments .now) (sym (c .before .before .words-fine .ensures (args .b) (args .bodies .now)) ∙ not-false _ (c .before .if1 .left)),
+      contents-room
+          (args .n) (args .b) (args .contents .now) (args .bodies .now) (at-start .pre),
+    )
 
 lookup-requires : tie.Need-lookup-requires
 lookup-requires c κs =
     let at-if1 = c .before .before .before .before in
     let at-words-fine = at-if1 .before in
     let at-start = at-words-fine .before .before .before .before .before .before in
-    let args = at-start .args in
-    ((at-start .pre), class-starts (args .n) (args .b) (args .contents .now) (args .bodies .now) (args .stack .now) (at-start .pre) (args .receiver) (args .selector) (args .arguments .now) (sym (at-words-fine .words-fine .ensures (args .b) (args .bodies .now)) ∙ not-false _ (at-if1 .if1 .left)) _ (c .before .before .class-of .ensures (args .b) (args .bodies .now)))
+    let args = at-start .args in (
+      (at-start .pre),
+      class-starts (args .n) (args .b) (args .contents .now) (args .bodies .now) (args .stack .now) (at-start .pre) (args .receiver)
+          (args .selector) (args .arguments .now) (sym (at-words-fine .words-fine .ensures (args .b) (args .bodies .now)) ∙ not-false _ (at-if1 .if1 .left)) _
+          (c .before .before .class-of .ensures (args .b) (args .bodies .now)),
+    )
 
 enum-known-found : tie.Need-enum-known-found
 enum-known-found c = search needs
@@ -77,7 +86,10 @@ returns-2 c =
     let at-words-fine = at-if1 .before in
     let at-start = at-words-fine .before .before .before .before .before .before in
     let args = at-start .args in
-    refused-9 (args .n) (args .b) (args .contents .now) (args .bodies .now) (args .stack .now) (at-start .pre) (args .receiver) (args .selector) (args .arguments .now) (sym (at-words-fine .words-fine .ensures (args .b) (args .bodies .now)) ∙ not-false _ (at-if1 .if1 .left)) ((ap (lookup (objectsAt (args .n) (args .b) (args .contents .now) (args .bodies .now)) (args .selector)) (sym (at-class-of .class-of .ensures (args .b) (args .bodies .now))) ∙ sym (c .before .before .lookup .ensures)) ∙ c .enum-told .given .1)
+    refused-9 (args .n) (args .b) (args .contents .now) (args .bodies .now) (args .stack .now) (at-start .pre) (args .receiver) (args .selector)
+    (args .arguments .now) (sym (at-words-fine .words-fine .ensures (args .b) (args .bodies .now)) ∙ not-false _ (at-if1 .if1 .left))
+    ((ap (lookup (objectsAt (args .n) (args .b) (args .contents .now) (args .bodies .now)) (args .selector))
+    (sym (at-class-of .class-of .ensures (args .b) (args .bodies .now))) ∙ sym (c .before .before .lookup .ensures)) ∙ c .enum-told .given .1)
 
 argument-count-requires : tie.Need-argument-count-requires
 argument-count-requires c κs =
@@ -86,7 +98,13 @@ argument-count-requires c κs =
     let at-class-of = at-lookup .before .before .before in
     let at-start = at-class-of .before .before .before .before .before .before .before .before .before in
     let args = at-start .args in
-    record { right = (at-start .pre); kinds = (lookup-facts (at-start .pre) (args .selector) (classOf (objectsAt (args .n) (args .b) (args .contents .now) (args .bodies .now)) (args .receiver)) (at-found .found .given .0 .0 .0) ((ap (lookup (objectsAt (args .n) (args .b) (args .contents .now) (args .bodies .now)) (args .selector)) (sym (at-class-of .class-of .ensures (args .b) (args .bodies .now))) ∙ sym (at-lookup .lookup .ensures)) ∙ at-found .found .given .1) .method) }
+    record {
+      right = (at-start .pre);
+      kinds = (lookup-facts (at-start .pre) (args .selector)
+          (classOf (objectsAt (args .n) (args .b) (args .contents .now) (args .bodies .now)) (args .receiver)) (at-found .found .given .0 .0 .0)
+          ((ap (lookup (objectsAt (args .n) (args .b) (args .contents .now) (args .bodies .now)) (args .selector))
+          (sym (at-class-of .class-of .ensures (args .b) (args .bodies .now))) ∙ sym (at-lookup .lookup .ensures)) ∙ at-found .found .given .1) .method);
+    }
 
 same-length-4 : tie.Need-same-length-4
 same-length-4 c = search needs
@@ -103,7 +121,11 @@ returns-3 c =
     let at-words-fine = at-if1 .before in
     let at-start = at-words-fine .before .before .before .before .before .before in
     let args = at-start .args in
-    refused-10 (args .n) (args .b) (args .contents .now) (args .bodies .now) (args .stack .now) (at-start .pre) (args .receiver) (args .selector) (args .arguments .now) (sym (at-words-fine .words-fine .ensures (args .b) (args .bodies .now)) ∙ not-false _ (at-if1 .if1 .left)) _ ((ap (lookup (objectsAt (args .n) (args .b) (args .contents .now) (args .bodies .now)) (args .selector)) (sym (at-class-of .class-of .ensures (args .b) (args .bodies .now))) ∙ sym (at-lookup .lookup .ensures)) ∙ at-found .found .given .1) (λ q. c .if2 .taken (c .before .argument-count .ensures ∙ q))
+    refused-10 (args .n) (args .b) (args .contents .now) (args .bodies .now) (args .stack .now) (at-start .pre) (args .receiver) (args .selector)
+    (args .arguments .now) (sym (at-words-fine .words-fine .ensures (args .b) (args .bodies .now)) ∙ not-false _ (at-if1 .if1 .left)) _
+    ((ap (lookup (objectsAt (args .n) (args .b) (args .contents .now) (args .bodies .now)) (args .selector))
+    (sym (at-class-of .class-of .ensures (args .b) (args .bodies .now))) ∙ sym (at-lookup .lookup .ensures)) ∙ at-found .found .given .1)
+    (λ q. c .if2 .taken (c .before .argument-count .ensures ∙ q))
 
 header-requires : tie.Need-header-requires
 header-requires c κs =
@@ -112,7 +134,13 @@ header-requires c κs =
     let at-class-of = at-lookup .before .before .before in
     let at-start = at-class-of .before .before .before .before .before .before .before .before .before in
     let args = at-start .args in
-    record { right = (at-start .pre); kinds = (lookup-facts (at-start .pre) (args .selector) (classOf (objectsAt (args .n) (args .b) (args .contents .now) (args .bodies .now)) (args .receiver)) (at-found .found .given .0 .0 .0) ((ap (lookup (objectsAt (args .n) (args .b) (args .contents .now) (args .bodies .now)) (args .selector)) (sym (at-class-of .class-of .ensures (args .b) (args .bodies .now))) ∙ sym (at-lookup .lookup .ensures)) ∙ at-found .found .given .1) .method) }
+    record {
+      right = (at-start .pre);
+      kinds = (lookup-facts (at-start .pre) (args .selector)
+          (classOf (objectsAt (args .n) (args .b) (args .contents .now) (args .bodies .now)) (args .receiver)) (at-found .found .given .0 .0 .0)
+          ((ap (lookup (objectsAt (args .n) (args .b) (args .contents .now) (args .bodies .now)) (args .selector))
+          (sym (at-class-of .class-of .ensures (args .b) (args .bodies .now))) ∙ sym (at-lookup .lookup .ensures)) ∙ at-found .found .given .1) .method);
+    }
 
 argument-requires : tie.Need-argument-requires
 argument-requires c κs = search needs
@@ -129,7 +157,16 @@ activate-requires c κs =
     let at-words-fine = at-if1 .before in
     let at-start = at-words-fine .before .before .before .before .before .before in
     let args = at-start .args in
-    record { right = (at-start .pre); method = (lookup-facts (at-start .pre) (args .selector) (classOf (objectsAt (args .n) (args .b) (args .contents .now) (args .bodies .now)) (args .receiver)) (at-found .found .given .0 .0 .0) ((ap (lookup (objectsAt (args .n) (args .b) (args .contents .now) (args .bodies .now)) (args .selector)) (sym (at-class-of .class-of .ensures (args .b) (args .bodies .now))) ∙ sym (at-lookup .lookup .ensures)) ∙ at-found .found .given .1) .method); valid = receiver-valid (args .n) (args .b) (args .contents .now) (args .bodies .now) (args .stack .now) (at-start .pre) (args .receiver) (args .selector) (args .arguments .now) (sym (at-words-fine .words-fine .ensures (args .b) (args .bodies .now)) ∙ not-false _ (at-if1 .if1 .left)) }
+    record {
+      right = (at-start .pre);
+      method = (lookup-facts (at-start .pre) (args .selector)
+          (classOf (objectsAt (args .n) (args .b) (args .contents .now) (args .bodies .now)) (args .receiver)) (at-found .found .given .0 .0 .0)
+          ((ap (lookup (objectsAt (args .n) (args .b) (args .contents .now) (args .bodies .now)) (args .selector))
+          (sym (at-class-of .class-of .ensures (args .b) (args .bodies .now))) ∙ sym (at-lookup .lookup .ensures)) ∙ at-found .found .given .1) .method);
+      valid =
+          receiver-valid (args .n) (args .b) (args .contents .now) (args .bodies .now) (args .stack .now) (at-start .pre) (args .receiver) (args .selector)
+          (args .arguments .now) (sym (at-words-fine .words-fine .ensures (args .b) (args .bodies .now)) ∙ not-false _ (at-if1 .if1 .left));
+    }
 
 enum-known-word : tie.Need-enum-known-word
 enum-known-word c = search needs
@@ -167,7 +204,18 @@ returns-4 c =
     let at-words-fine = at-if1 .before in
     let at-start = at-words-fine .before .before .before .before .before .before in
     let args = at-start .args in
-    begun-full (args .n) (args .b) (args .contents .now) (args .bodies .now) (args .stack .now) (args .receiver) (args .selector) (args .arguments .now) _ (record { right = (at-start .pre); words = (sym (at-words-fine .words-fine .ensures (args .b) (args .bodies .now)) ∙ not-false _ (at-if1 .if1 .left)); finds = ((ap (lookup (objectsAt (args .n) (args .b) (args .contents .now) (args .bodies .now)) (args .selector)) (sym (at-class-of .class-of .ensures (args .b) (args .bodies .now))) ∙ sym (at-lookup .lookup .ensures)) ∙ at-found .found .given .1); count = (sym (at-argument-count .argument-count .ensures) ∙ at-if2 .if2 .left) }) _ _ _ _ _ (at-activate .activate .ensures) (at-argument .argument .ensures) (at-argument2 .argument2 .ensures) (c .before .before .enum-told3 .given .1) (let k = frame-is (objectsAt (args .n) (args .b) (args .contents .now) (args .bodies .now)) (at-found .found .given .0 .0 .0) _ _ (at-header .header .ensures) (c .before .frame-words .ensures) in let t = c .if3 .taken in omega arith)
+    begun-full (args .n) (args .b) (args .contents .now) (args .bodies .now) (args .stack .now) (args .receiver) (args .selector) (args .arguments .now) _
+    (record {
+      right = (at-start .pre);
+      words = (sym (at-words-fine .words-fine .ensures (args .b) (args .bodies .now)) ∙ not-false _ (at-if1 .if1 .left));
+      finds = ((ap (lookup (objectsAt (args .n) (args .b) (args .contents .now) (args .bodies .now)) (args .selector))
+          (sym (at-class-of .class-of .ensures (args .b) (args .bodies .now))) ∙ sym (at-lookup .lookup .ensures)) ∙ at-found .found .given .1);
+      count =
+          (sym (at-argument-count .argument-count .ensures) ∙ at-if2 .if2 .left);
+    }) _ _ _ _ _ (at-activate .activate .ensures) (at-argument .argument .ensures)
+    (at-argument2 .argument2 .ensures) (c .before .before .enum-told3 .given .1)
+    (let k = frame-is (objectsAt (args .n) (args .b) (args .contents .now) (args .bodies .now)) (at-found .found .given .0 .0 .0) _ _
+    (at-header .header .ensures) (c .before .frame-words .ensures) in let t = c .if3 .taken in omega arith)
 
 temporary-count-requires : tie.Need-temporary-count-requires
 temporary-count-requires c κs = search needs
@@ -188,7 +236,20 @@ write-frame-requires c κs =
     let at-words-fine = at-if1 .before in
     let at-start = at-words-fine .before .before .before .before .before .before in
     let args = at-start .args in
-    let z = begun-room (args .n) (args .b) (args .contents .now) (args .bodies .now) (args .stack .now) (args .receiver) (args .selector) (args .arguments .now) _ (record { right = (at-start .pre); words = (sym (at-words-fine .words-fine .ensures (args .b) (args .bodies .now)) ∙ not-false _ (at-if1 .if1 .left)); finds = ((ap (lookup (objectsAt (args .n) (args .b) (args .contents .now) (args .bodies .now)) (args .selector)) (sym (at-class-of .class-of .ensures (args .b) (args .bodies .now))) ∙ sym (at-lookup .lookup .ensures)) ∙ at-found .found .given .1); count = (sym (at-argument-count .argument-count .ensures) ∙ at-if2 .if2 .left) }) _ _ _ _ _ (at-activate .activate .ensures) (at-argument .argument .ensures) (at-argument2 .argument2 .ensures) (at-enum-told3 .enum-told3 .given .1) in let k = frame-is (objectsAt (args .n) (args .b) (args .contents .now) (args .bodies .now)) (at-found .found .given .0 .0 .0) _ _ (at-header .header .ensures) (c .before .before .before .frame-words .ensures) in let t = c .before .before .if3 .left in let e = (c .before .temporary-count .ensures ∙ ap (λ (h : ℕ). h / 256 % 32) (at-header .header .ensures)) in let c = at-if2 .if2 .left in (omega arith, omega arith, omega arith, omega arith)
+    let z = begun-room (args .n) (args .b) (args .contents .now) (args .bodies .now) (args .stack .now) (args .receiver) (args .selector)
+    (args .arguments .now) _ (record {
+      right = (at-start .pre);
+      words = (sym (at-words-fine .words-fine .ensures (args .b) (args .bodies .now))
+          ∙ not-false _ (at-if1 .if1 .left));
+      finds = ((ap (lookup (objectsAt (args .n) (args .b) (args .contents .now) (args .bodies .now)) (args .selector))
+          (sym (at-class-of .class-of .ensures (args .b) (args .bodies .now))) ∙ sym (at-lookup .lookup .ensures)) ∙ at-found .found .given .1);
+      count =
+          (sym (at-argument-count .argument-count .ensures) ∙ at-if2 .if2 .left);
+    }) _ _ _ _ _ (at-activate .activate .ensures) (at-argument .argument .ensures)
+    (at-argument2 .argument2 .ensures) (at-enum-told3 .enum-told3 .given .1) in let k = frame-is (objectsAt (args .n) (args .b) (args .contents .now)
+    (args .bodies .now)) (at-found .found .given .0 .0 .0) _ _ (at-header .header .ensures) (c .before .before .before .frame-words .ensures) in let t =
+    c .before .before .if3 .left in let e = (c .before .temporary-count .ensures ∙ ap (λ (h : ℕ). h / 256 % 32) (at-header .header .ensures)) in let c =
+    at-if2 .if2 .left in (omega arith, omega arith, omega arith, omega arith)
 
 same-length-8 : tie.Need-same-length-8
 same-length-8 c = search needs
@@ -210,7 +271,16 @@ returns-5 c =
     let at-words-fine = at-if1 .before in
     let at-start = at-words-fine .before .before .before .before .before .before in
     let args = at-start .args in
-    begun-answer (args .n) (args .b) (args .contents .now) (args .bodies .now) (args .stack .now) (args .receiver) (args .selector) (args .arguments .now) _ (record { right = (at-start .pre); words = (sym (at-words-fine .words-fine .ensures (args .b) (args .bodies .now)) ∙ not-false _ (at-if1 .if1 .left)); finds = ((ap (lookup (objectsAt (args .n) (args .b) (args .contents .now) (args .bodies .now)) (args .selector)) (sym (at-class-of .class-of .ensures (args .b) (args .bodies .now))) ∙ sym (at-lookup .lookup .ensures)) ∙ at-found .found .given .1); count = (sym (at-argument-count .argument-count .ensures) ∙ at-if2 .if2 .left) }) _ _ _ _ _ (at-activate .activate .ensures) (at-argument .argument .ensures) (at-argument2 .argument2 .ensures) _ _ _ (c .before .word .given .1)
+    begun-answer (args .n) (args .b) (args .contents .now) (args .bodies .now) (args .stack .now) (args .receiver) (args .selector) (args .arguments .now) _
+    (record {
+      right = (at-start .pre);
+      words = (sym (at-words-fine .words-fine .ensures (args .b) (args .bodies .now)) ∙ not-false _ (at-if1 .if1 .left));
+      finds = ((ap (lookup (objectsAt (args .n) (args .b) (args .contents .now) (args .bodies .now)) (args .selector))
+          (sym (at-class-of .class-of .ensures (args .b) (args .bodies .now))) ∙ sym (at-lookup .lookup .ensures)) ∙ at-found .found .given .1);
+      count =
+          (sym (at-argument-count .argument-count .ensures) ∙ at-if2 .if2 .left);
+    }) _ _ _ _ _ (at-activate .activate .ensures) (at-argument .argument .ensures)
+    (at-argument2 .argument2 .ensures) _ _ _ (c .before .word .given .1)
 
 same-length-10 : tie.Need-same-length-10
 same-length-10 c = search needs
@@ -232,7 +302,16 @@ returns-6 c =
     let at-words-fine = at-if1 .before in
     let at-start = at-words-fine .before .before .before .before .before .before in
     let args = at-start .args in
-    begun-unfit (args .n) (args .b) (args .contents .now) (args .bodies .now) (args .stack .now) (args .receiver) (args .selector) (args .arguments .now) _ (record { right = (at-start .pre); words = (sym (at-words-fine .words-fine .ensures (args .b) (args .bodies .now)) ∙ not-false _ (at-if1 .if1 .left)); finds = ((ap (lookup (objectsAt (args .n) (args .b) (args .contents .now) (args .bodies .now)) (args .selector)) (sym (at-class-of .class-of .ensures (args .b) (args .bodies .now))) ∙ sym (at-lookup .lookup .ensures)) ∙ at-found .found .given .1); count = (sym (at-argument-count .argument-count .ensures) ∙ at-if2 .if2 .left) }) _ _ _ _ _ (at-activate .activate .ensures) (at-argument .argument .ensures) (at-argument2 .argument2 .ensures) (c .enum-told2 .given .1)
+    begun-unfit (args .n) (args .b) (args .contents .now) (args .bodies .now) (args .stack .now) (args .receiver) (args .selector) (args .arguments .now) _
+    (record {
+      right = (at-start .pre);
+      words = (sym (at-words-fine .words-fine .ensures (args .b) (args .bodies .now)) ∙ not-false _ (at-if1 .if1 .left));
+      finds = ((ap (lookup (objectsAt (args .n) (args .b) (args .contents .now) (args .bodies .now)) (args .selector))
+          (sym (at-class-of .class-of .ensures (args .b) (args .bodies .now))) ∙ sym (at-lookup .lookup .ensures)) ∙ at-found .found .given .1);
+      count =
+          (sym (at-argument-count .argument-count .ensures) ∙ at-if2 .if2 .left);
+    }) _ _ _ _ _ (at-activate .activate .ensures) (at-argument .argument .ensures)
+    (at-argument2 .argument2 .ensures) (c .enum-told2 .given .1)
 
 same-length-12 : tie.Need-same-length-12
 same-length-12 c = search needs
@@ -262,7 +341,20 @@ returns-7 c =
     let at-words-fine = at-if1 .before in
     let at-start = at-words-fine .before .before .before .before .before .before in
     let args = at-start .args in
-    begun-enters (args .n) (args .b) (args .contents .now) (args .bodies .now) (args .stack .now) (args .receiver) (args .selector) (args .arguments .now) _ (record { right = (at-start .pre); words = (sym (at-words-fine .words-fine .ensures (args .b) (args .bodies .now)) ∙ not-false _ (at-if1 .if1 .left)); finds = ((ap (lookup (objectsAt (args .n) (args .b) (args .contents .now) (args .bodies .now)) (args .selector)) (sym (at-class-of .class-of .ensures (args .b) (args .bodies .now))) ∙ sym (at-lookup .lookup .ensures)) ∙ at-found .found .given .1); count = (sym (at-argument-count .argument-count .ensures) ∙ at-if2 .if2 .left) }) _ _ _ _ _ (at-activate .activate .ensures) (at-argument .argument .ensures) (at-argument2 .argument2 .ensures) (at-enum-told3 .enum-told3 .given .1) (let k = frame-is (objectsAt (args .n) (args .b) (args .contents .now) (args .bodies .now)) (at-found .found .given .0 .0 .0) _ _ (at-header .header .ensures) (at-frame-words .frame-words .ensures) in let t = at-if3 .if3 .left in omega arith) _ (c .before .before .write-frame .ensures ∙ first-words (args .stack .now) (at-found .found .given .0 .0 .0) (args .receiver) _ _ _ (args .arguments .now) (at-temporary-count .temporary-count .ensures ∙ ap (λ (h : ℕ). h / 256 % 32) (at-header .header .ensures)) (at-if2 .if2 .left))
+    begun-enters (args .n) (args .b) (args .contents .now) (args .bodies .now) (args .stack .now) (args .receiver) (args .selector) (args .arguments .now) _
+    (record {
+      right = (at-start .pre);
+      words = (sym (at-words-fine .words-fine .ensures (args .b) (args .bodies .now)) ∙ not-false _ (at-if1 .if1 .left));
+      finds = ((ap (lookup (objectsAt (args .n) (args .b) (args .contents .now) (args .bodies .now)) (args .selector))
+          (sym (at-class-of .class-of .ensures (args .b) (args .bodies .now))) ∙ sym (at-lookup .lookup .ensures)) ∙ at-found .found .given .1);
+      count =
+          (sym (at-argument-count .argument-count .ensures) ∙ at-if2 .if2 .left);
+    }) _ _ _ _ _ (at-activate .activate .ensures) (at-argument .argument .ensures)
+    (at-argument2 .argument2 .ensures) (at-enum-told3 .enum-told3 .given .1)
+    (let k = frame-is (objectsAt (args .n) (args .b) (args .contents .now) (args .bodies .now)) (at-found .found .given .0 .0 .0) _ _
+    (at-header .header .ensures) (at-frame-words .frame-words .ensures) in let t = at-if3 .if3 .left in omega arith) _ (c .before .before .write-frame .ensures
+    ∙ first-words (args .stack .now) (at-found .found .given .0 .0 .0) (args .receiver) _ _ _ (args .arguments .now)
+    (at-temporary-count .temporary-count .ensures ∙ ap (λ (h : ℕ). h / 256 % 32) (at-header .header .ensures)) (at-if2 .if2 .left))
 
 pub begin-spec : {M : Type 1} → statement M
 begin-spec =

@@ -52,7 +52,8 @@ returns c =
     let at-loop = at-loop-test .before in
     let at-start = at-loop .before .before .before .before in
     let a = at-start .args in
-    cache-no (objectsAt (a .n) (a .b) (a .contents .now) (a .bodies .now)) (a .cache .now) (at-loop .loop .i) _ (omega (arith, at-loop-test .loop-test .taken)) (c .before .entry-fine .ensures) (c .if1 .taken)
+    cache-no (objectsAt (a .n) (a .b) (a .contents .now) (a .bodies .now)) (a .cache .now) (at-loop .loop .i) _ (omega (arith, at-loop-test .loop-test .taken))
+    (c .before .entry-fine .ensures) (c .if1 .taken)
 
 add-i : tie.Need-add-i Inv-loop μ-loop
 add-i c = omega arith

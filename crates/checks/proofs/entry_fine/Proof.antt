@@ -30,13 +30,17 @@ returns-2 c =
     let at-is-empty = c .before .before .before in
     let at-start = at-is-empty .before .before .before in
     let a = at-start .args in
-    entry-other (objectsAt (a .n) (a .b) (a .contents .now) (a .bodies .now)) (a .s) (a .class) (a .m) _ (at-is-empty .is-empty .ensures) _ (c .before .before .if1 .left) (c .before .is-kind .ensures (a .b) (a .bodies .now)) (c .if2 .taken)
+    entry-other (objectsAt (a .n) (a .b) (a .contents .now) (a .bodies .now)) (a .s) (a .class) (a .m) _ (at-is-empty .is-empty .ensures) _
+    (c .before .before .if1 .left) (c .before .is-kind .ensures (a .b) (a .bodies .now)) (c .if2 .taken)
 
 lookup-requires : tie.Need-lookup-requires
 lookup-requires c κs =
     let at-start = c .before .before .before .before .before .before in
-    let a = at-start .args in
-    (at-start .pre, or-right (eqb (a .class) nilWord) (isKind (objectsAt (a .n) (a .b) (a .contents .now) (a .bodies .now)) classKind (a .class)) (true→T (sym (c .before .is-kind .ensures (a .b) (a .bodies .now)) ∙ not-false _ (c .if2 .left))))
+    let a = at-start .args in (
+      at-start .pre,
+      or-right (eqb (a .class) nilWord) (isKind (objectsAt (a .n) (a .b) (a .contents .now) (a .bodies .now)) classKind (a .class))
+          (true→T (sym (c .before .is-kind .ensures (a .b) (a .bodies .now)) ∙ not-false _ (c .if2 .left))),
+    )
 
 enum-known-k : tie.Need-enum-known-k
 enum-known-k c = search needs
@@ -51,7 +55,8 @@ returns-3 c =
     let at-is-empty = at-if1 .before in
     let at-start = at-is-empty .before .before .before in
     let a = at-start .args in
-    entry-found (objectsAt (a .n) (a .b) (a .contents .now) (a .bodies .now)) (a .s) (a .class) (a .m) _ (at-is-empty .is-empty .ensures) _ _ (at-if1 .if1 .left) (at-lookup .lookup .ensures) (c .before .before .k .given .1)
+    entry-found (objectsAt (a .n) (a .b) (a .contents .now) (a .bodies .now)) (a .s) (a .class) (a .m) _ (at-is-empty .is-empty .ensures) _ _
+    (at-if1 .if1 .left) (at-lookup .lookup .ensures) (c .before .before .k .given .1)
 
 returns-4 : tie.Need-returns-4
 returns-4 c =
@@ -59,7 +64,8 @@ returns-4 c =
     let at-is-empty = at-if1 .before in
     let at-start = at-is-empty .before .before .before in
     let a = at-start .args in
-    entry-nothing (objectsAt (a .n) (a .b) (a .contents .now) (a .bodies .now)) (a .s) (a .class) (a .m) _ (at-is-empty .is-empty .ensures) _ (at-if1 .if1 .left) (c .before .before .lookup .ensures) (c .enum-told .given .1)
+    entry-nothing (objectsAt (a .n) (a .b) (a .contents .now) (a .bodies .now)) (a .s) (a .class) (a .m) _ (at-is-empty .is-empty .ensures) _
+    (at-if1 .if1 .left) (c .before .before .lookup .ensures) (c .enum-told .given .1)
 
 pub entry-fine-spec : {M : Type 1} → statement M
 entry-fine-spec =

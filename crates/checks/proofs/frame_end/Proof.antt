@@ -81,7 +81,8 @@ returns-6 c =
     let at-is-kind = at-if3 .before in
     let at-start = at-is-kind .before .before .before .before .before .before .before in
     let a = at-start .args in
-    end-here (objectsAt (a .n) (a .b) (a .contents .now) (a .bodies .now)) (a .stack .now) (a .at .0) _ _ (at-header .header .ensures) (c .before .before .frame-words .ensures) _ (at-is-kind .is-kind .ensures (a .b) (a .bodies .now)) (at-if3 .if3 .left) (c .before .if4 .left) (c .if5 .left)
+    end-here (objectsAt (a .n) (a .b) (a .contents .now) (a .bodies .now)) (a .stack .now) (a .at .0) _ _ (at-header .header .ensures)
+    (c .before .before .frame-words .ensures) _ (at-is-kind .is-kind .ensures (a .b) (a .bodies .now)) (at-if3 .if3 .left) (c .before .if4 .left) (c .if5 .left)
 
 pub frame-end-spec : {M : Type 1} → statement M
 frame-end-spec =

@@ -51,7 +51,8 @@ add-end c =
     let at-header-fine = at-if1 .before in
     let at-start = at-header-fine .before .before .before .before .before in
     let a = at-start .args in
-    let w = words-end (objectsAt (a .n) (a .b) (a .contents .now) (a .bodies .now)) (a .stack .now) (a .at .0) (a .uppermost) ((at-start .pre) .frame) _ (at-header-fine .header-fine .ensures) (at-if1 .if1 .left) _ _ (c .before .header .ensures) (c .temporary-count .ensures) in omega arith
+    let w = words-end (objectsAt (a .n) (a .b) (a .contents .now) (a .bodies .now)) (a .stack .now) (a .at .0) (a .uppermost) ((at-start .pre) .frame) _
+    (at-header-fine .header-fine .ensures) (at-if1 .if1 .left) _ _ (c .before .header .ensures) (c .temporary-count .ensures) in omega arith
 
 add-end-2 : tie.Need-add-end-2
 add-end-2 c =
@@ -59,7 +60,8 @@ add-end-2 c =
     let at-header-fine = at-if1 .before in
     let at-start = at-header-fine .before .before .before .before .before in
     let a = at-start .args in
-    let w = words-end (objectsAt (a .n) (a .b) (a .contents .now) (a .bodies .now)) (a .stack .now) (a .at .0) (a .uppermost) ((at-start .pre) .frame) _ (at-header-fine .header-fine .ensures) (at-if1 .if1 .left) _ _ (c .before .header .ensures) (c .temporary-count .ensures) in omega arith
+    let w = words-end (objectsAt (a .n) (a .b) (a .contents .now) (a .bodies .now)) (a .stack .now) (a .at .0) (a .uppermost) ((at-start .pre) .frame) _
+    (at-header-fine .header-fine .ensures) (at-if1 .if1 .left) _ _ (c .before .header .ensures) (c .temporary-count .ensures) in omega arith
 
 mul-valid-words : tie.Need-mul-valid-words
 mul-valid-words c =
@@ -77,7 +79,8 @@ part-valid-words-end c =
     let at-header-fine = at-if1 .before in
     let at-start = at-header-fine .before .before .before .before .before in
     let a = at-start .args in
-    let w = words-end (objectsAt (a .n) (a .b) (a .contents .now) (a .bodies .now)) (a .stack .now) (a .at .0) (a .uppermost) ((at-start .pre) .frame) _ (at-header-fine .header-fine .ensures) (at-if1 .if1 .left) _ _ (c .before .header .ensures) (c .temporary-count .ensures) in omega arith
+    let w = words-end (objectsAt (a .n) (a .b) (a .contents .now) (a .bodies .now)) (a .stack .now) (a .at .0) (a .uppermost) ((at-start .pre) .frame) _
+    (at-header-fine .header-fine .ensures) (at-if1 .if1 .left) _ _ (c .before .header .ensures) (c .temporary-count .ensures) in omega arith
 
 valid-words-requires : tie.Need-valid-words-requires
 valid-words-requires c κs = search needs
@@ -88,7 +91,9 @@ returns-2 c =
     let at-header-fine = at-if1 .before in
     let at-start = at-header-fine .before .before .before .before .before in
     let a = at-start .args in
-    rules-here (objectsAt (a .n) (a .b) (a .contents .now) (a .bodies .now)) (a .stack .now) (a .at .0) (a .uppermost) ((at-start .pre) .frame) _ (at-header-fine .header-fine .ensures) (at-if1 .if1 .left) _ _ (c .before .before .before .header .ensures) (c .before .before .temporary-count .ensures) _ (c .valid-words .ensures)
+    rules-here (objectsAt (a .n) (a .b) (a .contents .now) (a .bodies .now)) (a .stack .now) (a .at .0) (a .uppermost) ((at-start .pre) .frame) _
+    (at-header-fine .header-fine .ensures) (at-if1 .if1 .left) _ _ (c .before .before .before .header .ensures) (c .before .before .temporary-count .ensures) _
+    (c .valid-words .ensures)
 
 pub frame-fine-spec : {M : Type 1} → statement M
 frame-fine-spec =

@@ -59,7 +59,8 @@ returns-3 c =
     let at-loop = at-frame-fine .before in
     let at-start = at-loop .before .before .before .before .before .before .before .before in
     let a = at-start .args in
-    going-bottom (objectsAt (a .n) (a .b) (a .contents .now) (a .bodies .now)) (a .stack .now) (at-loop .loop .inv) _ (at-frame-fine .frame-fine .ensures) (c .before .before .if2 .left) (c .if3 .taken)
+    going-bottom (objectsAt (a .n) (a .b) (a .contents .now) (a .bodies .now)) (a .stack .now) (at-loop .loop .inv) _ (at-frame-fine .frame-fine .ensures)
+    (c .before .before .if2 .left) (c .if3 .taken)
 
 frame-end-requires-2 : tie.Need-frame-end-requires-2 Inv-loop μ-loop
 frame-end-requires-2 c κs = (c .before .before .before .before .before .before .before .before .before .before .before .before .pre) .right
@@ -72,7 +73,8 @@ returns-4 c =
     let at-loop = at-frame-fine .before in
     let at-start = at-loop .before .before .before .before .before .before .before .before in
     let a = at-start .args in
-    going-apart (objectsAt (a .n) (a .b) (a .contents .now) (a .bodies .now)) (a .stack .now) (at-loop .loop .inv) _ (at-frame-fine .frame-fine .ensures) (at-if2 .if2 .left) (at-if3 .if3 .left) _ (c .before .before .frame-end2 .ensures) (c .if4 .taken)
+    going-apart (objectsAt (a .n) (a .b) (a .contents .now) (a .bodies .now)) (a .stack .now) (at-loop .loop .inv) _ (at-frame-fine .frame-fine .ensures)
+    (at-if2 .if2 .left) (at-if3 .if3 .left) _ (c .before .before .frame-end2 .ensures) (c .if4 .taken)
 
 loop-less : tie.Need-loop-less Inv-loop μ-loop
 loop-less c =
@@ -82,7 +84,8 @@ loop-less c =
     let at-loop = at-frame-fine .before in
     let at-start = at-loop .before .before .before .before .before .before .before .before in
     let a = at-start .args in
-    going-lower (objectsAt (a .n) (a .b) (a .contents .now) (a .bodies .now)) (a .stack .now) (at-loop .loop .inv) _ (at-frame-fine .frame-fine .ensures) (at-if2 .if2 .left) (at-if3 .if3 .left) _ (c .before .before .frame-end2 .ensures) (c .if4 .left)
+    going-lower (objectsAt (a .n) (a .b) (a .contents .now) (a .bodies .now)) (a .stack .now) (at-loop .loop .inv) _ (at-frame-fine .frame-fine .ensures)
+    (at-if2 .if2 .left) (at-if3 .if3 .left) _ (c .before .before .frame-end2 .ensures) (c .if4 .left)
 
 loop-again : tie.Need-loop-again Inv-loop μ-loop
 loop-again c =
@@ -92,7 +95,8 @@ loop-again c =
     let at-loop = at-frame-fine .before in
     let at-start = at-loop .before .before .before .before .before .before .before .before in
     let a = at-start .args in
-    going-down (objectsAt (a .n) (a .b) (a .contents .now) (a .bodies .now)) (a .stack .now) (at-loop .loop .inv) _ (at-frame-fine .frame-fine .ensures) (at-if2 .if2 .left) (at-if3 .if3 .left) _ (c .before .before .frame-end2 .ensures) (c .if4 .left)
+    going-down (objectsAt (a .n) (a .b) (a .contents .now) (a .bodies .now)) (a .stack .now) (at-loop .loop .inv) _ (at-frame-fine .frame-fine .ensures)
+    (at-if2 .if2 .left) (at-if3 .if3 .left) _ (c .before .before .frame-end2 .ensures) (c .if4 .left)
 
 pub frames-fine-spec : {M : Type 1} → statement M
 frames-fine-spec =

@@ -63,8 +63,11 @@ in-chain-requires : tie.Need-in-chain-requires
 in-chain-requires c κs =
     let at-is-valid = c .before .before .before .before in
     let at-start = at-is-valid .before .before .before .before .before .before .before .before in
-    let a = at-start .args in
-    ((at-start .pre) .image .right, class-named ((at-start .pre) .image .right) _ _ _ (at-is-valid .is-valid .ensures) (c .before .before .before .if2 .left) (c .class-of .ensures (a .b) (a .bodies .now)))
+    let a = at-start .args in (
+      (at-start .pre) .image .right,
+      class-named ((at-start .pre) .image .right) _ _ _ (at-is-valid .is-valid .ensures) (c .before .before .before .if2 .left)
+          (c .class-of .ensures (a .b) (a .bodies .now)),
+    )
 
 returns-3 : tie.Need-returns-3
 returns-3 c =
@@ -74,7 +77,9 @@ returns-3 c =
     let at-if1 = at-is-valid .before .before in
     let at-start = at-if1 .before .before .before .before .before .before in
     let a = at-start .args in
-    chain-no (objectsAt (a .n) (a .b) (a .contents .now) (a .bodies .now)) (a .stack .now) (a .at .0) (a .uppermost) (at-if1 .if1 .left) _ (at-is-valid .is-valid .ensures) (at-if2 .if2 .left) _ _ (at-home .home .ensures) (c .before .before .class-of .ensures (a .b) (a .bodies .now)) _ (c .before .in-chain .ensures) (c .if3 .taken)
+    chain-no (objectsAt (a .n) (a .b) (a .contents .now) (a .bodies .now)) (a .stack .now) (a .at .0) (a .uppermost) (at-if1 .if1 .left) _
+    (at-is-valid .is-valid .ensures) (at-if2 .if2 .left) _ _ (at-home .home .ensures) (c .before .before .class-of .ensures (a .b) (a .bodies .now)) _
+    (c .before .in-chain .ensures) (c .if3 .taken)
 
 add-p : tie.Need-add-p
 add-p c = let h = header-inside (c .before .before .before .before .before .before .before .before .before .before .before .before .before .before .pre) in omega arith
@@ -103,7 +108,11 @@ shared-slice-read-depth : tie.Need-shared-slice-read-depth
 shared-slice-read-depth c = let h = header-inside (c .before .before .before .before .before .before .before .before .before .before .before .before .before .before .before .before .before .pre) in omega arith
 
 cast-depth : tie.Need-cast-depth
-cast-depth c = omega (arith, c .shared-slice-known9 .given (c .before .before .before .before .before .before .before .before .before .before .before .before .before .before .before .before .before .args .at .0 + 2))
+cast-depth c = omega (
+  arith,
+  c .shared-slice-known9 .given
+      (c .before .before .before .before .before .before .before .before .before .before .before .before .before .before .before .before .before .args .at .0 + 2),
+)
 
 add-result : tie.Need-add-result
 add-result c =
@@ -122,7 +131,9 @@ returns-4 c =
     let at-start = at-if1 .before .before .before .before .before .before in
     let a = at-start .args in
     let o = (objectsAt (a .n) (a .b) (a .contents .now) (a .bodies .now)) in
-    header-note o (a .stack .now) (a .at .0) (a .uppermost) (at-if1 .if1 .left) _ (at-is-valid .is-valid .ensures) (at-if2 .if2 .left) _ _ (at-home .home .ensures) (at-class-of .class-of .ensures (a .b) (a .bodies .now)) _ (at-in-chain .in-chain .ensures) (at-if3 .if3 .left) _ _ (c .before .before .note-at .ensures) (note-top o (a .stack .now) (a .at .0) (a .uppermost) (c .if4 .taken))
+    header-note o (a .stack .now) (a .at .0) (a .uppermost) (at-if1 .if1 .left) _ (at-is-valid .is-valid .ensures) (at-if2 .if2 .left) _ _
+    (at-home .home .ensures) (at-class-of .class-of .ensures (a .b) (a .bodies .now)) _ (at-in-chain .in-chain .ensures) (at-if3 .if3 .left) _ _
+    (c .before .before .note-at .ensures) (note-top o (a .stack .now) (a .at .0) (a .uppermost) (c .if4 .taken))
 
 add-result-2 : tie.Need-add-result-2
 add-result-2 c =
@@ -141,7 +152,9 @@ returns-5 c =
     let at-start = at-if1 .before .before .before .before .before .before in
     let a = at-start .args in
     let o = (objectsAt (a .n) (a .b) (a .contents .now) (a .bodies .now)) in
-    header-note o (a .stack .now) (a .at .0) (a .uppermost) (at-if1 .if1 .left) _ (at-is-valid .is-valid .ensures) (at-if2 .if2 .left) _ _ (at-home .home .ensures) (at-class-of .class-of .ensures (a .b) (a .bodies .now)) _ (at-in-chain .in-chain .ensures) (at-if3 .if3 .left) _ _ (c .before .before .note-at .ensures) (note-below o (a .stack .now) (a .at .0) (a .uppermost) (c .if4 .left))
+    header-note o (a .stack .now) (a .at .0) (a .uppermost) (at-if1 .if1 .left) _ (at-is-valid .is-valid .ensures) (at-if2 .if2 .left) _ _
+    (at-home .home .ensures) (at-class-of .class-of .ensures (a .b) (a .bodies .now)) _ (at-in-chain .in-chain .ensures) (at-if3 .if3 .left) _ _
+    (c .before .before .note-at .ensures) (note-below o (a .stack .now) (a .at .0) (a .uppermost) (c .if4 .left))
 
 pub header-fine-spec : {M : Type 1} → statement M
 header-fine-spec =

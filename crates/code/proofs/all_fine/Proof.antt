@@ -45,8 +45,11 @@ loop-less c = omega arith
 loop-again : tie.Need-loop-again Inv-loop μ-loop
 loop-again c =
     let at-start = c .before .before .before .before .before .before .before .before .before in
-    let args = at-start .args in
-    (omega arith, before-more (linkedAt (objectsAt (args .n) (args .b) (args .contents .now) (args .bodies .now)) (args .m) (args .notes .now)) _ (c .before .before .before .loop .inv .1) (sym (c .before .position-fine .ensures) ∙ not-false _ (c .if1 .left)))
+    let args = at-start .args in (
+      omega arith,
+      before-more (linkedAt (objectsAt (args .n) (args .b) (args .contents .now) (args .bodies .now)) (args .m) (args .notes .now)) _
+          (c .before .before .before .loop .inv .1) (sym (c .before .position-fine .ensures) ∙ not-false _ (c .if1 .left)),
+    )
 
 returns-2 : tie.Need-returns-2 Inv-loop μ-loop
 returns-2 c = linked-over _ _ _ _ ((c .before .before .before .before .before .before .before .pre) .1) _ (c .loop-test .left) (c .before .loop .inv .1)

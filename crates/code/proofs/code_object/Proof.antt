@@ -26,8 +26,12 @@ cast-m c = search needs
 
 method-notes-requires : tie.Need-method-notes-requires
 method-notes-requires c κs =
-    let at-start = c .before .before .before .before .before .before .before .before .before in
-    (asked-at ((at-start .pre) .0) (at-start .args .k) ((at-start .pre) .1) ((at-start .pre) .2) (sym (c .before .before .before .kind .ensures) ∙ c .before .before .if1 .left), (at-start .pre) .0 .room, (at-start .pre) .0 .long)
+    let at-start = c .before .before .before .before .before .before .before .before .before in (
+      asked-at ((at-start .pre) .0) (at-start .args .k) ((at-start .pre) .1) ((at-start .pre) .2) (sym (c .before .before .before .kind .ensures)
+          ∙ c .before .before .if1 .left),
+      (at-start .pre) .0 .room,
+      (at-start .pre) .0 .long,
+    )
 
 same-length : tie.Need-same-length
 same-length c = search needs
@@ -41,7 +45,8 @@ returns-2 c =
     let at-if1 = at-method-notes .before .before .before in
     let at-kind = at-if1 .before in
     let at-start = at-kind .before .before .before .before .before .before in
-    object-sound ((at-start .pre) .0) (at-start .args .k) _ _ _ ((at-start .pre) .1) ((at-start .pre) .2) (sym (at-kind .kind .ensures) ∙ at-if1 .if1 .left) (at-method-notes .method-notes .ensures) (c .if2 .taken)
+    object-sound ((at-start .pre) .0) (at-start .args .k) _ _ _ ((at-start .pre) .1) ((at-start .pre) .2) (sym (at-kind .kind .ensures) ∙ at-if1 .if1 .left)
+    (at-method-notes .method-notes .ensures) (c .if2 .taken)
 
 header-of-requires : tie.Need-header-of-requires
 header-of-requires c κs = search needs
@@ -62,7 +67,9 @@ returns-3 c =
     let at-kind = at-if1 .before in
     let at-start = at-kind .before .before .before .before .before .before in
     let args = at-start .args in
-    object-unsound ((at-start .pre) .0) (args .k) _ _ _ ((at-start .pre) .1) ((at-start .pre) .2) (sym (at-kind .kind .ensures) ∙ at-if1 .if1 .left) (at-method-notes .method-notes .ensures) (c .runs .result) (c .before .before .if2 .left) (c .runs .ensures (objectsAt (args .n) (args .b) (args .contents .now) (args .bodies .now)) (2 * args .k) (c .before .header-of .ensures))
+    object-unsound ((at-start .pre) .0) (args .k) _ _ _ ((at-start .pre) .1) ((at-start .pre) .2) (sym (at-kind .kind .ensures) ∙ at-if1 .if1 .left)
+    (at-method-notes .method-notes .ensures) (c .runs .result) (c .before .before .if2 .left)
+    (c .runs .ensures (objectsAt (args .n) (args .b) (args .contents .now) (args .bodies .now)) (2 * args .k) (c .before .header-of .ensures))
 
 pub code-object-spec : {M : Type 1} → statement M
 code-object-spec =

@@ -59,8 +59,12 @@ loop-again : tie.Need-loop-again Inv-loop μ-loop
 loop-again c =
     let at-code-object = c .before .before .before .before .before in
     let at-loop-test = at-code-object .before .before .before in
-    let at-loop = at-loop-test .before in
-    (going-on _ (at-loop .loop .k) _ _ _ (at-loop .loop .inv .0) (at-loop-test .loop-test .taken) (at-code-object .code-object .ensures) (not-false _ (c .if1 .left)), at-code-object .code-object .kept .1 .1 .1 .1 .1 .1 .1 .0 ∙ at-loop .loop .inv .1, at-code-object .code-object .kept .1 .1 .1 .1 .1 .1 .1 .1 .0 ∙ at-loop .loop .inv .2)
+    let at-loop = at-loop-test .before in (
+      going-on _ (at-loop .loop .k) _ _ _ (at-loop .loop .inv .0) (at-loop-test .loop-test .taken) (at-code-object .code-object .ensures)
+          (not-false _ (c .if1 .left)),
+      at-code-object .code-object .kept .1 .1 .1 .1 .1 .1 .1 .0 ∙ at-loop .loop .inv .1,
+      at-code-object .code-object .kept .1 .1 .1 .1 .1 .1 .1 .1 .0 ∙ at-loop .loop .inv .2,
+    )
 
 same-length-3 : tie.Need-same-length-3 Inv-loop μ-loop
 same-length-3 c = c .before .loop .inv .1

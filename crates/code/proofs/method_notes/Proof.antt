@@ -65,12 +65,14 @@ mul-code-notes c = search needs
 sub-code-notes : tie.Need-sub-code-notes
 sub-code-notes c =
     let at-start = c .before .before .before .before .before .before .before .before .before in
-    let h = c .before .before .before .header-of .ensures in let s = c .before .before .start .ensures in let e = c .before .body-end .ensures (at-start .args .b) (at-start .args .bodies .now) in let k = code-starts ((at-start .pre) .0) in let q = body-size ((at-start .pre) .0) in omega arith
+    let h = c .before .before .before .header-of .ensures in let s = c .before .before .start .ensures in let e = c .before .body-end .ensures
+    (at-start .args .b) (at-start .args .bodies .now) in let k = code-starts ((at-start .pre) .0) in let q = body-size ((at-start .pre) .0) in omega arith
 
 part-code-notes-start : tie.Need-part-code-notes-start
 part-code-notes-start c =
     let at-start = c .before .before .before .before .before .before .before .before .before in
-    let h = c .before .before .before .header-of .ensures in let s = c .before .before .start .ensures in let e = c .before .body-end .ensures (at-start .args .b) (at-start .args .bodies .now) in let k = code-starts ((at-start .pre) .0) in let q = body-size ((at-start .pre) .0) in omega arith
+    let h = c .before .before .before .header-of .ensures in let s = c .before .before .start .ensures in let e = c .before .body-end .ensures
+    (at-start .args .b) (at-start .args .bodies .now) in let k = code-starts ((at-start .pre) .0) in let q = body-size ((at-start .pre) .0) in omega arith
 
 part-code-notes-end : tie.Need-part-code-notes-end
 part-code-notes-end c =
@@ -87,7 +89,8 @@ part-code-notes-end-2 : tie.Need-part-code-notes-end-2
 part-code-notes-end-2 c =
     let at-header-of = c .before .before .before .before in
     let at-start = at-header-of .before .before .before .before .before .before in
-    let h = at-header-of .header-of .ensures in let s = c .before .before .before .start .ensures in let z = c .before .size .ensures in let k = code-starts ((at-start .pre) .0) in let q = body-size ((at-start .pre) .0) in let i = body-inside ((at-start .pre) .0) in let l = (at-start .pre) .1 in omega arith
+    let h = at-header-of .header-of .ensures in let s = c .before .before .before .start .ensures in let z = c .before .size .ensures in let k = code-starts
+    ((at-start .pre) .0) in let q = body-size ((at-start .pre) .0) in let i = body-inside ((at-start .pre) .0) in let l = (at-start .pre) .1 in omega arith
 
 code-notes-requires : tie.Need-code-notes-requires
 code-notes-requires c κs =
@@ -96,7 +99,16 @@ code-notes-requires c κs =
     let at-start = at-body-end .before in
     let at-header-of = at-start .before in
     let at-start′ = at-header-of .before .before .before .before .before .before in
-    let k = code-lent ((at-start′ .pre) .0) (at-header-of .header-of .result) (at-start .start .result) (at-body-end .body-end .result) (at-size .size .result) (at-start′ .args .notes .now) (at-header-of .header-of .ensures) (at-start .start .ensures) (at-body-end .body-end .ensures (at-start′ .args .b) (at-start′ .args .bodies .now)) (at-size .size .ensures) ((at-start′ .pre) .1) in ((at-start′ .pre) .0, k, let s = code-short ((at-start′ .pre) .0) (at-header-of .header-of .result) (at-start .start .result) (at-body-end .body-end .result) (at-size .size .result) (at-start′ .args .notes .now) (at-header-of .header-of .ensures) (at-start .start .ensures) (at-body-end .body-end .ensures (at-start′ .args .b) (at-start′ .args .bodies .now)) (at-size .size .ensures) ((at-start′ .pre) .1) in let t = (at-start′ .pre) .2 in omega arith)
+    let k = code-lent ((at-start′ .pre) .0) (at-header-of .header-of .result) (at-start .start .result) (at-body-end .body-end .result) (at-size .size .result)
+    (at-start′ .args .notes .now) (at-header-of .header-of .ensures) (at-start .start .ensures) (at-body-end .body-end .ensures (at-start′ .args .b)
+    (at-start′ .args .bodies .now)) (at-size .size .ensures) ((at-start′ .pre) .1) in (
+      (at-start′ .pre) .0,
+      k,
+      let s = code-short ((at-start′ .pre) .0)
+          (at-header-of .header-of .result) (at-start .start .result) (at-body-end .body-end .result) (at-size .size .result) (at-start′ .args .notes .now)
+          (at-header-of .header-of .ensures) (at-start .start .ensures) (at-body-end .body-end .ensures (at-start′ .args .b) (at-start′ .args .bodies .now))
+          (at-size .size .ensures) ((at-start′ .pre) .1) in let t = (at-start′ .pre) .2 in omega arith,
+    )
 
 same-length : tie.Need-same-length
 same-length c = search needs
@@ -112,7 +124,10 @@ returns c =
     let at-start = at-body-end .before in
     let at-header-of = at-start .before in
     let at-start′ = at-header-of .before .before .before .before .before .before in
-    walked-put ((at-start′ .pre) .0) (at-header-of .header-of .result) (at-start .start .result) (at-body-end .body-end .result) (at-size .size .result) (at-start′ .args .notes .now) (at-header-of .header-of .ensures) (at-start .start .ensures) (at-body-end .body-end .ensures (at-start′ .args .b) (at-start′ .args .bodies .now)) (at-size .size .ensures) ((at-start′ .pre) .1) _ (at-code-notes .code-notes .kept .1 .1 .1 .1 .1 .1 .1 .1 .0) _ (at-code-notes .code-notes .ensures)
+    walked-put ((at-start′ .pre) .0) (at-header-of .header-of .result) (at-start .start .result) (at-body-end .body-end .result) (at-size .size .result)
+    (at-start′ .args .notes .now) (at-header-of .header-of .ensures) (at-start .start .ensures) (at-body-end .body-end .ensures (at-start′ .args .b)
+    (at-start′ .args .bodies .now)) (at-size .size .ensures) ((at-start′ .pre) .1) _ (at-code-notes .code-notes .kept .1 .1 .1 .1 .1 .1 .1 .1 .0) _
+    (at-code-notes .code-notes .ensures)
 
 pub method-notes-spec : {M : Type 1} → statement M
 method-notes-spec =

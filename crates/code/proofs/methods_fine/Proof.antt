@@ -30,7 +30,8 @@ count-methods-requires c κs =
     ((at-start .pre) .0, (let q = (at-start .pre) .0 .lent .most in omega arith), zeros-at 2048)
 
 returns-2 : tie.Need-returns-2
-returns-2 c = seven-holders _ _ _ _ (sym (c .before .before .before .before .before .shapes-fine .ensures) ∙ not-false _ (c .before .before .before .before .if1 .left)) (c .before .before .count-methods .ensures) (not-true _ (c .if2 .taken))
+returns-2 c = seven-holders _ _ _ _ (sym (c .before .before .before .before .before .shapes-fine .ensures)
+    ∙ not-false _ (c .before .before .before .before .if1 .left)) (c .before .before .count-methods .ensures) (not-true _ (c .if2 .taken))
 
 table-requires : tie.Need-table-requires
 table-requires c κs = search needs
@@ -50,7 +51,21 @@ codes-fine-requires c κs =
     let at-if1 = at-count-methods .before .before in
     let at-shapes-fine = at-if1 .before in
     let at-start = at-shapes-fine .before .before .before .before in
-    record { entries = at-table .table .ensures; ready = (at-start .pre) .0; sends = record { lent = (at-start .pre) .0 .lent; long = (let q = (at-start .pre) .0 .lent .most in let z = at-count-methods .count-methods .kept .1 .1 .1 .1 .0 in omega arith); counted = held-counts _ _ _ (at-count-methods .count-methods .ensures) (not-false _ (at-if2 .if2 .left)) .1 }; shaped = true→T (sym (at-shapes-fine .shapes-fine .ensures) ∙ not-false _ (at-if1 .if1 .left)); room = (at-start .pre) .1; long = (let q = length-replicate {A = ℕ} 4000 0 in let l = at-if3 .if3 .taken in omega arith) }
+    record {
+      entries = at-table .table .ensures;
+      ready = (at-start .pre) .0;
+      sends = record {
+        lent = (at-start .pre) .0 .lent;
+        long =
+            (let q = (at-start .pre) .0 .lent .most in let z = at-count-methods .count-methods .kept .1 .1 .1 .1 .0 in omega arith);
+        counted = held-counts _ _ _
+            (at-count-methods .count-methods .ensures) (not-false _ (at-if2 .if2 .left)) .1;
+      };
+      shaped = true→T (sym (at-shapes-fine .shapes-fine .ensures)
+          ∙ not-false _ (at-if1 .if1 .left));
+      room = (at-start .pre) .1;
+      long = (let q = length-replicate {A = ℕ} 4000 0 in let l = at-if3 .if3 .taken in omega arith);
+    }
 
 same-length : tie.Need-same-length
 same-length c = search needs
@@ -62,7 +77,8 @@ returns-3 c =
     let at-count-methods = at-if2 .before .before in
     let at-if1 = at-count-methods .before .before in
     let at-shapes-fine = at-if1 .before in
-    seven-codes _ _ _ (sym (at-shapes-fine .shapes-fine .ensures) ∙ not-false _ (at-if1 .if1 .left)) (held-counts _ _ _ (at-count-methods .count-methods .ensures) (not-false _ (at-if2 .if2 .left)) .0) (at-codes-fine .codes-fine .ensures)
+    seven-codes _ _ _ (sym (at-shapes-fine .shapes-fine .ensures) ∙ not-false _ (at-if1 .if1 .left))
+    (held-counts _ _ _ (at-count-methods .count-methods .ensures) (not-false _ (at-if2 .if2 .left)) .0) (at-codes-fine .codes-fine .ensures)
 
 slice-aggregate-codes-fine-3 : tie.Need-slice-aggregate-codes-fine-3
 slice-aggregate-codes-fine-3 c = search needs
@@ -78,7 +94,22 @@ codes-fine-requires-2 c κs =
     let at-if1 = at-count-methods .before .before in
     let at-shapes-fine = at-if1 .before in
     let at-start = at-shapes-fine .before .before .before .before in
-    record { entries = at-table .table .ensures; ready = (at-start .pre) .0; sends = record { lent = (at-start .pre) .0 .lent; long = (let q = (at-start .pre) .0 .lent .most in let z = at-count-methods .count-methods .kept .1 .1 .1 .1 .0 in omega arith); counted = held-counts _ _ _ (at-count-methods .count-methods .ensures) (not-false _ (at-if2 .if2 .left)) .1 }; shaped = true→T (sym (at-shapes-fine .shapes-fine .ensures) ∙ not-false _ (at-if1 .if1 .left)); room = (at-start .pre) .1; long = (let q = length-replicate {A = ℕ} 48000 0 in let l = (at-start .pre) .0 .lent .most-words in omega arith) }
+    record {
+      entries = at-table .table .ensures;
+      ready = (at-start .pre) .0;
+      sends = record {
+        lent = (at-start .pre) .0 .lent;
+        long =
+            (let q = (at-start .pre) .0 .lent .most in let z = at-count-methods .count-methods .kept .1 .1 .1 .1 .0 in omega arith);
+        counted = held-counts _ _ _
+            (at-count-methods .count-methods .ensures) (not-false _ (at-if2 .if2 .left)) .1;
+      };
+      shaped = true→T (sym (at-shapes-fine .shapes-fine .ensures)
+          ∙ not-false _ (at-if1 .if1 .left));
+      room = (at-start .pre) .1;
+      long = (let q = length-replicate {A = ℕ} 48000 0 in let l =
+          (at-start .pre) .0 .lent .most-words in omega arith);
+    }
 
 same-length-2 : tie.Need-same-length-2
 same-length-2 c = search needs
@@ -90,7 +121,8 @@ returns-4 c =
     let at-count-methods = at-if2 .before .before in
     let at-if1 = at-count-methods .before .before in
     let at-shapes-fine = at-if1 .before in
-    seven-codes _ _ _ (sym (at-shapes-fine .shapes-fine .ensures) ∙ not-false _ (at-if1 .if1 .left)) (held-counts _ _ _ (at-count-methods .count-methods .ensures) (not-false _ (at-if2 .if2 .left)) .0) (at-codes-fine2 .codes-fine2 .ensures)
+    seven-codes _ _ _ (sym (at-shapes-fine .shapes-fine .ensures) ∙ not-false _ (at-if1 .if1 .left))
+    (held-counts _ _ _ (at-count-methods .count-methods .ensures) (not-false _ (at-if2 .if2 .left)) .0) (at-codes-fine2 .codes-fine2 .ensures)
 
 pub methods-fine-spec : {M : Type 1} → statement M
 methods-fine-spec =

@@ -11,7 +11,8 @@ use Rattle.flow.proofs.drain.Statement.{statement}
 use Rattle.flow.proofs.drain.Tie as tie
 
 abbrev Inv-loop : tie.InvT-loop
-Inv-loop table limits words room notes₀ pending₀ n₀ notes pending n = Static table limits words room notes pending × WalkingAt limits words (length notes) room notes pending n × (length notes ≡ length notes₀) × (length pending ≡ length pending₀)
+Inv-loop table limits words room notes₀ pending₀ n₀ notes pending n = Static table limits words room notes pending × WalkingAt limits words (length notes) room
+    notes pending n × (length notes ≡ length notes₀) × (length pending ≡ length pending₀)
 
 abbrev μ-loop : tie.MeasureT-loop
 μ-loop table limits words room notes₀ pending₀ n₀ notes pending n = n + zeros notes

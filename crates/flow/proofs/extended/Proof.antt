@@ -27,7 +27,9 @@ extended-fits-requires c κs = search needs
 returns : tie.Need-returns
 returns c =
     let at-start = c .before .before .before .before .before .before .before in
-    expand-extended _ _ _ _ _ _ _ _ (omega arith) (at-start .pre .1 .0) _ _ _ _ _ _ (at-start .pre .1 .1 .0) (at-start .pre .1 .1 .1) (at-start .pre .1 .1 .2) (step-no _ _ _ _ _ _ _ _ _ (and-no _ _ (sym (rw (c .before .before .before .byte .ensures, c .before .before .byte2 .ensures) at (c .before .extended-fits .ensures)) ∙ not-true _ (c .if1 .taken))))
+    expand-extended _ _ _ _ _ _ _ _ (omega arith) (at-start .pre .1 .0) _ _ _ _ _ _ (at-start .pre .1 .1 .0) (at-start .pre .1 .1 .1) (at-start .pre .1 .1 .2)
+    (step-no _ _ _ _ _ _ _ _ _ (and-no _ _ (sym (rw (c .before .before .before .byte .ensures, c .before .before .byte2 .ensures) at
+    (c .before .extended-fits .ensures)) ∙ not-true _ (c .if1 .taken))))
 
 add-onward : tie.Need-add-onward
 add-onward c = search needs
@@ -59,7 +61,9 @@ returns-2 c =
     let at-byte2 = at-extended-fits .before in
     let at-byte = at-byte2 .before in
     let at-start = at-byte .before .before .before .before in
-    expand-extended _ _ _ _ _ _ _ _ (omega arith) (at-start .pre .1 .0) _ _ _ _ _ _ (at-start .pre .1 .1 .0) (at-start .pre .1 .1 .1) (at-start .pre .1 .1 .2) (step-and _ _ _ _ _ _ _ _ _ _ _ (sym (rw (at-byte .byte .ensures, at-byte2 .byte2 .ensures) at (at-extended-fits .extended-fits .ensures)) ∙ not-false _ (at-if1 .if1 .left)) (rw (at-extra .extra .ensures, at-byte .byte .ensures) at (at-onward .onward .ensures)))
+    expand-extended _ _ _ _ _ _ _ _ (omega arith) (at-start .pre .1 .0) _ _ _ _ _ _ (at-start .pre .1 .1 .0) (at-start .pre .1 .1 .1) (at-start .pre .1 .1 .2)
+    (step-and _ _ _ _ _ _ _ _ _ _ _ (sym (rw (at-byte .byte .ensures, at-byte2 .byte2 .ensures) at (at-extended-fits .extended-fits .ensures))
+    ∙ not-false _ (at-if1 .if1 .left)) (rw (at-extra .extra .ensures, at-byte .byte .ensures) at (at-onward .onward .ensures)))
 
 pub extended-spec : {M : Type 1} → statement M
 extended-spec =

@@ -44,8 +44,11 @@ entry-requires c κs = search needs
 
 expand-requires : tie.Need-expand-requires
 expand-requires c κs =
-    let at-start = c .before .before .before .before .before .before .before .before .before in
-    (top-asks _ _ _ _ _ _ _ (at-start .pre .0) (at-start .pre .1 .0) (at-start .pre .1 .1), top-here _ _ _ _ _ _ _ (at-start .pre .0) (at-start .pre .1 .0) (at-start .pre .1 .1) _ _ (c .before .before .before .fetch .ensures) (c .before .before .entry .ensures))
+    let at-start = c .before .before .before .before .before .before .before .before .before in (
+      top-asks _ _ _ _ _ _ _ (at-start .pre .0) (at-start .pre .1 .0) (at-start .pre .1 .1),
+      top-here _ _ _ _ _ _ _ (at-start .pre .0) (at-start .pre .1 .0)
+          (at-start .pre .1 .1) _ _ (c .before .before .before .fetch .ensures) (c .before .before .entry .ensures),
+    )
 
 same-length : tie.Need-same-length
 same-length c = search needs

@@ -32,8 +32,12 @@ drain-requires : tie.Need-drain-requires
 drain-requires c κs =
     let at-if1 = c .before .before .before .before in
     let at-clear = at-if1 .before .before .before in
-    let at-start = at-clear .before .before .before .before .before in
-    (static-start _ _ _ _ _ _ _ _ (at-clear .clear .last .0) (at-start .pre) (at-clear .clear .kept .0), starts _ _ _ (at-clear .clear .last .0) (at-start .args .pending .now) _ (at-clear .clear .ensures) (omega (arith, at-clear .clear .kept .0, at-if1 .if1 .left)) (at-start .pre .long) (at-start .pre .small) (omega (arith, at-start .pre .shallow)))
+    let at-start = at-clear .before .before .before .before .before in (
+      static-start _ _ _ _ _ _ _ _ (at-clear .clear .last .0) (at-start .pre) (at-clear .clear .kept .0),
+      starts _ _ _ (at-clear .clear .last .0)
+          (at-start .args .pending .now) _ (at-clear .clear .ensures) (omega (arith, at-clear .clear .kept .0, at-if1 .if1 .left)) (at-start .pre .long)
+          (at-start .pre .small) (omega (arith, at-start .pre .shallow)),
+    )
 
 same-length-3 : tie.Need-same-length-3
 same-length-3 c =
@@ -69,7 +73,9 @@ returns-4 c =
     let at-drain = at-if3 .before .before .before .before .before in
     let at-if2 = at-drain .before .before .before .before in
     let at-clear = at-if2 .before .before .before .before in
-    walked-none _ _ _ (table-as _ _ _ _ _ _ (at-clear .clear .last .0) (at-if2 .if2 .left) (at-clear .clear .kept .0) ∙ answered-none _ _ _ (at-if3 .if3 .left) (at-drain .drain .ensures)) (cleared-as (at-clear .clear .last .0) (at-drain .drain .last .1 .1 .1 .1 .0) _ _ (at-clear .clear .kept .0) (at-drain .drain .kept .1 .1 .1 .1 .0) (c .before .before .clear2 .ensures))
+    walked-none _ _ _ (table-as _ _ _ _ _ _ (at-clear .clear .last .0) (at-if2 .if2 .left) (at-clear .clear .kept .0) ∙ answered-none _ _ _ (at-if3 .if3 .left)
+    (at-drain .drain .ensures)) (cleared-as (at-clear .clear .last .0) (at-drain .drain .last .1 .1 .1 .1 .0) _ _ (at-clear .clear .kept .0)
+    (at-drain .drain .kept .1 .1 .1 .1 .0) (c .before .before .clear2 .ensures))
 
 pub walk-spec : {M : Type 1} → statement M
 walk-spec =

@@ -79,8 +79,13 @@ loop-less c = omega arith
 loop-again : tie.Need-loop-again Inv-loop μ-loop
 loop-again c =
     let at-loop = c .before .before in
-    let at-start = at-loop .before .before .before .before .before in
-    (omega arith, length-set (at-loop .loop .words) (6 + at-loop .loop .i) _ ∙ at-loop .loop .inv .1, λ l e. ap (λ (x : List ℕ). set x (6 + at-loop .loop .i) (getD (at-start .args .arguments .now) (at-loop .loop .i) 0)) (at-loop .loop .inv .2 l e) ∙ sym (sets-more l (at-start .args .arguments .now) 6 (at-loop .loop .i) (omega arith)))
+    let at-start = at-loop .before .before .before .before .before in (
+      omega arith,
+      length-set (at-loop .loop .words) (6 + at-loop .loop .i) _ ∙ at-loop .loop .inv .1,
+      λ l e. ap (λ (x : List ℕ). set x (6 + at-loop .loop .i)
+          (getD (at-start .args .arguments .now) (at-loop .loop .i) 0)) (at-loop .loop .inv .2 l e)
+          ∙ sym (sets-more l (at-start .args .arguments .now) 6 (at-loop .loop .i) (omega arith)),
+    )
 
 same-length-2 : tie.Need-same-length-2 Inv-loop μ-loop
 same-length-2 c =
@@ -91,7 +96,8 @@ returns-3 : tie.Need-returns-3 Inv-loop μ-loop
 returns-3 c =
     let at-start = c .before .before .before .before .before .before in
     let args = at-start .args in
-    let e : c .before .loop .i ≡ args .count = omega arith in c .before .loop .inv .2 (args .words .now) (second (args .words .now) (args .arguments .now) (omega arith)) ∙ ap (λ (k : ℕ). sets (args .words .now) 6 (take k (args .arguments .now))) e
+    let e : c .before .loop .i ≡ args .count = omega arith in c .before .loop .inv .2 (args .words .now) (second (args .words .now) (args .arguments .now)
+    (omega arith)) ∙ ap (λ (k : ℕ). sets (args .words .now) 6 (take k (args .arguments .now))) e
 
 pub copy-arguments-spec : {M : Type 1} → statement M
 copy-arguments-spec =

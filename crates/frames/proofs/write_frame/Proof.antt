@@ -53,7 +53,11 @@ fill-nil-requires c κs =
     let at-start = at-copy-arguments .before .before .before .before in
     let args = at-start .args in (
       omega arith,
-      omega (arith, long (args .words .now) (at-copy-arguments .copy-arguments .last .0) (args .sender .0) (args .method .0) (args .receiver) (take (args .count) (args .arguments .now)) (at-copy-arguments .copy-arguments .ensures)),
+      omega (
+        arith,
+        long (args .words .now) (at-copy-arguments .copy-arguments .last .0) (args .sender .0) (args .method .0) (args .receiver)
+            (take (args .count) (args .arguments .now)) (at-copy-arguments .copy-arguments .ensures),
+      ),
     )
 
 same-length : tie.Need-same-length
@@ -62,7 +66,8 @@ same-length c =
     let at-start = at-copy-arguments .before .before .before .before in
     let args = at-start .args in
     ap length (c .before .before .fill-nil .ensures) ∙ length-sets (at-copy-arguments .copy-arguments .last .0) (6 + args .count) (replicate {A = ℕ} (args .temporaries - args .count) 2)
-    ∙ long (args .words .now) (at-copy-arguments .copy-arguments .last .0) (args .sender .0) (args .method .0) (args .receiver) (take (args .count) (args .arguments .now)) (at-copy-arguments .copy-arguments .ensures)
+    ∙ long (args .words .now) (at-copy-arguments .copy-arguments .last .0) (args .sender .0) (args .method .0) (args .receiver)
+    (take (args .count) (args .arguments .now)) (at-copy-arguments .copy-arguments .ensures)
 
 returns : tie.Need-returns
 returns c =
@@ -71,7 +76,8 @@ returns c =
     let args = at-start .args in
     c .before .before .fill-nil .ensures
     ∙ ap (λ (l : List ℕ). sets l (6 + args .count) (replicate {A = ℕ} (args .temporaries - args .count) 2)) (at-copy-arguments .copy-arguments .ensures)
-    ∙ sym (finish (set (set (set (set (set (set (args .words .now) 0 (args .sender .0)) 1 0) 2 0) 3 (args .method .0)) 4 0) 5 (args .receiver)) (args .arguments .now) (args .count) (args .temporaries) (omega arith))
+    ∙ sym (finish (set (set (set (set (set (set (args .words .now) 0 (args .sender .0)) 1 0) 2 0) 3 (args .method .0)) 4 0) 5 (args .receiver))
+    (args .arguments .now) (args .count) (args .temporaries) (omega arith))
 
 pub write-frame-spec : {M : Type 1} → statement M
 write-frame-spec =

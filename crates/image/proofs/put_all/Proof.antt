@@ -42,8 +42,12 @@ loop-again c =
     let at-put = c .before .before in
     let at-loop = at-put .before .before .before .before in
     let at-start = at-loop .before .before .before in
-    let args = at-start .args in
-    (omega arith, put-more (args .output .now) (at-loop .loop .output) _ (args .at) (at-loop .loop .i) (args .words .now) (omega arith) (at-loop .loop .inv .1) (at-put .put .ensures), at-put .put .kept .0 ∙ at-loop .loop .inv .2)
+    let args = at-start .args in (
+      omega arith,
+      put-more (args .output .now) (at-loop .loop .output) _ (args .at) (at-loop .loop .i) (args .words .now) (omega arith) (at-loop .loop .inv .1)
+          (at-put .put .ensures),
+      at-put .put .kept .0 ∙ at-loop .loop .inv .2,
+    )
 
 same-length : tie.Need-same-length Inv-loop μ-loop
 same-length c = c .before .loop .inv .2

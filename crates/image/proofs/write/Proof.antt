@@ -39,8 +39,11 @@ returns c =
     let at-put-all = c .before .before .before .before .before .before in
     let at-put-header = at-put-all .before .before .before .before in
     let at-length-of = at-put-header .before .before .before .before in
-    let at-start = at-length-of .before .before .before .before in
-    (at-length-of .length-of .ensures, put-image _ _ _ _ _ _ _ (at-start .pre .0) (at-start .pre .1) (at-start .pre .2) (at-put-header .put-header .ensures) (at-put-all .put-all .ensures) (c .before .before .put-all2 .ensures))
+    let at-start = at-length-of .before .before .before .before in (
+      at-length-of .length-of .ensures,
+      put-image _ _ _ _ _ _ _ (at-start .pre .0) (at-start .pre .1) (at-start .pre .2) (at-put-header .put-header .ensures)
+          (at-put-all .put-all .ensures) (c .before .before .put-all2 .ensures),
+    )
 
 pub write-spec : {M : Type 1} → statement M
 write-spec =

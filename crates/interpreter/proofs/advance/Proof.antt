@@ -26,7 +26,8 @@ send-requires c κs =
     let at-selector = at-leave .before .before .before in
     let at-step = at-selector .before .before .before .before .before .before in
     let at-start = at-step .before .before .before .before .before .before .before .before .before in
-    can-send ((at-start .pre) .0) (at-step .step .last .1 .0) (at-step .step .last .1 .1 .0) (at-step .step .result) (at-step .step .ensures) _ (at-leave .leave .ensures) _ _ _ _ _ (at-selector .selector .given .1) _ ((at-start .pre) .1)
+    can-send ((at-start .pre) .0) (at-step .step .last .1 .0) (at-step .step .last .1 .1 .0) (at-step .step .result) (at-step .step .ensures) _
+    (at-leave .leave .ensures) _ _ _ _ _ (at-selector .selector .given .1) _ ((at-start .pre) .1)
 
 enum-known-objects : tie.Need-enum-known-objects
 enum-known-objects c = search needs
@@ -63,15 +64,19 @@ returns c =
     let at-w = c .before .before .before .before .before .before in
     let at-step = at-w .before .before .before .before .before .before in
     let at-start = at-step .before .before .before .before .before .before .before .before .before in
-    finishes ((at-start .pre) .0) (at-step .step .last .1 .0) (at-step .step .last .1 .1 .0) (at-step .step .result) (at-step .step .ensures) _ (c .before .before .before .leave2 .ensures) _ (at-w .w .given .1) _ (c .if1 .taken)
+    finishes ((at-start .pre) .0) (at-step .step .last .1 .0) (at-step .step .last .1 .1 .0) (at-step .step .result) (at-step .step .ensures) _
+    (c .before .before .before .leave2 .ensures) _ (at-w .w .given .1) _ (c .if1 .taken)
 
 return-to-requires : tie.Need-return-to-requires
 return-to-requires c κs =
     let at-leave2 = c .before .before .before .before .before .before in
     let at-w = at-leave2 .before .before .before in
     let at-step = at-w .before .before .before .before .before .before in
-    let at-start = at-step .before .before .before .before .before .before .before .before .before in
-    (return-runs ((at-start .pre) .0) (at-step .step .last .1 .0) (at-step .step .last .1 .1 .0) (at-step .step .result) (at-step .step .ensures) _ (at-leave2 .leave2 .ensures) _ (at-w .w .given .1), let h = c .before .before .before .if1 .left in omega arith)
+    let at-start = at-step .before .before .before .before .before .before .before .before .before in (
+      return-runs ((at-start .pre) .0) (at-step .step .last .1 .0) (at-step .step .last .1 .1 .0) (at-step .step .result) (at-step .step .ensures) _
+          (at-leave2 .leave2 .ensures) _ (at-w .w .given .1),
+      let h = c .before .before .before .if1 .left in omega arith,
+    )
 
 enum-told-3 : tie.Need-enum-told-3
 enum-told-3 c = search needs
@@ -116,7 +121,9 @@ returns-3 c =
     let at-selector = at-leave .before .before .before in
     let at-step = at-selector .before .before .before .before .before .before in
     let at-start = at-step .before .before .before .before .before .before .before .before .before in
-    answers ((at-start .pre) .0) (at-step .step .last .1 .0) (at-step .step .last .1 .1 .0) (at-step .step .result) (at-step .step .ensures) _ (at-leave .leave .ensures) _ _ _ _ _ (at-selector .selector .given .1) _ (at-send .send .last .0) (at-send .send .last .1 .0) (at-send .send .last .1 .1 .0) (at-send .send .last .1 .1 .1 .0) (at-send .send .result) (at-send .send .ensures) _ _ (c .before .objects .given .1)
+    answers ((at-start .pre) .0) (at-step .step .last .1 .0) (at-step .step .last .1 .1 .0) (at-step .step .result) (at-step .step .ensures) _
+    (at-leave .leave .ensures) _ _ _ _ _ (at-selector .selector .given .1) _ (at-send .send .last .0) (at-send .send .last .1 .0)
+    (at-send .send .last .1 .1 .0) (at-send .send .last .1 .1 .1 .0) (at-send .send .result) (at-send .send .ensures) _ _ (c .before .objects .given .1)
 
 same-length-11 : tie.Need-same-length-11
 same-length-11 c = search needs
@@ -137,7 +144,9 @@ returns-4 c =
     let at-selector = at-leave .before .before .before in
     let at-step = at-selector .before .before .before .before .before .before in
     let at-start = at-step .before .before .before .before .before .before .before .before .before in
-    enters ((at-start .pre) .0) (at-step .step .last .1 .0) (at-step .step .last .1 .1 .0) (at-step .step .result) (at-step .step .ensures) _ (at-leave .leave .ensures) _ _ _ _ _ (at-selector .selector .given .1) _ (at-send .send .last .0) (at-send .send .last .1 .0) (at-send .send .last .1 .1 .0) (at-send .send .last .1 .1 .1 .0) (at-send .send .result) (at-send .send .ensures) _ (c .before .base .given .1)
+    enters ((at-start .pre) .0) (at-step .step .last .1 .0) (at-step .step .last .1 .1 .0) (at-step .step .result) (at-step .step .ensures) _
+    (at-leave .leave .ensures) _ _ _ _ _ (at-selector .selector .given .1) _ (at-send .send .last .0) (at-send .send .last .1 .0)
+    (at-send .send .last .1 .1 .0) (at-send .send .last .1 .1 .1 .0) (at-send .send .result) (at-send .send .ensures) _ (c .before .base .given .1)
 
 same-length-15 : tie.Need-same-length-15
 same-length-15 c = search needs
@@ -158,7 +167,9 @@ returns-5 c =
     let at-selector = at-leave .before .before .before in
     let at-step = at-selector .before .before .before .before .before .before in
     let at-start = at-step .before .before .before .before .before .before .before .before .before in
-    none-understood ((at-start .pre) .0) (at-step .step .last .1 .0) (at-step .step .last .1 .1 .0) (at-step .step .result) (at-step .step .ensures) _ (at-leave .leave .ensures) _ _ _ _ _ (at-selector .selector .given .1) _ (at-send .send .last .0) (at-send .send .last .1 .0) (at-send .send .last .1 .1 .0) (at-send .send .last .1 .1 .1 .0) (at-send .send .result) (at-send .send .ensures) (c .enum-told .given .1)
+    none-understood ((at-start .pre) .0) (at-step .step .last .1 .0) (at-step .step .last .1 .1 .0) (at-step .step .result) (at-step .step .ensures) _
+    (at-leave .leave .ensures) _ _ _ _ _ (at-selector .selector .given .1) _ (at-send .send .last .0) (at-send .send .last .1 .0)
+    (at-send .send .last .1 .1 .0) (at-send .send .last .1 .1 .1 .0) (at-send .send .result) (at-send .send .ensures) (c .enum-told .given .1)
 
 same-length-19 : tie.Need-same-length-19
 same-length-19 c = search needs
@@ -179,7 +190,9 @@ returns-6 c =
     let at-selector = at-leave .before .before .before in
     let at-step = at-selector .before .before .before .before .before .before in
     let at-start = at-step .before .before .before .before .before .before .before .before .before in
-    none-fits ((at-start .pre) .0) (at-step .step .last .1 .0) (at-step .step .last .1 .1 .0) (at-step .step .result) (at-step .step .ensures) _ (at-leave .leave .ensures) _ _ _ _ _ (at-selector .selector .given .1) _ (at-send .send .last .0) (at-send .send .last .1 .0) (at-send .send .last .1 .1 .0) (at-send .send .last .1 .1 .1 .0) (at-send .send .result) (at-send .send .ensures) (c .enum-told2 .given .1)
+    none-fits ((at-start .pre) .0) (at-step .step .last .1 .0) (at-step .step .last .1 .1 .0) (at-step .step .result) (at-step .step .ensures) _
+    (at-leave .leave .ensures) _ _ _ _ _ (at-selector .selector .given .1) _ (at-send .send .last .0) (at-send .send .last .1 .0)
+    (at-send .send .last .1 .1 .0) (at-send .send .last .1 .1 .1 .0) (at-send .send .result) (at-send .send .ensures) (c .enum-told2 .given .1)
 
 same-length-23 : tie.Need-same-length-23
 same-length-23 c = search needs
@@ -198,7 +211,8 @@ returns-7 c =
     let at-w = at-leave2 .before .before .before in
     let at-step = at-w .before .before .before .before .before .before in
     let at-start = at-step .before .before .before .before .before .before .before .before .before in
-    returned-below ((at-start .pre) .0) (at-step .step .last .1 .0) (at-step .step .last .1 .1 .0) (at-step .step .result) (at-step .step .ensures) _ (at-leave2 .leave2 .ensures) _ (at-w .w .given .1) _ _ _ (let h = at-if1 .if1 .left in omega arith) (at-return-to .return-to .ensures .0) (at-return-to .return-to .ensures .1)
+    returned-below ((at-start .pre) .0) (at-step .step .last .1 .0) (at-step .step .last .1 .1 .0) (at-step .step .result) (at-step .step .ensures) _
+    (at-leave2 .leave2 .ensures) _ (at-w .w .given .1) _ _ _ (let h = at-if1 .if1 .left in omega arith) (at-return-to .return-to .ensures .0) (at-return-to .return-to .ensures .1)
 
 same-length-26 : tie.Need-same-length-26
 same-length-26 c = search needs
@@ -214,7 +228,8 @@ returns-8 c =
     let at-enum-told3 = c .before .before .before .before in
     let at-step = at-enum-told3 .before .before .before .before .before .before in
     let at-start = at-step .before .before .before .before .before .before .before .before .before in
-    no-boolean ((at-start .pre) .0) (at-step .step .last .1 .0) (at-step .step .last .1 .1 .0) (at-step .step .result) (at-step .step .ensures) _ (c .before .before .leave3 .ensures) _ (at-enum-told3 .enum-told3 .given .1)
+    no-boolean ((at-start .pre) .0) (at-step .step .last .1 .0) (at-step .step .last .1 .1 .0) (at-step .step .result) (at-step .step .ensures) _
+    (c .before .before .leave3 .ensures) _ (at-enum-told3 .enum-told3 .given .1)
 
 pub advance-spec : {M : Type 1} → statement M
 advance-spec =

@@ -26,7 +26,8 @@ put-text-requires-2 c κs =
     let at-put-number = c .before .before .before .before in
     let at-put-text = at-put-number .before .before .before .before in
     let at-start = at-put-text .before .before .before .before in
-    let d0 = count-digits _ (at-start .fits .number .fits) in let e0 = at-put-text .put-text .ensures .0 in let k0 = at-put-text .put-text .kept .0 in let e1 = at-put-number .put-number .ensures .0 in let k1 = at-put-number .put-number .kept .0 in omega (arith, at-start .pre)
+    let d0 = count-digits _ (at-start .fits .number .fits) in let e0 = at-put-text .put-text .ensures .0 in let k0 = at-put-text .put-text .kept .0 in let e1 =
+    at-put-number .put-number .ensures .0 in let k1 = at-put-number .put-number .kept .0 in omega (arith, at-start .pre)
 
 same-length : tie.Need-same-length
 same-length c = search needs

@@ -16,7 +16,8 @@ put-number-requires : tie.Need-put-number-requires
 put-number-requires c κs =
     let at-put-text = c .before .before .before in
     let at-start = at-put-text .before .before .before .before in
-    let d0 = word-digits _ (at-start .fits .phase .fits) in let d1 = count-digits _ (at-start .fits .count .fits) in let d2 = word-digits _ (at-start .fits .value .fits) in let e0 = at-put-text .put-text .ensures .0 in let k0 = at-put-text .put-text .kept .0 in omega (arith, at-start .pre)
+    let d0 = word-digits _ (at-start .fits .phase .fits) in let d1 = count-digits _ (at-start .fits .count .fits) in let d2 = word-digits _
+    (at-start .fits .value .fits) in let e0 = at-put-text .put-text .ensures .0 in let k0 = at-put-text .put-text .kept .0 in omega (arith, at-start .pre)
 
 slice-aggregate-put-text-2 : tie.Need-slice-aggregate-put-text-2
 slice-aggregate-put-text-2 c = search needs
@@ -26,7 +27,9 @@ put-text-requires-2 c κs =
     let at-put-number = c .before .before .before .before in
     let at-put-text = at-put-number .before .before .before .before in
     let at-start = at-put-text .before .before .before .before in
-    let d0 = word-digits _ (at-start .fits .phase .fits) in let d1 = count-digits _ (at-start .fits .count .fits) in let d2 = word-digits _ (at-start .fits .value .fits) in let e0 = at-put-text .put-text .ensures .0 in let k0 = at-put-text .put-text .kept .0 in let e1 = at-put-number .put-number .ensures .0 in let k1 = at-put-number .put-number .kept .0 in omega (arith, at-start .pre)
+    let d0 = word-digits _ (at-start .fits .phase .fits) in let d1 = count-digits _ (at-start .fits .count .fits) in let d2 = word-digits _
+    (at-start .fits .value .fits) in let e0 = at-put-text .put-text .ensures .0 in let k0 = at-put-text .put-text .kept .0 in let e1 =
+    at-put-number .put-number .ensures .0 in let k1 = at-put-number .put-number .kept .0 in omega (arith, at-start .pre)
 
 put-number-requires-2 : tie.Need-put-number-requires-2
 put-number-requires-2 c κs =
@@ -34,7 +37,10 @@ put-number-requires-2 c κs =
     let at-put-number = at-put-text2 .before .before .before .before .before in
     let at-put-text = at-put-number .before .before .before .before in
     let at-start = at-put-text .before .before .before .before in
-    let d0 = word-digits _ (at-start .fits .phase .fits) in let d1 = count-digits _ (at-start .fits .count .fits) in let d2 = word-digits _ (at-start .fits .value .fits) in let e0 = at-put-text .put-text .ensures .0 in let k0 = at-put-text .put-text .kept .0 in let e1 = at-put-number .put-number .ensures .0 in let k1 = at-put-number .put-number .kept .0 in let e2 = at-put-text2 .put-text2 .ensures .0 in let k2 = at-put-text2 .put-text2 .kept .0 in omega (arith, at-start .pre)
+    let d0 = word-digits _ (at-start .fits .phase .fits) in let d1 = count-digits _ (at-start .fits .count .fits) in let d2 = word-digits _
+    (at-start .fits .value .fits) in let e0 = at-put-text .put-text .ensures .0 in let k0 = at-put-text .put-text .kept .0 in let e1 =
+    at-put-number .put-number .ensures .0 in let k1 = at-put-number .put-number .kept .0 in let e2 = at-put-text2 .put-text2 .ensures .0 in let k2 =
+    at-put-text2 .put-text2 .kept .0 in omega (arith, at-start .pre)
 
 slice-aggregate-put-text-3 : tie.Need-slice-aggregate-put-text-3
 slice-aggregate-put-text-3 c = search needs
@@ -46,7 +52,10 @@ put-text-requires-3 c κs =
     let at-put-number = at-put-text2 .before .before .before .before .before in
     let at-put-text = at-put-number .before .before .before .before in
     let at-start = at-put-text .before .before .before .before in
-    let d0 = word-digits _ (at-start .fits .phase .fits) in let d1 = count-digits _ (at-start .fits .count .fits) in let d2 = word-digits _ (at-start .fits .value .fits) in let e0 = at-put-text .put-text .ensures .0 in let k0 = at-put-text .put-text .kept .0 in let e1 = at-put-number .put-number .ensures .0 in let k1 = at-put-number .put-number .kept .0 in let e2 = at-put-text2 .put-text2 .ensures .0 in let k2 = at-put-text2 .put-text2 .kept .0 in let e3 = at-put-number2 .put-number2 .ensures .0 in let k3 = at-put-number2 .put-number2 .kept .0 in omega (arith, at-start .pre)
+    let d0 = word-digits _ (at-start .fits .phase .fits) in let d1 = count-digits _ (at-start .fits .count .fits) in let d2 = word-digits _
+    (at-start .fits .value .fits) in let e0 = at-put-text .put-text .ensures .0 in let k0 = at-put-text .put-text .kept .0 in let e1 =
+    at-put-number .put-number .ensures .0 in let k1 = at-put-number .put-number .kept .0 in let e2 = at-put-text2 .put-text2 .ensures .0 in let k2 =
+    at-put-text2 .put-text2 .kept .0 in let e3 = at-put-number2 .put-number2 .ensures .0 in let k3 = at-put-number2 .put-number2 .kept .0 in omega (arith, at-start .pre)
 
 put-number-requires-3 : tie.Need-put-number-requires-3
 put-number-requires-3 c κs =
@@ -56,7 +65,11 @@ put-number-requires-3 c κs =
     let at-put-number = at-put-text2 .before .before .before .before .before in
     let at-put-text = at-put-number .before .before .before .before in
     let at-start = at-put-text .before .before .before .before in
-    let d0 = word-digits _ (at-start .fits .phase .fits) in let d1 = count-digits _ (at-start .fits .count .fits) in let d2 = word-digits _ (at-start .fits .value .fits) in let e0 = at-put-text .put-text .ensures .0 in let k0 = at-put-text .put-text .kept .0 in let e1 = at-put-number .put-number .ensures .0 in let k1 = at-put-number .put-number .kept .0 in let e2 = at-put-text2 .put-text2 .ensures .0 in let k2 = at-put-text2 .put-text2 .kept .0 in let e3 = at-put-number2 .put-number2 .ensures .0 in let k3 = at-put-number2 .put-number2 .kept .0 in let e4 = at-put-text3 .put-text3 .ensures .0 in let k4 = at-put-text3 .put-text3 .kept .0 in omega (arith, at-start .pre)
+    let d0 = word-digits _ (at-start .fits .phase .fits) in let d1 = count-digits _ (at-start .fits .count .fits) in let d2 = word-digits _
+    (at-start .fits .value .fits) in let e0 = at-put-text .put-text .ensures .0 in let k0 = at-put-text .put-text .kept .0 in let e1 =
+    at-put-number .put-number .ensures .0 in let k1 = at-put-number .put-number .kept .0 in let e2 = at-put-text2 .put-text2 .ensures .0 in let k2 =
+    at-put-text2 .put-text2 .kept .0 in let e3 = at-put-number2 .put-number2 .ensures .0 in let k3 = at-put-number2 .put-number2 .kept .0 in let e4 =
+    at-put-text3 .put-text3 .ensures .0 in let k4 = at-put-text3 .put-text3 .kept .0 in omega (arith, at-start .pre)
 
 slice-aggregate-put-text-4 : tie.Need-slice-aggregate-put-text-4
 slice-aggregate-put-text-4 c = search needs
@@ -70,7 +83,12 @@ put-text-requires-4 c κs =
     let at-put-number = at-put-text2 .before .before .before .before .before in
     let at-put-text = at-put-number .before .before .before .before in
     let at-start = at-put-text .before .before .before .before in
-    let d0 = word-digits _ (at-start .fits .phase .fits) in let d1 = count-digits _ (at-start .fits .count .fits) in let d2 = word-digits _ (at-start .fits .value .fits) in let e0 = at-put-text .put-text .ensures .0 in let k0 = at-put-text .put-text .kept .0 in let e1 = at-put-number .put-number .ensures .0 in let k1 = at-put-number .put-number .kept .0 in let e2 = at-put-text2 .put-text2 .ensures .0 in let k2 = at-put-text2 .put-text2 .kept .0 in let e3 = at-put-number2 .put-number2 .ensures .0 in let k3 = at-put-number2 .put-number2 .kept .0 in let e4 = at-put-text3 .put-text3 .ensures .0 in let k4 = at-put-text3 .put-text3 .kept .0 in let e5 = at-put-number3 .put-number3 .ensures .0 in let k5 = at-put-number3 .put-number3 .kept .0 in omega (arith, at-start .pre)
+    let d0 = word-digits _ (at-start .fits .phase .fits) in let d1 = count-digits _ (at-start .fits .count .fits) in let d2 = word-digits _
+    (at-start .fits .value .fits) in let e0 = at-put-text .put-text .ensures .0 in let k0 = at-put-text .put-text .kept .0 in let e1 =
+    at-put-number .put-number .ensures .0 in let k1 = at-put-number .put-number .kept .0 in let e2 = at-put-text2 .put-text2 .ensures .0 in let k2 =
+    at-put-text2 .put-text2 .kept .0 in let e3 = at-put-number2 .put-number2 .ensures .0 in let k3 = at-put-number2 .put-number2 .kept .0 in let e4 =
+    at-put-text3 .put-text3 .ensures .0 in let k4 = at-put-text3 .put-text3 .kept .0 in let e5 = at-put-number3 .put-number3 .ensures .0 in let k5 =
+    at-put-number3 .put-number3 .kept .0 in omega (arith, at-start .pre)
 
 same-length : tie.Need-same-length
 same-length c = search needs
@@ -84,7 +102,9 @@ returns c =
     let at-put-number = at-put-text2 .before .before .before .before .before in
     let at-put-text = at-put-number .before .before .before .before in
     let at-start = at-put-text .before .before .before .before in
-    run-put _ _ _ _ _ _ _ _ _ _ _ _ _ _ _ _ _ _ (at-start .pre) (at-start .fits .phase .fits) (at-start .fits .count .fits) (at-start .fits .value .fits) (at-put-text .put-text .ensures) (at-put-number .put-number .ensures) (at-put-text2 .put-text2 .ensures) (at-put-number2 .put-number2 .ensures) (at-put-text3 .put-text3 .ensures) (at-put-number3 .put-number3 .ensures) (c .before .before .put-text4 .ensures)
+    run-put _ _ _ _ _ _ _ _ _ _ _ _ _ _ _ _ _ _ (at-start .pre) (at-start .fits .phase .fits) (at-start .fits .count .fits) (at-start .fits .value .fits)
+    (at-put-text .put-text .ensures) (at-put-number .put-number .ensures) (at-put-text2 .put-text2 .ensures) (at-put-number2 .put-number2 .ensures)
+    (at-put-text3 .put-text3 .ensures) (at-put-number3 .put-number3 .ensures) (c .before .before .put-text4 .ensures)
 
 pub write-run-spec : {M : Type 1} → statement M
 write-run-spec =

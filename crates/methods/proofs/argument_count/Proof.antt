@@ -30,15 +30,21 @@ returns-2 : tie.Need-returns-2
 returns-2 c =
     let at-header-of = c .before .before .before in
     let at-start = at-header-of .before .before .before in
-    let args = at-start .args in
-    (ap (λ (x : ℕ). x / 512 % 32) (c .extension-of .ensures) ∙ count-extension (objectsAt (args .n) (args .b) (args .contents .now) (args .bodies .now)) (args .m) (at-header-of .header-of .result) (at-header-of .header-of .ensures) (c .before .before .if1 .left) (c .before .if2 .taken), omega arith)
+    let args = at-start .args in (
+      ap (λ (x : ℕ). x / 512 % 32) (c .extension-of .ensures) ∙ count-extension (objectsAt (args .n) (args .b) (args .contents .now) (args .bodies .now))
+          (args .m) (at-header-of .header-of .result) (at-header-of .header-of .ensures) (c .before .before .if1 .left) (c .before .if2 .taken),
+      omega arith,
+    )
 
 returns-3 : tie.Need-returns-3
 returns-3 c =
     let at-header-of = c .before .before in
     let at-start = at-header-of .before .before .before in
-    let args = at-start .args in
-    (count-none (objectsAt (args .n) (args .b) (args .contents .now) (args .bodies .now)) (args .m) (at-header-of .header-of .result) (at-header-of .header-of .ensures) (c .before .if1 .left) (c .if2 .left), omega arith)
+    let args = at-start .args in (
+      count-none (objectsAt (args .n) (args .b) (args .contents .now) (args .bodies .now)) (args .m) (at-header-of .header-of .result)
+          (at-header-of .header-of .ensures) (c .before .if1 .left) (c .if2 .left),
+      omega arith,
+    )
 
 pub argument-count-spec : {M : Type 1} → statement M
 argument-count-spec =

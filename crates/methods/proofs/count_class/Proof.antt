@@ -33,7 +33,8 @@ cast-size c = search needs
 size-requires : tie.Need-size-requires Inv-loop μ-loop
 size-requires c κs =
     let at-start = c .before .before .before .before in
-    let h = dictionary-named _ _ _ _ (at-start .pre .ready) (at-start .args .class) (at-start .pre .isClass) (c .body-word .result) (c .body-word .ensures) in record { entries = at-start .pre .ready .lent .entries; least = h .least; most = h .most }
+    let h = dictionary-named _ _ _ _ (at-start .pre .ready) (at-start .args .class) (at-start .pre .isClass) (c .body-word .result)
+    (c .body-word .ensures) in record { entries = at-start .pre .ready .lent .entries; least = h .least; most = h .most }
 
 cast-pairs : tie.Need-cast-pairs Inv-loop μ-loop
 cast-pairs c = search needs
@@ -47,7 +48,9 @@ count-pair-requires c κs =
     let at-size = at-loop .before in
     let at-body-word = at-size .before in
     let at-start = at-body-word .before .before .before .before in
-    pair-asked _ _ _ _ (at-start .args .class) (at-start .args .counts .now) (at-start .pre) (at-body-word .body-word .result) (at-size .size .result) (at-body-word .body-word .ensures) (at-size .size .ensures) (search needs) (at-loop .loop .counts) (at-loop .loop .i) (at-loop .loop .inv .1) (at-loop .loop .inv .2) (c .before .loop-test .taken)
+    pair-asked _ _ _ _ (at-start .args .class) (at-start .args .counts .now) (at-start .pre) (at-body-word .body-word .result) (at-size .size .result)
+    (at-body-word .body-word .ensures) (at-size .size .ensures) (search needs) (at-loop .loop .counts) (at-loop .loop .i) (at-loop .loop .inv .1)
+    (at-loop .loop .inv .2) (c .before .loop-test .taken)
 
 same-length : tie.Need-same-length Inv-loop μ-loop
 same-length c = c .before .before .before .count-pair .kept .1 .1 .1 .1 .1 .1 .0 ∙ c .before .before .before .before .before .before .loop .inv .1
@@ -75,7 +78,8 @@ returns-2 c =
     let at-size = c .before .before in
     let at-body-word = at-size .before in
     let at-start = at-body-word .before .before .before .before in
-    class-done _ _ _ _ (at-start .args .class) (at-start .args .counts .now) (at-start .pre) (at-body-word .body-word .result) (at-size .size .result) (at-body-word .body-word .ensures) (at-size .size .ensures) (c .before .loop .counts) (c .before .loop .i) (c .before .loop .inv .2) (c .loop-test .left)
+    class-done _ _ _ _ (at-start .args .class) (at-start .args .counts .now) (at-start .pre) (at-body-word .body-word .result) (at-size .size .result)
+    (at-body-word .body-word .ensures) (at-size .size .ensures) (c .before .loop .counts) (c .before .loop .i) (c .before .loop .inv .2) (c .loop-test .left)
 
 pub count-class-spec : {M : Type 1} → statement M
 count-class-spec =

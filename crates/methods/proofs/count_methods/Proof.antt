@@ -27,7 +27,14 @@ count-object-requires : tie.Need-count-object-requires Inv-loop μ-loop
 count-object-requires c κs =
     let at-loop = c .before .before in
     let at-start = at-loop .before .before .before .before in
-    record { ready = at-start .pre .0; least = at-loop .loop .inv .0; most = c .before .loop-test .taken; long = let h = at-loop .loop .inv .2 in omega (arith, at-start .pre .1); so-far = at-loop .loop .inv .3 }
+    record {
+      ready = at-start .pre .0;
+      least = at-loop .loop .inv .0;
+      most = c .before .loop-test .taken;
+      long = let h = at-loop .loop .inv .2 in omega
+          (arith, at-start .pre .1);
+      so-far = at-loop .loop .inv .3;
+    }
 
 same-length : tie.Need-same-length Inv-loop μ-loop
 same-length c = c .before .before .before .count-object .kept .1 .1 .1 .1 .1 .0 ∙ c .before .before .before .before .before .before .loop .inv .2

@@ -43,7 +43,8 @@ body-word-requires-4 c κs =
     let at-start = c .before .before .before .before .before .before in
     let args = at-start .args in (
       method-named _ _ _ _ (at-start .pre .ready) (args .class) (at-start .pre .isClass) (args .i) (at-start .pre .inside) (c .body-word3 .result)
-          (c .body-word3 .ensures ∙ ap (λ (x : ℕ). bodyWord (objectsAt (args .n) (args .b) (args .contents .now) (args .bodies .now)) (x / 2) (2 * args .i + 1)) (c .before .before .body-word .ensures)),
+          (c .body-word3 .ensures ∙ ap (λ (x : ℕ). bodyWord (objectsAt (args .n) (args .b) (args .contents .now) (args .bodies .now)) (x / 2)
+          (2 * args .i + 1)) (c .before .before .body-word .ensures)),
       omega arith,
     )
 
@@ -53,7 +54,8 @@ returns c =
     let at-body-word = at-body-word3 .before .before in
     let at-start = at-body-word .before .before .before .before in
     let args = at-start .args in
-    pair-no _ _ _ _ (args .class) (args .i) (args .counts .now) (at-start .pre) (at-body-word .body-word .result) (at-body-word3 .body-word3 .result) (c .before .body-word4 .result) (at-body-word .body-word .ensures) (at-body-word3 .body-word3 .ensures) (c .before .body-word4 .ensures) _ (c .if1 .taken)
+    pair-no _ _ _ _ (args .class) (args .i) (args .counts .now) (at-start .pre) (at-body-word .body-word .result) (at-body-word3 .body-word3 .result)
+    (c .before .body-word4 .result) (at-body-word .body-word .ensures) (at-body-word3 .body-word3 .ensures) (c .before .body-word4 .ensures) _ (c .if1 .taken)
 
 argument-count-requires : tie.Need-argument-count-requires
 argument-count-requires c κs =
@@ -62,7 +64,8 @@ argument-count-requires c κs =
     let at-start = at-body-word .before .before .before .before in
     let args = at-start .args in
     method-named _ _ _ _ (at-start .pre .ready) (args .class) (at-start .pre .isClass) (args .i) (at-start .pre .inside) (at-body-word3 .body-word3 .result)
-    (at-body-word3 .body-word3 .ensures ∙ ap (λ (x : ℕ). bodyWord (objectsAt (args .n) (args .b) (args .contents .now) (args .bodies .now)) (x / 2) (2 * args .i + 1)) (at-body-word .body-word .ensures))
+    (at-body-word3 .body-word3 .ensures ∙ ap (λ (x : ℕ). bodyWord (objectsAt (args .n) (args .b) (args .contents .now) (args .bodies .now)) (x / 2)
+    (2 * args .i + 1)) (at-body-word .body-word .ensures))
 
 cast-note-count : tie.Need-cast-note-count
 cast-note-count c = search needs
@@ -83,7 +86,8 @@ note-count-requires c κs =
       arith,
       at-start .pre .long,
       selector-most _ _ _ _ (at-start .pre .ready) (args .class) (at-start .pre .isClass) (args .i) (at-start .pre .inside) (at-body-word2 .body-word2 .result)
-          (at-body-word2 .body-word2 .ensures ∙ ap (λ (x : ℕ). bodyWord (objectsAt (args .n) (args .b) (args .contents .now) (args .bodies .now)) (x / 2) (2 * args .i)) (at-body-word .body-word .ensures)),
+          (at-body-word2 .body-word2 .ensures ∙ ap (λ (x : ℕ). bodyWord (objectsAt (args .n) (args .b) (args .contents .now) (args .bodies .now)) (x / 2)
+          (2 * args .i)) (at-body-word .body-word .ensures)),
     )
 
 same-length : tie.Need-same-length
@@ -99,8 +103,10 @@ returns-2 c =
     let at-body-word = at-body-word2 .before in
     let at-start = at-body-word .before .before .before .before in
     let args = at-start .args in
-    pair-turned _ _ _ _ (args .class) (args .i) (args .counts .now) (at-start .pre) (at-body-word .body-word .result) (at-body-word3 .body-word3 .result) (at-body-word4 .body-word4 .result) (at-body-word .body-word .ensures) (at-body-word3 .body-word3 .ensures) (at-body-word4 .body-word4 .ensures)
-    (at-body-word2 .body-word2 .result) (at-argument-count .argument-count .result) (at-body-word2 .body-word2 .ensures) (at-if1 .if1 .left) (at-argument-count .argument-count .ensures .0) _ _ (c .before .before .note-count .ensures)
+    pair-turned _ _ _ _ (args .class) (args .i) (args .counts .now) (at-start .pre) (at-body-word .body-word .result) (at-body-word3 .body-word3 .result)
+    (at-body-word4 .body-word4 .result) (at-body-word .body-word .ensures) (at-body-word3 .body-word3 .ensures) (at-body-word4 .body-word4 .ensures)
+    (at-body-word2 .body-word2 .result) (at-argument-count .argument-count .result) (at-body-word2 .body-word2 .ensures) (at-if1 .if1 .left)
+    (at-argument-count .argument-count .ensures .0) _ _ (c .before .before .note-count .ensures)
 
 pub count-pair-spec : {M : Type 1} → statement M
 count-pair-spec =

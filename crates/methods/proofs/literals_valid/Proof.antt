@@ -40,7 +40,9 @@ returns c =
     let at-loop = c .before .before .before .before in
     let at-start = at-loop .before .before .before in
     let args = at-start .args in
-    sym (below-no (args .literals) (λ j. isValid (args .n) (literal (objectsAt (args .n) (args .b) (args .contents .now) (args .bodies .now)) (args .m) j)) (at-loop .loop .i) (c .before .before .before .loop-test .taken) (ap (isValid (args .n)) (sym (c .before .before .body-word .ensures)) ∙ sym (c .before .is-valid .ensures) ∙ not-true _ (c .if1 .taken)))
+    sym (below-no (args .literals) (λ j. isValid (args .n) (literal (objectsAt (args .n) (args .b) (args .contents .now) (args .bodies .now)) (args .m) j))
+    (at-loop .loop .i) (c .before .before .before .loop-test .taken) (ap (isValid (args .n)) (sym (c .before .before .body-word .ensures))
+    ∙ sym (c .before .is-valid .ensures) ∙ not-true _ (c .if1 .taken)))
 
 add-i : tie.Need-add-i Inv-loop μ-loop
 add-i c = search needs
@@ -52,14 +54,19 @@ loop-again : tie.Need-loop-again Inv-loop μ-loop
 loop-again c =
     let at-loop = c .before .before .before .before in
     let at-start = at-loop .before .before .before in
-    let args = at-start .args in
-    (omega arith, before-more (λ j. isValid (args .n) (literal (objectsAt (args .n) (args .b) (args .contents .now) (args .bodies .now)) (args .m) j)) (at-loop .loop .i) (at-loop .loop .inv .1) (ap (isValid (args .n)) (sym (c .before .before .body-word .ensures)) ∙ sym (c .before .is-valid .ensures) ∙ not-false _ (c .if1 .left)))
+    let args = at-start .args in (
+      omega arith,
+      before-more (λ j. isValid (args .n) (literal (objectsAt (args .n) (args .b) (args .contents .now) (args .bodies .now)) (args .m) j))
+          (at-loop .loop .i) (at-loop .loop .inv .1) (ap (isValid (args .n)) (sym (c .before .before .body-word .ensures)) ∙ sym (c .before .is-valid .ensures)
+          ∙ not-false _ (c .if1 .left)),
+    )
 
 returns-2 : tie.Need-returns-2 Inv-loop μ-loop
 returns-2 c =
     let at-start = c .before .before .before .before in
     let args = at-start .args in
-    sym (below-all (args .literals) (c .before .loop .i) (λ j. isValid (args .n) (literal (objectsAt (args .n) (args .b) (args .contents .now) (args .bodies .now)) (args .m) j)) (c .loop-test .left) (c .before .loop .inv .1))
+    sym (below-all (args .literals) (c .before .loop .i)
+    (λ j. isValid (args .n) (literal (objectsAt (args .n) (args .b) (args .contents .now) (args .bodies .now)) (args .m) j)) (c .loop-test .left) (c .before .loop .inv .1))
 
 pub literals-valid-spec : {M : Type 1} → statement M
 literals-valid-spec =

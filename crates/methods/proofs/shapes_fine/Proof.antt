@@ -19,7 +19,12 @@ abbrev μ-loop : tie.MeasureT-loop
 μ-loop contents bodies n b k₀ k = n + 1 - k
 
 loop-holds : tie.Need-loop-holds Inv-loop μ-loop
-loop-holds c = (omega arith, omega (arith, c .before .before .pre .least), up-none (shapeFine (objectsAt (c .before .before .args .n) (c .before .before .args .b) (c .before .before .args .contents .now) (c .before .before .args .bodies .now))))
+loop-holds c = (
+  omega arith,
+  omega (arith, c .before .before .pre .least),
+  up-none
+      (shapeFine (objectsAt (c .before .before .args .n) (c .before .before .args .b) (c .before .before .args .contents .now) (c .before .before .args .bodies .now))),
+)
 
 shape-object-requires : tie.Need-shape-object-requires Inv-loop μ-loop
 shape-object-requires c κs = (c .before .before .before .before .pre, c .before .loop .inv .0, c .loop-test .taken)
@@ -30,7 +35,8 @@ returns c =
     let at-loop = c .before .before .before in
     let at-start = at-loop .before .before .before in
     let args = at-start .args in
-    sym (up-no (args .n) (shapeFine (objectsAt (args .n) (args .b) (args .contents .now) (args .bodies .now))) (at-loop .loop .k) (at-loop .loop .inv .0) (c .before .before .loop-test .taken) (sym (c .before .shape-object .ensures) ∙ not-true _ (c .if1 .taken)))
+    sym (up-no (args .n) (shapeFine (objectsAt (args .n) (args .b) (args .contents .now) (args .bodies .now))) (at-loop .loop .k) (at-loop .loop .inv .0)
+    (c .before .before .loop-test .taken) (sym (c .before .shape-object .ensures) ∙ not-true _ (c .if1 .taken)))
 
 add-k : tie.Need-add-k Inv-loop μ-loop
 add-k c = omega (arith, c .before .before .before .before .before .before .pre .most)
@@ -42,8 +48,12 @@ loop-again : tie.Need-loop-again Inv-loop μ-loop
 loop-again c =
     let at-loop = c .before .before .before in
     let at-start = at-loop .before .before .before in
-    let args = at-start .args in
-    (omega arith, omega arith, up-more (shapeFine (objectsAt (args .n) (args .b) (args .contents .now) (args .bodies .now))) (at-loop .loop .k) (at-loop .loop .inv .2) (sym (c .before .shape-object .ensures) ∙ not-false _ (c .if1 .left)))
+    let args = at-start .args in (
+      omega arith,
+      omega arith,
+      up-more (shapeFine (objectsAt (args .n) (args .b) (args .contents .now) (args .bodies .now))) (at-loop .loop .k)
+          (at-loop .loop .inv .2) (sym (c .before .shape-object .ensures) ∙ not-false _ (c .if1 .left)),
+    )
 
 returns-2 : tie.Need-returns-2 Inv-loop μ-loop
 unfolding shapes

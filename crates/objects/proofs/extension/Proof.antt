@@ -17,7 +17,8 @@ literal-count-requires : tie.Need-literal-count-requires
 literal-count-requires c κs = search needs
 
 sub-literal : tie.Need-sub-literal
-sub-literal c = let t = two-literals (c .before .before .before .before .pre .0) (c .before .before .before .before .pre .1) in let k = (c .literal-count .ensures ∙ ap literalsOf (c .before .header .ensures)) in omega arith
+sub-literal c = let t = two-literals (c .before .before .before .before .pre .0) (c .before .before .before .before .pre .1) in let k =
+    (c .literal-count .ensures ∙ ap literalsOf (c .before .header .ensures)) in omega arith
 
 literal-requires : tie.Need-literal-requires
 literal-requires c κs =
@@ -31,7 +32,8 @@ returns : tie.Need-returns
 returns c =
     let at-start = c .before .before .before .before .before in
     let args = at-start .args in
-    c .literal .ensures ∙ ap (λ (k : ℕ). literal (objectsAt (args .n) (args .b) (args .contents .now) (args .bodies .now)) (args .m .0) (k - 2)) (c .before .literal-count .ensures ∙ ap literalsOf (c .before .before .header .ensures))
+    c .literal .ensures ∙ ap (λ (k : ℕ). literal (objectsAt (args .n) (args .b) (args .contents .now) (args .bodies .now)) (args .m .0) (k - 2))
+    (c .before .literal-count .ensures ∙ ap literalsOf (c .before .before .header .ensures))
 
 pub extension-spec : {M : Type 1} → statement M
 extension-spec =

@@ -30,32 +30,37 @@ mul-at c = omega arith
 add-at : tie.Need-add-at Inv-loop μ-loop
 add-at c =
     let at-start = c .before .before .before .before .before .before in
-    let r = pair-fits (at-start .pre) (at-start .args .s) _ _ (c .before .before .before .start-of .ensures) (ap (λ (x : ℕ). x / 2) (c .before .before .size-of .ensures)) (c .before .loop .i) (omega arith) in omega arith
+    let r = pair-fits (at-start .pre) (at-start .args .s) _ _ (c .before .before .before .start-of .ensures)
+    (ap (λ (x : ℕ). x / 2) (c .before .before .size-of .ensures)) (c .before .loop .i) (omega arith) in omega arith
 
 mul-if1 : tie.Need-mul-if1 Inv-loop μ-loop
 mul-if1 c =
     let at-start = c .before .before .before .before .before .before in
-    let r = pair-fits (at-start .pre) (at-start .args .s) _ _ (c .before .before .before .start-of .ensures) (ap (λ (x : ℕ). x / 2) (c .before .before .size-of .ensures)) (c .before .loop .i) (omega arith) in omega arith
+    let r = pair-fits (at-start .pre) (at-start .args .s) _ _ (c .before .before .before .start-of .ensures)
+    (ap (λ (x : ℕ). x / 2) (c .before .before .size-of .ensures)) (c .before .loop .i) (omega arith) in omega arith
 
 shared-slice-read-if1 : tie.Need-shared-slice-read-if1 Inv-loop μ-loop
 shared-slice-read-if1 c =
     let at-start-of = c .before .before .before .before in
     let at-start = at-start-of .before .before .before in
-    let r = pair-fits (at-start .pre) (at-start .args .s) _ _ (at-start-of .start-of .ensures) (ap (λ (x : ℕ). x / 2) (c .before .before .before .size-of .ensures)) (c .before .before .loop .i) (omega arith) in omega arith
+    let r = pair-fits (at-start .pre) (at-start .args .s) _ _ (at-start-of .start-of .ensures)
+    (ap (λ (x : ℕ). x / 2) (c .before .before .before .size-of .ensures)) (c .before .before .loop .i) (omega arith) in omega arith
 
 add-t16 : tie.Need-add-t16 Inv-loop μ-loop
 add-t16 c =
     let at-size-of = c .before .before .before .before in
     let at-start-of = at-size-of .before in
     let at-start = at-start-of .before .before .before in
-    let r = pair-fits (at-start .pre) (at-start .args .s) _ _ (at-start-of .start-of .ensures) (ap (λ (x : ℕ). x / 2) (at-size-of .size-of .ensures)) (c .before .before .before .loop .i) (omega arith) in omega arith
+    let r = pair-fits (at-start .pre) (at-start .args .s) _ _ (at-start-of .start-of .ensures) (ap (λ (x : ℕ). x / 2) (at-size-of .size-of .ensures))
+    (c .before .before .before .loop .i) (omega arith) in omega arith
 
 mul-t17 : tie.Need-mul-t17 Inv-loop μ-loop
 mul-t17 c =
     let at-size-of = c .before .before .before .before in
     let at-start-of = at-size-of .before in
     let at-start = at-start-of .before .before .before in
-    let r = pair-fits (at-start .pre) (at-start .args .s) _ _ (at-start-of .start-of .ensures) (ap (λ (x : ℕ). x / 2) (at-size-of .size-of .ensures)) (c .before .before .before .loop .i) (omega arith) in omega arith
+    let r = pair-fits (at-start .pre) (at-start .args .s) _ _ (at-start-of .start-of .ensures) (ap (λ (x : ℕ). x / 2) (at-size-of .size-of .ensures))
+    (c .before .before .before .loop .i) (omega arith) in omega arith
 
 shared-slice-read-t19 : tie.Need-shared-slice-read-t19 Inv-loop μ-loop
 shared-slice-read-t19 c =
@@ -71,7 +76,8 @@ returns c =
     let at-size-of = at-loop .before in
     let at-start-of = at-size-of .before in
     let at-start = at-start-of .before .before .before in
-    found-pair (at-start .pre) (at-start .args .s) _ _ (at-start-of .start-of .ensures) (ap (λ (x : ℕ). x / 2) (at-size-of .size-of .ensures)) (at-loop .loop .i) (omega arith) (at-loop .loop .inv .1) (c .before .if1 .taken)
+    found-pair (at-start .pre) (at-start .args .s) _ _ (at-start-of .start-of .ensures) (ap (λ (x : ℕ). x / 2) (at-size-of .size-of .ensures))
+    (at-loop .loop .i) (omega arith) (at-loop .loop .inv .1) (c .before .if1 .taken)
 
 add-i : tie.Need-add-i Inv-loop μ-loop
 add-i c = omega arith
@@ -85,7 +91,8 @@ loop-again c = (omega arith, below-more _ _ (c .before .before .before .loop .in
 returns-2 : tie.Need-returns-2 Inv-loop μ-loop
 returns-2 c =
     let at-start = c .before .before .before .before .before .before in
-    no-pair (at-start .pre) (at-start .args .s) _ _ (c .before .before .before .start-of .ensures) (ap (λ (x : ℕ). x / 2) (c .before .before .size-of .ensures)) (c .before .loop .i) (c .before .loop .inv .0) (c .loop-test .left) (c .before .loop .inv .1)
+    no-pair (at-start .pre) (at-start .args .s) _ _ (c .before .before .before .start-of .ensures)
+    (ap (λ (x : ℕ). x / 2) (c .before .before .size-of .ensures)) (c .before .loop .i) (c .before .loop .inv .0) (c .loop-test .left) (c .before .loop .inv .1)
 
 pub find-in-spec : {M : Type 1} → statement M
 find-in-spec =

@@ -10,7 +10,8 @@ use Rattle.objects.proofs.in_chain.Statement.{statement}
 use Rattle.objects.proofs.in_chain.Tie as tie
 
 abbrev Inv-loop : tie.InvT-loop
-Inv-loop contents bodies n b a c₀ left₀ c left = T (isNilOr (objectsAt n b contents bodies) classKind (c .0)) × (inChainWithin left (objectsAt n b contents bodies) (a .0) (c .0) ≡ inChain (objectsAt n b contents bodies) (a .0) (c₀ .0))
+Inv-loop contents bodies n b a c₀ left₀ c left = T (isNilOr (objectsAt n b contents bodies) classKind (c .0))
+    × (inChainWithin left (objectsAt n b contents bodies) (a .0) (c .0) ≡ inChain (objectsAt n b contents bodies) (a .0) (c₀ .0))
 
 abbrev μ-loop : tie.MeasureT-loop
 μ-loop contents bodies n b a c₀ left₀ c left = left
@@ -26,7 +27,8 @@ returns-2 c =
     let at-loop-test = c .before .before .before .before .before in
     let at-loop = at-loop-test .before in
     let at-start = at-loop .before .before .before in
-    chain-here (at-start .pre .0) _ _ _ (at-loop-test .loop-test .taken) (class-here (at-start .pre .0) _ (at-loop .loop .inv .0) (c .before .before .before .if1 .left)) (c .if2 .taken) ∙ at-loop .loop .inv .1
+    chain-here (at-start .pre .0) _ _ _ (at-loop-test .loop-test .taken) (class-here (at-start .pre .0) _ (at-loop .loop .inv .0)
+    (c .before .before .before .if1 .left)) (c .if2 .taken) ∙ at-loop .loop .inv .1
 
 superclass-requires : tie.Need-superclass-requires Inv-loop μ-loop
 superclass-requires c κs =
@@ -45,8 +47,12 @@ loop-again c =
     let at-if1 = c .before .before .before .before in
     let at-loop-test = at-if1 .before .before in
     let at-loop = at-loop-test .before in
-    let at-start = at-loop .before .before .before in
-    (class-above (at-start .pre .0) _ _ (c .superclass .ensures) (class-here (at-start .pre .0) _ (at-loop .loop .inv .0) (at-if1 .if1 .left)), chain-up (at-start .pre .0) _ _ _ _ (at-loop-test .loop-test .taken) (class-here (at-start .pre .0) _ (at-loop .loop .inv .0) (at-if1 .if1 .left)) (c .before .if2 .left) (c .superclass .ensures) ∙ at-loop .loop .inv .1)
+    let at-start = at-loop .before .before .before in (
+      class-above (at-start .pre .0) _ _ (c .superclass .ensures) (class-here (at-start .pre .0) _ (at-loop .loop .inv .0) (at-if1 .if1 .left)),
+      chain-up
+          (at-start .pre .0) _ _ _ _ (at-loop-test .loop-test .taken) (class-here (at-start .pre .0) _ (at-loop .loop .inv .0) (at-if1 .if1 .left))
+          (c .before .if2 .left) (c .superclass .ensures) ∙ at-loop .loop .inv .1,
+    )
 
 returns-3 : tie.Need-returns-3 Inv-loop μ-loop
 returns-3 c = chain-over _ _ _ _ (c .loop-test .left) ∙ c .before .loop .inv .1

@@ -10,7 +10,8 @@ use Rattle.objects.proofs.lookup.Statement.{statement}
 use Rattle.objects.proofs.lookup.Tie as tie
 
 abbrev Inv-loop : tie.InvT-loop
-Inv-loop contents bodies n b s c₀ left₀ c left = T (isNilOr (objectsAt n b contents bodies) classKind (c .0)) × (lookupWithin left (objectsAt n b contents bodies) s (c .0) ≡ lookup (objectsAt n b contents bodies) s (c₀ .0))
+Inv-loop contents bodies n b s c₀ left₀ c left = T (isNilOr (objectsAt n b contents bodies) classKind (c .0))
+    × (lookupWithin left (objectsAt n b contents bodies) s (c .0) ≡ lookup (objectsAt n b contents bodies) s (c₀ .0))
 
 abbrev μ-loop : tie.MeasureT-loop
 μ-loop contents bodies n b s c₀ left₀ c left = left
@@ -42,7 +43,8 @@ returns-2 c =
     let at-loop-test = at-if1 .before .before in
     let at-loop = at-loop-test .before in
     let at-start = at-loop .before .before .before in
-    lookup-hit (at-start .pre .0) _ _ _ _ _ _ (at-loop-test .loop-test .taken) (class-here (at-start .pre .0) _ (at-loop .loop .inv .0) (at-if1 .if1 .left)) (at-dictionary .dictionary .ensures) (c .before .before .before .find-in .ensures) (c .before .m .given .1) ∙ at-loop .loop .inv .1
+    lookup-hit (at-start .pre .0) _ _ _ _ _ _ (at-loop-test .loop-test .taken) (class-here (at-start .pre .0) _ (at-loop .loop .inv .0) (at-if1 .if1 .left))
+    (at-dictionary .dictionary .ensures) (c .before .before .before .find-in .ensures) (c .before .m .given .1) ∙ at-loop .loop .inv .1
 
 enum-told : tie.Need-enum-told Inv-loop μ-loop
 enum-told c = c .match .keys2
@@ -66,8 +68,12 @@ loop-again c =
     let at-if1 = at-dictionary .before in
     let at-loop-test = at-if1 .before .before in
     let at-loop = at-loop-test .before in
-    let at-start = at-loop .before .before .before in
-    (class-above (at-start .pre .0) _ _ (c .superclass .ensures) (class-here (at-start .pre .0) _ (at-loop .loop .inv .0) (at-if1 .if1 .left)), lookup-up (at-start .pre .0) _ _ _ _ _ _ (at-loop-test .loop-test .taken) (class-here (at-start .pre .0) _ (at-loop .loop .inv .0) (at-if1 .if1 .left)) (at-dictionary .dictionary .ensures) (c .superclass .ensures) (c .before .before .before .find-in .ensures) (c .before .enum-told .given .1) ∙ at-loop .loop .inv .1)
+    let at-start = at-loop .before .before .before in (
+      class-above (at-start .pre .0) _ _ (c .superclass .ensures) (class-here (at-start .pre .0) _ (at-loop .loop .inv .0) (at-if1 .if1 .left)),
+      lookup-up
+          (at-start .pre .0) _ _ _ _ _ _ (at-loop-test .loop-test .taken) (class-here (at-start .pre .0) _ (at-loop .loop .inv .0) (at-if1 .if1 .left))
+          (at-dictionary .dictionary .ensures) (c .superclass .ensures) (c .before .before .before .find-in .ensures) (c .before .enum-told .given .1) ∙ at-loop .loop .inv .1,
+    )
 
 returns-3 : tie.Need-returns-3 Inv-loop μ-loop
 returns-3 c = lookup-over _ _ _ _ (c .loop-test .left) ∙ c .before .loop .inv .1

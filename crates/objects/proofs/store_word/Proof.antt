@@ -27,7 +27,8 @@ returns : tie.Need-returns
 returns c =
     let at-start = c .before .before .before in
     let args = at-start .args in
-    let h = room (at-start .pre) in stored (args .n) (args .b) (args .contents .now) (args .bodies .now) _ _ _ (c .start-of .result + args .i) (h .words) (ap (λ (x : ℕ). x + args .i) (c .start-of .ensures)) (omega (arith, c .start-of .ensures))
+    let h = room (at-start .pre) in stored (args .n) (args .b) (args .contents .now) (args .bodies .now) _ _ _ (c .start-of .result + args .i) (h .words)
+    (ap (λ (x : ℕ). x + args .i) (c .start-of .ensures)) (omega (arith, c .start-of .ensures))
 
 pub store-word-spec : {M : Type 1} → statement M
 store-word-spec =

@@ -23,7 +23,8 @@ returns : tie.Need-returns
 returns c =
     let at-start = c .before .before .before .before in
     let args = at-start .args in
-    let h = room (at-start .pre) in word-at (args .n) (args .b) (args .contents .now) (args .bodies .now) _ _ (c .before .start-of .result + args .i) (ap (λ (x : ℕ). x + args .i) (c .before .start-of .ensures)) (omega (arith, c .before .start-of .ensures))
+    let h = room (at-start .pre) in word-at (args .n) (args .b) (args .contents .now) (args .bodies .now) _ _ (c .before .start-of .result + args .i)
+    (ap (λ (x : ℕ). x + args .i) (c .before .start-of .ensures)) (omega (arith, c .before .start-of .ensures))
 
 pub word-of-spec : {M : Type 1} → statement M
 word-of-spec =

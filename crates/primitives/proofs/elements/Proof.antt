@@ -31,7 +31,9 @@ returns-3 c =
     let at-if1 = at-size-of .before in
     let at-start = at-if1 .before .before .before in
     let args = at-start .args in
-    sym (c .if3 .taken) ∙ elements-form _ _ _ _ (at-if1 .if1 .left) (at-size-of .size-of .ensures) (c .before .before .before .if2 .left) (c .before .form-of .ensures ∙ ap (form (objectsAt (args .n) (args .b) (args .contents .now) (args .bodies .now))) (c .before .before .class-of .ensures (args .b) (args .bodies .now))) (inl (c .if3 .taken))
+    sym (c .if3 .taken) ∙ elements-form _ _ _ _ (at-if1 .if1 .left) (at-size-of .size-of .ensures) (c .before .before .before .if2 .left)
+    (c .before .form-of .ensures ∙ ap (form (objectsAt (args .n) (args .b) (args .contents .now) (args .bodies .now)))
+    (c .before .before .class-of .ensures (args .b) (args .bodies .now))) (inl (c .if3 .taken))
 
 returns-4 : tie.Need-returns-4
 returns-4 c =
@@ -40,13 +42,16 @@ returns-4 c =
     let at-if1 = at-size-of .before in
     let at-start = at-if1 .before .before .before in
     let args = at-start .args in
-    sym (c .if4 .taken) ∙ elements-form _ _ _ _ (at-if1 .if1 .left) (at-size-of .size-of .ensures) (at-if2 .if2 .left) (c .before .before .form-of .ensures ∙ ap (form (objectsAt (args .n) (args .b) (args .contents .now) (args .bodies .now))) (c .before .before .before .class-of .ensures (args .b) (args .bodies .now))) (inr (c .if4 .taken))
+    sym (c .if4 .taken) ∙ elements-form _ _ _ _ (at-if1 .if1 .left) (at-size-of .size-of .ensures) (at-if2 .if2 .left) (c .before .before .form-of .ensures
+    ∙ ap (form (objectsAt (args .n) (args .b) (args .contents .now) (args .bodies .now))) (c .before .before .before .class-of .ensures (args .b)
+    (args .bodies .now))) (inr (c .if4 .taken))
 
 returns-5 : tie.Need-returns-5
 returns-5 c =
     let at-start = c .before .before .before .before .before .before .before .before .before in
     let args = at-start .args in
-    elements-other _ _ _ (c .before .before .form-of .ensures ∙ ap (form (objectsAt (args .n) (args .b) (args .contents .now) (args .bodies .now))) (c .before .before .before .class-of .ensures (args .b) (args .bodies .now))) (c .before .if3 .left) (c .if4 .left)
+    elements-other _ _ _ (c .before .before .form-of .ensures ∙ ap (form (objectsAt (args .n) (args .b) (args .contents .now) (args .bodies .now)))
+    (c .before .before .before .class-of .ensures (args .b) (args .bodies .now))) (c .before .if3 .left) (c .if4 .left)
 
 pub elements-spec : {M : Type 1} → statement M
 elements-spec =

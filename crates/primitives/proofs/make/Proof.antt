@@ -79,7 +79,13 @@ returns-5 c =
     let at-if3 = at-if4 .before in
     let at-if2 = at-if3 .before in
     let at-if1 = at-if2 .before in
-    does-make _ _ _ _ _ _ _ _ _ _ _ (record { objects = at-if1 .if1 .left; words = at-if2 .if2 .left; contents = at-if3 .if3 .left; bodies = at-if4 .if4 .left }) (at-enter .enter .ensures) (c .before .before .fill .ensures)
+    does-make _ _ _ _ _ _ _ _ _ _ _ (record {
+      objects = at-if1 .if1 .left;
+      words = at-if2 .if2 .left;
+      contents = at-if3 .if3 .left;
+      bodies =
+          at-if4 .if4 .left;
+    }) (at-enter .enter .ensures) (c .before .before .fill .ensures)
 
 pub make-spec : {M : Type 1} → statement M
 make-spec =

@@ -23,7 +23,8 @@ returns : tie.Need-returns
 returns c =
     let at-start = c .before .before .before .before .before in
     let args = at-start .args in
-    does-none (args .n) (args .b) (args .contents .now) (args .bodies .now) (at-start .pre) (new-no-class _ _ _ (sym (c .before .is-kind .ensures (args .b) (args .bodies .now)) ∙ not-true _ (c .if1 .taken)))
+    does-none (args .n) (args .b) (args .contents .now) (args .bodies .now) (at-start .pre)
+    (new-no-class _ _ _ (sym (c .before .is-kind .ensures (args .b) (args .bodies .now)) ∙ not-true _ (c .if1 .taken)))
 
 form-of-requires : tie.Need-form-of-requires
 form-of-requires c κs =
@@ -42,7 +43,8 @@ returns-2 c =
     let at-is-kind = at-if1 .before in
     let at-start = at-is-kind .before .before .before .before in
     let args = at-start .args in
-    does-none (args .n) (args .b) (args .contents .now) (args .bodies .now) (at-start .pre) (new-other _ _ _ (sym (at-is-kind .is-kind .ensures (args .b) (args .bodies .now)) ∙ not-false _ (at-if1 .if1 .left)) _ (c .before .form-of .ensures) (c .if2 .taken))
+    does-none (args .n) (args .b) (args .contents .now) (args .bodies .now) (at-start .pre)
+    (new-other _ _ _ (sym (at-is-kind .is-kind .ensures (args .b) (args .bodies .now)) ∙ not-false _ (at-if1 .if1 .left)) _ (c .before .form-of .ensures) (c .if2 .taken))
 
 field-count-requires : tie.Need-field-count-requires
 field-count-requires c κs =
@@ -57,7 +59,8 @@ cast-make c =
     let at-is-kind = at-if1 .before in
     let at-start = at-is-kind .before .before .before .before in
     let args = at-start .args in
-    let f = class-facts (at-start .pre) (args .w) (true→T (sym (at-is-kind .is-kind .ensures (args .b) (args .bodies .now)) ∙ not-false _ (at-if1 .if1 .left))) .fields in let e = c .before .before .field-count .ensures in omega arith
+    let f = class-facts (at-start .pre) (args .w) (true→T (sym (at-is-kind .is-kind .ensures (args .b) (args .bodies .now))
+    ∙ not-false _ (at-if1 .if1 .left))) .fields in let e = c .before .before .field-count .ensures in omega arith
 
 make-requires : tie.Need-make-requires
 make-requires c κs =
@@ -65,7 +68,8 @@ make-requires c κs =
     let at-is-kind = at-if1 .before in
     let at-start = at-is-kind .before .before .before .before in
     let args = at-start .args in
-    let f = class-facts (at-start .pre) (args .w) (true→T (sym (at-is-kind .is-kind .ensures (args .b) (args .bodies .now)) ∙ not-false _ (at-if1 .if1 .left))) .fields in let e = c .before .before .field-count .ensures in (at-start .pre, omega arith)
+    let f = class-facts (at-start .pre) (args .w) (true→T (sym (at-is-kind .is-kind .ensures (args .b) (args .bodies .now))
+    ∙ not-false _ (at-if1 .if1 .left))) .fields in let e = c .before .before .field-count .ensures in (at-start .pre, omega arith)
 
 same-length-4 : tie.Need-same-length-4
 same-length-4 c = search needs
@@ -82,7 +86,8 @@ returns-3 c =
     let at-if1 = at-form-of .before .before .before in
     let at-is-kind = at-if1 .before in
     let at-start = at-is-kind .before .before .before .before in
-    does-same (new-is _ _ _ (sym (at-is-kind .is-kind .ensures (at-start .args .b) (at-start .args .bodies .now)) ∙ not-false _ (at-if1 .if1 .left)) _ _ (at-form-of .form-of .ensures) (at-if2 .if2 .left) (at-field-count .field-count .ensures)) (at-make .make .ensures)
+    does-same (new-is _ _ _ (sym (at-is-kind .is-kind .ensures (at-start .args .b) (at-start .args .bodies .now)) ∙ not-false _ (at-if1 .if1 .left)) _ _
+    (at-form-of .form-of .ensures) (at-if2 .if2 .left) (at-field-count .field-count .ensures)) (at-make .make .ensures)
 
 pub new-object-spec : {M : Type 1} → statement M
 new-object-spec =

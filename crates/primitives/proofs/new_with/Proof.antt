@@ -23,7 +23,8 @@ returns : tie.Need-returns
 returns c =
     let at-start = c .before .before .before .before .before in
     let args = at-start .args in
-    does-none (args .n) (args .b) (args .contents .now) (args .bodies .now) (at-start .pre) (with-no-class _ _ _ _ (sym (c .before .is-kind .ensures (args .b) (args .bodies .now)) ∙ not-true _ (c .if1 .taken)))
+    does-none (args .n) (args .b) (args .contents .now) (args .bodies .now) (at-start .pre)
+    (with-no-class _ _ _ _ (sym (c .before .is-kind .ensures (args .b) (args .bodies .now)) ∙ not-true _ (c .if1 .taken)))
 
 same-length-2 : tie.Need-same-length-2
 same-length-2 c = search needs
@@ -32,7 +33,8 @@ returns-2 : tie.Need-returns-2
 returns-2 c =
     let at-start = c .before .before .before .before .before .before in
     let args = at-start .args in
-    does-none (args .n) (args .b) (args .contents .now) (args .bodies .now) (at-start .pre) (with-even _ _ _ (sym (c .before .before .is-kind .ensures (args .b) (args .bodies .now)) ∙ not-false _ (c .before .if1 .left)) _ (c .if2 .taken))
+    does-none (args .n) (args .b) (args .contents .now) (args .bodies .now) (at-start .pre)
+    (with-even _ _ _ (sym (c .before .before .is-kind .ensures (args .b) (args .bodies .now)) ∙ not-false _ (c .before .if1 .left)) _ (c .if2 .taken))
 
 same-length-3 : tie.Need-same-length-3
 same-length-3 c = search needs
@@ -41,7 +43,9 @@ returns-3 : tie.Need-returns-3
 returns-3 c =
     let at-start = c .before .before .before .before .before .before .before in
     let args = at-start .args in
-    does-none (args .n) (args .b) (args .contents .now) (args .bodies .now) (at-start .pre) (with-large _ _ _ (sym (c .before .before .before .is-kind .ensures (args .b) (args .bodies .now)) ∙ not-false _ (c .before .before .if1 .left)) _ (c .before .if2 .left) (c .if3 .taken))
+    does-none (args .n) (args .b) (args .contents .now) (args .bodies .now) (at-start .pre)
+    (with-large _ _ _ (sym (c .before .before .before .is-kind .ensures (args .b) (args .bodies .now)) ∙ not-false _ (c .before .before .if1 .left)) _
+    (c .before .if2 .left) (c .if3 .taken))
 
 form-of-requires : tie.Need-form-of-requires
 form-of-requires c κs =
@@ -63,7 +67,8 @@ add-count c =
     let at-is-kind = at-if1 .before in
     let at-start = at-is-kind .before .before .before .before in
     let args = at-start .args in
-    let f = class-facts (at-start .pre) (args .w) (true→T (sym (at-is-kind .is-kind .ensures (args .b) (args .bodies .now)) ∙ not-false _ (at-if1 .if1 .left))) .fields in let e = c .field-count .ensures in omega arith
+    let f = class-facts (at-start .pre) (args .w) (true→T (sym (at-is-kind .is-kind .ensures (args .b) (args .bodies .now))
+    ∙ not-false _ (at-if1 .if1 .left))) .fields in let e = c .field-count .ensures in omega arith
 
 cast-make : tie.Need-cast-make
 cast-make c =
@@ -71,7 +76,8 @@ cast-make c =
     let at-is-kind = at-if1 .before in
     let at-start = at-is-kind .before .before .before .before in
     let args = at-start .args in
-    let f = class-facts (at-start .pre) (args .w) (true→T (sym (at-is-kind .is-kind .ensures (args .b) (args .bodies .now)) ∙ not-false _ (at-if1 .if1 .left))) .fields in let e = c .before .before .field-count .ensures in omega arith
+    let f = class-facts (at-start .pre) (args .w) (true→T (sym (at-is-kind .is-kind .ensures (args .b) (args .bodies .now))
+    ∙ not-false _ (at-if1 .if1 .left))) .fields in let e = c .before .before .field-count .ensures in omega arith
 
 make-requires : tie.Need-make-requires
 make-requires c κs =
@@ -79,7 +85,8 @@ make-requires c κs =
     let at-is-kind = at-if1 .before in
     let at-start = at-is-kind .before .before .before .before in
     let args = at-start .args in
-    let f = class-facts (at-start .pre) (args .w) (true→T (sym (at-is-kind .is-kind .ensures (args .b) (args .bodies .now)) ∙ not-false _ (at-if1 .if1 .left))) .fields in let e = c .before .before .field-count .ensures in (at-start .pre, omega arith)
+    let f = class-facts (at-start .pre) (args .w) (true→T (sym (at-is-kind .is-kind .ensures (args .b) (args .bodies .now))
+    ∙ not-false _ (at-if1 .if1 .left))) .fields in let e = c .before .before .field-count .ensures in (at-start .pre, omega arith)
 
 same-length-4 : tie.Need-same-length-4
 same-length-4 c = search needs
@@ -98,7 +105,8 @@ returns-4 c =
     let at-if1 = at-if2 .before in
     let at-is-kind = at-if1 .before in
     let at-start = at-is-kind .before .before .before .before in
-    does-same (with-words _ _ _ (sym (at-is-kind .is-kind .ensures (at-start .args .b) (at-start .args .bodies .now)) ∙ not-false _ (at-if1 .if1 .left)) _ _ (at-if2 .if2 .left) (at-if3 .if3 .left) (at-form-of .form-of .ensures) _ (at-if4 .if4 .taken) (at-field-count .field-count .ensures)) (at-make .make .ensures)
+    does-same (with-words _ _ _ (sym (at-is-kind .is-kind .ensures (at-start .args .b) (at-start .args .bodies .now)) ∙ not-false _ (at-if1 .if1 .left)) _ _
+    (at-if2 .if2 .left) (at-if3 .if3 .left) (at-form-of .form-of .ensures) _ (at-if4 .if4 .taken) (at-field-count .field-count .ensures)) (at-make .make .ensures)
 
 cast-make-2 : tie.Need-cast-make-2
 cast-make-2 c = search needs
@@ -125,7 +133,8 @@ returns-5 c =
     let at-if1 = at-if2 .before in
     let at-is-kind = at-if1 .before in
     let at-start = at-is-kind .before .before .before .before in
-    does-same (with-bytes _ _ _ (sym (at-is-kind .is-kind .ensures (at-start .args .b) (at-start .args .bodies .now)) ∙ not-false _ (at-if1 .if1 .left)) _ _ (at-if2 .if2 .left) (at-if3 .if3 .left) (at-form-of .form-of .ensures) (at-if5 .if5 .taken)) (at-make2 .make2 .ensures)
+    does-same (with-bytes _ _ _ (sym (at-is-kind .is-kind .ensures (at-start .args .b) (at-start .args .bodies .now)) ∙ not-false _ (at-if1 .if1 .left)) _ _
+    (at-if2 .if2 .left) (at-if3 .if3 .left) (at-form-of .form-of .ensures) (at-if5 .if5 .taken)) (at-make2 .make2 .ensures)
 
 same-length-8 : tie.Need-same-length-8
 same-length-8 c = search needs
@@ -141,7 +150,9 @@ returns-6 c =
     let at-is-kind = at-if1 .before in
     let at-start = at-is-kind .before .before .before .before in
     let args = at-start .args in
-    does-none (args .n) (args .b) (args .contents .now) (args .bodies .now) (at-start .pre) (with-other _ _ _ (sym (at-is-kind .is-kind .ensures (args .b) (args .bodies .now)) ∙ not-false _ (at-if1 .if1 .left)) _ _ (at-if2 .if2 .left) (at-if3 .if3 .left) (c .before .before .form-of .ensures) (c .before .if4 .left) (c .if5 .left))
+    does-none (args .n) (args .b) (args .contents .now) (args .bodies .now) (at-start .pre)
+    (with-other _ _ _ (sym (at-is-kind .is-kind .ensures (args .b) (args .bodies .now)) ∙ not-false _ (at-if1 .if1 .left)) _ _ (at-if2 .if2 .left)
+    (at-if3 .if3 .left) (c .before .before .form-of .ensures) (c .before .if4 .left) (c .if5 .left))
 
 pub new-with-spec : {M : Type 1} → statement M
 new-with-spec =

@@ -71,7 +71,12 @@ loop-again c =
     let o = objectsAt (a .n) (a .b) (a .contents .now) (a .bodies .now) in
     let i = at-loop .loop .inv in
     let t = c .before .before .before .loop-test in
-    record { least = omega arith; most = omega arith; starts = c .body-end .ensures (a .b) (a .bodies .now) ∙ sym (start-next o (at-loop .loop .k) (i .least)); passed = up-more (λ j. allOf (layoutRules 1 o j)) (at-loop .loop .k) (i .passed) (sym (c .before .before .object-layout .ensures) ∙ not-false _ (c .before .if1 .left)) }
+    record {
+      least = omega arith;
+      most = omega arith;
+      starts = c .body-end .ensures (a .b) (a .bodies .now) ∙ sym (start-next o (at-loop .loop .k) (i .least));
+      passed = up-more (λ j. allOf (layoutRules 1 o j)) (at-loop .loop .k) (i .passed) (sym (c .before .before .object-layout .ensures) ∙ not-false _ (c .before .if1 .left));
+    }
 
 returns-2 : tie.Need-returns-2 Inv-loop μ-loop
 returns-2 c =

@@ -31,7 +31,11 @@ returns-2 c =
     let at-start = c .before .before .before .before .before .before in
     let a = at-start .args in
     let o = objectsAt (a .n) (a .b) (a .contents .now) (a .bodies .now) in
-    simp (ap (λ (x : ℕ). leb x 4) (sym (c .before .before .before .kind .ensures)) ∙ le-leb _ _ (c .before .before .if1 .left), start-no o (a .k) (λ e. c .if2 .taken (c .before .start .ensures ∙ e ∙ sym (at-start .pre .1 .1))))
+    simp (
+      ap (λ (x : ℕ). leb x 4) (sym (c .before .before .before .kind .ensures)) ∙ le-leb _ _ (c .before .before .if1 .left),
+      start-no o (a .k)
+          (λ e. c .if2 .taken (c .before .start .ensures ∙ e ∙ sym (at-start .pre .1 .1))),
+    )
 
 size-requires : tie.Need-size-requires
 size-requires c κs = search needs
@@ -48,7 +52,13 @@ returns-3 c =
     let at-start′ = at-kind .before .before .before in
     let a = at-start′ .args in
     let o = objectsAt (a .n) (a .b) (a .contents .now) (a .bodies .now) in
-    simp (ap (λ (x : ℕ). leb x 4) (sym (at-kind .kind .ensures)) ∙ le-leb _ _ (at-if1 .if1 .left), start-yes o (a .k) (sym (at-start .start .ensures) ∙ c .before .before .before .if2 .left ∙ at-start′ .pre .1 .1), ap₂ (λ (x y : ℕ). implies (eqb x 2) (eqb y 4)) (sym (at-kind .kind .ensures)) (sym (c .before .before .size .ensures)) ∙ sym (c .before .class-size .ensures) ∙ not-true _ (c .if3 .taken))
+    simp (
+      ap (λ (x : ℕ). leb x 4) (sym (at-kind .kind .ensures)) ∙ le-leb _ _ (at-if1 .if1 .left),
+      start-yes o (a .k) (sym (at-start .start .ensures)
+          ∙ c .before .before .before .if2 .left ∙ at-start′ .pre .1 .1),
+      ap₂ (λ (x y : ℕ). implies (eqb x 2) (eqb y 4)) (sym (at-kind .kind .ensures))
+          (sym (c .before .before .size .ensures)) ∙ sym (c .before .class-size .ensures) ∙ not-true _ (c .if3 .taken),
+    )
 
 padding-requires : tie.Need-padding-requires
 padding-requires c κs = search needs
@@ -63,7 +73,14 @@ returns-4 c =
     let at-start′ = at-kind .before .before .before in
     let a = at-start′ .args in
     let o = objectsAt (a .n) (a .b) (a .contents .now) (a .bodies .now) in
-    simp (ap (λ (x : ℕ). leb x 4) (sym (at-kind .kind .ensures)) ∙ le-leb _ _ (at-if1 .if1 .left), start-yes o (a .k) (sym (at-start .start .ensures) ∙ at-if2 .if2 .left ∙ at-start′ .pre .1 .1), ap₂ (λ (x y : ℕ). implies (eqb x 2) (eqb y 4)) (sym (at-kind .kind .ensures)) (sym (c .before .before .before .size .ensures)) ∙ sym (c .before .before .class-size .ensures) ∙ not-false _ (c .before .if3 .left), and-true) (c .padding .ensures)
+    simp (
+      ap (λ (x : ℕ). leb x 4) (sym (at-kind .kind .ensures)) ∙ le-leb _ _ (at-if1 .if1 .left),
+      start-yes o (a .k) (sym (at-start .start .ensures)
+          ∙ at-if2 .if2 .left ∙ at-start′ .pre .1 .1),
+      ap₂ (λ (x y : ℕ). implies (eqb x 2) (eqb y 4)) (sym (at-kind .kind .ensures))
+          (sym (c .before .before .before .size .ensures)) ∙ sym (c .before .before .class-size .ensures) ∙ not-false _ (c .before .if3 .left),
+      and-true,
+    ) (c .padding .ensures)
 
 pub object-layout-spec : {M : Type 1} → statement M
 object-layout-spec =

@@ -20,7 +20,8 @@ is-valid-requires c κs = search needs
 returns : tie.Need-returns
 returns c =
     let a = c .before .before .before .before .before .args in
-    words-no (objectsAt (a .n) (a .b) (a .contents .now) (a .bodies .now)) (a .k) (ap (isValid (a .n)) (sym (c .before .before .class-word .ensures)) ∙ sym (c .before .is-valid .ensures) ∙ not-true _ (c .if1 .taken))
+    words-no (objectsAt (a .n) (a .b) (a .contents .now) (a .bodies .now)) (a .k) (ap (isValid (a .n)) (sym (c .before .before .class-word .ensures))
+    ∙ sym (c .before .is-valid .ensures) ∙ not-true _ (c .if1 .taken))
 
 kind-requires : tie.Need-kind-requires
 kind-requires c κs = search needs
@@ -35,7 +36,9 @@ returns-2 c =
     let at-class-word = at-is-valid .before in
     let at-start = at-class-word .before .before .before in
     let a = at-start .args in
-    words-bytes (objectsAt (a .n) (a .b) (a .contents .now) (a .bodies .now)) (a .k) (ap (isValid (a .n)) (sym (at-class-word .class-word .ensures)) ∙ sym (at-is-valid .is-valid .ensures) ∙ not-false _ (at-if1 .if1 .left)) (ap sizedInBytes (sym (c .before .before .kind .ensures)) ∙ sym (c .before .in-bytes .ensures) ∙ c .if2 .taken)
+    words-bytes (objectsAt (a .n) (a .b) (a .contents .now) (a .bodies .now)) (a .k) (ap (isValid (a .n)) (sym (at-class-word .class-word .ensures))
+    ∙ sym (at-is-valid .is-valid .ensures) ∙ not-false _ (at-if1 .if1 .left)) (ap sizedInBytes (sym (c .before .before .kind .ensures))
+    ∙ sym (c .before .in-bytes .ensures) ∙ c .if2 .taken)
 
 start-requires : tie.Need-start-requires
 start-requires c κs = search needs

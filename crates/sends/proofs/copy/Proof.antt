@@ -49,7 +49,8 @@ returns-2 : tie.Need-returns-2 Inv-loop μ-loop
 returns-2 c =
     let at-start = c .before .before .before in
     let args = at-start .args in
-    ap (λ (k : ℕ). take k (set (args .words .now) 0 (getD (args .stack .now) (args .from) 0))) (c .if2 .taken) ∙ first (args .words .now) (args .stack .now) (args .from) (omega arith) (omega arith) ∙ ap (λ (k : ℕ). part (args .stack .now) (args .from) k) (sym (c .if2 .taken))
+    ap (λ (k : ℕ). take k (set (args .words .now) 0 (getD (args .stack .now) (args .from) 0))) (c .if2 .taken) ∙ first (args .words .now) (args .stack .now)
+    (args .from) (omega arith) (omega arith) ∙ ap (λ (k : ℕ). part (args .stack .now) (args .from) k) (sym (c .if2 .taken))
 
 add-words : tie.Need-add-words Inv-loop μ-loop
 add-words c = omega arith
@@ -98,7 +99,13 @@ loop-again c =
     let at-loop = c .before .before in
     let at-start = at-loop .before .before .before .before .before in
     let args = at-start .args in
-    let l = before-loop (args .words .now) (args .stack .now) (args .from) in let k = at-loop .loop .inv .1 in (omega arith, length-set (at-loop .loop .words) (at-loop .loop .i) _ ∙ at-loop .loop .inv .1, copied-more (at-loop .loop .words) (args .stack .now) (args .from) (at-loop .loop .i) (omega arith) (omega arith) (at-loop .loop .inv .2))
+    let l = before-loop (args .words .now) (args .stack .now) (args .from) in let k = at-loop .loop .inv .1 in (
+      omega arith,
+      length-set (at-loop .loop .words)
+          (at-loop .loop .i) _ ∙ at-loop .loop .inv .1,
+      copied-more (at-loop .loop .words) (args .stack .now) (args .from) (at-loop .loop .i) (omega arith)
+          (omega arith) (at-loop .loop .inv .2),
+    )
 
 same-length-2 : tie.Need-same-length-2 Inv-loop μ-loop
 same-length-2 c =
@@ -110,7 +117,8 @@ returns-3 : tie.Need-returns-3 Inv-loop μ-loop
 returns-3 c =
     let at-start = c .before .before .before .before .before .before in
     let args = at-start .args in
-    let e : c .before .loop .i ≡ args .count = omega arith in ap (λ (k : ℕ). take k (c .before .loop .words)) (sym e) ∙ c .before .loop .inv .2 ∙ ap (λ (k : ℕ). part (args .stack .now) (args .from) k) e
+    let e : c .before .loop .i ≡ args .count = omega arith in ap (λ (k : ℕ). take k (c .before .loop .words)) (sym e) ∙ c .before .loop .inv .2
+    ∙ ap (λ (k : ℕ). part (args .stack .now) (args .from) k) e
 
 pub copy-spec : {M : Type 1} → statement M
 copy-spec =

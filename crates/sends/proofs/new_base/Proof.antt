@@ -37,14 +37,18 @@ add-base-2 c =
     let at-frame-words = c .before .before in
     let at-start = at-frame-words .before .before .before .before .before .before in
     let args = at-start .args in
-    let e : at-frame-words .frame-words .result ≡ frameWords (objectsAt (args .n) (args .b) (args .contents .now) (args .bodies .now)) (args .running .0) = at-frame-words .frame-words .ensures ∙ ap frameOf (at-frame-words .before .header .ensures) ∙ frame-of _ _ in let w = words-cases (objectsAt (args .n) (args .b) (args .contents .now) (args .bodies .now)) (args .running .0) in let l = at-start .pre .low in omega arith
+    let e : at-frame-words .frame-words .result ≡ frameWords (objectsAt (args .n) (args .b) (args .contents .now) (args .bodies .now)) (args .running .0) =
+    at-frame-words .frame-words .ensures ∙ ap frameOf (at-frame-words .before .header .ensures) ∙ frame-of _ _ in let w = words-cases
+    (objectsAt (args .n) (args .b) (args .contents .now) (args .bodies .now)) (args .running .0) in let l = at-start .pre .low in omega arith
 
 add-end : tie.Need-add-end
 add-end c =
     let at-frame-words = c .before .before in
     let at-start = at-frame-words .before .before .before .before .before .before in
     let args = at-start .args in
-    let e : at-frame-words .frame-words .result ≡ frameWords (objectsAt (args .n) (args .b) (args .contents .now) (args .bodies .now)) (args .running .0) = at-frame-words .frame-words .ensures ∙ ap frameOf (at-frame-words .before .header .ensures) ∙ frame-of _ _ in let w = words-cases (objectsAt (args .n) (args .b) (args .contents .now) (args .bodies .now)) (args .running .0) in let l = at-start .pre .low in omega arith
+    let e : at-frame-words .frame-words .result ≡ frameWords (objectsAt (args .n) (args .b) (args .contents .now) (args .bodies .now)) (args .running .0) =
+    at-frame-words .frame-words .ensures ∙ ap frameOf (at-frame-words .before .header .ensures) ∙ frame-of _ _ in let w = words-cases
+    (objectsAt (args .n) (args .b) (args .contents .now) (args .bodies .now)) (args .running .0) in let l = at-start .pre .low in omega arith
 
 frame-words-requires-2 : tie.Need-frame-words-requires-2
 frame-words-requires-2 c κs = search needs
@@ -55,7 +59,12 @@ add-end-2 c =
     let at-header = at-frame-words .before in
     let at-start = at-header .before .before .before .before .before in
     let args = at-start .args in
-    let e : at-frame-words .frame-words .result ≡ frameWords (objectsAt (args .n) (args .b) (args .contents .now) (args .bodies .now)) (args .running .0) = at-frame-words .frame-words .ensures ∙ ap frameOf (at-header .header .ensures) ∙ frame-of _ _ in let w = words-cases (objectsAt (args .n) (args .b) (args .contents .now) (args .bodies .now)) (args .running .0) in let e2 : c .frame-words2 .result ≡ frameWords (objectsAt (args .n) (args .b) (args .contents .now) (args .bodies .now)) (args .method .0) = c .frame-words2 .ensures ∙ ap frameOf (c .before .before .header2 .ensures) ∙ frame-of _ _ in let w2 = words-cases (objectsAt (args .n) (args .b) (args .contents .now) (args .bodies .now)) (args .method .0) in let l = at-start .pre .low in omega arith
+    let e : at-frame-words .frame-words .result ≡ frameWords (objectsAt (args .n) (args .b) (args .contents .now) (args .bodies .now)) (args .running .0) =
+    at-frame-words .frame-words .ensures ∙ ap frameOf (at-header .header .ensures) ∙ frame-of _ _ in let w = words-cases
+    (objectsAt (args .n) (args .b) (args .contents .now) (args .bodies .now)) (args .running .0) in let e2 : c .frame-words2 .result ≡ frameWords
+    (objectsAt (args .n) (args .b) (args .contents .now) (args .bodies .now)) (args .method .0) = c .frame-words2 .ensures
+    ∙ ap frameOf (c .before .before .header2 .ensures) ∙ frame-of _ _ in let w2 = words-cases (objectsAt (args .n) (args .b) (args .contents .now)
+    (args .bodies .now)) (args .method .0) in let l = at-start .pre .low in omega arith
 
 returns-2 : tie.Need-returns-2
 returns-2 c =
@@ -65,7 +74,16 @@ returns-2 c =
     let at-runs-on = at-if1 .before in
     let at-start = at-runs-on .before .before .before in
     let args = at-start .args in
-    let e : at-frame-words .frame-words .result ≡ frameWords (objectsAt (args .n) (args .b) (args .contents .now) (args .bodies .now)) (args .running .0) = at-frame-words .frame-words .ensures ∙ ap frameOf (at-header .header .ensures) ∙ frame-of _ _ in let e2 : c .before .frame-words2 .result ≡ frameWords (objectsAt (args .n) (args .b) (args .contents .now) (args .bodies .now)) (args .method .0) = c .before .frame-words2 .ensures ∙ ap frameOf (c .before .before .before .header2 .ensures) ∙ frame-of _ _ in record { chain = sym (at-runs-on .runs-on .ensures) ∙ not-false _ (at-if1 .if1 .left); fits = fits-not (args .room) (args .top .0 + frameSize (objectsAt (args .n) (args .b) (args .contents .now) (args .bodies .now)) (args .running .0)) (frameSize (objectsAt (args .n) (args .b) (args .contents .now) (args .bodies .now)) (args .method .0)) (let q = c .if2 .taken in omega arith) }
+    let e : at-frame-words .frame-words .result ≡ frameWords (objectsAt (args .n) (args .b) (args .contents .now) (args .bodies .now)) (args .running .0) =
+    at-frame-words .frame-words .ensures ∙ ap frameOf (at-header .header .ensures) ∙ frame-of _ _ in let e2 : c .before .frame-words2 .result ≡ frameWords
+    (objectsAt (args .n) (args .b) (args .contents .now) (args .bodies .now)) (args .method .0) = c .before .frame-words2 .ensures
+    ∙ ap frameOf (c .before .before .before .header2 .ensures) ∙ frame-of _ _ in record {
+      chain = sym (at-runs-on .runs-on .ensures)
+          ∙ not-false _ (at-if1 .if1 .left);
+      fits = fits-not (args .room)
+          (args .top .0 + frameSize (objectsAt (args .n) (args .b) (args .contents .now) (args .bodies .now)) (args .running .0))
+          (frameSize (objectsAt (args .n) (args .b) (args .contents .now) (args .bodies .now)) (args .method .0)) (let q = c .if2 .taken in omega arith);
+    }
 
 returns-3 : tie.Need-returns-3
 returns-3 c =
@@ -77,7 +95,15 @@ returns-3 c =
     let at-runs-on = at-if1 .before in
     let at-start = at-runs-on .before .before .before in
     let args = at-start .args in
-    let e : at-frame-words .frame-words .result ≡ frameWords (objectsAt (args .n) (args .b) (args .contents .now) (args .bodies .now)) (args .running .0) = at-frame-words .frame-words .ensures ∙ ap frameOf (at-header .header .ensures) ∙ frame-of _ _ in let e2 : at-frame-words2 .frame-words2 .result ≡ frameWords (objectsAt (args .n) (args .b) (args .contents .now) (args .bodies .now)) (args .method .0) = at-frame-words2 .frame-words2 .ensures ∙ ap frameOf (at-header2 .header2 .ensures) ∙ frame-of _ _ in record { chain = sym (at-runs-on .runs-on .ensures) ∙ not-false _ (at-if1 .if1 .left); fits = fits-over (args .room) (args .top .0 + frameSize (objectsAt (args .n) (args .b) (args .contents .now) (args .bodies .now)) (args .running .0)) (frameSize (objectsAt (args .n) (args .b) (args .contents .now) (args .bodies .now)) (args .method .0)) (let q = c .before .if2 .left in omega arith) (let q = c .if3 .taken in omega arith) }
+    let e : at-frame-words .frame-words .result ≡ frameWords (objectsAt (args .n) (args .b) (args .contents .now) (args .bodies .now)) (args .running .0) =
+    at-frame-words .frame-words .ensures ∙ ap frameOf (at-header .header .ensures) ∙ frame-of _ _ in let e2 : at-frame-words2 .frame-words2 .result ≡
+    frameWords (objectsAt (args .n) (args .b) (args .contents .now) (args .bodies .now)) (args .method .0) = at-frame-words2 .frame-words2 .ensures
+    ∙ ap frameOf (at-header2 .header2 .ensures) ∙ frame-of _ _ in record {
+      chain = sym (at-runs-on .runs-on .ensures) ∙ not-false _ (at-if1 .if1 .left);
+      fits = fits-over (args .room) (args .top .0 + frameSize (objectsAt (args .n) (args .b) (args .contents .now) (args .bodies .now)) (args .running .0))
+          (frameSize (objectsAt (args .n) (args .b) (args .contents .now) (args .bodies .now)) (args .method .0)) (let q = c .before .if2 .left in omega arith)
+          (let q = c .if3 .taken in omega arith);
+    }
 
 temporary-count-requires : tie.Need-temporary-count-requires
 temporary-count-requires c κs = search needs
@@ -92,7 +118,18 @@ returns-4 c =
     let at-runs-on = at-if1 .before in
     let at-start = at-runs-on .before .before .before in
     let args = at-start .args in
-    let e : at-frame-words .frame-words .result ≡ frameWords (objectsAt (args .n) (args .b) (args .contents .now) (args .bodies .now)) (args .running .0) = at-frame-words .frame-words .ensures ∙ ap frameOf (at-header .header .ensures) ∙ frame-of _ _ in let e2 : at-frame-words2 .frame-words2 .result ≡ frameWords (objectsAt (args .n) (args .b) (args .contents .now) (args .bodies .now)) (args .method .0) = at-frame-words2 .frame-words2 .ensures ∙ ap frameOf (at-header2 .header2 .ensures) ∙ frame-of _ _ in record { chain = sym (at-runs-on .runs-on .ensures) ∙ not-false _ (at-if1 .if1 .left); above = omega arith; holds = c .temporary-count .ensures ∙ ap temporariesOf (at-header2 .header2 .ensures); fits = fits-both (args .room) (args .top .0 + frameSize (objectsAt (args .n) (args .b) (args .contents .now) (args .bodies .now)) (args .running .0)) (frameSize (objectsAt (args .n) (args .b) (args .contents .now) (args .bodies .now)) (args .method .0)) (let q = c .before .before .if2 .left in omega arith) (let q = c .before .if3 .left in omega arith) }
+    let e : at-frame-words .frame-words .result ≡ frameWords (objectsAt (args .n) (args .b) (args .contents .now) (args .bodies .now)) (args .running .0) =
+    at-frame-words .frame-words .ensures ∙ ap frameOf (at-header .header .ensures) ∙ frame-of _ _ in let e2 : at-frame-words2 .frame-words2 .result ≡
+    frameWords (objectsAt (args .n) (args .b) (args .contents .now) (args .bodies .now)) (args .method .0) = at-frame-words2 .frame-words2 .ensures
+    ∙ ap frameOf (at-header2 .header2 .ensures) ∙ frame-of _ _ in record {
+      chain = sym (at-runs-on .runs-on .ensures) ∙ not-false _ (at-if1 .if1 .left);
+      above = omega arith;
+      holds = c .temporary-count .ensures ∙ ap temporariesOf (at-header2 .header2 .ensures);
+      fits = fits-both (args .room)
+          (args .top .0 + frameSize (objectsAt (args .n) (args .b) (args .contents .now) (args .bodies .now)) (args .running .0))
+          (frameSize (objectsAt (args .n) (args .b) (args .contents .now) (args .bodies .now)) (args .method .0)) (let q = c .before .before .if2 .left in omega
+          arith) (let q = c .before .if3 .left in omega arith);
+    }
 
 pub new-base-spec : {M : Type 1} → statement M
 new-base-spec =

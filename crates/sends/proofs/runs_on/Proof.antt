@@ -30,7 +30,8 @@ returns-2 : tie.Need-returns-2
 returns-2 c =
     let at-start = c .before .before .before .before .before .before in
     let args = at-start .args in
-    c .in-chain .ensures ∙ ap₂ (λ (h k : ℕ). inChain (objectsAt (args .n) (args .b) (args .contents .now) (args .bodies .now)) h k) (c .before .before .home .ensures) (c .before .class-of .ensures (args .b) (args .bodies .now))
+    c .in-chain .ensures ∙ ap₂ (λ (h k : ℕ). inChain (objectsAt (args .n) (args .b) (args .contents .now) (args .bodies .now)) h k)
+    (c .before .before .home .ensures) (c .before .class-of .ensures (args .b) (args .bodies .now))
 
 pub runs-on-spec : {M : Type 1} → statement M
 runs-on-spec =

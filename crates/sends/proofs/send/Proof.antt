@@ -28,7 +28,11 @@ same-length-3 c = search needs
 returns : tie.Need-returns
 returns c =
     let at-start = c .before .before .before .before .before .before .before .before .before .before in
-    λ receiver selector. (send-none (at-start .pre .0) _ receiver selector (sym (c .before .before .cached .ensures) ∙ c .enum-told .given .1), record { entries = refl; words = refl; frames = refl; cached = refl })
+    λ receiver selector. (
+      send-none (at-start .pre .0) _ receiver selector (sym (c .before .before .cached .ensures) ∙ c .enum-told .given .1),
+      record
+          { entries = refl; words = refl; frames = refl; cached = refl },
+    )
 
 received-requires : tie.Need-received-requires
 received-requires c κs =
@@ -55,7 +59,8 @@ push-requires : tie.Need-push-requires
 push-requires c κs =
     let at-received = c .before .before .before .before .before .before .before .before .before .before .before in
     let at-start = at-received .before .before .before .before .before .before .before .before .before .before .before .before .before in
-    let t = top-bounds (at-start .pre .0 .runs) in let h = at-start .pre .0 .needs in let g = message (at-start .pre .0) (at-start .pre .3) (at-received .received .ensures) in let p = g .place in let l = g .left in let x = at-start .pre .2 in (omega arith, omega arith, x, omega arith)
+    let t = top-bounds (at-start .pre .0 .runs) in let h = at-start .pre .0 .needs in let g = message (at-start .pre .0) (at-start .pre .3)
+    (at-received .received .ensures) in let p = g .place in let l = g .left in let x = at-start .pre .2 in (omega arith, omega arith, x, omega arith)
 
 fill-requires : tie.Need-fill-requires
 fill-requires c κs = c .before .before .before .before .before .before .before .before .before .before .before .before .before .before .before .before .before .before .before .before .before .before .before .before .before .before .before .before .pre .1 .long
@@ -73,7 +78,9 @@ new-base-requires c κs =
     let at-found = at-received .before .before .before in
     let at-cached = at-found .before .before in
     let at-start = at-cached .before .before .before .before .before .before .before .before in
-    framing (at-start .pre .0) (message (at-start .pre .0) (at-start .pre .3) (at-received .received .ensures)) _ (sym (at-cached .cached .ensures) ∙ at-found .found .given .1) (at-start .args .cache .now) (at-acted .acted .last .0) (at-acted .acted .last .1 .0) (at-acted .acted .result) (at-acted .acted .ensures) (c .before .before .enum-told3 .given .1)
+    framing (at-start .pre .0) (message (at-start .pre .0) (at-start .pre .3) (at-received .received .ensures)) _ (sym (at-cached .cached .ensures)
+    ∙ at-found .found .given .1) (at-start .args .cache .now) (at-acted .acted .last .0) (at-acted .acted .last .1 .0) (at-acted .acted .result)
+    (at-acted .acted .ensures) (c .before .before .enum-told3 .given .1)
 
 enum-known-fit : tie.Need-enum-known-fit
 enum-known-fit c = search needs
@@ -82,7 +89,8 @@ add-enter : tie.Need-add-enter
 add-enter c =
     let at-received = c .before .before .before .before .before .before .before .before .before .before .before .before .before .before .before .before in
     let at-start = at-received .before .before .before .before .before .before .before .before .before .before .before .before .before in
-    let t = top-bounds (at-start .pre .0 .runs) in let h = at-start .pre .0 .needs in let g = message (at-start .pre .0) (at-start .pre .3) (at-received .received .ensures) in let p = g .place in omega arith
+    let t = top-bounds (at-start .pre .0 .runs) in let h = at-start .pre .0 .needs in let g = message (at-start .pre .0) (at-start .pre .3)
+    (at-received .received .ensures) in let p = g .place in omega arith
 
 enter-requires : tie.Need-enter-requires
 enter-requires c κs =
@@ -93,7 +101,10 @@ enter-requires c κs =
     let at-found = at-received .before .before .before in
     let at-cached = at-found .before .before in
     let at-start = at-cached .before .before .before .before .before .before .before .before in
-    enters-there (at-start .pre .0) (message (at-start .pre .0) (at-start .pre .3) (at-received .received .ensures)) _ (sym (at-cached .cached .ensures) ∙ at-found .found .given .1) (at-start .args .cache .now) (at-acted .acted .last .0) (at-acted .acted .last .1 .0) (at-acted .acted .result) (at-acted .acted .ensures) (at-enum-told3 .enum-told3 .given .1) (at-new-base .new-base .result) (at-new-base .new-base .ensures) _ _ (c .before .before .fit .given .1) (at-start .pre .2)
+    enters-there (at-start .pre .0) (message (at-start .pre .0) (at-start .pre .3) (at-received .received .ensures)) _ (sym (at-cached .cached .ensures)
+    ∙ at-found .found .given .1) (at-start .args .cache .now) (at-acted .acted .last .0) (at-acted .acted .last .1 .0) (at-acted .acted .result)
+    (at-acted .acted .ensures) (at-enum-told3 .enum-told3 .given .1) (at-new-base .new-base .result) (at-new-base .new-base .ensures) _ _
+    (c .before .before .fit .given .1) (at-start .pre .2)
 
 fill-requires-2 : tie.Need-fill-requires-2
 fill-requires-2 c κs = c .before .before .before .before .before .before .before .before .before .before .before .before .before .before .before .before .before .before .before .before .before .before .before .before .before .before .before .before .before .before .before .before .before .pre .1 .long
@@ -125,7 +136,9 @@ returns-2 c =
     let at-found = at-received .before .before .before in
     let at-cached = at-found .before .before in
     let at-start = at-cached .before .before .before .before .before .before .before .before in
-    made-answer (at-start .pre .0) (message (at-start .pre .0) (at-start .pre .3) (at-received .received .ensures)) _ (sym (at-cached .cached .ensures) ∙ at-found .found .given .1) (at-start .args .cache .now) (at-acted .acted .last .0) (at-acted .acted .last .1 .0) (at-acted .acted .result) (at-acted .acted .ensures) _ _ _ _ _ (at-done .done .given .1) (at-push .push .ensures) (c .before .before .fill .ensures)
+    made-answer (at-start .pre .0) (message (at-start .pre .0) (at-start .pre .3) (at-received .received .ensures)) _ (sym (at-cached .cached .ensures)
+    ∙ at-found .found .given .1) (at-start .args .cache .now) (at-acted .acted .last .0) (at-acted .acted .last .1 .0) (at-acted .acted .result)
+    (at-acted .acted .ensures) _ _ _ _ _ (at-done .done .given .1) (at-push .push .ensures) (c .before .before .fill .ensures)
 
 same-length-8 : tie.Need-same-length-8
 same-length-8 c = search needs
@@ -146,7 +159,9 @@ returns-3 c =
     let at-found = at-received .before .before .before in
     let at-cached = at-found .before .before in
     let at-start = at-cached .before .before .before .before .before .before .before .before in
-    made-none (at-start .pre .0) (message (at-start .pre .0) (at-start .pre .3) (at-received .received .ensures)) _ (sym (at-cached .cached .ensures) ∙ at-found .found .given .1) (at-start .args .cache .now) (at-acted .acted .last .0) (at-acted .acted .last .1 .0) (at-acted .acted .result) (at-acted .acted .ensures) (c .enum-told2 .given .1)
+    made-none (at-start .pre .0) (message (at-start .pre .0) (at-start .pre .3) (at-received .received .ensures)) _ (sym (at-cached .cached .ensures)
+    ∙ at-found .found .given .1) (at-start .args .cache .now) (at-acted .acted .last .0) (at-acted .acted .last .1 .0) (at-acted .acted .result)
+    (at-acted .acted .ensures) (c .enum-told2 .given .1)
 
 same-length-12 : tie.Need-same-length-12
 same-length-12 c = search needs
@@ -171,7 +186,10 @@ returns-4 c =
     let at-found = at-received .before .before .before in
     let at-cached = at-found .before .before in
     let at-start = at-cached .before .before .before .before .before .before .before .before in
-    made-frame (at-start .pre .0) (message (at-start .pre .0) (at-start .pre .3) (at-received .received .ensures)) _ (sym (at-cached .cached .ensures) ∙ at-found .found .given .1) (at-start .args .cache .now) (at-acted .acted .last .0) (at-acted .acted .last .1 .0) (at-acted .acted .result) (at-acted .acted .ensures) (at-enum-told3 .enum-told3 .given .1) (at-new-base .new-base .result) (at-new-base .new-base .ensures) _ _ (at-fit .fit .given .1) _ _ (at-enter .enter .ensures) (c .before .before .fill2 .ensures)
+    made-frame (at-start .pre .0) (message (at-start .pre .0) (at-start .pre .3) (at-received .received .ensures)) _ (sym (at-cached .cached .ensures)
+    ∙ at-found .found .given .1) (at-start .args .cache .now) (at-acted .acted .last .0) (at-acted .acted .last .1 .0) (at-acted .acted .result)
+    (at-acted .acted .ensures) (at-enum-told3 .enum-told3 .given .1) (at-new-base .new-base .result) (at-new-base .new-base .ensures) _ _
+    (at-fit .fit .given .1) _ _ (at-enter .enter .ensures) (c .before .before .fill2 .ensures)
 
 same-length-16 : tie.Need-same-length-16
 same-length-16 c = search needs
@@ -194,7 +212,9 @@ returns-5 c =
     let at-found = at-received .before .before .before in
     let at-cached = at-found .before .before in
     let at-start = at-cached .before .before .before .before .before .before .before .before in
-    made-full (at-start .pre .0) (message (at-start .pre .0) (at-start .pre .3) (at-received .received .ensures)) _ (sym (at-cached .cached .ensures) ∙ at-found .found .given .1) (at-start .args .cache .now) (at-acted .acted .last .0) (at-acted .acted .last .1 .0) (at-acted .acted .result) (at-acted .acted .ensures) (at-enum-told3 .enum-told3 .given .1) (at-new-base .new-base .result) (at-new-base .new-base .ensures) (c .enum-told4 .given .1)
+    made-full (at-start .pre .0) (message (at-start .pre .0) (at-start .pre .3) (at-received .received .ensures)) _ (sym (at-cached .cached .ensures)
+    ∙ at-found .found .given .1) (at-start .args .cache .now) (at-acted .acted .last .0) (at-acted .acted .last .1 .0) (at-acted .acted .result)
+    (at-acted .acted .ensures) (at-enum-told3 .enum-told3 .given .1) (at-new-base .new-base .result) (at-new-base .new-base .ensures) (c .enum-told4 .given .1)
 
 same-length-20 : tie.Need-same-length-20
 same-length-20 c = search needs
@@ -217,7 +237,9 @@ returns-6 c =
     let at-found = at-received .before .before .before in
     let at-cached = at-found .before .before in
     let at-start = at-cached .before .before .before .before .before .before .before .before in
-    made-unfit (at-start .pre .0) (message (at-start .pre .0) (at-start .pre .3) (at-received .received .ensures)) _ (sym (at-cached .cached .ensures) ∙ at-found .found .given .1) (at-start .args .cache .now) (at-acted .acted .last .0) (at-acted .acted .last .1 .0) (at-acted .acted .result) (at-acted .acted .ensures) (at-enum-told3 .enum-told3 .given .1) (at-new-base .new-base .result) (at-new-base .new-base .ensures) (c .enum-told5 .given .1)
+    made-unfit (at-start .pre .0) (message (at-start .pre .0) (at-start .pre .3) (at-received .received .ensures)) _ (sym (at-cached .cached .ensures)
+    ∙ at-found .found .given .1) (at-start .args .cache .now) (at-acted .acted .last .0) (at-acted .acted .last .1 .0) (at-acted .acted .result)
+    (at-acted .acted .ensures) (at-enum-told3 .enum-told3 .given .1) (at-new-base .new-base .result) (at-new-base .new-base .ensures) (c .enum-told5 .given .1)
 
 pub send-spec : {M : Type 1} → statement M
 send-spec =

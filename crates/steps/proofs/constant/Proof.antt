@@ -29,31 +29,38 @@ push-word-requires c κs =
 
 push-word-requires-2 : tie.Need-push-word-requires-2
 unfolding lengthOf instructionOf constantOf if_then_else_
-push-word-requires-2 c κs = constant-pushing (doing-at (c .before .before .before .before .before .pre .0) 113 1 _ (PushConstant 6) (c .before .match .keys2) refl (c .before .before .before .before .before .pre .2) refl)
+push-word-requires-2 c κs = constant-pushing (doing-at (c .before .before .before .before .before .pre .0) 113 1 _ (PushConstant 6) (c .before .match .keys2)
+    refl (c .before .before .before .before .before .pre .2) refl)
 
 push-word-requires-3 : tie.Need-push-word-requires-3
 unfolding lengthOf instructionOf constantOf if_then_else_
-push-word-requires-3 c κs = constant-pushing (doing-at (c .before .before .before .before .before .pre .0) 114 1 _ (PushConstant 4) (c .before .match .keys3) refl (c .before .before .before .before .before .pre .2) refl)
+push-word-requires-3 c κs = constant-pushing (doing-at (c .before .before .before .before .before .pre .0) 114 1 _ (PushConstant 4) (c .before .match .keys3)
+    refl (c .before .before .before .before .before .pre .2) refl)
 
 push-word-requires-4 : tie.Need-push-word-requires-4
 unfolding lengthOf instructionOf constantOf if_then_else_
-push-word-requires-4 c κs = constant-pushing (doing-at (c .before .before .before .before .before .pre .0) 115 1 _ (PushConstant 2) (c .before .match .keys4) refl (c .before .before .before .before .before .pre .2) refl)
+push-word-requires-4 c κs = constant-pushing (doing-at (c .before .before .before .before .before .pre .0) 115 1 _ (PushConstant 2) (c .before .match .keys4)
+    refl (c .before .before .before .before .before .pre .2) refl)
 
 push-word-requires-5 : tie.Need-push-word-requires-5
 unfolding lengthOf instructionOf constantOf if_then_else_
-push-word-requires-5 c κs = constant-pushing (doing-at (c .before .before .before .before .before .pre .0) 116 1 _ (PushConstant 65535) (c .before .match .keys5) refl (c .before .before .before .before .before .pre .2) refl)
+push-word-requires-5 c κs = constant-pushing (doing-at (c .before .before .before .before .before .pre .0) 116 1 _ (PushConstant 65535)
+    (c .before .match .keys5) refl (c .before .before .before .before .before .pre .2) refl)
 
 push-word-requires-6 : tie.Need-push-word-requires-6
 unfolding lengthOf instructionOf constantOf if_then_else_
-push-word-requires-6 c κs = constant-pushing (doing-at (c .before .before .before .before .before .pre .0) 117 1 _ (PushConstant 1) (c .before .match .keys6) refl (c .before .before .before .before .before .pre .2) refl)
+push-word-requires-6 c κs = constant-pushing (doing-at (c .before .before .before .before .before .pre .0) 117 1 _ (PushConstant 1) (c .before .match .keys6)
+    refl (c .before .before .before .before .before .pre .2) refl)
 
 push-word-requires-7 : tie.Need-push-word-requires-7
 unfolding lengthOf instructionOf constantOf if_then_else_
-push-word-requires-7 c κs = constant-pushing (doing-at (c .before .before .before .before .before .pre .0) 118 1 _ (PushConstant 3) (c .before .match .keys7) refl (c .before .before .before .before .before .pre .2) refl)
+push-word-requires-7 c κs = constant-pushing (doing-at (c .before .before .before .before .before .pre .0) 118 1 _ (PushConstant 3) (c .before .match .keys7)
+    refl (c .before .before .before .before .before .pre .2) refl)
 
 push-word-requires-8 : tie.Need-push-word-requires-8
 unfolding lengthOf instructionOf constantOf if_then_else_
-push-word-requires-8 c κs = constant-pushing (doing-at (c .before .before .before .before .before .pre .0) 119 1 _ (PushConstant 5) (c .before .match .keys8) refl (c .before .before .before .before .before .pre .2) refl)
+push-word-requires-8 c κs = constant-pushing (doing-at (c .before .before .before .before .before .pre .0) 119 1 _ (PushConstant 5) (c .before .match .keys8)
+    refl (c .before .before .before .before .before .pre .2) refl)
 
 add-t33 : tie.Need-add-t33
 add-t33 c = search needs
@@ -66,7 +73,8 @@ slice-read-t36 c = let k = ends (c .before .before .before .before .before .pre 
 
 sub-at : tie.Need-sub-at
 unfolding lengthOf instructionOf constantOf if_then_else_
-sub-at c = let k = top-one (doing-at (c .before .before .before .before .before .pre .0) 124 1 _ ReturnTop (c .before .match .keys13) refl (c .before .before .before .before .before .pre .2) refl) in omega arith
+sub-at c = let k = top-one (doing-at (c .before .before .before .before .before .pre .0) 124 1 _ ReturnTop (c .before .match .keys13) refl
+    (c .before .before .before .before .before .pre .2) refl) in omega arith
 
 mul-t37 : tie.Need-mul-t37
 mul-t37 c = let k = ends (c .before .before .before .before .before .pre .0 .active) in omega arith
@@ -97,7 +105,8 @@ returns-2 c =
     let at-push-word2 = c .before .before in
     let at-match = at-push-word2 .before .before in
     let at-start = at-match .before .before .before .before in
-    constant-done (doing-at (at-start .pre .0) 113 1 _ (PushConstant 6) (at-match .match .keys2) refl (at-start .pre .2) refl) _ (at-push-word2 .push-word2 .result) (at-push-word2 .push-word2 .ensures)
+    constant-done (doing-at (at-start .pre .0) 113 1 _ (PushConstant 6) (at-match .match .keys2) refl (at-start .pre .2) refl) _
+    (at-push-word2 .push-word2 .result) (at-push-word2 .push-word2 .ensures)
 
 same-length-3 : tie.Need-same-length-3
 same-length-3 c = search needs
@@ -108,7 +117,8 @@ returns-3 c =
     let at-push-word3 = c .before .before in
     let at-match = at-push-word3 .before .before in
     let at-start = at-match .before .before .before .before in
-    constant-done (doing-at (at-start .pre .0) 114 1 _ (PushConstant 4) (at-match .match .keys3) refl (at-start .pre .2) refl) _ (at-push-word3 .push-word3 .result) (at-push-word3 .push-word3 .ensures)
+    constant-done (doing-at (at-start .pre .0) 114 1 _ (PushConstant 4) (at-match .match .keys3) refl (at-start .pre .2) refl) _
+    (at-push-word3 .push-word3 .result) (at-push-word3 .push-word3 .ensures)
 
 same-length-4 : tie.Need-same-length-4
 same-length-4 c = search needs
@@ -119,7 +129,8 @@ returns-4 c =
     let at-push-word4 = c .before .before in
     let at-match = at-push-word4 .before .before in
     let at-start = at-match .before .before .before .before in
-    constant-done (doing-at (at-start .pre .0) 115 1 _ (PushConstant 2) (at-match .match .keys4) refl (at-start .pre .2) refl) _ (at-push-word4 .push-word4 .result) (at-push-word4 .push-word4 .ensures)
+    constant-done (doing-at (at-start .pre .0) 115 1 _ (PushConstant 2) (at-match .match .keys4) refl (at-start .pre .2) refl) _
+    (at-push-word4 .push-word4 .result) (at-push-word4 .push-word4 .ensures)
 
 same-length-5 : tie.Need-same-length-5
 same-length-5 c = search needs
@@ -130,7 +141,8 @@ returns-5 c =
     let at-push-word5 = c .before .before in
     let at-match = at-push-word5 .before .before in
     let at-start = at-match .before .before .before .before in
-    constant-done (doing-at (at-start .pre .0) 116 1 _ (PushConstant 65535) (at-match .match .keys5) refl (at-start .pre .2) refl) _ (at-push-word5 .push-word5 .result) (at-push-word5 .push-word5 .ensures)
+    constant-done (doing-at (at-start .pre .0) 116 1 _ (PushConstant 65535) (at-match .match .keys5) refl (at-start .pre .2) refl) _
+    (at-push-word5 .push-word5 .result) (at-push-word5 .push-word5 .ensures)
 
 same-length-6 : tie.Need-same-length-6
 same-length-6 c = search needs
@@ -141,7 +153,8 @@ returns-6 c =
     let at-push-word6 = c .before .before in
     let at-match = at-push-word6 .before .before in
     let at-start = at-match .before .before .before .before in
-    constant-done (doing-at (at-start .pre .0) 117 1 _ (PushConstant 1) (at-match .match .keys6) refl (at-start .pre .2) refl) _ (at-push-word6 .push-word6 .result) (at-push-word6 .push-word6 .ensures)
+    constant-done (doing-at (at-start .pre .0) 117 1 _ (PushConstant 1) (at-match .match .keys6) refl (at-start .pre .2) refl) _
+    (at-push-word6 .push-word6 .result) (at-push-word6 .push-word6 .ensures)
 
 same-length-7 : tie.Need-same-length-7
 same-length-7 c = search needs
@@ -152,7 +165,8 @@ returns-7 c =
     let at-push-word7 = c .before .before in
     let at-match = at-push-word7 .before .before in
     let at-start = at-match .before .before .before .before in
-    constant-done (doing-at (at-start .pre .0) 118 1 _ (PushConstant 3) (at-match .match .keys7) refl (at-start .pre .2) refl) _ (at-push-word7 .push-word7 .result) (at-push-word7 .push-word7 .ensures)
+    constant-done (doing-at (at-start .pre .0) 118 1 _ (PushConstant 3) (at-match .match .keys7) refl (at-start .pre .2) refl) _
+    (at-push-word7 .push-word7 .result) (at-push-word7 .push-word7 .ensures)
 
 same-length-8 : tie.Need-same-length-8
 same-length-8 c = search needs
@@ -163,7 +177,8 @@ returns-8 c =
     let at-push-word8 = c .before .before in
     let at-match = at-push-word8 .before .before in
     let at-start = at-match .before .before .before .before in
-    constant-done (doing-at (at-start .pre .0) 119 1 _ (PushConstant 5) (at-match .match .keys8) refl (at-start .pre .2) refl) _ (at-push-word8 .push-word8 .result) (at-push-word8 .push-word8 .ensures)
+    constant-done (doing-at (at-start .pre .0) 119 1 _ (PushConstant 5) (at-match .match .keys8) refl (at-start .pre .2) refl) _
+    (at-push-word8 .push-word8 .result) (at-push-word8 .push-word8 .ensures)
 
 returns-9 : tie.Need-returns-9
 unfolding lengthOf instructionOf constantOf if_then_else_

@@ -160,7 +160,8 @@ mul-w : tie.Need-mul-w
 mul-w c = let k = ends (c .before .before .before .before .pre .0 .active) in omega arith
 
 slice-read-w : tie.Need-slice-read-w
-slice-read-w c = let k = ends (c .before .before .before .before .before .pre .0 .active) in let o = duplicate-one (extended-duplicate (c .before .before .before .before .before .pre .0) (c .before .match .keys9)) in omega arith
+slice-read-w c = let k = ends (c .before .before .before .before .before .pre .0 .active) in let o = duplicate-one
+    (extended-duplicate (c .before .before .before .before .before .pre .0) (c .before .match .keys9)) in omega arith
 
 add-t112 : tie.Need-add-t112
 add-t112 c = let k = position-small (c .before .before .before .before .before .before .pre .0 .active) in omega arith

@@ -81,7 +81,8 @@ literal-requires-2 : tie.Need-literal-requires-2
 literal-requires-2 c κs = variable-lies (push-as (c .before .before .before .before .before .before .before .pre) (LiteralVariable _) (c .before .before .place4 .given .1))
 
 word-of-requires-2 : tie.Need-word-of-requires-2
-word-of-requires-2 c κs = variable-there (push-as (c .before .before .before .before .before .before .before .before .pre) (LiteralVariable _) (c .before .before .before .place4 .given .1)) _ (c .literal2 .ensures)
+word-of-requires-2 c κs = variable-there (push-as (c .before .before .before .before .before .before .before .before .pre) (LiteralVariable _)
+    (c .before .before .before .place4 .given .1)) _ (c .literal2 .ensures)
 
 returns : tie.Need-returns
 returns c =
@@ -90,7 +91,8 @@ returns c =
     read-as _ _ (at-place .place .given .1) (field-reads (push-as (at-start .pre) (Field _) (at-place .place .given .1)) _ (c .word-of .ensures))
 
 returns-2 : tie.Need-returns-2
-returns-2 c = read-as _ _ (c .before .before .place2 .given .1) (temporary-reads (push-as (c .before .before .before .before .before .before .before .pre) (Temporary _) (c .before .before .place2 .given .1)))
+returns-2 c = read-as _ _ (c .before .before .place2 .given .1) (temporary-reads (push-as (c .before .before .before .before .before .before .before .pre)
+    (Temporary _) (c .before .before .place2 .given .1)))
 
 returns-3 : tie.Need-returns-3
 returns-3 c =

@@ -111,8 +111,11 @@ arithmetic-send-requires : tie.Need-arithmetic-send-requires
 arithmetic-send-requires c κs =
     let at-match = c .before .before in
     let at-code-byte = at-match .before .before in
-    let at-start = at-code-byte .before .before .before .before .before .before in
-    (row-special (fetched (at-start .pre) _ (at-code-byte .code-byte .ensures)) (omega (arith, at-match .match .keys12)) (omega (arith, at-match .match .keys12)), omega (arith, at-match .match .keys12))
+    let at-start = at-code-byte .before .before .before .before .before .before in (
+      row-special (fetched (at-start .pre) _ (at-code-byte .code-byte .ensures)) (omega (arith, at-match .match .keys12))
+          (omega (arith, at-match .match .keys12)),
+      omega (arith, at-match .match .keys12),
+    )
 
 sub-special-send : tie.Need-sub-special-send
 sub-special-send c = search needs
@@ -121,8 +124,11 @@ special-send-requires : tie.Need-special-send-requires
 special-send-requires c κs =
     let at-match = c .before .before in
     let at-code-byte = at-match .before .before in
-    let at-start = at-code-byte .before .before .before .before .before .before in
-    (row-special (fetched (at-start .pre) _ (at-code-byte .code-byte .ensures)) (omega (arith, at-match .match .keys13)) (omega (arith, at-match .match .keys13)), omega (arith, at-match .match .keys13))
+    let at-start = at-code-byte .before .before .before .before .before .before in (
+      row-special (fetched (at-start .pre) _ (at-code-byte .code-byte .ensures)) (omega (arith, at-match .match .keys13))
+          (omega (arith, at-match .match .keys13)),
+      omega (arith, at-match .match .keys13),
+    )
 
 send-requires : tie.Need-send-requires
 send-requires c κs =

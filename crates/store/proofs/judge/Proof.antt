@@ -27,7 +27,8 @@ returns-2 : tie.Need-returns-2
 unfolding numberOf
 returns-2 c =
     record {
-      answer = sym (ap numberOf (gives-5 _ _ _ _ (sym (c .before .before .before .layout .ensures) ∙ not-false _ (c .before .before .if1 .left)) (sym (c .before .words .ensures) ∙ not-true _ (c .if2 .taken))));
+      answer = sym (ap numberOf (gives-5 _ _ _ _ (sym (c .before .before .before .layout .ensures) ∙ not-false _ (c .before .before .if1 .left))
+          (sym (c .before .words .ensures) ∙ not-true _ (c .if2 .taken))));
       noted = λ e. absurd (omega (arith, e));
     }
 
@@ -44,7 +45,8 @@ returns-3 c =
     let at-if1 = at-words .before in
     let at-layout = at-if1 .before in
     record {
-      answer = sym (ap numberOf (gives-6 _ _ _ _ (sym (at-layout .layout .ensures) ∙ not-false _ (at-if1 .if1 .left)) (sym (at-words .words .ensures) ∙ not-false _ (c .before .before .if2 .left)) (sym (c .before .classes .ensures) ∙ not-true _ (c .if3 .taken))));
+      answer = sym (ap numberOf (gives-6 _ _ _ _ (sym (at-layout .layout .ensures) ∙ not-false _ (at-if1 .if1 .left)) (sym (at-words .words .ensures)
+          ∙ not-false _ (c .before .before .if2 .left)) (sym (c .before .classes .ensures) ∙ not-true _ (c .if3 .taken))));
       noted = λ e. absurd (omega (arith, e));
     }
 
@@ -53,8 +55,17 @@ methods-fine-requires c κs =
     let at-words = c .before .before .before .before in
     let at-if1 = at-words .before in
     let at-layout = at-if1 .before in
-    let at-start = at-layout .before .before .before .before in
-    (record { lent = at-start .pre .0; layout = true→T (sym (at-layout .layout .ensures) ∙ not-false _ (at-if1 .if1 .left)); words = true→T (sym (at-words .words .ensures) ∙ not-false _ (c .before .before .before .if2 .left)); classes = true→T (sym (c .before .before .classes .ensures) ∙ not-false _ (c .before .if3 .left)) }, at-start .pre .1)
+    let at-start = at-layout .before .before .before .before in (
+      record {
+        lent = at-start .pre .0;
+        layout = true→T (sym (at-layout .layout .ensures) ∙ not-false _ (at-if1 .if1 .left));
+        words = true→T
+            (sym (at-words .words .ensures) ∙ not-false _ (c .before .before .before .if2 .left));
+        classes = true→T (sym (c .before .before .classes .ensures)
+            ∙ not-false _ (c .before .if3 .left));
+      },
+      at-start .pre .1,
+    )
 
 same-length : tie.Need-same-length
 same-length c = search needs
@@ -70,7 +81,9 @@ returns-4 c =
     let at-if1 = at-words .before in
     let at-layout = at-if1 .before in
     record {
-      answer = sym (ap numberOf (gives-7 _ _ _ _ (sym (at-layout .layout .ensures) ∙ not-false _ (at-if1 .if1 .left)) (sym (at-words .words .ensures) ∙ not-false _ (at-if2 .if2 .left)) (sym (at-classes .classes .ensures) ∙ not-false _ (at-if3 .if3 .left)) (sym (at-methods-fine .methods-fine .ensures .answer) ∙ not-true _ (c .if4 .taken))));
+      answer = sym (ap numberOf (gives-7 _ _ _ _ (sym (at-layout .layout .ensures) ∙ not-false _ (at-if1 .if1 .left)) (sym (at-words .words .ensures)
+          ∙ not-false _ (at-if2 .if2 .left)) (sym (at-classes .classes .ensures) ∙ not-false _ (at-if3 .if3 .left))
+          (sym (at-methods-fine .methods-fine .ensures .answer) ∙ not-true _ (c .if4 .taken))));
       noted = λ e. absurd (omega (arith, e));
     }
 
@@ -91,7 +104,10 @@ returns-5 c =
     let at-if1 = at-words .before in
     let at-layout = at-if1 .before in
     record {
-      answer = sym (ap numberOf (gives-8 _ _ _ _ (sym (at-layout .layout .ensures) ∙ not-false _ (at-if1 .if1 .left)) (sym (at-words .words .ensures) ∙ not-false _ (at-if2 .if2 .left)) (sym (at-classes .classes .ensures) ∙ not-false _ (at-if3 .if3 .left)) (sym (at-methods-fine .methods-fine .ensures .answer) ∙ not-false _ (c .before .before .if4 .left)) (sym (c .before .starts-fine .ensures _ _) ∙ not-true _ (c .if5 .taken))));
+      answer = sym (ap numberOf (gives-8 _ _ _ _ (sym (at-layout .layout .ensures) ∙ not-false _ (at-if1 .if1 .left)) (sym (at-words .words .ensures)
+          ∙ not-false _ (at-if2 .if2 .left)) (sym (at-classes .classes .ensures) ∙ not-false _ (at-if3 .if3 .left))
+          (sym (at-methods-fine .methods-fine .ensures .answer) ∙ not-false _ (c .before .before .if4 .left)) (sym (c .before .starts-fine .ensures _ _)
+          ∙ not-true _ (c .if5 .taken))));
       noted = λ e. absurd (omega (arith, e));
     }
 
@@ -110,7 +126,9 @@ returns-6 c =
     let at-if1 = at-words .before in
     let at-layout = at-if1 .before in
     record {
-      answer = sym (ap numberOf (gives-none _ _ _ _ (sym (at-layout .layout .ensures) ∙ not-false _ (at-if1 .if1 .left)) (sym (at-words .words .ensures) ∙ not-false _ (at-if2 .if2 .left)) (sym (at-classes .classes .ensures) ∙ not-false _ (at-if3 .if3 .left)) (sym (at-methods-fine .methods-fine .ensures .answer) ∙ not-false _ (at-if4 .if4 .left)) (sym (c .before .starts-fine .ensures _ _) ∙ not-false _ (c .if5 .left))));
+      answer = sym (ap numberOf (gives-none _ _ _ _ (sym (at-layout .layout .ensures) ∙ not-false _ (at-if1 .if1 .left)) (sym (at-words .words .ensures)
+          ∙ not-false _ (at-if2 .if2 .left)) (sym (at-classes .classes .ensures) ∙ not-false _ (at-if3 .if3 .left))
+          (sym (at-methods-fine .methods-fine .ensures .answer) ∙ not-false _ (at-if4 .if4 .left)) (sym (c .before .starts-fine .ensures _ _) ∙ not-false _ (c .if5 .left))));
       noted = λ e. at-methods-fine .methods-fine .ensures .noted (not-false _ (at-if4 .if4 .left));
     }
 

@@ -30,7 +30,8 @@ returns c =
     let at-judge = at-if1 .before .before in
     let at-place = at-judge .before .before .before .before .before .before .before .before in
     let at-start = at-place .before .before .before .before .before .before in
-    settled-no _ _ _ _ _ (at-start .pre) _ _ (at-place .place .ensures .0) (at-place .place .ensures .1) _ _ _ _ _ (at-judge .judge .ensures .answer) (at-if1 .if1 .taken) (at-zero .zero .ensures .0) (at-zero .zero .ensures .1)
+    settled-no _ _ _ _ _ (at-start .pre) _ _ (at-place .place .ensures .0) (at-place .place .ensures .1) _ _ _ _ _ (at-judge .judge .ensures .answer)
+    (at-if1 .if1 .taken) (at-zero .zero .ensures .0) (at-zero .zero .ensures .1)
 
 same-length-3 : tie.Need-same-length-3
 same-length-3 c = search needs

@@ -20,7 +20,8 @@ returns : tie.Need-returns
 returns c =
     let a = c .before .before .before .before .before .args in
     let o = objectsAt (a .n) (a .b) (a .contents .now) (a .bodies .now) in
-    sym (no-superclass o (a .c) (ap (λ (x : ℕ). isNilOr o 2 x) (sym (c .before .before .superclass .ensures)) ∙ sym (c .before .is-nil-or .ensures (a .b) (a .bodies .now)) ∙ not-true _ (c .if1 .taken)))
+    sym (no-superclass o (a .c) (ap (λ (x : ℕ). isNilOr o 2 x) (sym (c .before .before .superclass .ensures))
+    ∙ sym (c .before .is-nil-or .ensures (a .b) (a .bodies .now)) ∙ not-true _ (c .if1 .taken)))
 
 dictionary-requires : tie.Need-dictionary-requires
 dictionary-requires c κs = search needs
@@ -62,7 +63,8 @@ returns-3 c =
     let o = objectsAt (a .n) (a .b) (a .contents .now) (a .bodies .now) in
     let s = ap (λ (x : ℕ). isNilOr o 2 x) (sym (at-superclass .superclass .ensures)) ∙ sym (at-is-nil-or .is-nil-or .ensures (a .b) (a .bodies .now)) ∙ not-false _ (at-if1 .if1 .left) in
     let d = ap (isKind o 3) (sym (at-dictionary .dictionary .ensures)) ∙ sym (at-is-kind .is-kind .ensures (a .b) (a .bodies .now)) ∙ not-false _ (at-if2 .if2 .left) in
-    sym (no-numbers o (a .c) s d (ap₂ numbersFine (sym (at-fields-word .fields-word .ensures)) (sym (c .before .before .form-word .ensures)) ∙ sym (c .before .numbers-fine .ensures) ∙ not-true _ (c .if3 .taken)))
+    sym (no-numbers o (a .c) s d (ap₂ numbersFine (sym (at-fields-word .fields-word .ensures)) (sym (c .before .before .form-word .ensures))
+    ∙ sym (c .before .numbers-fine .ensures) ∙ not-true _ (c .if3 .taken)))
 
 rises-fine-requires : tie.Need-rises-fine-requires
 rises-fine-requires c κs =
@@ -90,7 +92,8 @@ returns-4 c =
     let o = objectsAt (a .n) (a .b) (a .contents .now) (a .bodies .now) in
     let s = ap (λ (x : ℕ). isNilOr o 2 x) (sym (at-superclass .superclass .ensures)) ∙ sym (at-is-nil-or .is-nil-or .ensures (a .b) (a .bodies .now)) ∙ not-false _ (at-if1 .if1 .left) in
     let d = ap (isKind o 3) (sym (at-dictionary .dictionary .ensures)) ∙ sym (at-is-kind .is-kind .ensures (a .b) (a .bodies .now)) ∙ not-false _ (at-if2 .if2 .left) in
-    let f = ap₂ numbersFine (sym (at-fields-word .fields-word .ensures)) (sym (at-form-word .form-word .ensures)) ∙ sym (at-numbers-fine .numbers-fine .ensures) ∙ not-false _ (c .before .before .if3 .left) in
+    let f = ap₂ numbersFine (sym (at-fields-word .fields-word .ensures)) (sym (at-form-word .form-word .ensures))
+    ∙ sym (at-numbers-fine .numbers-fine .ensures) ∙ not-false _ (c .before .before .if3 .left) in
     sym (no-rise o (a .c) s d f (sym (c .before .rises-fine .ensures) ∙ not-true _ (c .if4 .taken)))
 
 dictionary-fine-requires : tie.Need-dictionary-fine-requires
@@ -118,7 +121,8 @@ returns-5 c =
     let o = objectsAt (a .n) (a .b) (a .contents .now) (a .bodies .now) in
     let s = ap (λ (x : ℕ). isNilOr o 2 x) (sym (at-superclass .superclass .ensures)) ∙ sym (at-is-nil-or .is-nil-or .ensures (a .b) (a .bodies .now)) ∙ not-false _ (at-if1 .if1 .left) in
     let d = ap (isKind o 3) (sym (at-dictionary .dictionary .ensures)) ∙ sym (at-is-kind .is-kind .ensures (a .b) (a .bodies .now)) ∙ not-false _ (at-if2 .if2 .left) in
-    let f = ap₂ numbersFine (sym (at-fields-word .fields-word .ensures)) (sym (at-form-word .form-word .ensures)) ∙ sym (at-numbers-fine .numbers-fine .ensures) ∙ not-false _ (c .before .before .before .if3 .left) in
+    let f = ap₂ numbersFine (sym (at-fields-word .fields-word .ensures)) (sym (at-form-word .form-word .ensures))
+    ∙ sym (at-numbers-fine .numbers-fine .ensures) ∙ not-false _ (c .before .before .before .if3 .left) in
     let l = c .dictionary-fine .ensures ∙ ap (dictionaryFine o) (at-dictionary .dictionary .ensures) in
     l ∙ sym (by-dictionary o (a .c) s d f (sym (c .before .before .rises-fine .ensures) ∙ not-false _ (c .before .if4 .left)))
 

@@ -54,7 +54,8 @@ returns-2 c =
     let a = at-start .args in
     let o = objectsAt (a .n) (a .b) (a .contents .now) (a .bodies .now) in
     c .fits-form .ensures
-    ∙ ap₂ (λ (x y : ℕ). fitsForm x y (at-kind .kind .result) (c .before .size .result)) (at-form .form .ensures ∙ ap (form o) (at-class-word .class-word .ensures)) (at-kind .before .field-count .ensures ∙ ap (fieldCount o) (at-class-word .class-word .ensures))
+    ∙ ap₂ (λ (x y : ℕ). fitsForm x y (at-kind .kind .result) (c .before .size .result)) (at-form .form .ensures
+    ∙ ap (form o) (at-class-word .class-word .ensures)) (at-kind .before .field-count .ensures ∙ ap (fieldCount o) (at-class-word .class-word .ensures))
     ∙ ap₂ (fitsForm (form o (classWord o (a .k))) (fieldCount o (classWord o (a .k)))) (at-kind .kind .ensures) (c .before .size .ensures)
     ∙ sym (entry-yes o (a .k) (ap (isKind o 2) (sym (at-class-word .class-word .ensures)) ∙ sym (at-is-kind .is-kind .ensures (a .b) (a .bodies .now)) ∙ not-false _ (at-if1 .if1 .left)))
 

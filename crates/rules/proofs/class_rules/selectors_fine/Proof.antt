@@ -84,7 +84,8 @@ returns-3 c =
     let w = list-holds o (p .layout) 10 (names-kind o 5 3 (omega arith) (omega arith) (sym (at-kind .kind .ensures) ∙ at-if1 .if1 .left)) in
     let z = sym (at-size .size .ensures) ∙ at-start .before .if2 .left in
     let count : at-start .start .result + 32 - at-start .start .result ≡ bodyWords o 5 = omega arith in
-    c .nil-or-words .ensures ∙ nil-or-entries (a .n) (a .b) (a .contents .now) (a .bodies .now) 1 (part (a .bodies .now) (at-start .start .result) (at-start .start .result + 32 - at-start .start .result))
+    c .nil-or-words .ensures ∙ nil-or-entries (a .n) (a .b) (a .contents .now) (a .bodies .now) 1 (part (a .bodies .now) (at-start .start .result)
+    (at-start .start .result + 32 - at-start .start .result))
     ∙ ap (every (λ (x : ℕ). isNilOr o 1 x)) (ap₂ (part (a .bodies .now)) (at-start .start .ensures) count ∙ sym (body-part (a .n) (a .b) (a .contents .now) (a .bodies .now) 5 (l .words) h))
     ∙ selectors-words o (sym (at-kind .kind .ensures) ∙ at-if1 .if1 .left) z
 
