@@ -28,7 +28,7 @@ use Rattle.model.proofs.Parts.{}
 use Rattle.model.proofs.Facts.{Right, Valid, odd, names, valid-cases, valid-odd, valid-name, valid-kind, Fits, fixed, indexed, bytes, other, in-words, least, word-valid, entry-class, entry-fits}
 use Rattle.model.proofs.Extends.{Extends, extends-refl, valid-grows}
 use Rattle.model.proofs.StoreLaws.{stored-extends, stored-right, byte-extends, byte-right}
-use Rattle.model.proofs.AppendLaws.{HasRoom, room-facts, Suits, asMany, atLeast, ofBytes, suits-kind, appended-extends, appended-right}
+use Rattle.model.proofs.AppendLaws.{HasRoom, room-facts, Suits, asMany, atLeast, ofBytes, suits-free, appended-extends, appended-right}
 
 pub record Performed (room : Room) (e : ℕ) (o : Objects) (v : ℕ) (o′ : Objects) : Type 0 where
   pub right : Right e o′
@@ -266,7 +266,7 @@ module _ {e : ℕ} {o : Objects} (r : Right e o) where
         made h =
             record {
               right = appended-right r c kd sz (replicate count fill) t s (h .objects) (subst (λ (z : ℕ). o .b + z ≤ mostBodyWords) (sym long) (h .words));
-              extends = appended-extends r c kd sz (replicate count fill) (suits-kind s);
+              extends = appended-extends r c kd sz (replicate count fill) (suits-free s);
               valid = (unfold appended in valid-name (o .n + 1) (pointer (o .n + 1)) (omega arith) (omega arith) (omega arith));
               contents = λ q. (unfold appended in h .contents);
               bodies = λ q. (unfold appended in subst (λ (z : ℕ). o .b + z ≤ room .bodies) (sym long) (h .bodies));

@@ -105,7 +105,7 @@ module _ {e : ℕ} {o o′ : Objects} (x : Extends o o′) (r : Right e o) where
       let f = class-facts r c t in
       let old = class-rules r c t in
       rules (classRules e o′ c)
-      (moved (ap (isNilOr o′ classKind) s ∙ nil-or-same x classKind (superclassWord o c) (omega arith)) (f .superclass)
+      (moved (ap (isNilOr o′ classKind) s ∙ nil-or-same x classKind (superclassWord o c) (omega arith) (omega arith)) (f .superclass)
       also moved (ap (isKind o′ listKind) d) (kind-kept x listKind (dictionaryWord o c) (f .dictionary))
       also moved (ap (isNatural mostFields) (class-word-same x r c 2 t (omega arith))) (rule (classRules e o c) old 2)
       also moved (ap (isNatural (lastForm e)) (class-word-same x r c 3 t (omega arith))) (rule (classRules e o c) old 3)
@@ -160,17 +160,17 @@ module _ {e : ℕ} {o o′ : Objects} (x : Extends o o′) (r : Right e o) where
       (fine-methods r c t)
 
   -- an object of a class's, list's or method's kind is an old one
-  old-kind : (k kd : ℕ) → 2 ≤ kd → 1 ≤ k → k ≤ o′ .n → kind o′ k ≡ kd → T (isKind o kd (pointer k))
-  old-kind k kd l h g p =
-      subst T (kind-same x kd (pointer k) l) (subst (λ (z : ℕ). T (isKind o′ z (pointer k))) p (naming o′ (kind o′ k) (pointer k) (named-pointer o′ k h g)))
+  old-kind : (k kd : ℕ) → classKind ≤ kd → kd ≤ methodKind → 1 ≤ k → k ≤ o′ .n → kind o′ k ≡ kd → T (isKind o kd (pointer k))
+  old-kind k kd l u h g p =
+      subst T (kind-same x kd (pointer k) l u) (subst (λ (z : ℕ). T (isKind o′ z (pointer k))) p (naming o′ (kind o′ k) (pointer k) (named-pointer o′ k h g)))
 
   pub rule-7-kept : T (rule7 e o′)
   unfolding rule7
   rule-7-kept =
       at-upTo (o′ .n) (λ k. implies (eqb (kind o′ k) methodKind) (allOf (methodRules e o′ (pointer k))) && implies (eqb (kind o′ k) classKind) (dictionaryMethodsFine o′ (pointer k)))
       (λ k h g. and-both (implies (eqb (kind o′ k) methodKind) (allOf (methodRules e o′ (pointer k)))) (implies (eqb (kind o′ k) classKind) (dictionaryMethodsFine o′ (pointer k)))
-      (implying (eqb (kind o′ k) methodKind) (allOf (methodRules e o′ (pointer k))) (λ q. method-kept (pointer k) (old-kind k methodKind (omega arith) h g (eqb→eq (kind o′ k) methodKind q))))
-      (implying (eqb (kind o′ k) classKind) (dictionaryMethodsFine o′ (pointer k)) (λ q. methods-kept (pointer k) (old-kind k classKind (omega arith) h g (eqb→eq (kind o′ k) classKind q)))))
+      (implying (eqb (kind o′ k) methodKind) (allOf (methodRules e o′ (pointer k))) (λ q. method-kept (pointer k) (old-kind k methodKind (omega arith) (omega arith) h g (eqb→eq (kind o′ k) methodKind q))))
+      (implying (eqb (kind o′ k) classKind) (dictionaryMethodsFine o′ (pointer k)) (λ q. methods-kept (pointer k) (old-kind k classKind (omega arith) (omega arith) h g (eqb→eq (kind o′ k) classKind q)))))
 
   -- the known objects
   known-kept : T (allOf (knownObjectRules e o′))
@@ -254,7 +254,7 @@ module _ {e : ℕ} {o o′ : Objects} (x : Extends o o′) (r : Right e o) where
       where
         go : Dec (kind o′ k ≡ fieldsKind) → Dec (k ≤ o .n) → T (isValid (o′ .n) (bodyWord o′ k i))
         go (yes p) q = y .fields k i h g p l
-        go (no p) (no q) = let z = x .new k (omega arith) g in absurd (omega arith)
+        go (no p) (no q) = let z = x .new k (omega arith) g (omega arith) in let m = laid-out k h g .kinds in absurd (omega arith)
         go (no p) (yes q) =
             let kd : kind o′ k ≡ kind o k = x .entries k 1 h q (omega arith) in
             let w = words-same x k h q in
@@ -299,7 +299,7 @@ module _ {e : ℕ} {o o′ : Objects} (x : Extends o o′) (r : Right e o) where
         (λ k h g. and-both (entryFine e o′ k) (implies (eqb (kind o′ k) classKind) (allOf (classRules e o′ (pointer k))))
         (and-both (isKind o′ classKind (classWord o′ k)) (fits e o′ k) (is-classed k h g) (fits-rule e o′ k (laid-out k h g .kinds)
         (entry-at (λ k. Fits o′ k (classWord o′ k)) fits-kept (y .fitting) k h g)))
-        (implying (eqb (kind o′ k) classKind) (allOf (classRules e o′ (pointer k))) (λ q. class-kept (pointer k) (old-kind k classKind (omega arith) h g (eqb→eq (kind o′ k) classKind q))))))
+        (implying (eqb (kind o′ k) classKind) (allOf (classRules e o′ (pointer k))) (λ q. class-kept (pointer k) (old-kind k classKind (omega arith) (omega arith) h g (eqb→eq (kind o′ k) classKind q))))))
 
     pub right-kept : Right e o′
     right-kept =
