@@ -51,7 +51,8 @@ pub no-selector : (o : Objects) (receiver selector : ℕ) (arguments : List ℕ)
 unfolding rule8
 no-selector o receiver selector arguments e f = sym (ap₂ (λ (x y : Bool). x && (y && every (isValid (o .n)) arguments)) e f)
 
-pub arguments-left : (o : Objects) (receiver selector : ℕ) (arguments : List ℕ) → isValid (o .n) receiver ≡ true → isKind o bytesKind selector ≡ true → every (isValid (o .n)) arguments ≡ rule8 o receiver selector arguments
+pub arguments-left : (o : Objects) (receiver selector : ℕ) (arguments : List ℕ) → isValid (o .n) receiver ≡ true → isKind o bytesKind selector ≡ true
+    → every (isValid (o .n)) arguments ≡ rule8 o receiver selector arguments
 unfolding rule8
 arguments-left o receiver selector arguments e f = sym (ap₂ (λ (x y : Bool). x && (y && every (isValid (o .n)) arguments)) e f)
 
@@ -147,22 +148,47 @@ module _ (n b : ℕ) (contents bodies stack : List ℕ) (w s : ℕ) (arguments :
 
   activated : (cache : ℕ) (r′ : Activated) → r ≡ r′ → Rattle.activation.specs.Activating.ActivatedIs (activate (roomOver cache) oₐ m w arguments) (entering oₐ m w) contents bodies contents′ bodies′ r′
   activated cache r′ e =
-      subst (Rattle.activation.specs.Activating.ActivatedIs (activate (roomOver cache) oₐ m w arguments) (entering oₐ m w) contents bodies contents′ bodies′) e (a arguments ex ey (roomOver cache) refl refl)
+      subst (Rattle.activation.specs.Activating.ActivatedIs (activate (roomOver cache) oₐ m w arguments) (entering oₐ m w) contents bodies contents′ bodies′) e
+      (a arguments ex ey (roomOver cache) refl refl)
 
-  pub begun-answer : (v n′ b′ : ℕ) → r ≡ Rattle.activation.specs.declared.Activated.the-variants.Answer v n′ b′ → Begins n b contents bodies stack w s arguments contents′ bodies′ stack (Rattle.begins.specs.declared.Beginning.the-variants.Answered v n′ b′)
+  pub begun-answer : (v n′ b′ : ℕ) → r ≡ Rattle.activation.specs.declared.Activated.the-variants.Answer v n′ b′ → Begins n b contents bodies stack w s
+      arguments contents′ bodies′ stack (Rattle.begins.specs.declared.Beginning.the-variants.Answered v n′ b′)
   begun-answer v n′ b′ e receiver selector phase top value cache frames rests =
       let z = activated cache (Rattle.activation.specs.declared.Activated.the-variants.Answer v n′ b′) e in
-      record { after = z .after; leads = begin-answers n b contents bodies stack (f .right) w s arguments receiver selector phase top value cache frames rests (f .words) m (f .finds) (f .count) v (z .after) (z .answer); count = z .count; size = z .size; entries = z .entries; words = z .words; frames = refl }
+      record {
+        after = z .after;
+        leads = begin-answers n b contents bodies stack (f .right) w s arguments receiver selector phase top value cache frames rests
+            (f .words) m (f .finds) (f .count) v (z .after) (z .answer);
+        count = z .count;
+        size = z .size;
+        entries = z .entries;
+        words = z .words;
+        frames = refl;
+      }
 
-  pub begun-unfit : r ≡ Rattle.activation.specs.declared.Activated.the-variants.Unfit → Begins n b contents bodies stack w s arguments contents′ bodies′ stack (Rattle.begins.specs.declared.Beginning.the-variants.Refused 9)
+  pub begun-unfit : r ≡ Rattle.activation.specs.declared.Activated.the-variants.Unfit → Begins n b contents bodies stack w s arguments contents′ bodies′ stack
+      (Rattle.begins.specs.declared.Beginning.the-variants.Refused 9)
   begun-unfit e receiver selector phase top value cache frames rests =
       let z = activated cache Rattle.activation.specs.declared.Activated.the-variants.Unfit e in
-      record { leads = begin-unfit n b contents bodies stack (f .right) w s arguments receiver selector phase top value cache frames rests (f .words) m (f .finds) (f .count) (z .leads); entries = z .entries; words = z .words; frames = refl }
+      record {
+        leads = begin-unfit n b contents bodies stack (f .right) w s arguments receiver selector phase top value cache frames rests (f .words) m
+            (f .finds) (f .count) (z .leads);
+        entries = z .entries;
+        words = z .words;
+        frames = refl;
+      }
 
-  pub begun-full : r ≡ Rattle.activation.specs.declared.Activated.the-variants.Frame → length stack < 6 + frameWords oₐ m → Begins n b contents bodies stack w s arguments contents′ bodies′ stack (Rattle.begins.specs.declared.Beginning.the-variants.Refused 13)
+  pub begun-full : r ≡ Rattle.activation.specs.declared.Activated.the-variants.Frame → length stack < 6 + frameWords oₐ m → Begins n b contents bodies stack w
+      s arguments contents′ bodies′ stack (Rattle.begins.specs.declared.Beginning.the-variants.Refused 13)
   begun-full e h receiver selector phase top value cache frames rests =
       let z = activated cache Rattle.activation.specs.declared.Activated.the-variants.Frame e in
-      record { leads = begin-13 n b contents bodies stack (f .right) w s arguments receiver selector phase top value cache frames rests (f .words) m (f .finds) (f .count) (z .leads) h; entries = z .entries; words = z .words; frames = refl }
+      record {
+        leads = begin-13 n b contents bodies stack (f .right) w s arguments receiver selector phase top value cache frames rests (f .words) m (f .finds)
+            (f .count) (z .leads) h;
+        entries = z .entries;
+        words = z .words;
+        frames = refl;
+      }
 
   -- the frame has room for its temporaries, and these for the arguments
   pub begun-room : r ≡ Rattle.activation.specs.declared.Activated.the-variants.Frame → (temporaryCount oₐ m ≤ frameWords oₐ m) × (length arguments ≤ temporaryCount oₐ m)
@@ -172,15 +198,25 @@ module _ (n b : ℕ) (contents bodies stack : List ℕ) (w s : ℕ) (arguments :
       let c = f .count in
       (frame-room n b contents bodies stack (f .right) w s arguments 0 0 0 0 0 0 [] refl (f .words) m (f .finds) (f .count) (z .leads), omega arith)
 
-  pub begun-enters : r ≡ Rattle.activation.specs.declared.Activated.the-variants.Frame → 6 + frameWords oₐ m ≤ length stack → (stack′ : List ℕ) → stack′ ≡ sets stack 0 (newWords 0 m w (temporaryCount oₐ m) arguments)
+  pub begun-enters : r ≡ Rattle.activation.specs.declared.Activated.the-variants.Frame → 6 + frameWords oₐ m ≤ length stack → (stack′ : List ℕ)
+      → stack′ ≡ sets stack 0 (newWords 0 m w (temporaryCount oₐ m) arguments)
       → Begins n b contents bodies stack w s arguments contents′ bodies′ stack′ Rattle.begins.specs.declared.Beginning.the-variants.Entered
   begun-enters e h stack′ l receiver selector phase top value cache frames rests =
       let z = activated cache Rattle.activation.specs.declared.Activated.the-variants.Frame e in
-      record { first = newFrame oₐ 0 m w arguments; leads = begin-enters n b contents bodies stack (f .right) w s arguments receiver selector phase top value cache frames rests (f .words) m (f .finds) (f .count) (z .leads) h (words-cases oₐ m .1); entries = z .entries; words = z .words; frames = l ∙ first-laid oₐ stack m w arguments }
+      record {
+        first = newFrame oₐ 0 m w arguments;
+        leads = begin-enters n b contents bodies stack (f .right) w s arguments receiver selector phase top value
+            cache frames rests (f .words) m (f .finds) (f .count) (z .leads) h (words-cases oₐ m .1);
+        entries = z .entries;
+        words = z .words;
+        frames = l
+            ∙ first-laid oₐ stack m w arguments;
+      }
 
 -- Refusals before a method is found
 module _ (n b : ℕ) (contents bodies stack : List ℕ) (right : Right 1 (objectsAt n b contents bodies)) (w s : ℕ) (arguments : List ℕ) where
-  pub refused-8 : rule8 (objectsAt n b contents bodies) w s arguments ≡ false → Begins n b contents bodies stack w s arguments contents bodies stack (Rattle.begins.specs.declared.Beginning.the-variants.Refused 8)
+  pub refused-8 : rule8 (objectsAt n b contents bodies) w s arguments ≡ false → Begins n b contents bodies stack w s arguments contents bodies stack
+      (Rattle.begins.specs.declared.Beginning.the-variants.Refused 8)
   refused-8 e receiver selector phase top value cache frames rests =
       record { leads = begin-8 n b contents bodies stack right w s arguments receiver selector phase top value cache frames rests e; entries = refl; words = refl; frames = refl }
 
@@ -190,7 +226,8 @@ module _ (n b : ℕ) (contents bodies stack : List ℕ) (right : Right 1 (object
       record { leads = begin-9 n b contents bodies stack right w s arguments receiver selector phase top value cache frames rests e q; entries = refl; words = refl; frames = refl }
 
   pub refused-10 : rule8 (objectsAt n b contents bodies) w s arguments ≡ true → (m : ℕ) → lookup (objectsAt n b contents bodies) s (classOf (objectsAt n b contents bodies) w) ≡ found m
-      → argumentCount (objectsAt n b contents bodies) m ≢ length arguments → Begins n b contents bodies stack w s arguments contents bodies stack (Rattle.begins.specs.declared.Beginning.the-variants.Refused 10)
+      → argumentCount (objectsAt n b contents bodies) m ≢ length arguments → Begins n b contents bodies stack w s arguments contents bodies stack
+      (Rattle.begins.specs.declared.Beginning.the-variants.Refused 10)
   refused-10 e m q d receiver selector phase top value cache frames rests =
       record { leads = begin-10 n b contents bodies stack right w s arguments receiver selector phase top value cache frames rests e m q d; entries = refl; words = refl; frames = refl }
 
@@ -200,8 +237,10 @@ module _ (n b : ℕ) (contents bodies stack : List ℕ) (right : Right 1 (object
   receiver-valid e = and-left (isValid n w) (isKind (objectsAt n b contents bodies) bytesKind s && every (isValid n) arguments) (true→T e)
 
   pub class-starts : rule8 (objectsAt n b contents bodies) w s arguments ≡ true → (c : ℕ) → c ≡ classOf (objectsAt n b contents bodies) w → T (isNilOr (objectsAt n b contents bodies) classKind c)
-  class-starts e c q = or-right (eqb c nilWord) (isKind (objectsAt n b contents bodies) classKind c) (subst (λ (k : ℕ). T (isKind (objectsAt n b contents bodies) classKind k)) (sym q) (class-kind right w (receiver-valid e)))
+  class-starts e c q = or-right (eqb c nilWord) (isKind (objectsAt n b contents bodies) classKind c)
+      (subst (λ (k : ℕ). T (isKind (objectsAt n b contents bodies) classKind k)) (sym q) (class-kind right w (receiver-valid e)))
 
 -- The words of the first frame, as they are written
-pub first-words : (stack : List ℕ) (m w t t′ k : ℕ) (arguments : List ℕ) → t ≡ t′ → k ≡ length arguments → sets stack 0 (newWords 0 m w t (take k arguments)) ≡ sets stack 0 (newWords 0 m w t′ arguments)
+pub first-words : (stack : List ℕ) (m w t t′ k : ℕ) (arguments : List ℕ) → t ≡ t′ → k ≡ length arguments → sets stack 0 (newWords 0 m w t (take k arguments)) ≡
+    sets stack 0 (newWords 0 m w t′ arguments)
 first-words stack m w t t′ k arguments e q = ap₂ (λ (x : ℕ) (l : List ℕ). sets stack 0 (newWords 0 m w x l)) e (take-all k arguments (omega arith))

@@ -240,7 +240,8 @@ module _ (o : Objects) (stack : List ℕ) (base : ℕ) (isTop : Bool) where
         let q = words-long in
         let z = operands-long in
         at-every (isValid (o .n)) (frame .operands)
-        (λ i l. subst (λ (x : ℕ). T (isValid (o .n) x)) (word-at (temporaryCount o (frameMethod stack base) + i) (omega arith) ∙ sym (operand-at i (omega arith))) (every-at (isValid (o .n)) words t (temporaryCount o (frameMethod stack base) + i) (omega arith)))
+        (λ i l. subst (λ (x : ℕ). T (isValid (o .n) x)) (word-at (temporaryCount o (frameMethod stack base) + i) (omega arith)
+        ∙ sym (operand-at i (omega arith))) (every-at (isValid (o .n)) words t (temporaryCount o (frameMethod stack base) + i) (omega arith)))
 
     valid-words : FrameRight o isTop frame → T (every (isValid (o .n)) words)
     valid-words r =
@@ -257,7 +258,8 @@ module _ (o : Objects) (stack : List ℕ) (base : ℕ) (isTop : Bool) where
         go i l (no g) =
             let z = operands-long in
             let j = i - temporaryCount o (frameMethod stack base) in
-            subst (λ (x : ℕ). T (isValid (o .n) x)) (operand-at j (omega arith) ∙ ap (λ (k : ℕ). getD stack (base + 6 + k) 0) (back i (omega arith))) (every-at (isValid (o .n)) (frame .operands) (r .validOperands) j (omega arith))
+            subst (λ (x : ℕ). T (isValid (o .n) x)) (operand-at j (omega arith) ∙ ap (λ (k : ℕ). getD stack (base + 6 + k) 0) (back i (omega arith)))
+            (every-at (isValid (o .n)) (frame .operands) (r .validOperands) j (omega arith))
 
     all-right : T (every (isValid (o .n)) words) → FrameRight o isTop frame
     unfolding frameAt

@@ -40,7 +40,8 @@ module _ (o : Objects) (stack : List ℕ) where
   abbrev pub fineFrom : Bool → ℕ → ℕ → Bool
   fineFrom isTop left base = framesFine o (length stack) isTop base (framesFrom (suc left) o stack base)
 
-  standing-by : (isTop : Bool) (base : ℕ) → T (allOf (frameRules o isTop (frameAt o stack base))) → T (fitsStack (length stack) base (frameSize o (frameAt o stack base .method))) → T (standsAt o stack base)
+  standing-by : (isTop : Bool) (base : ℕ) → T (allOf (frameRules o isTop (frameAt o stack base)))
+      → T (fitsStack (length stack) base (frameSize o (frameAt o stack base .method))) → T (standsAt o stack base)
   unfolding frameAt
   standing-by isTop base r f =
       stands o stack base (frame-right o isTop (frameAt o stack base) r .isMethod) (fits (length stack) base (frameSize o (frameMethod stack base)) f)
@@ -154,6 +155,7 @@ module _ (o : Objects) (stack : List ℕ) where
               stands = end-stands o stack sender e p (omega arith);
               rest =
                   sym (above isTop (g .left) base h (g .enough) (g .stands) r
-                  ∙ pass (eqb base (sender + frameSize o (frameMethod stack sender))) (fineFrom false (g .left - 1) sender) (eq-eqb base (sender + frameSize o (frameMethod stack sender)) (below-ends q)))
+                  ∙ pass (eqb base (sender + frameSize o (frameMethod stack sender))) (fineFrom false (g .left - 1) sender)
+                  (eq-eqb base (sender + frameSize o (frameMethod stack sender)) (below-ends q)))
                   ∙ g .rest;
             }

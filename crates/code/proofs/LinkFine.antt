@@ -1,4 +1,4 @@
--- What each form of link asks, as code tests it
+-- What an instruction asks of the objects, as code tests it
 use Prim.Native.Nat.{ℕ, zero, suc, _+_, _-_, _*_, _/_, _≤_, _<_}
 use mathlib.Core.Path.{_≡_, refl, sym, ap, ap₂, _∙_, subst}
 use mathlib.Core.Bool.{Bool, true, false, _||_}
@@ -21,15 +21,13 @@ use Rattle.bytecode.proofs.TestLaws.{T→true}
 use Rattle.model.specs.Limits.{methodKind}
 use Rattle.model.specs.Objects.{Objects, objectsAt, bodyWord, isKind}
 use Rattle.model.specs.Method.{literal, codeWords, codeSize}
-use Rattle.model.proofs.Unchanged.{Small as InstructionSmall, small-at}
+use Rattle.model.proofs.Unchanged.{Small, small-at}
 use Rattle.model.specs.Rules.{variableFine, sendFine, isSame, isClass, specialSelector}
-use Rattle.flow.specs.declared.Link.{Link}
-use Rattle.flow.specs.declared.Link.the-variants.{Nothing, Variable, Selector, Special}
-use Rattle.flow.specs.Linked.{placeLink, linkOf, linkFine, linkedAt, allLinked}
+use Rattle.flow.specs.Linked.{placeLinked, linked, linkedAt, allLinked}
 use Rattle.rules.proofs.Names.{is-named}
 use Rattle.rules.proofs.Loops.{Before, below-no, below-all}
 use Rattle.methods.specs.Named.{Named, Ready}
-use Rattle.code.specs.Asked.{Small, Asked, CodeLent}
+use Rattle.code.specs.Asked.{SmallSpecial, Asked, CodeLent}
 
 -- a special send needs its receiver and its arguments
 pub special-need : (k e : ℕ) → k < 32 → Entry (176 + k) e → needPart e ≡ 1 + specialCount k
@@ -40,36 +38,36 @@ special-need k e h x =
     ∙ ap (λ (j : ℕ). 1 + specialCount j) (omega arith)
 
 module _ (o : Objects) (m k : ℕ) where
-  pub special-same : k ≡ 22 → true ≡ linkFine o m (Special k)
-  unfolding linkFine
-  special-same e = subst (λ (j : ℕ). true ≡ linkFine o m (Special j)) (sym e) refl
+  pub special-same : k ≡ 22 → true ≡ linked o m (SpecialSend k)
+  unfolding linked
+  special-same e = subst (λ (j : ℕ). true ≡ linked o m (SpecialSend j)) (sym e) refl
 
-  pub special-class : k ≡ 23 → true ≡ linkFine o m (Special k)
-  unfolding linkFine
-  special-class e = subst (λ (j : ℕ). true ≡ linkFine o m (Special j)) (sym e) refl
+  pub special-class : k ≡ 23 → true ≡ linked o m (SpecialSend k)
+  unfolding linked
+  special-class e = subst (λ (j : ℕ). true ≡ linked o m (SpecialSend j)) (sym e) refl
 
-  pub special-sent : (s a : ℕ) → (k ≡ 22 → ⊥) → (k ≡ 23 → ⊥) → s ≡ bodyWord o 5 k → a ≡ specialCount k → sendFine o s a ≡ linkFine o m (Special k)
-  unfolding linkFine
+  pub special-sent : (s a : ℕ) → (k ≡ 22 → ⊥) → (k ≡ 23 → ⊥) → s ≡ bodyWord o 5 k → a ≡ specialCount k → sendFine o s a ≡ linked o m (SpecialSend k)
+  unfolding linked
   special-sent s a h g e f =
       ap₂ (sendFine o) e f
       ∙ sym (ap₂ (λ (x y : Bool). x || (y || sendFine o (specialSelector o k) (specialCount k))) (ne-eqb k 22 h) (ne-eqb k 23 g))
 
-module _ (o : Objects) (m : ℕ) (l : Link) where
-  pub link-nothing : l ≡ Nothing → true ≡ linkFine o m l
-  unfolding linkFine
-  link-nothing e = subst (λ (x : Link). true ≡ linkFine o m x) (sym e) refl
+-- a literal that is sent
+pub literal-sent : (o : Objects) (m i n w : ℕ) → w ≡ bodyWord o (m / 2) (2 + i) → sendFine o w n ≡ sendFine o (literal o m i) n
+literal-sent o m i n w e = ap (λ (v : ℕ). sendFine o v n) e
 
-  pub link-variable : (i w : ℕ) → l ≡ Variable i → w ≡ bodyWord o (m / 2) (2 + i) → variableFine o w ≡ linkFine o m l
-  unfolding linkFine
-  link-variable i w e f = ap (variableFine o) f ∙ sym (ap (linkFine o m) e)
+-- a place that is told
+module _ (o : Objects) (m : ℕ) (p : Place) where
+  pub place-free : (q : Place) → p ≡ q → true ≡ placeLinked o m q → true ≡ placeLinked o m p
+  place-free q e f = f ∙ ap (placeLinked o m) (sym e)
 
-  pub link-selector : (i n w : ℕ) → l ≡ Selector i n → w ≡ bodyWord o (m / 2) (2 + i) → sendFine o w n ≡ linkFine o m l
-  unfolding linkFine
-  link-selector i n w e f = ap (λ (v : ℕ). sendFine o v n) f ∙ sym (ap (linkFine o m) e)
+  pub place-variable : (i w : ℕ) → p ≡ LiteralVariable i → w ≡ bodyWord o (m / 2) (2 + i) → variableFine o w ≡ placeLinked o m p
+  unfolding placeLinked
+  place-variable i w e f = ap (variableFine o) f ∙ ap (placeLinked o m) (sym e)
 
--- a special send's number
-pub small-special : (l : Link) (k : ℕ) → l ≡ Special k → Small l → k < 32
-small-special l k e s = subst Small e s
+-- an instruction that is told
+pub told : (o : Objects) (m : ℕ) (i j : Instruction) (b : Bool) → i ≡ j → b ≡ linked o m j → b ≡ linked o m i
+told o m i j b e f = f ∙ ap (linked o m) (sym e)
 
 -- a method's word is read
 pub method-named : {table contents bodies counts : List ℕ} {n b m : ℕ} → Asked table n b contents bodies counts m → Named n b m contents bodies
@@ -77,50 +75,22 @@ method-named {table} {contents} {bodies} {counts} {n} {b} {m} a =
     let k = is-named (objectsAt n b contents bodies) methodKind m (T→true (isKind (objectsAt n b contents bodies) methodKind m) (a .isMethod)) in
     record { lent = a .ready .lent; least = k .least; most = k .most }
 
--- an instruction's link
-link-small : (i : Instruction) → InstructionSmall i → Small (linkOf i)
-unfolding linkOf placeLink
-link-small (Push (Field i)) s = tt
-link-small (Push (Temporary i)) s = tt
-link-small (Push (Literal i)) s = tt
-link-small (Push (LiteralVariable i)) s = tt
-link-small (Store (Field i)) s = tt
-link-small (Store (Temporary i)) s = tt
-link-small (Store (Literal i)) s = tt
-link-small (Store (LiteralVariable i)) s = tt
-link-small (PopStore (Field i)) s = tt
-link-small (PopStore (Temporary i)) s = tt
-link-small (PopStore (Literal i)) s = tt
-link-small (PopStore (LiteralVariable i)) s = tt
-link-small PushSelf s = tt
-link-small (PushConstant w) s = tt
-link-small ReturnSelf s = tt
-link-small (ReturnConstant w) s = tt
-link-small ReturnTop s = tt
-link-small Pop s = tt
-link-small Duplicate s = tt
-link-small (Jump a b) s = tt
-link-small (JumpOn x a) s = tt
-link-small (Send l n) s = tt
-link-small (SuperSend l n) s = tt
-link-small (SpecialSend k) s = s
-link-small Unused s = tt
-
-pub small-link : (words : List ℕ) (size p : ℕ) (l : Link) → l ≡ linkOf (decodeAt words size p) → Small l
-small-link words size p l e = subst Small (sym e) (link-small (decodeAt words size p) (small-at words size p))
+-- a special send's number
+pub small-special : (words : List ℕ) (size p : ℕ) (i : Instruction) → i ≡ decodeAt words size p → SmallSpecial i
+small-special words size p i e k q = subst Small (sym e ∙ q) (small-at words size p)
 
 module _ (o : Objects) (m : ℕ) (t : List ℕ) (p : ℕ) where
   pub linked-free : getD t p 0 ≡ 0 → true ≡ linkedAt o m t p
   unfolding linkedAt
   linked-free e =
-      sym (ap (λ (v : ℕ). implies (ltb 0 v) (linkFine o m (linkOf (decodeAt (codeWords o m) (codeSize o m) p)))) e)
+      sym (ap (λ (v : ℕ). implies (ltb 0 v) (linked o m (decodeAt (codeWords o m) (codeSize o m) p))) e)
 
-  pub linked-noted : (words : List ℕ) (l : Link) → (getD t p 0 ≡ 0 → ⊥) → CodeLent o m words (length t)
-      → l ≡ linkOf (decodeAt words (length t) p) → linkFine o m l ≡ linkedAt o m t p
+  pub linked-noted : (words : List ℕ) (i : Instruction) → (getD t p 0 ≡ 0 → ⊥) → CodeLent o m words (length t)
+      → i ≡ decodeAt words (length t) p → linked o m i ≡ linkedAt o m t p
   unfolding linkedAt
-  linked-noted words l h c e =
-      ap (linkFine o m) (e ∙ ap₂ (λ (w : List ℕ) (s : ℕ). linkOf (decodeAt w s p)) (c .isWords) (c .isSize))
-      ∙ sym (ap (λ (x : Bool). implies x (linkFine o m (linkOf (decodeAt (codeWords o m) (codeSize o m) p)))) (lt-ltb 0 (getD t p 0) (positive (getD t p 0) h)))
+  linked-noted words i h c e =
+      ap (linked o m) (e ∙ ap₂ (λ (w : List ℕ) (s : ℕ). decodeAt w s p) (c .isWords) (c .isSize))
+      ∙ sym (ap (λ (x : Bool). implies x (linked o m (decodeAt (codeWords o m) (codeSize o m) p))) (lt-ltb 0 (getD t p 0) (positive (getD t p 0) h)))
     where
       positive : (v : ℕ) → (v ≡ 0 → ⊥) → 0 < v
       positive zero k = absurd (k refl)

@@ -5,13 +5,14 @@ ghost use lib.ListN.{length};
 ghost use Rattle.bytecode.specs.Table.{IsTable};
 ghost use Rattle.bytecode.specs.Effect.{specialCount};
 ghost use Rattle.model.specs.Objects.{Objects, objectsAt};
-ghost use Rattle.flow.specs.Linked.{linkFine, linkedAt, allLinked};
-ghost use Rattle.model.specs.Method.{header, frameWords, runsCode};
-ghost use Rattle.model.specs.Rules.{methodTable};
+ghost use Rattle.flow.specs.Linked.{placeLinked, linked, linkedAt, allLinked};
+ghost use Rattle.model.specs.Method.{literal as literalOf, header, frameWords, runsCode};
+ghost use Rattle.model.specs.Rules.{sendFine, methodTable};
 ghost use Rattle.flow.specs.Walk.{Walked};
-ghost use Rattle.code.specs.Asked.{Small, Asked, CodeLent, MethodWalked, PassLent, ObjectNoted, CodesNoted, MethodsNoted};
+ghost use Rattle.code.specs.Asked.{SmallSpecial, Asked, CodeLent, MethodWalked, PassLent, ObjectNoted, CodesNoted, MethodsNoted};
 ghost use Rattle.methods.specs.Named.{Ready};
-use flow::Link;
+use bytecode::Instruction;
+use bytecode::Place;
 
 // The argument count of a special send, from the table's need.
 fn special_count(table: &[u16; 256], k: u8) -> u8
@@ -34,7 +35,7 @@ fn special_fine(
     k: u8,
 ) -> bool
     requires { ⌜ Asked (now table) n b (now contents) (now bodies) (now counts) m × (k < 32) ⌝ }
-    ensures { λ r. ⌜ r ≡ linkFine (objectsAt n b (now (contents .entry)) (now (bodies .entry))) m (Link.Special k) ⌝ }
+    ensures { λ r. ⌜ r ≡ linked (objectsAt n b (now (contents .entry)) (now (bodies .entry))) m (Instruction.SpecialSend k) ⌝ }
 {
     if k == 22 {
         return true;
@@ -46,8 +47,8 @@ fn special_fine(
     methods::send_fine(contents, bodies, n, b, counts, s, special_count(table, k))
 }
 
-// What an instruction asks of the objects.
-fn link_fine(
+// A send of a literal.
+fn selector_fine(
     table: &[u16; 256],
     contents: &[u16],
     bodies: &[u16],
@@ -55,23 +56,96 @@ fn link_fine(
     b: usize,
     counts: &[u8],
     m: u16,
-    l: Link,
+    literal: u8,
+    arguments: u8,
 ) -> bool
-    requires { ⌜ Asked (now table) n b (now contents) (now bodies) (now counts) m × Small l ⌝ }
-    ensures { λ r. ⌜ r ≡ linkFine (objectsAt n b (now (contents .entry)) (now (bodies .entry))) m l ⌝ }
+    requires { ⌜ Asked (now table) n b (now contents) (now bodies) (now counts) m ⌝ }
+    ensures { λ r. ⌜ r ≡ sendFine (objectsAt n b (now (contents .entry)) (now (bodies .entry))) (literalOf (objectsAt n b (now (contents .entry)) (now (bodies .entry))) m literal) arguments ⌝ }
 {
-    match l {
-        Link::Nothing => true,
-        Link::Variable(i) => methods::variable_fine(
+    let s = methods::body_word(contents, bodies, n, b, m, 2 + literal as usize);
+    methods::send_fine(contents, bodies, n, b, counts, s, arguments)
+}
+
+// The place of a push or store.
+fn place_fine(
+    table: &[u16; 256],
+    contents: &[u16],
+    bodies: &[u16],
+    n: usize,
+    b: usize,
+    counts: &[u8],
+    m: u16,
+    p: Place,
+) -> bool
+    requires { ⌜ Asked (now table) n b (now contents) (now bodies) (now counts) m ⌝ }
+    ensures { λ r. ⌜ r ≡ placeLinked (objectsAt n b (now (contents .entry)) (now (bodies .entry))) m p ⌝ }
+{
+    match p {
+        Place::Field(_) => true,
+        Place::Temporary(_) => true,
+        Place::Literal(_) => true,
+        Place::LiteralVariable(i) => methods::variable_fine(
             contents,
             n,
             methods::body_word(contents, bodies, n, b, m, 2 + i as usize),
         ),
-        Link::Selector { literal, arguments } => {
-            let s = methods::body_word(contents, bodies, n, b, m, 2 + literal as usize);
-            methods::send_fine(contents, bodies, n, b, counts, s, arguments)
-        }
-        Link::Special(k) => special_fine(table, contents, bodies, n, b, counts, m, k),
+    }
+}
+
+// What an instruction asks of the objects.
+fn instruction_fine(
+    table: &[u16; 256],
+    contents: &[u16],
+    bodies: &[u16],
+    n: usize,
+    b: usize,
+    counts: &[u8],
+    m: u16,
+    i: Instruction,
+) -> bool
+    requires { ⌜ Asked (now table) n b (now contents) (now bodies) (now counts) m × SmallSpecial i ⌝ }
+    ensures { λ r. ⌜ r ≡ linked (objectsAt n b (now (contents .entry)) (now (bodies .entry))) m i ⌝ }
+{
+    match i {
+        Instruction::Push(p) => place_fine(table, contents, bodies, n, b, counts, m, p),
+        Instruction::Store(p) => place_fine(table, contents, bodies, n, b, counts, m, p),
+        Instruction::PopStore(p) => place_fine(table, contents, bodies, n, b, counts, m, p),
+        Instruction::PushSelf => true,
+        Instruction::PushConstant(_) => true,
+        Instruction::ReturnSelf => true,
+        Instruction::ReturnConstant(_) => true,
+        Instruction::ReturnTop => true,
+        Instruction::Pop => true,
+        Instruction::Duplicate => true,
+        Instruction::Jump { ahead: _, back: _ } => true,
+        Instruction::JumpOn {
+            condition: _,
+            ahead: _,
+        } => true,
+        Instruction::Send { literal, arguments } => selector_fine(
+            table,
+            contents,
+            bodies,
+            n,
+            b,
+            counts,
+            m,
+            literal,
+            arguments,
+        ),
+        Instruction::SuperSend { literal, arguments } => selector_fine(
+            table,
+            contents,
+            bodies,
+            n,
+            b,
+            counts,
+            m,
+            literal,
+            arguments,
+        ),
+        Instruction::SpecialSend(k) => special_fine(table, contents, bodies, n, b, counts, m, k),
+        Instruction::Unused => true,
     }
 }
 
@@ -94,8 +168,8 @@ fn position_fine(
     if notes[p] == 0 {
         return true;
     }
-    let l = flow::link_at(table, words, notes.len(), p);
-    link_fine(table, contents, bodies, n, b, counts, m, l)
+    let i = bytecode::decode(words, notes.len(), p);
+    instruction_fine(table, contents, bodies, n, b, counts, m, i)
 }
 
 // All noted positions of a method's code.

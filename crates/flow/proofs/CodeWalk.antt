@@ -87,12 +87,14 @@ module _ (counts words : List ℕ) (size room : ℕ) (t s : List ℕ) (n : ℕ) 
   unfolding TurnAt Turn
   turn-stuck e x = table-none words size (getD counts 2 0) (getD counts 2 0 + room) (indexedBy counts) (rw e at x)
 
-pub static-again : (table counts words : List ℕ) (room : ℕ) (t s t′ s′ : List ℕ) → length t′ ≡ length t → length s′ ≡ length s → Static table counts words room t s → Static table counts words room t′ s′
+pub static-again : (table counts words : List ℕ) (room : ℕ) (t s t′ s′ : List ℕ) → length t′ ≡ length t → length s′ ≡ length s → Static table counts words room
+    t s → Static table counts words room t′ s′
 static-again table counts words room t s t′ s′ e f a =
     record { entries = a .entries; one = a .one; covered = rw e (a .covered); long = rw (e, f) (a .long); small = rw e (a .small); shallow = a .shallow }
 
 -- begin and end
-pub starts : (counts words : List ℕ) (room : ℕ) (t s : List ℕ) (size : ℕ) → t ≡ replicate size 0 → 0 < size → size ≤ length s → size ≤ mostCode → room ≤ mostDepth → WalkingAt counts words (length (set t 0 1)) room (set t 0 1) (set s 0 0) 1
+pub starts : (counts words : List ℕ) (room : ℕ) (t s : List ℕ) (size : ℕ) → t ≡ replicate size 0 → 0 < size → size ≤ length s → size ≤ mostCode
+    → room ≤ mostDepth → WalkingAt counts words (length (set t 0 1)) room (set t 0 1) (set s 0 0) 1
 unfolding WalkingAt
 starts counts words room t s size e some-code long small shallow =
     begun (fineIn counts words (length (set t 0 1)) room) (successorsAt words (length (set t 0 1))) (depthAfterAt words (length (set t 0 1))) room size t s e some-code long small shallow

@@ -6,5 +6,4 @@ pub mod RuleLaws
 pub mod InstructionLaws
 pub mod HereLaws
 pub mod CodeWalk
-pub mod LinkLaws
 pub mod MethodLaws

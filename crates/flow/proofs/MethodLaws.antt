@@ -17,12 +17,11 @@ use Rattle.model.specs.Method.{codeWords, codeSize, temporaryCount, frameWords}
 use Rattle.model.specs.Depth.{rulesAt, fineAt, depthTable, isSome}
 use Rattle.model.specs.Rules.{methodTable}
 use Rattle.model.proofs.DepthLaws.{table-notes}
-use Rattle.flow.specs.Linked.{linked, linkOf, linkFine, linkedAt, allLinked}
+use Rattle.flow.specs.Linked.{linked, linkedAt, allLinked}
 use Rattle.flow.specs.Walk.{mostDepth, Walked}
 use Rattle.flow.proofs.CodeWalk.{noted-inside}
 use Rattle.flow.proofs.UniqueLaws.{combined-some, combined-fails, combined-none}
 use Rattle.flow.proofs.RuleLaws.{indexedIn, table-split}
-use Rattle.flow.proofs.LinkLaws.{linked-by}
 
 module _ (words : List ℕ) (size temporaries limit : ℕ) (r : Instruction → Bool) (t : List ℕ) (e : depthTable words size temporaries limit r ≡ some t) where
   -- a note for each byte of the code
@@ -77,9 +76,8 @@ module _ (o : Objects) (m : ℕ) where
     unfolding allLinked linkedAt
     linked-there p d h a =
         let l : p < codeSize o m = subst (λ (k : ℕ). p < k) (table-length (codeWords o m) (codeSize o m) (temporaryCount o m) (frameWords o m) (indexedIn o m) t e) (noted-inside t p d h) in
-        linked-by o m (decodeAt (codeWords o m) (codeSize o m) p)
-        ∙ T→true (linkFine o m (linkOf (decodeAt (codeWords o m) (codeSize o m) p)))
-        (implied (ltb 0 (getD t p 0)) (linkFine o m (linkOf (decodeAt (codeWords o m) (codeSize o m) p))) (below-at (codeSize o m) (linkedAt o m t) a p l)
+        T→true (linked o m (decodeAt (codeWords o m) (codeSize o m) p))
+        (implied (ltb 0 (getD t p 0)) (linked o m (decodeAt (codeWords o m) (codeSize o m) p)) (below-at (codeSize o m) (linkedAt o m t) a p l)
         (true→T (lt-ltb 0 (getD t p 0) (omega arith))))
 
     -- the objects' rules hold at every noted position: the method's table is the walk's
@@ -89,20 +87,20 @@ module _ (o : Objects) (m : ℕ) where
         ∙ combined-some (codeWords o m) (codeSize o m) (temporaryCount o m) (frameWords o m) (indexedIn o m) (linked o m) t e (λ p d h. linked-there p d h (true→T a))
 
     -- at one they do not: it has none
-    pub method-fails-at : (p d : ℕ) → getD t p 0 ≡ suc d → linkFine o m (linkOf (decodeAt (codeWords o m) (codeSize o m) p)) ≡ false → methodTable o m ≡ none
+    pub method-fails-at : (p d : ℕ) → getD t p 0 ≡ suc d → linked o m (decodeAt (codeWords o m) (codeSize o m) p) ≡ false → methodTable o m ≡ none
     method-fails-at p d h f =
         table-split o m
         ∙ combined-fails (codeWords o m) (codeSize o m) (temporaryCount o m) (frameWords o m) (indexedIn o m) (linked o m) t e p d h
-        (linked-by o m (decodeAt (codeWords o m) (codeSize o m) p) ∙ f)
+        f
 
     pub method-fails : allLinked o m t ≡ false → methodTable o m ≡ none
     unfolding allLinked linkedAt
     method-fails a =
         let k = failing (codeSize o m) (linkedAt o m t) a in
-        let x = implies-fails (ltb 0 (getD t (k .0) 0)) (linkFine o m (linkOf (decodeAt (codeWords o m) (codeSize o m) (k .0)))) (k .2) in
+        let x = implies-fails (ltb 0 (getD t (k .0) 0)) (linked o m (decodeAt (codeWords o m) (codeSize o m) (k .0))) (k .2) in
         noted (getD t (k .0) 0) (k .0) refl (x .0) (x .1)
       where
-        noted : (v p : ℕ) → getD t p 0 ≡ v → T (ltb 0 v) → linkFine o m (linkOf (decodeAt (codeWords o m) (codeSize o m) p)) ≡ false → methodTable o m ≡ none
+        noted : (v p : ℕ) → getD t p 0 ≡ v → T (ltb 0 v) → linked o m (decodeAt (codeWords o m) (codeSize o m) p) ≡ false → methodTable o m ≡ none
         noted zero p h l f = absurd l
         noted (suc d) p h l f = method-fails-at p d h f
 

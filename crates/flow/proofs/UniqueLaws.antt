@@ -48,7 +48,8 @@ module _ (words : List ℕ) (size temporaries limit : ℕ) where
       go : (x : Option (List ℕ)) → Table r ≡ x → T (isSome x) → x ≡ some t
       go none e s = absurd s
       go (some t′) e s =
-          ap some (unique (successorsAt words size) (depthAfterAt words size) size (fineAt words size temporaries limit r) (fineAt words size temporaries limit r) t′ t (table-notes words size temporaries limit r t′ e) a)
+          ap some (unique (successorsAt words size) (depthAfterAt words size) size (fineAt words size temporaries limit r)
+          (fineAt words size temporaries limit r) t′ t (table-notes words size temporaries limit r t′ e) a)
 
   pub table-none : (r : Instruction → Bool) → (Has r → ⊥) → Table r ≡ none
   table-none r n = go (Table r) refl

@@ -15,8 +15,6 @@ use Rattle.bytecode.specs.declared.Instruction.the-variants.{Push, Store, PopSt
 use Rattle.model.specs.Objects.{Objects}
 use Rattle.model.specs.Method.{literal, codeWords, codeSize}
 use Rattle.model.specs.Rules.{variableFine, sendFine, isSame, isClass, specialSelector}
-use Rattle.flow.specs.declared.Link.{Link}
-use Rattle.flow.specs.declared.Link.the-variants.{Nothing, Variable, Selector, Special}
 
 unfoldable pub placeLinked : Objects → ℕ → Place → Bool
 placeLinked o m (Field i) = true
@@ -42,40 +40,9 @@ linked o m (SuperSend l n) = sendFine o (literal o m l) n
 linked o m (SpecialSend k) = isSame k || (isClass k || sendFine o (specialSelector o k) (specialCount k))
 linked o m Unused = true
 
--- What these rules ask about, apart from the instruction: a literal variable, a literal that is a selector, a special send, or nothing
-unfoldable pub placeLink : Place → Link
-placeLink (Field i) = Nothing
-placeLink (Temporary i) = Nothing
-placeLink (Literal i) = Nothing
-placeLink (LiteralVariable i) = Variable i
-
-unfoldable pub linkOf : Instruction → Link
-linkOf (Push p) = placeLink p
-linkOf (Store p) = placeLink p
-linkOf (PopStore p) = placeLink p
-linkOf PushSelf = Nothing
-linkOf (PushConstant w) = Nothing
-linkOf ReturnSelf = Nothing
-linkOf (ReturnConstant w) = Nothing
-linkOf ReturnTop = Nothing
-linkOf Pop = Nothing
-linkOf Duplicate = Nothing
-linkOf (Jump a b) = Nothing
-linkOf (JumpOn x a) = Nothing
-linkOf (Send l n) = Selector l n
-linkOf (SuperSend l n) = Selector l n
-linkOf (SpecialSend k) = Special k
-linkOf Unused = Nothing
-
-unfoldable pub linkFine : Objects → ℕ → Link → Bool
-linkFine o m Nothing = true
-linkFine o m (Variable i) = variableFine o (literal o m i)
-linkFine o m (Selector l n) = sendFine o (literal o m l) n
-linkFine o m (Special k) = isSame k || (isClass k || sendFine o (specialSelector o k) (specialCount k))
-
 -- The rules hold at each noted position of a method's code.
 unfoldable pub linkedAt : Objects → ℕ → List ℕ → ℕ → Bool
-linkedAt o m t p = implies (ltb 0 (getD t p 0)) (linkFine o m (linkOf (decodeAt (codeWords o m) (codeSize o m) p)))
+linkedAt o m t p = implies (ltb 0 (getD t p 0)) (linked o m (decodeAt (codeWords o m) (codeSize o m) p))
 
 unfoldable pub allLinked : Objects → ℕ → List ℕ → Bool
 allLinked o m t = below (codeSize o m) (linkedAt o m t)

@@ -10,7 +10,6 @@ ghost use Rattle.bytecode.specs.Table.{groupPart, lengthPart, needPart, leavesP
 ghost use Rattle.model.specs.Depth.{depthTable};
 ghost use Rattle.model.specs.Rules.{isWritable};
 ghost use Rattle.flow.specs.Index.{indexed, placeIndexedBy, indexedBy};
-ghost use Rattle.flow.specs.Linked.{linkOf};
 ghost use Rattle.flow.specs.Walk.{Asks, Visit, Visits, Step, Here, Expand, Static, WalkingAt, TurnAt, Answer, Lent, Walked, tableBy, mostCode};
 
 // How many positions are pending after a step; or that there is no depth table.
@@ -426,89 +425,4 @@ pub fn walk(
     }
     clear(notes);
     false
-}
-
-// What an instruction asks of the objects: the form of a literal variable, the count that a literal's or a special send's methods take.
-pub enum Link {
-    Nothing,
-    Variable(u8),
-    Selector { literal: u8, arguments: u8 },
-    Special(u8),
-}
-
-// By a byte alone.
-fn short_link(b: u8) -> Link
-    requires { ⌜ groupOf b ≡ 1 ⌝ }
-    ensures { λ r. ⌜ r ≡ linkOf (instructionOf b 0 0) ⌝ }
-{
-    if b < 176 {
-        return Link::Variable(b % 32);
-    }
-    if b < 208 {
-        return Link::Special(b - 176);
-    }
-    Link::Selector {
-        literal: b % 16,
-        arguments: (b - 208) / 16,
-    }
-}
-
-// By a byte from 128 to 134 and those that follow.
-fn extended_link(b: u8, x: u8, y: u8) -> Link
-    requires { ⌜ (128 ≤ b) × (b < 135) ⌝ }
-    ensures { λ r. ⌜ r ≡ linkOf (instructionOf b x y) ⌝ }
-{
-    let low = x % 32;
-    let high = x / 32;
-    match b {
-        131 => Link::Selector {
-            literal: low,
-            arguments: high,
-        },
-        132 => Link::Selector {
-            literal: y,
-            arguments: x,
-        },
-        133 => Link::Selector {
-            literal: low,
-            arguments: high,
-        },
-        134 => Link::Selector {
-            literal: y,
-            arguments: x,
-        },
-        _ => {
-            if x < 192 {
-                return Link::Nothing;
-            }
-            Link::Variable(x % 64)
-        }
-    }
-}
-
-// For the pass over the noted positions that follows a walk: what the instruction at a position asks of the objects.
-pub fn link_at(table: &[u16; 256], words: &[u16], size: usize, at: usize) -> Link
-    requires { ⌜ IsTable (now table) × (at < size) × (size ≤ 2 * length (now words)) × (size ≤ mostCode) ⌝ }
-    ensures { λ r. ⌜ r ≡ linkOf (decodeAt (now (words .entry)) size at) ⌝ }
-{
-    let b = bytecode::fetch(words, at);
-    let e = bytecode::entry(table, b);
-    let group = e / 8192;
-    if group == 1 {
-        return short_link(b);
-    }
-    if group != 3 {
-        return Link::Nothing;
-    }
-    if 143 < b {
-        return Link::Nothing;
-    }
-    if size < at + e / 2048 % 4 {
-        return Link::Nothing;
-    }
-    extended_link(
-        b,
-        bytecode::byte(words, at + 1),
-        bytecode::byte(words, at + 2),
-    )
 }

@@ -46,8 +46,11 @@ module _ {n b : ℕ} {contents bodies stack₀ : List ℕ} {a : Active} (r₀ : 
   pub went-on : (cache : List ℕ) (q : CodePosition) (z : StackPosition) → event ≡ Next q z → (receiver selector : ℕ)
       → AdvancedIs receiver selector n b a contents bodies stack₀ cache contents bodies₁ stack₂ cache (A.Next q z)
   went-on cache q z e receiver selector =
-      let x : Says n b contents a bodies stack₀ bodies₁ stack₂ (Next q z) = by-event (Next q z) e in
-      (moved-made n b (a .base .0) contents bodies (written a stack₀) cache bodies₁ (written (movedOn a q z) stack₂) (r₀ .runs) (x .0) receiver selector (roomAt contents bodies (written a stack₀) cache), x .1)
+      let x : Says n b contents a bodies stack₀ bodies₁ stack₂ (Next q z) = by-event (Next q z) e in (
+        moved-made n b (a .base .0) contents bodies (written a stack₀) cache bodies₁ (written (movedOn a q z) stack₂) (r₀ .runs) (x .0) receiver selector
+            (roomAt contents bodies (written a stack₀) cache),
+        x .1,
+      )
 
   -- what writing the frame's words asks: the stack was left as it was
   same-base : length (written a stack₂) ≡ length (written a stack₀) → Leaving stack₀ a → Leaving stack₂ a
@@ -89,8 +92,15 @@ module _ {n b : ℕ} {contents bodies stack₀ : List ℕ} {a : Active} (r₀ : 
   pub no-boolean : (cache : List ℕ) → event ≡ NoBoolean → (receiver selector : ℕ)
       → Stops (stepFrom cache receiver selector) 4 contents bodies stack cache contents bodies₁ stack₁ cache
   no-boolean cache e receiver selector =
-      let x : Becomes n b top contents bodies stack bodies₁ stack₁ (λ room receiver selector. halts noBoolean) = onto-left (λ room receiver selector. halts noBoolean) (by-event r₀ bodies₁ stack₂ event says NoBoolean e) in
-      record { cause = noBoolean; steps = x .steps receiver selector (roomAt contents bodies stack cache); phase = refl; stays = record { entries = refl; words = x .words; frames = x .frames; cached = refl } }
+      let x : Becomes n b top contents bodies stack bodies₁ stack₁ (λ room receiver selector. halts noBoolean) = onto-left
+      (λ room receiver selector. halts noBoolean) (by-event r₀ bodies₁ stack₂ event says NoBoolean e) in
+      record {
+        cause = noBoolean;
+        steps = x .steps receiver selector (roomAt contents bodies stack cache);
+        phase = refl;
+        stays = record
+            { entries = refl; words = x .words; frames = x .frames; cached = refl };
+      }
 
   -- A return
   module _ (w : ℕ) (e : event ≡ Return w) where
@@ -105,7 +115,8 @@ module _ {n b : ℕ} {contents bodies stack₀ : List ℕ} {a : Active} (r₀ : 
     finishes cache z receiver selector =
         let x = returns-word in
         made-as (x .steps receiver selector (roomAt contents bodies stack cache))
-        (onto (x .words) (x .frames) (λ (l s : List ℕ). Made (return-step receiver selector) (finishedWith receiver selector n b w) contents bodies stack cache contents l s cache) (bottom-returns r receiver selector w cache z))
+        (onto (x .words) (x .frames) (λ (l s : List ℕ). Made (return-step receiver selector) (finishedWith receiver selector n b w) contents bodies stack cache
+        contents l s cache) (bottom-returns r receiver selector w cache z))
 
     pub return-runs : Runs n b top contents bodies₁ stack₁
     return-runs = let x = returns-word in onto (x .words) (x .frames) (λ (l s : List ℕ). Runs n b top contents l s) r
@@ -120,14 +131,18 @@ module _ {n b : ℕ} {contents bodies stack₀ : List ℕ} {a : Active} (r₀ : 
         made-as (x .steps receiver selector (roomAt contents bodies stack cache))
         (subst (λ (s : List ℕ). Made (return-step receiver selector) (runningWith receiver selector n b t) contents bodies stack cache contents bodies₁ s cache) (sym es)
         (subst (λ (k : ℕ). Made (return-step receiver selector) (runningWith receiver selector n b k) contents bodies stack cache contents bodies₁ (after bodies₁ stack₁ k) cache) (sym et)
-        (onto (x .words) (x .frames) (λ (l s : List ℕ). Made (return-step receiver selector) (runningWith receiver selector n b (frameSender s top)) contents bodies stack cache contents l (after l s (frameSender s top)) cache)
+        (onto (x .words) (x .frames) (λ (l s : List ℕ). Made (return-step receiver selector) (runningWith receiver selector n b (frameSender s top)) contents
+        bodies stack cache contents l (after l s (frameSender s top)) cache)
         (sender-returns r above receiver selector w cache))))
 
     -- the frame below ends where the top one began
     ends-below : (stack′ : List ℕ) (t : ℕ) → 0 < top → t ≡ frameSender stack₁ top → stack′ ≡ after bodies₁ stack₁ t → t + frameSize (objectsAt n b contents bodies₁) (frameMethod stack′ t) ≤ top
     ends-below stack′ t above et es =
         let k = subst (λ (x : ℕ). x + frameSize (objectsAt n b contents bodies₁) (frameMethod stack₁ x) ≡ top) (sym et) (sender-bounds return-runs above .below) in
-        let m : frameMethod stack′ t ≡ frameMethod stack₁ t = ap (λ (l : List ℕ). frameMethod l t) es ∙ getD-set-other (set stack₁ (t + (6 + (temporaryCount (objectsAt n b contents bodies₁) (frameMethod stack₁ t) + frameDepth stack₁ t))) w) (t + 2) (t + 3) (suc (frameDepth stack₁ t)) 0 (omega arith) ∙ getD-set-other stack₁ (t + (6 + (temporaryCount (objectsAt n b contents bodies₁) (frameMethod stack₁ t) + frameDepth stack₁ t))) (t + 3) w 0 (omega arith) in
+        let m : frameMethod stack′ t ≡ frameMethod stack₁ t = ap (λ (l : List ℕ). frameMethod l t) es
+        ∙ getD-set-other (set stack₁ (t + (6 + (temporaryCount (objectsAt n b contents bodies₁) (frameMethod stack₁ t) + frameDepth stack₁ t))) w) (t + 2)
+        (t + 3) (suc (frameDepth stack₁ t)) 0 (omega arith) ∙ getD-set-other stack₁
+        (t + (6 + (temporaryCount (objectsAt n b contents bodies₁) (frameMethod stack₁ t) + frameDepth stack₁ t))) (t + 3) w 0 (omega arith) in
         subst (λ (x : ℕ). t + frameSize (objectsAt n b contents bodies₁) x ≤ top) (sym m) (omega arith)
 
     pub returned-below : (cache stack′ : List ℕ) (t : StackPosition) → 0 < top → t .0 ≡ frameSender stack₁ top → stack′ ≡ after bodies₁ stack₁ (t .0) → (receiver selector : ℕ)
@@ -141,7 +156,8 @@ module _ {n b : ℕ} {contents bodies stack₀ : List ℕ} {a : Active} (r₀ : 
     send-step cache l z receiver selector = sendStep (roomAt contents l z cache) receiver selector n b top contents l z s k (c .0) (q .0)
 
     abbrev Sends : Type 0
-    Sends = Sending n b top contents bodies stack s k (c .0) (q .0) sure × Becomes n b top contents bodies stack bodies₁ stack₁ (λ room receiver selector. sendStep room receiver selector n b top contents bodies stack s k (c .0) (q .0))
+    Sends = Sending n b top contents bodies stack s k (c .0) (q .0) sure × Becomes n b top contents bodies stack bodies₁ stack₁
+        (λ room receiver selector. sendStep room receiver selector n b top contents bodies stack s k (c .0) (q .0))
 
     sends-it : Sends
     sends-it =
@@ -167,11 +183,13 @@ module _ {n b : ℕ} {contents bodies stack₀ : List ℕ} {a : Active} (r₀ : 
         (h : (receiver selector : ℕ) → SentIs (send-step cache bodies₁ stack₁ receiver selector) receiver selector n b top contents bodies₁ stack₁ cache contents′ bodies′ stack′ cache′ answer)
       where
         -- what the send says, of the buffers before the step
-        said : (y : Sent) → answer ≡ y → (receiver selector : ℕ) → SentIs (send-step cache bodies stack receiver selector) receiver selector n b top contents bodies stack cache contents′ bodies′ stack′ cache′ y
+        said : (y : Sent) → answer ≡ y → (receiver selector : ℕ) → SentIs (send-step cache bodies stack receiver selector) receiver selector n b top contents
+            bodies stack cache contents′ bodies′ stack′ cache′ y
         said y d receiver selector =
             let x = sends-it .1 in
             subst (SentIs (send-step cache bodies stack receiver selector) receiver selector n b top contents bodies stack cache contents′ bodies′ stack′ cache′) d
-            (back (x .words) (x .frames) (λ (l z : List ℕ). SentIs (send-step cache l z receiver selector) receiver selector n b top contents l z cache contents′ bodies′ stack′ cache′ answer) (h receiver selector))
+            (back (x .words) (x .frames) (λ (l z : List ℕ). SentIs (send-step cache l z receiver selector) receiver selector n b top contents l z cache
+            contents′ bodies′ stack′ cache′ answer) (h receiver selector))
 
         as-sent : (receiver selector : ℕ) → stepFrom cache receiver selector ≡ send-step cache bodies stack receiver selector
         as-sent receiver selector = sends-it .1 .steps receiver selector (roomAt contents bodies stack cache)

@@ -7,7 +7,7 @@ use native.Mathlib.Omega.{arith}
 use native.Mathlib.Decide.{decLt}
 use borrow.Author.Tests.{lt-ltb, le-ltb}
 use lib.ListN.{length, length-append}
-use Rattle.lines.specs.Text.{digits, decimal}
+use Rattle.plain.specs.Text.{digits, decimal}
 
 -- fuel above the number is enough
 same-digits : (f g n : ℕ) → n < f → n < g → digits f n ≡ digits g n

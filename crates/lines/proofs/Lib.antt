@@ -1,4 +1,3 @@
 pub mod Digits
 pub mod Puts
 pub mod Whole
-pub mod Worked

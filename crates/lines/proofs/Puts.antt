@@ -6,7 +6,7 @@ use native.Mathlib.Omega.{arith}
 use native.Mathlib.Numerals.{add-one}
 use lib.ListN.{length, getD, take, drop, set, length-append}
 use lib.Seq.{sets, sets-eq, take-suc, length-take-le}
-use Rattle.lines.specs.Text.{decimal}
+use Rattle.plain.specs.Text.{decimal}
 use Rattle.lines.proofs.Digits.{one-digit, more-digits}
 
 -- the bytes vs from a place on, and the place behind them

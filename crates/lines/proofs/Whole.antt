@@ -5,7 +5,7 @@ use mathlib.Core.List.{List, _++_}
 use native.Mathlib.Omega.{arith}
 use lib.ListN.{length, drop}
 use Rattle.plain.specs.Program.{line, refusal}
-use Rattle.lines.specs.Text.{decimal, phaseText, countText, valueText, refusedText, newline, lineBytes}
+use Rattle.plain.specs.Text.{decimal, phaseText, countText, valueText, refusedText, newline, lineBytes}
 use Rattle.lines.proofs.Digits.{word-digits, count-digits}
 use Rattle.lines.proofs.Puts.{Put, and-then, at-front}
 

@@ -1,11 +1,11 @@
-// The line that step80 prints. The definitions are in specs/Text.antt.
+// The line that step80 prints. Its definition is in specs/Text.antt of plain.
 ghost use mathlib.Core.Path.{_≡_};
 ghost use mathlib.Core.List.{_++_};
 ghost use Prim.Native.Nat.{_+_, _≤_};
 ghost use lib.ListN.{length, drop};
 ghost use lib.Seq.{sets};
 ghost use Rattle.plain.specs.Program.{line, refusal};
-ghost use Rattle.lines.specs.Text.{decimal, lineBytes};
+ghost use Rattle.plain.specs.Text.{decimal, lineBytes};
 
 // A text from `at` on, and the place behind it.
 fn put_text(out: &mut [u8], at: usize, text: &[u8]) -> usize

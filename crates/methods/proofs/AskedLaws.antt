@@ -37,7 +37,8 @@ module _ (n b : ℕ) (contents bodies : List ℕ) (ready : Ready n b contents bo
 
 -- One pair, from the words that were read: d the dictionary, s the selector, m the method, h its home
 module _ (n b : ℕ) (contents bodies : List ℕ) (class i : ℕ) (counts : List ℕ) (p : PairAsked n b contents bodies class i counts) (d m h : ℕ)
-    (ed : d ≡ dictionaryWord (objectsAt n b contents bodies) class) (em : m ≡ bodyWord (objectsAt n b contents bodies) (d / 2) (2 * i + 1)) (eh : h ≡ bodyWord (objectsAt n b contents bodies) (m / 2) 1) where
+    (ed : d ≡ dictionaryWord (objectsAt n b contents bodies) class) (em : m ≡ bodyWord (objectsAt n b contents bodies) (d / 2) (2 * i + 1))
+    (eh : h ≡ bodyWord (objectsAt n b contents bodies) (m / 2) 1) where
   abbrev o′ : Objects
   o′ = objectsAt n b contents bodies
 
@@ -53,21 +54,33 @@ module _ (n b : ℕ) (contents bodies : List ℕ) (class i : ℕ) (counts : List
 
   pub pair-turned : (s count : ℕ) → s ≡ bodyWord o′ (d / 2) (2 * i) → h ≡ class → count ≡ argumentCount o′ m → (counts′ : List ℕ) (r : Bool) → Noted counts (s / 2) (count + 1) counts′ r
       → Turned o′ (class / 2) (i + 1) counts′ r
-  pair-turned s count es f ec counts′ r t = go r (subst (λ (x : ℕ). Noted counts x (argumentCount o′ (pairMethod o′ (dictionaryWord o′ class) i) + 1) counts′ r) (ap (λ (x : ℕ). x / 2) selector-is) (subst (λ (x : ℕ). Noted counts (s / 2) (x + 1) counts′ r) (ec ∙ ap (argumentCount o′) method-is) t))
+  pair-turned s count es f ec counts′ r t = go r (subst (λ (x : ℕ). Noted counts x (argumentCount o′ (pairMethod o′ (dictionaryWord o′ class) i) + 1) counts′
+      r) (ap (λ (x : ℕ). x / 2) selector-is) (subst (λ (x : ℕ). Noted counts (s / 2) (x + 1) counts′ r) (ec ∙ ap (argumentCount o′) method-is) t))
     where
       selector-is : s ≡ pairSelector o′ (dictionaryWord o′ class) i
       selector-is = es ∙ ap (λ (x : ℕ). bodyWord o′ (x / 2) (2 * i)) ed
 
-      go : (r : Bool) → Noted counts (pairSelector o′ (dictionaryWord o′ class) i / 2) (argumentCount o′ (pairMethod o′ (dictionaryWord o′ class) i) + 1) counts′ r → Turned o′ (class / 2) (i + 1) counts′ r
+      go : (r : Bool) → Noted counts (pairSelector o′ (dictionaryWord o′ class) i / 2) (argumentCount o′ (pairMethod o′ (dictionaryWord o′ class) i) + 1)
+          counts′ r → Turned o′ (class / 2) (i + 1) counts′ r
       go true x = right-count o′ (p .ready .classes) counts (class / 2) i (p .so-far) class (p .isClass) refl (p .inside) (p .long) (sym home-is ∙ f) counts′ x
       go false x = wrong-count o′ (p .ready .classes) counts (class / 2) i (p .so-far) class (p .isClass) refl (p .inside) (p .long) counts′ x
 
 -- the loop over the pairs of a class
-pub pair-asked : (n b : ℕ) (contents bodies : List ℕ) (class : ℕ) (counts₀ : List ℕ) → ClassAsked n b contents bodies class counts₀ → (d z : ℕ) → d ≡ dictionaryWord (objectsAt n b contents bodies) class
-    → z ≡ size (objectsAt n b contents bodies) (d / 2) → z < 65536 → (counts : List ℕ) (i : ℕ) → length counts ≡ length counts₀ → Counting (objectsAt n b contents bodies) counts (class / 2) i → i < z / 2
+pub pair-asked : (n b : ℕ) (contents bodies : List ℕ) (class : ℕ) (counts₀ : List ℕ) → ClassAsked n b contents bodies class counts₀ → (d z : ℕ)
+    → d ≡ dictionaryWord (objectsAt n b contents bodies) class
+    → z ≡ size (objectsAt n b contents bodies) (d / 2) → z < 65536 → (counts : List ℕ) (i : ℕ) → length counts ≡ length counts₀
+    → Counting (objectsAt n b contents bodies) counts (class / 2) i → i < z / 2
     → PairAsked n b contents bodies class i counts
 pair-asked n b contents bodies class counts₀ p d z ed ez hz counts i l w h =
-    record { ready = p .ready; isClass = p .isClass; long = let x = p .long in omega arith; inside = subst (λ (x : ℕ). i < size (objectsAt n b contents bodies) (x / 2) / 2) ed (subst (λ (x : ℕ). i < x / 2) ez h); low = omega arith; so-far = w }
+    record {
+      ready = p .ready;
+      isClass = p .isClass;
+      long = let x = p .long in omega arith;
+      inside = subst (λ (x : ℕ). i < size (objectsAt n b contents bodies)
+          (x / 2) / 2) ed (subst (λ (x : ℕ). i < x / 2) ez h);
+      low = omega arith;
+      so-far = w;
+    }
 
 pub class-no : (o : Objects) (k i k′ i′ : ℕ) (counts counts′ : List ℕ) → Turned o k i counts false → Turned o k′ i′ counts′ false
 unfolding Turned
@@ -81,7 +94,8 @@ turned-on o k i counts r e t = go r e t
     go true q y = y
     go false q y = absurd (subst T (sym q) tt)
 
-pub class-done : (n b : ℕ) (contents bodies : List ℕ) (class : ℕ) (counts₀ : List ℕ) → ClassAsked n b contents bodies class counts₀ → (d z : ℕ) → d ≡ dictionaryWord (objectsAt n b contents bodies) class
+pub class-done : (n b : ℕ) (contents bodies : List ℕ) (class : ℕ) (counts₀ : List ℕ) → ClassAsked n b contents bodies class counts₀ → (d z : ℕ)
+    → d ≡ dictionaryWord (objectsAt n b contents bodies) class
     → z ≡ size (objectsAt n b contents bodies) (d / 2) → (counts : List ℕ) (i : ℕ) → Counting (objectsAt n b contents bodies) counts (class / 2) i → z / 2 ≤ i
     → Turned (objectsAt n b contents bodies) (class / 2 + 1) 0 counts true
 unfolding Turned
@@ -91,7 +105,8 @@ class-done n b contents bodies class counts₀ p d z ed ez counts i w h =
     let x = C.named (objectsAt n b contents bodies) classKind c a .even in
     let y = C.named (objectsAt n b contents bodies) classKind class (p .isClass) .even in
     let q : c ≡ class = omega arith in
-    let u : j < size (objectsAt n b contents bodies) (dictionaryWord (objectsAt n b contents bodies) class / 2) / 2 = subst (λ (v : ℕ). j < pairCount (objectsAt n b contents bodies) (dictionaryWord (objectsAt n b contents bodies) v)) q l in
+    let u : j < size (objectsAt n b contents bodies) (dictionaryWord (objectsAt n b contents bodies) class / 2) / 2 = subst
+    (λ (v : ℕ). j < pairCount (objectsAt n b contents bodies) (dictionaryWord (objectsAt n b contents bodies) v)) q l in
     let v : j < z / 2 = subst (λ (t : ℕ). j < t / 2) (sym ez) (subst (λ (t : ℕ). j < size (objectsAt n b contents bodies) (t / 2) / 2) (sym ed) u) in
     omega arith)
 
@@ -106,7 +121,15 @@ module _ (n b : ℕ) (contents bodies : List ℕ) (k : ℕ) (counts : List ℕ) 
   pub class-here : kind (objectsAt n b contents bodies) k ≡ classKind → (w : ℕ) → w ≡ 2 * k → ClassAsked n b contents bodies w counts
   class-here h w e =
       let half : w / 2 ≡ k = omega arith in
-      record { ready = p .ready; isClass = subst (λ (x : ℕ). T (isKind (objectsAt n b contents bodies) classKind x)) (sym e) (subst (λ (x : ℕ). T (isKind (objectsAt n b contents bodies) x (2 * k))) h (naming (objectsAt n b contents bodies) (kind (objectsAt n b contents bodies) k) (2 * k) (named-pointer (objectsAt n b contents bodies) k (p .least) (p .most)))); long = p .long; so-far = subst (λ (x : ℕ). Counting (objectsAt n b contents bodies) counts x 0) (sym half) (p .so-far) }
+      record {
+        ready = p .ready;
+        isClass = subst (λ (x : ℕ). T (isKind (objectsAt n b contents bodies) classKind x)) (sym e)
+            (subst (λ (x : ℕ). T (isKind (objectsAt n b contents bodies) x (2 * k))) h
+            (naming (objectsAt n b contents bodies) (kind (objectsAt n b contents bodies) k) (2 * k) (named-pointer (objectsAt n b contents bodies) k (p .least)
+            (p .most))));
+        long = p .long;
+        so-far = subst (λ (x : ℕ). Counting (objectsAt n b contents bodies) counts x 0) (sym half) (p .so-far);
+      }
 
   pub turned-here : (w : ℕ) → w ≡ 2 * k → (counts′ : List ℕ) (r : Bool) → Turned (objectsAt n b contents bodies) (w / 2 + 1) 0 counts′ r → Turned (objectsAt n b contents bodies) (k + 1) 0 counts′ r
   turned-here w e counts′ r t = let half : w / 2 ≡ k = omega arith in subst (λ (x : ℕ). Turned (objectsAt n b contents bodies) (x + 1) 0 counts′ r) half t

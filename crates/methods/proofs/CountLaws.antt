@@ -30,13 +30,17 @@ module _ (o : Objects) where
   unfolding takesCount
   takes-at s n t c i k l e =
       let h = named o classKind c k in
-      let u = implied (eqb (kind o (c / 2)) classKind) (below (pairCount o (dictionaryWord o (pointer (c / 2)))) (inPair s n (pointer (c / 2)))) (upTo-at (o .n) (λ j. implies (eqb (kind o j) classKind) (below (pairCount o (dictionaryWord o (pointer j))) (inPair s n (pointer j)))) t (c / 2) (h .least) (h .most)) (true→T (eq-eqb (kind o (c / 2)) classKind (h .kinds))) in
+      let u = implied (eqb (kind o (c / 2)) classKind) (below (pairCount o (dictionaryWord o (pointer (c / 2)))) (inPair s n (pointer (c / 2))))
+      (upTo-at (o .n) (λ j. implies (eqb (kind o j) classKind) (below (pairCount o (dictionaryWord o (pointer j))) (inPair s n (pointer j)))) t (c / 2)
+      (h .least) (h .most)) (true→T (eq-eqb (kind o (c / 2)) classKind (h .kinds))) in
       let v : T (below (pairCount o (dictionaryWord o c)) (inPair s n c)) = subst (λ (x : ℕ). T (below (pairCount o (dictionaryWord o x)) (inPair s n x))) (pointer-of c (h .even)) u in
       eqb→eq (argumentCount o (pairMethod o (dictionaryWord o c) i)) n
-      (implied (eqb (pairSelector o (dictionaryWord o c) i) s) (eqb (argumentCount o (pairMethod o (dictionaryWord o c) i)) n) (below-at (pairCount o (dictionaryWord o c)) (inPair s n c) v i l) (true→T (eq-eqb (pairSelector o (dictionaryWord o c) i) s e)))
+      (implied (eqb (pairSelector o (dictionaryWord o c) i) s) (eqb (argumentCount o (pairMethod o (dictionaryWord o c) i)) n)
+      (below-at (pairCount o (dictionaryWord o c)) (inPair s n c) v i l) (true→T (eq-eqb (pairSelector o (dictionaryWord o c) i) s e)))
 
   -- and from all of them
-  pub at-takes : (s n : ℕ) → ((c i : ℕ) → T (isKind o classKind c) → i < pairCount o (dictionaryWord o c) → pairSelector o (dictionaryWord o c) i ≡ s → argumentCount o (pairMethod o (dictionaryWord o c) i) ≡ n)
+  pub at-takes : (s n : ℕ) → ((c i : ℕ) → T (isKind o classKind c) → i < pairCount o (dictionaryWord o c) → pairSelector o (dictionaryWord o c) i ≡ s
+      → argumentCount o (pairMethod o (dictionaryWord o c) i) ≡ n)
       → T (takesCount o s n)
   unfolding takesCount
   at-takes s n f =
@@ -44,7 +48,8 @@ module _ (o : Objects) where
       (λ j a b. implying (eqb (kind o j) classKind) (below (pairCount o (dictionaryWord o (pointer j))) (inPair s n (pointer j)))
       (λ q. at-below (pairCount o (dictionaryWord o (pointer j))) (inPair s n (pointer j))
       (λ i l. implying (eqb (pairSelector o (dictionaryWord o (pointer j)) i) s) (eqb (argumentCount o (pairMethod o (dictionaryWord o (pointer j)) i)) n)
-      (λ p. true→T (eq-eqb (argumentCount o (pairMethod o (dictionaryWord o (pointer j)) i)) n (f (pointer j) i (is-class j a b q) l (eqb→eq (pairSelector o (dictionaryWord o (pointer j)) i) s p)))))))
+      (λ p. true→T (eq-eqb (argumentCount o (pairMethod o (dictionaryWord o (pointer j)) i)) n
+      (f (pointer j) i (is-class j a b q) l (eqb→eq (pairSelector o (dictionaryWord o (pointer j)) i) s p)))))))
     where
       is-class : (j : ℕ) → 1 ≤ j → j ≤ o .n → T (eqb (kind o j) classKind) → T (isKind o classKind (pointer j))
       is-class j a b q = subst (λ (k : ℕ). T (isKind o k (pointer j))) (eqb→eq (kind o j) classKind q) (naming o (kind o j) (pointer j) (named-pointer o j a b))
@@ -66,7 +71,8 @@ module _ (o : Objects) where
     of-note : T (eqb note 0 || eqb note (suc n)) → T (takesCount o s n)
     of-note t = at-takes s n (λ k i a l e. pair k i e (c .each k i a l) (or-cases (eqb note 0) (eqb note (suc n)) t))
       where
-        pair : (k i : ℕ) → pairSelector o (dictionaryWord o k) i ≡ s → getD counts (objectNumber (pairSelector o (dictionaryWord o k) i)) 0 ≡ suc (argumentCount o (pairMethod o (dictionaryWord o k) i))
+        pair : (k i : ℕ) → pairSelector o (dictionaryWord o k) i ≡ s → getD counts (objectNumber (pairSelector o (dictionaryWord o k) i)) 0 ≡ suc
+            (argumentCount o (pairMethod o (dictionaryWord o k) i))
             → T (eqb note 0) ⊎ T (eqb note (suc n)) → argumentCount o (pairMethod o (dictionaryWord o k) i) ≡ n
         pair k i e q (inl z) =
             let x : note ≡ suc (argumentCount o (pairMethod o (dictionaryWord o k) i)) = ap (λ (w : ℕ). getD counts (objectNumber w) 0) (sym e) ∙ q in

@@ -32,7 +32,9 @@ module _ (o : Objects) (r : T (rule6 1 o)) where
   class-at c t =
       let h = named o classKind c t in
       let u = upTo-at (o .n) (objectFine 1 o) (and-right (allOf (knownObjectRules 1 o)) (upTo (o .n) (objectFine 1 o)) r) (c / 2) (h .least) (h .most) in
-      let v = implied (eqb (kind o (c / 2)) classKind) (allOf (classRules 1 o (pointer (c / 2)))) (and-right (entryFine 1 o (c / 2)) (implies (eqb (kind o (c / 2)) classKind) (allOf (classRules 1 o (pointer (c / 2))))) u) (true→T (eq-eqb (kind o (c / 2)) classKind (h .kinds))) in
+      let v = implied (eqb (kind o (c / 2)) classKind) (allOf (classRules 1 o (pointer (c / 2))))
+      (and-right (entryFine 1 o (c / 2)) (implies (eqb (kind o (c / 2)) classKind) (allOf (classRules 1 o (pointer (c / 2))))) u)
+      (true→T (eq-eqb (kind o (c / 2)) classKind (h .kinds))) in
       class-facts-of 1 o c (subst (λ (x : ℕ). T (allOf (classRules 1 o x))) (pointer-of c (h .even)) v)
 
   pub pair-at : (c i : ℕ) → T (isKind o classKind c) → i < pairCount o (dictionaryWord o c) → PairFacts o (dictionaryWord o c) i
@@ -47,12 +49,14 @@ module _ (o : Objects) (t : T (holders o)) (c i : ℕ) (k : T (isKind o classKin
   unfolding holders holderFine dictionaryMethodsFine
   at-pair =
       let h = named o classKind c k in
-      let u = implied (eqb (kind o (c / 2)) classKind) (below (pairCount o (dictionaryWord o (pointer (c / 2)))) (both (pointer (c / 2)))) (upTo-at (o .n) (holderFine o) t (c / 2) (h .least) (h .most)) (true→T (eq-eqb (kind o (c / 2)) classKind (h .kinds))) in
+      let u = implied (eqb (kind o (c / 2)) classKind) (below (pairCount o (dictionaryWord o (pointer (c / 2)))) (both (pointer (c / 2))))
+      (upTo-at (o .n) (holderFine o) t (c / 2) (h .least) (h .most)) (true→T (eq-eqb (kind o (c / 2)) classKind (h .kinds))) in
       let v = subst (λ (x : ℕ). T (below (pairCount o (dictionaryWord o x)) (both x))) (pointer-of c (h .even)) u in
       below-at (pairCount o (dictionaryWord o c)) (both c) v i l
 
   pub holder-home : home o (pairMethod o (dictionaryWord o c) i) ≡ c
-  holder-home = eqb→eq (home o (pairMethod o (dictionaryWord o c) i)) c (and-left (eqb (home o (pairMethod o (dictionaryWord o c) i)) c) (takesCount o (pairSelector o (dictionaryWord o c) i) (argumentCount o (pairMethod o (dictionaryWord o c) i))) at-pair)
+  holder-home = eqb→eq (home o (pairMethod o (dictionaryWord o c) i)) c (and-left (eqb (home o (pairMethod o (dictionaryWord o c) i)) c)
+      (takesCount o (pairSelector o (dictionaryWord o c) i) (argumentCount o (pairMethod o (dictionaryWord o c) i))) at-pair)
 
   pub holder-count : T (takesCount o (pairSelector o (dictionaryWord o c) i) (argumentCount o (pairMethod o (dictionaryWord o c) i)))
   holder-count = and-right (eqb (home o (pairMethod o (dictionaryWord o c) i)) c) (takesCount o (pairSelector o (dictionaryWord o c) i) (argumentCount o (pairMethod o (dictionaryWord o c) i))) at-pair
@@ -119,7 +123,11 @@ module _ (o : Objects) (six : T (rule6 1 o)) (counts : List ℕ) (k i : ℕ) (so
         passed′ x y a b w = go w (ℕ-discrete y i)
           where
             old : (objectNumber x < k) ⊎ ((objectNumber x ≡ k) × (y < i)) → PairRight o counts′ x y
-            old z = let p = so-far .passed x y a b z in record { homes = p .homes; noted = kept (objectNumber (pairSelector o (dictionaryWord o x) y)) (argumentCount o (pairMethod o (dictionaryWord o x) y)) (p .noted) (ℕ-discrete (objectNumber (pairSelector o (dictionaryWord o x) y)) j) }
+            old z = let p = so-far .passed x y a b z in record {
+              homes = p .homes;
+              noted = kept (objectNumber (pairSelector o (dictionaryWord o x) y))
+                  (argumentCount o (pairMethod o (dictionaryWord o x) y)) (p .noted) (ℕ-discrete (objectNumber (pairSelector o (dictionaryWord o x) y)) j);
+            }
 
             same-class : objectNumber x ≡ k → x ≡ c
             same-class q = let p = named o classKind x a in let p′ = named o classKind c isC in let e = p .even in let e′ = p′ .even in omega arith
@@ -136,16 +144,26 @@ module _ (o : Objects) (six : T (rule6 1 o)) (counts : List ℕ) (k i : ℕ) (so
             go : Dec (x ≡ j) → Counted o (pointer x) a
             go (no d) = so-far .only x a (sym (getD-set-other counts j x note 0 d) ∙ ap (λ (z : List ℕ). getD z x 0) (sym (n .0)) ∙ e)
             go (yes d) =
-                record { class = c; index = i; isClass = isC; inside = l; named = sym (ap pointer d ∙ pointer-of s (selector-named .even)); takes = suc-inj (sym (ap (λ (y : ℕ). getD counts′ y 0) d ∙ here-note ∙ omega arith) ∙ e) }
+                record {
+                  class = c;
+                  index = i;
+                  isClass = isC;
+                  inside = l;
+                  named = sym (ap pointer d ∙ pointer-of s (selector-named .even));
+                  takes = suc-inj
+                      (sym (ap (λ (y : ℕ). getD counts′ y 0) d ∙ here-note ∙ omega arith) ∙ e);
+                }
 
 -- ---- the loops
 
 -- all pairs of object k are passed
-pub next-class : (o : Objects) (counts : List ℕ) (k i : ℕ) → Counting o counts k i → ((c j : ℕ) → T (isKind o classKind c) → objectNumber c ≡ k → j < pairCount o (dictionaryWord o c) → j < i) → Counting o counts (k + 1) 0
+pub next-class : (o : Objects) (counts : List ℕ) (k i : ℕ) → Counting o counts k i → ((c j : ℕ) → T (isKind o classKind c) → objectNumber c ≡ k
+    → j < pairCount o (dictionaryWord o c) → j < i) → Counting o counts (k + 1) 0
 next-class o counts k i w all =
     record { passed = λ c j a b x. w .passed c j a b (go c j a b x); only = w .only }
   where
-    go : (c j : ℕ) → T (isKind o classKind c) → j < pairCount o (dictionaryWord o c) → (objectNumber c < k + 1) ⊎ ((objectNumber c ≡ k + 1) × (j < 0)) → (objectNumber c < k) ⊎ ((objectNumber c ≡ k) × (j < i))
+    go : (c j : ℕ) → T (isKind o classKind c) → j < pairCount o (dictionaryWord o c) → (objectNumber c < k + 1) ⊎ ((objectNumber c ≡ k + 1) × (j < 0))
+        → (objectNumber c < k) ⊎ ((objectNumber c ≡ k) × (j < i))
     go c j a b (inl x) = by (decLt (objectNumber c) k)
       where
         by : Dec (objectNumber c < k) → (objectNumber c < k) ⊎ ((objectNumber c ≡ k) × (j < i))
@@ -178,7 +196,8 @@ all-counted o counts k h w = (at-upTo (o .n) (holderFine o) class-fine, counts-r
         (λ q.
         let c : ℕ = pointer x in
         let isC = subst (λ (z : ℕ). T (isKind o z c)) (eqb→eq (kind o x) classKind q) (naming o (kind o x) c (named-pointer o x a b)) in
-        at-below (pairCount o (dictionaryWord o c)) (λ j. eqb (home o (pairMethod o (dictionaryWord o c) j)) c && takesCount o (pairSelector o (dictionaryWord o c) j) (argumentCount o (pairMethod o (dictionaryWord o c) j)))
+        at-below (pairCount o (dictionaryWord o c)) (λ j. eqb (home o (pairMethod o (dictionaryWord o c) j)) c && takesCount o
+        (pairSelector o (dictionaryWord o c) j) (argumentCount o (pairMethod o (dictionaryWord o c) j)))
         (λ j l. and-both (eqb (home o (pairMethod o (dictionaryWord o c) j)) c) (takesCount o (pairSelector o (dictionaryWord o c) j) (argumentCount o (pairMethod o (dictionaryWord o c) j)))
         (true→T (eq-eqb (home o (pairMethod o (dictionaryWord o c) j)) c (pair c j isC l .homes)))
         (at-takes o (pairSelector o (dictionaryWord o c) j) (argumentCount o (pairMethod o (dictionaryWord o c) j))

@@ -39,13 +39,17 @@ module _ (e : ℕ) (o : Objects) where
   unfolding rule7 shapes holders codes shapeFine holderFine codeFine
   to-passes t =
       and-both (upTo (o .n) (shapeFine o)) (upTo (o .n) (holderFine o) && upTo (o .n) (codeFine o))
-      (at-upTo (o .n) (shapeFine o) (λ k a b. implying (eqb (kind o k) methodKind) (allOf (shapeRules o (pointer k))) (λ q. method-shape (pointer k) (implied (eqb (kind o k) methodKind) (allOf (methodRules e o (pointer k))) (first k a b) q))))
+      (at-upTo (o .n) (shapeFine o) (λ k a b. implying (eqb (kind o k) methodKind) (allOf (shapeRules o (pointer k)))
+      (λ q. method-shape (pointer k) (implied (eqb (kind o k) methodKind) (allOf (methodRules e o (pointer k))) (first k a b) q))))
       (and-both (upTo (o .n) (holderFine o)) (upTo (o .n) (codeFine o))
-      (at-upTo (o .n) (holderFine o) (λ k a b. and-right (implies (eqb (kind o k) methodKind) (allOf (methodRules e o (pointer k)))) (implies (eqb (kind o k) classKind) (dictionaryMethodsFine o (pointer k))) (upTo-at (o .n) seven t k a b)))
-      (at-upTo (o .n) (codeFine o) (λ k a b. implying (eqb (kind o k) methodKind) (implies (runsCode o (pointer k)) (isSome (methodTable o (pointer k)))) (λ q. method-code (pointer k) (implied (eqb (kind o k) methodKind) (allOf (methodRules e o (pointer k))) (first k a b) q)))))
+      (at-upTo (o .n) (holderFine o) (λ k a b. and-right (implies (eqb (kind o k) methodKind) (allOf (methodRules e o (pointer k))))
+      (implies (eqb (kind o k) classKind) (dictionaryMethodsFine o (pointer k))) (upTo-at (o .n) seven t k a b)))
+      (at-upTo (o .n) (codeFine o) (λ k a b. implying (eqb (kind o k) methodKind) (implies (runsCode o (pointer k)) (isSome (methodTable o (pointer k))))
+      (λ q. method-code (pointer k) (implied (eqb (kind o k) methodKind) (allOf (methodRules e o (pointer k))) (first k a b) q)))))
     where
       first : (k : ℕ) → 1 ≤ k → k ≤ o .n → T (implies (eqb (kind o k) methodKind) (allOf (methodRules e o (pointer k))))
-      first k a b = and-left (implies (eqb (kind o k) methodKind) (allOf (methodRules e o (pointer k)))) (implies (eqb (kind o k) classKind) (dictionaryMethodsFine o (pointer k))) (upTo-at (o .n) seven t k a b)
+      first k a b = and-left (implies (eqb (kind o k) methodKind) (allOf (methodRules e o (pointer k))))
+          (implies (eqb (kind o k) classKind) (dictionaryMethodsFine o (pointer k))) (upTo-at (o .n) seven t k a b)
 
   of-passes : T (shapes o && (holders o && codes o)) → T (rule7 e o)
   unfolding rule7 shapes holders codes shapeFine holderFine codeFine

@@ -38,10 +38,13 @@ module _ (o : Objects) (m h : ℕ) (e : h ≡ header o m) where
       → allOf (shapeRules o m) ≡ (leb 4 z && (eqb (h % 2) 1 && (leb (4 + 2 * (h / 2 % 64)) z && (isKind o classKind c && (below (h / 2 % 64) (λ i. isValid (o .n) (literal o m i)) && flagRules o m)))))
   unfolding shapeRules flagRules fieldRule primitiveRule
   shape-is z c ez ec =
-      ap (λ (x : Bool). leb 4 (size o (m / 2)) && (eqb (header o m % 2) 1 && (leb (4 + 2 * literalCount o m) (size o (m / 2)) && (isKind o classKind (home o m) && (below (literalCount o m) (λ i. isValid (o .n) (literal o m i)) && (fieldRule o m && (primitiveRule o m && x)))))))
+      ap (λ (x : Bool). leb 4 (size o (m / 2)) && (eqb (header o m % 2) 1 && (leb (4 + 2 * literalCount o m) (size o (m / 2)) &&
+      (isKind o classKind (home o m) && (below (literalCount o m) (λ i. isValid (o .n) (literal o m i)) && (fieldRule o m && (primitiveRule o m && x)))))))
       (and-true (leb (argumentCount o m) (temporaryCount o m)))
-      ∙ ap (λ (x : ℕ). leb 4 x && (eqb (header o m % 2) 1 && (leb (4 + 2 * literalCount o m) x && (isKind o classKind (home o m) && (below (literalCount o m) (λ i. isValid (o .n) (literal o m i)) && flagRules o m))))) (sym ez)
-      ∙ ap (λ (x : ℕ). leb 4 z && (eqb (x % 2) 1 && (leb (4 + 2 * (x / 2 % 64)) z && (isKind o classKind (home o m) && (below (x / 2 % 64) (λ i. isValid (o .n) (literal o m i)) && flagRules o m))))) (sym e)
+      ∙ ap (λ (x : ℕ). leb 4 x && (eqb (header o m % 2) 1 &&
+      (leb (4 + 2 * literalCount o m) x && (isKind o classKind (home o m) && (below (literalCount o m) (λ i. isValid (o .n) (literal o m i)) && flagRules o m))))) (sym ez)
+      ∙ ap (λ (x : ℕ). leb 4 z && (eqb (x % 2) 1 && (leb (4 + 2 * (x / 2 % 64)) z &&
+      (isKind o classKind (home o m) && (below (x / 2 % 64) (λ i. isValid (o .n) (literal o m i)) && flagRules o m))))) (sym e)
       ∙ ap (λ (x : ℕ). leb 4 z && (eqb (h % 2) 1 && (leb (4 + 2 * (h / 2 % 64)) z && (isKind o classKind x && (below (h / 2 % 64) (λ i. isValid (o .n) (literal o m i)) && flagRules o m))))) (sym ec)
 
 -- five tests that passed leave the sixth

@@ -15,7 +15,7 @@ use Rattle.model.specs.Objects.{Objects, entryWord, classWord, kind, sta
 use Rattle.model.specs.Image.{Room}
 use Rattle.model.specs.Primitive.{appended, hasRoom}
 use Rattle.model.proofs.Facts.{Right, Padded, Layout, Fits, fixed, indexed, bytes, in-words, in-bytes, sized-at, least, layout, last-end, inside, word-valid}
-use Rattle.model.proofs.Extends.{Extends, words-same, valid-grows, kind-kept, fields-same, form-same}
+use Rattle.model.proofs.Extends.{Free, Extends, words-same, valid-grows, kind-kept, fields-same, form-same}
 use Rattle.model.proofs.RightLaws.{Renewed, right-kept}
 
 -- N, B and the buffers have room for it.
@@ -46,10 +46,13 @@ pub data Suits (o : Objects) (c kd sz : ℕ) (body : List ℕ) : Type 0 where
   ofBytes : kd ≡ bytesKind → form o c ≡ bytesForm → length body ≡ (sz + 1) / 2
       → (sz % 2 ≡ 1 → getD body (length body - 1) 0 % 256 ≡ 0) → Suits o c kd sz body
 
-pub suits-kind : {o : Objects} {c kd sz : ℕ} {body : List ℕ} → Suits o c kd sz body → kd ≤ 1
+suits-kind : {o : Objects} {c kd sz : ℕ} {body : List ℕ} → Suits o c kd sz body → kd ≤ 1
 suits-kind (asMany p f m q v) = omega arith
 suits-kind (atLeast p f m q v) = omega arith
 suits-kind (ofBytes p f q v) = omega arith
+
+pub suits-free : {o : Objects} {c kd sz : ℕ} {body : List ℕ} → Suits o c kd sz body → Free kd
+suits-free s h = let k = suits-kind s in absurd (omega arith)
 
 module _ {e : ℕ} {o : Objects} (r : Right e o) (c kd sz : ℕ) (body : List ℕ) where
   abbrev grown : Objects
@@ -85,14 +88,14 @@ module _ {e : ℕ} {o : Objects} (r : Right e o) (c kd sz : ℕ) (body : List �
   new-word k i p =
       ap (λ (x : ℕ). getD (o .bodies ++ body) (x + i) 0) (new-entry k 2 p ∙ sym (r .bodies)) ∙ getD-append-add (o .bodies) body i 0
 
-  pub appended-extends : kd ≤ 1 → Extends o grown
+  pub appended-extends : Free kd → Extends o grown
   appended-extends h =
       record {
         grows = more;
         longer = longer;
         entries = appended-entry;
         bodies = λ k i a b d l. appended-word k i a b l;
-        new = λ k a b. subst (λ (x : ℕ). x ≤ 1) (sym (new-entry k 1 (one-more k a b))) h;
+        new = λ k a b. subst Free (sym (new-entry k 1 (one-more k a b))) h;
       }
     where
       more : o .n ≤ grown .n
@@ -103,7 +106,7 @@ module _ {e : ℕ} {o : Objects} (r : Right e o) (c kd sz : ℕ) (body : List �
 
   module _ (t : T (isKind o classKind c)) (s : Suits o c kd sz body) where
     ext : Extends o grown
-    ext = appended-extends (suits-kind s)
+    ext = appended-extends (suits-free s)
 
     new-words : (k : ℕ) → k ≡ o .n + 1 → bodyWords grown k ≡ length body
     new-words k h = go s
@@ -170,7 +173,8 @@ module _ {e : ℕ} {o : Objects} (r : Right e o) (c kd sz : ℕ) (body : List �
         record {
           kinds = omega arith;
           first = λ p. absurd (omega arith);
-          next = λ p. new-entry k 2 h ∙ sym (last-end r) ∙ sym (ap₂ _+_ (ap (start grown) (before-new k h) ∙ appended-entry (o .n) 2 (omega arith) (omega arith) (omega arith)) (ap (bodyWords grown) (before-new k h) ∙ words-same ext (o .n) (omega arith) (omega arith)));
+          next = λ p. new-entry k 2 h ∙ sym (last-end r) ∙ sym (ap₂ _+_ (ap (start grown) (before-new k h) ∙ appended-entry (o .n) 2 (omega arith)
+              (omega arith) (omega arith)) (ap (bodyWords grown) (before-new k h) ∙ words-same ext (o .n) (omega arith) (omega arith)));
           four = λ p. absurd (omega arith);
           padded = new-padded k h;
         }

@@ -37,7 +37,14 @@ unfolding isKind isPointer
 named o k w t =
     let p : T (isPointer (o .n) w) = and-left (isPointer (o .n) w) (eqb (kind o (w / 2)) k) t in
     let q : T (leb 1 (w / 2) && leb (w / 2) (o .n)) = and-right (eqb (w % 2) 0) (leb 1 (w / 2) && leb (w / 2) (o .n)) p in
-    record { even = eqb→eq (w % 2) 0 (and-left (eqb (w % 2) 0) (leb 1 (w / 2) && leb (w / 2) (o .n)) p); least = leb→le 1 (w / 2) (and-left (leb 1 (w / 2)) (leb (w / 2) (o .n)) q); most = leb→le (w / 2) (o .n) (and-right (leb 1 (w / 2)) (leb (w / 2) (o .n)) q); kinds = eqb→eq (kind o (w / 2)) k (and-right (isPointer (o .n) w) (eqb (kind o (w / 2)) k) t) }
+    record {
+      even = eqb→eq (w % 2) 0 (and-left (eqb (w % 2) 0) (leb 1 (w / 2) && leb (w / 2) (o .n)) p);
+      least = leb→le 1 (w / 2)
+          (and-left (leb 1 (w / 2)) (leb (w / 2) (o .n)) q);
+      most = leb→le (w / 2) (o .n) (and-right (leb 1 (w / 2)) (leb (w / 2) (o .n)) q);
+      kinds = eqb→eq
+          (kind o (w / 2)) k (and-right (isPointer (o .n) w) (eqb (kind o (w / 2)) k) t);
+    }
 
 module _ (o : Objects) where
   -- the k-th word of the chain of c

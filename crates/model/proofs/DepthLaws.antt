@@ -91,7 +91,8 @@ pub record Spot (o : Objects) (m p d : ℕ) : Type 0 where
 
 module _ (o : Objects) (m : ℕ) where
   method-notes : (t : List ℕ) → methodTable o m ≡ some t
-      → Notes (fineAt (codeWords o m) (codeSize o m) (temporaryCount o m) (frameWords o m) (allowed o m)) (successorsAt (codeWords o m) (codeSize o m)) (depthAfterAt (codeWords o m) (codeSize o m)) (codeSize o m) t
+      → Notes (fineAt (codeWords o m) (codeSize o m) (temporaryCount o m) (frameWords o m) (allowed o m)) (successorsAt (codeWords o m) (codeSize o m))
+      (depthAfterAt (codeWords o m) (codeSize o m)) (codeSize o m) t
   unfolding methodTable
   method-notes t e = table-notes (codeWords o m) (codeSize o m) (temporaryCount o m) (frameWords o m) (allowed o m) t e
 
@@ -107,7 +108,11 @@ module _ (o : Objects) (m : ℕ) where
       go (some t) h n =
           let notes = method-notes t h in
           let r : Reached (successorsAt (codeWords o m) (codeSize o m)) p = at-reached (notes .path p d n) in
-          record { kept = notes .kept p d n; along = λ q s. ap (λ (x : Option (List ℕ)). noteAt x q) h ∙ notes .reached q (onward r s) ∙ ap suc (notes .table .along p q r s ∙ ap (λ (k : ℕ). depthAfterAt (codeWords o m) (codeSize o m) p (pred k)) n) }
+          record {
+            kept = notes .kept p d n;
+            along = λ q s. ap (λ (x : Option (List ℕ)). noteAt x q) h ∙ notes .reached q (onward r s)
+                ∙ ap suc (notes .table .along p q r s ∙ ap (λ (k : ℕ). depthAfterAt (codeWords o m) (codeSize o m) p (pred k)) n);
+          }
 
   -- position 0 of a sound method is noted with depth 0
   pub spot-start : T (isSome (methodTable o m)) → noteAt (methodTable o m) 0 ≡ 1

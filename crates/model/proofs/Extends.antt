@@ -1,7 +1,7 @@
--- Objects that hold others: the entries stay, classes, lists and methods keep their words, and new objects have fields or bytes.
+-- Objects that hold others: the entries stay, classes, lists and methods keep their words, and new objects are none of these.
 -- Lookups, chains and depth tables are then the same.
 use Prim.Native.Nat.{ℕ, _+_, _-_, _*_, _/_, _%_, _≤_, _<_}
-use mathlib.Core.Path.{_≡_, refl, sym, ap, ap₂, _∙_}
+use mathlib.Core.Path.{_≡_, refl, sym, ap, ap₂, _∙_, subst}
 use mathlib.Core.Bool.{Bool, _||_}
 use native.Mathlib.Omega.{arith}
 use native.Mathlib.Decide.{ℕ-discrete, decLe}
@@ -19,12 +19,16 @@ use Rattle.model.proofs.ChainLaws.{Named, named}
 use Rattle.model.proofs.Parts.{same-test, part-same}
 use Rattle.model.proofs.Facts.{Right, Valid, odd, names, naming, valid-cases, valid-odd, valid-name, least, inside, class-words, method-words, list-words, method-facts}
 
+-- a kind that is none of classes, lists and methods
+abbrev pub Free : ℕ → Type 0
+Free kd = classKind ≤ kd → methodKind < kd
+
 pub record Extends (o o′ : Objects) : Type 0 where
   pub grows : o .n ≤ o′ .n
   pub longer : length (o .bodies) ≤ length (o′ .bodies)
   pub entries : (k i : ℕ) → 1 ≤ k → k ≤ o .n → i < entryWords → entryWord o′ k i ≡ entryWord o k i
   pub bodies : (k i : ℕ) → 1 ≤ k → k ≤ o .n → 2 ≤ kind o k → i < bodyWords o k → bodyWord o′ k i ≡ bodyWord o k i
-  pub new : (k : ℕ) → o .n < k → k ≤ o′ .n → kind o′ k ≤ 1
+  pub new : (k : ℕ) → o .n < k → k ≤ o′ .n → Free (kind o′ k)
 
 pub extends-refl : (o : Objects) → Extends o o
 extends-refl o =
@@ -57,12 +61,12 @@ module _ {o o′ : Objects} (x : Extends o o′) where
       naming o k w (record { even = h .even; least = h .least; most = l; kinds = sym (x .entries (w / 2) 1 (h .least) l (omega arith)) ∙ h .kinds })
 
   -- the same for every word where the kind is that of classes, lists or methods, and for every kind where the word is valid
-  pub kind-same : (k w : ℕ) → 2 ≤ k → isKind o′ k w ≡ isKind o k w
-  kind-same k w l = same-test (isKind o′ k w) (isKind o k w) (λ t. back (named o′ k w t) (decLe (w / 2) (o .n))) (kind-kept k w)
+  pub kind-same : (k w : ℕ) → classKind ≤ k → k ≤ methodKind → isKind o′ k w ≡ isKind o k w
+  kind-same k w l u = same-test (isKind o′ k w) (isKind o k w) (λ t. back (named o′ k w t) (decLe (w / 2) (o .n))) (kind-kept k w)
     where
       back : Named o′ k w → Dec (w / 2 ≤ o .n) → T (isKind o k w)
       back h (yes q) = kind-back k w h q
-      back h (no q) = let z = x .new (w / 2) (omega arith) (h .most) in absurd (omega (arith, h .kinds))
+      back h (no q) = let z = x .new (w / 2) (omega arith) (h .most) (omega (arith, h .kinds)) in absurd (omega (arith, h .kinds))
 
   pub kind-valid : (k w : ℕ) → T (isValid (o .n) w) → isKind o′ k w ≡ isKind o k w
   kind-valid k w v = same-test (isKind o′ k w) (isKind o k w) (λ t. back (named o′ k w t) (valid-cases (o .n) w v)) (kind-kept k w)
@@ -71,8 +75,8 @@ module _ {o o′ : Objects} (x : Extends o o′) where
       back h (odd q) = absurd (omega (arith, h .even))
       back h (names a b c) = kind-back k w h c
 
-  pub nil-or-same : (k w : ℕ) → 2 ≤ k → isNilOr o′ k w ≡ isNilOr o k w
-  nil-or-same k w l = ap (λ (b : Bool). eqb w nilWord || b) (kind-same k w l)
+  pub nil-or-same : (k w : ℕ) → classKind ≤ k → k ≤ methodKind → isNilOr o′ k w ≡ isNilOr o k w
+  nil-or-same k w l u = ap (λ (b : Bool). eqb w nilWord || b) (kind-same k w l u)
 
   pub class-same : (w : ℕ) → T (isValid (o .n) w) → classOf o′ w ≡ classOf o w
   unfolding classOf
@@ -102,11 +106,11 @@ extends-trans {o} {o′} {o″} x y =
         let s = words-same x k a b in
         y .bodies k i a (b |> x .grows) (omega arith) (omega arith) ∙ x .bodies k i a b c d
 
-    fresh : (k : ℕ) → o .n < k → k ≤ o″ .n → kind o″ k ≤ 1
+    fresh : (k : ℕ) → o .n < k → k ≤ o″ .n → Free (kind o″ k)
     fresh k a b = go (decLe k (o′ .n))
       where
-        go : Dec (k ≤ o′ .n) → kind o″ k ≤ 1
-        go (yes q) = let z = x .new k a q in let s = y .entries k 1 (omega arith) q (omega arith) in omega arith
+        go : Dec (k ≤ o′ .n) → Free (kind o″ k)
+        go (yes q) = subst Free (sym (y .entries k 1 (omega arith) q (omega arith))) (x .new k a q)
         go (no q) = y .new k (omega arith) b
 
 module _ {e : ℕ} {o o′ : Objects} (x : Extends o o′) (r : Right e o) where
@@ -208,7 +212,8 @@ module _ {e : ℕ} {o o′ : Objects} (x : Extends o o′) (r : Right e o) where
         ap₂ (λ (a b : ℕ). part (o′ .bodies) (a + (2 + b)) (bodyWords o′ (m / 2) - (2 + b))) s literal-count-same
         ∙ ap (λ (a : ℕ). part (o′ .bodies) (start o (m / 2) + (2 + literalCount o m)) (a - (2 + literalCount o m))) (words-same x (m / 2) (h .least) (h .most))
         ∙ part-same (o .bodies) (o′ .bodies) (start o (m / 2) + (2 + literalCount o m)) (bodyWords o (m / 2) - (2 + literalCount o m)) (omega arith) (omega arith)
-        (λ i b. ap (λ (a : ℕ). getD (o′ .bodies) a 0) (ap (λ (a : ℕ). a + (2 + literalCount o m) + i) (sym s) ∙ moved (start o′ (m / 2)) (literalCount o m) i) ∙ method-word-same m (2 + literalCount o m + i) t (omega arith) ∙ ap (λ (a : ℕ). getD (o .bodies) a 0) (sym (moved (start o (m / 2)) (literalCount o m) i)))
+        (λ i b. ap (λ (a : ℕ). getD (o′ .bodies) a 0) (ap (λ (a : ℕ). a + (2 + literalCount o m) + i) (sym s) ∙ moved (start o′ (m / 2)) (literalCount o m) i)
+        ∙ method-word-same m (2 + literalCount o m + i) t (omega arith) ∙ ap (λ (a : ℕ). getD (o .bodies) a 0) (sym (moved (start o (m / 2)) (literalCount o m) i)))
       where
         moved : (a b i : ℕ) → a + (2 + b) + i ≡ a + (2 + b + i)
         moved a b i = omega arith
@@ -224,7 +229,8 @@ module _ {e : ℕ} {o o′ : Objects} (x : Extends o o′) (r : Right e o) where
 
     pub arguments-same : argumentCount o′ m ≡ argumentCount o m
     unfolding argumentCount
-    arguments-same = ap (λ (a : ℕ). if leb a lastCountFlag then a else if eqb a primitiveFlag then extension o′ m / 512 % 32 else 0) flag-same ∙ ap (λ (a : ℕ). if leb (flag o m) lastCountFlag then flag o m else a) (go (ℕ-discrete (flag o m) primitiveFlag))
+    arguments-same = ap (λ (a : ℕ). if leb a lastCountFlag then a else if eqb a primitiveFlag then extension o′ m / 512 % 32 else 0) flag-same
+        ∙ ap (λ (a : ℕ). if leb (flag o m) lastCountFlag then flag o m else a) (go (ℕ-discrete (flag o m) primitiveFlag))
       where
         go : Dec (flag o m ≡ primitiveFlag) → (if eqb (flag o m) primitiveFlag then extension o′ m / 512 % 32 else 0) ≡ (if eqb (flag o m) primitiveFlag then extension o m / 512 % 32 else 0)
         go (yes q) = ap (λ (a : ℕ). if eqb (flag o m) primitiveFlag then a / 512 % 32 else 0) (extension-same q)

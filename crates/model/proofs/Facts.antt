@@ -117,7 +117,8 @@ layout-facts e o k t =
       first = λ h. eqb→eq (start o k) 0 (subst T (if-yes _ _ (eq-eqb k 1 h)) (rule (layoutRules e o k) t 1));
       next = λ h. eqb→eq (start o k) (bodyEnd o (k - 1)) (subst T (if-no _ _ (ne-eqb k 1 h)) (rule (layoutRules e o k) t 1));
       four = λ h. eqb→eq (size o k) classWords (implied (eqb (kind o k) classKind) _ (rule (layoutRules e o k) t 2) (true→T (eq-eqb (kind o k) classKind h)));
-      padded = λ a b. eqb→eq _ 0 (implied (sizedInBytes (kind o k) && eqb (size o k % 2) 1) _ (rule (layoutRules e o k) t 3) (and-both (sizedInBytes (kind o k)) (eqb (size o k % 2) 1) a (true→T (eq-eqb (size o k % 2) 1 b))));
+      padded = λ a b. eqb→eq _ 0 (implied (sizedInBytes (kind o k) && eqb (size o k % 2) 1) _ (rule (layoutRules e o k) t 3)
+          (and-both (sizedInBytes (kind o k)) (eqb (size o k % 2) 1) a (true→T (eq-eqb (size o k % 2) 1 b))));
     }
 
 pub layout-rules : (e : ℕ) (o : Objects) (k : ℕ) → Layout o k → T (allOf (layoutRules e o k))
@@ -125,7 +126,8 @@ unfolding layoutRules startFine paddingFine
 layout-rules e o k h =
     rules (layoutRules e o k)
     (le→leb (kind o k) methodKind (h .kinds)
-    also if-cases T (eqb k 1) (eqb (start o k) 0) (eqb (start o k) (bodyEnd o (k - 1))) (λ q. true→T (eq-eqb (start o k) 0 (h .first (eqb-true k 1 q)))) (λ q. true→T (eq-eqb (start o k) (bodyEnd o (k - 1)) (h .next (eqb-false k 1 q))))
+    also if-cases T (eqb k 1) (eqb (start o k) 0) (eqb (start o k) (bodyEnd o (k - 1))) (λ q. true→T (eq-eqb (start o k) 0 (h .first (eqb-true k 1 q))))
+    (λ q. true→T (eq-eqb (start o k) (bodyEnd o (k - 1)) (h .next (eqb-false k 1 q))))
     also implying (eqb (kind o k) classKind) (eqb (size o k) classWords) (λ q. true→T (eq-eqb (size o k) classWords (h .four (eqb→eq (kind o k) classKind q))))
     also implying (sizedInBytes (kind o k) && eqb (size o k % 2) 1) (eqb (bodyWord o k (bodyWords o k - 1) % 256) 0) padding
     also tt)
@@ -195,10 +197,12 @@ fits-rule e o k h (indexed a b c) =
     subst T (sym (if-no _ _ (ne-eqb (form o (classWord o k)) fixedForm (omega arith)) ∙ if-yes _ _ (eq-eqb (form o (classWord o k)) indexedForm a)))
     (and-both (eqb (kind o k) fieldsKind) (leb (fieldCount o (classWord o k)) (size o k)) (true→T (eq-eqb (kind o k) fieldsKind b)) (le→leb (fieldCount o (classWord o k)) (size o k) c))
 fits-rule e o k h (bytes a b) =
-    subst T (sym (if-no _ _ (ne-eqb (form o (classWord o k)) fixedForm (omega arith)) ∙ if-no _ _ (ne-eqb (form o (classWord o k)) indexedForm (omega arith)) ∙ if-yes _ _ (eq-eqb (form o (classWord o k)) bytesForm a)))
+    subst T (sym (if-no _ _ (ne-eqb (form o (classWord o k)) fixedForm (omega arith)) ∙ if-no _ _ (ne-eqb (form o (classWord o k)) indexedForm (omega arith))
+    ∙ if-yes _ _ (eq-eqb (form o (classWord o k)) bytesForm a)))
     (true→T (eq-eqb (kind o k) bytesKind b))
 fits-rule e o k h (other a b) =
-    subst T (sym (if-no _ _ (ne-eqb (form o (classWord o k)) fixedForm (omega arith)) ∙ if-no _ _ (ne-eqb (form o (classWord o k)) indexedForm (omega arith)) ∙ if-no _ _ (ne-eqb (form o (classWord o k)) bytesForm (omega arith))))
+    subst T (sym (if-no _ _ (ne-eqb (form o (classWord o k)) fixedForm (omega arith)) ∙ if-no _ _ (ne-eqb (form o (classWord o k)) indexedForm (omega arith))
+    ∙ if-no _ _ (ne-eqb (form o (classWord o k)) bytesForm (omega arith))))
     (and-both (leb classKind (kind o k)) (leb (kind o k) methodKind) (le→leb classKind (kind o k) b) (le→leb (kind o k) methodKind h))
 
 -- Rule 6: a pair of a dictionary, a class, the known objects
@@ -242,9 +246,11 @@ class-facts-of e o c t =
       form-tag = eqb→eq (formWord o c % 2) 1 (and-left (isInteger (formWord o c)) _ (rule (classRules e o c) t 3));
       none = λ h. eqb→eq (fieldCount o c) 0 (implied (leb bytesForm (form o c)) _ (rule (classRules e o c) t 4) (le→leb bytesForm (form o c) h));
       ends = rule (classRules e o c) t 5;
-      rises = λ h. leb→le (fieldCount o (superclassWord o c)) (fieldCount o c) (implied (not (eqb (superclassWord o c) nilWord)) _ (rule (classRules e o c) t 6) (not-T (eqb (superclassWord o c) nilWord) (λ q. h (eqb→eq (superclassWord o c) nilWord q))));
+      rises = λ h. leb→le (fieldCount o (superclassWord o c)) (fieldCount o c) (implied (not (eqb (superclassWord o c) nilWord)) _
+          (rule (classRules e o c) t 6) (not-T (eqb (superclassWord o c) nilWord) (λ q. h (eqb→eq (superclassWord o c) nilWord q))));
       even = eqb→eq (size o (objectNumber (dictionaryWord o c)) % 2) 0 (and-left (eqb (size o (objectNumber (dictionaryWord o c)) % 2) 0) _ (rule (classRules e o c) t 7));
-      pairs = λ i l. pair-facts-of o (dictionaryWord o c) i (below-at (pairCount o (dictionaryWord o c)) (pairFine o (dictionaryWord o c)) (and-right (eqb (size o (objectNumber (dictionaryWord o c)) % 2) 0) _ (rule (classRules e o c) t 7)) i l);
+      pairs = λ i l. pair-facts-of o (dictionaryWord o c) i (below-at (pairCount o (dictionaryWord o c)) (pairFine o (dictionaryWord o c))
+          (and-right (eqb (size o (objectNumber (dictionaryWord o c)) % 2) 0) _ (rule (classRules e o c) t 7)) i l);
     }
 
 pub record KnownFacts (o : Objects) : Type 0 where
@@ -320,7 +326,8 @@ module _ {e : ℕ} {o : Objects} (r : Right e o) where
 
   pub most-words : o .b ≤ mostBodyWords
   most-words =
-      leb→le (o .b) mostBodyWords (and-right (leb (o .n) mostObjects) (leb (o .b) mostBodyWords) (and-right (leb (leastObjects e) (o .n)) (leb (o .n) mostObjects && leb (o .b) mostBodyWords) (r .sizes)))
+      leb→le (o .b) mostBodyWords (and-right (leb (o .n) mostObjects) (leb (o .b) mostBodyWords) (and-right (leb (leastObjects e) (o .n))
+      (leb (o .n) mostObjects && leb (o .b) mostBodyWords) (r .sizes)))
 
   -- layout
   pub layout : (k : ℕ) → 1 ≤ k → k ≤ o .n → Layout o k
@@ -415,7 +422,8 @@ module _ {e : ℕ} {o : Objects} (r : Right e o) where
   class-rules c t =
       let h = named o classKind c t in
       let q = and-right (entryFine e o (c / 2)) (implies (eqb (kind o (c / 2)) classKind) (allOf (classRules e o (pointer (c / 2))))) (fine-object (c / 2) (h .least) (h .most)) in
-      subst (λ (x : ℕ). T (allOf (classRules e o x))) (pointer-of c (h .even)) (implied (eqb (kind o (c / 2)) classKind) (allOf (classRules e o (pointer (c / 2)))) q (true→T (eq-eqb (kind o (c / 2)) classKind (h .kinds))))
+      subst (λ (x : ℕ). T (allOf (classRules e o x))) (pointer-of c (h .even)) (implied (eqb (kind o (c / 2)) classKind)
+      (allOf (classRules e o (pointer (c / 2)))) q (true→T (eq-eqb (kind o (c / 2)) classKind (h .kinds))))
 
   pub class-facts : (c : ℕ) → T (isKind o classKind c) → ClassFacts e o c
   class-facts c t = class-facts-of e o c (class-rules c t)
@@ -470,7 +478,8 @@ module _ {e : ℕ} {o : Objects} (r : Right e o) where
   method-rules m t =
       let h = named o methodKind m t in
       let q = and-left (implies (eqb (kind o (m / 2)) methodKind) (allOf (methodRules e o (pointer (m / 2))))) _ (fine-seven (m / 2) (h .least) (h .most)) in
-      subst (λ (x : ℕ). T (allOf (methodRules e o x))) (pointer-of m (h .even)) (implied (eqb (kind o (m / 2)) methodKind) (allOf (methodRules e o (pointer (m / 2)))) q (true→T (eq-eqb (kind o (m / 2)) methodKind (h .kinds))))
+      subst (λ (x : ℕ). T (allOf (methodRules e o x))) (pointer-of m (h .even)) (implied (eqb (kind o (m / 2)) methodKind)
+      (allOf (methodRules e o (pointer (m / 2)))) q (true→T (eq-eqb (kind o (m / 2)) methodKind (h .kinds))))
 
   pub method-facts : (m : ℕ) → T (isKind o methodKind m) → MethodFacts o m
   method-facts m t = method-facts-of e o m (method-rules m t)
@@ -488,8 +497,10 @@ module _ {e : ℕ} {o : Objects} (r : Right e o) where
   pub fine-methods : (c : ℕ) → T (isKind o classKind c) → T (dictionaryMethodsFine o c)
   fine-methods c t =
       let h = named o classKind c t in
-      let q = and-right (implies (eqb (kind o (c / 2)) methodKind) (allOf (methodRules e o (pointer (c / 2))))) (implies (eqb (kind o (c / 2)) classKind) (dictionaryMethodsFine o (pointer (c / 2)))) (fine-seven (c / 2) (h .least) (h .most)) in
-      subst (λ (x : ℕ). T (dictionaryMethodsFine o x)) (pointer-of c (h .even)) (implied (eqb (kind o (c / 2)) classKind) (dictionaryMethodsFine o (pointer (c / 2))) q (true→T (eq-eqb (kind o (c / 2)) classKind (h .kinds))))
+      let q = and-right (implies (eqb (kind o (c / 2)) methodKind) (allOf (methodRules e o (pointer (c / 2))))) (implies (eqb (kind o (c / 2)) classKind)
+      (dictionaryMethodsFine o (pointer (c / 2)))) (fine-seven (c / 2) (h .least) (h .most)) in
+      subst (λ (x : ℕ). T (dictionaryMethodsFine o x)) (pointer-of c (h .even)) (implied (eqb (kind o (c / 2)) classKind)
+      (dictionaryMethodsFine o (pointer (c / 2))) q (true→T (eq-eqb (kind o (c / 2)) classKind (h .kinds))))
 
   -- a method's home is the class that holds it, and its count is that of all methods under its selector
   pub pair-home : (c i : ℕ) → T (isKind o classKind c) → i < pairCount o (dictionaryWord o c) → home o (pairMethod o (dictionaryWord o c) i) ≡ c
@@ -497,11 +508,13 @@ module _ {e : ℕ} {o : Objects} (r : Right e o) where
   pair-home c i t l =
       eqb→eq (home o (pairMethod o (dictionaryWord o c) i)) c
       (and-left (eqb (home o (pairMethod o (dictionaryWord o c) i)) c) _
-      (below-at (pairCount o (dictionaryWord o c)) (λ i. eqb (home o (pairMethod o (dictionaryWord o c) i)) c && takesCount o (pairSelector o (dictionaryWord o c) i) (argumentCount o (pairMethod o (dictionaryWord o c) i))) (fine-methods c t) i l))
+      (below-at (pairCount o (dictionaryWord o c)) (λ i. eqb (home o (pairMethod o (dictionaryWord o c) i)) c && takesCount o
+      (pairSelector o (dictionaryWord o c) i) (argumentCount o (pairMethod o (dictionaryWord o c) i))) (fine-methods c t) i l))
 
   pub pair-count : (c i : ℕ) → T (isKind o classKind c) → i < pairCount o (dictionaryWord o c)
       → T (takesCount o (pairSelector o (dictionaryWord o c) i) (argumentCount o (pairMethod o (dictionaryWord o c) i)))
   unfolding dictionaryMethodsFine
   pair-count c i t l =
       and-right (eqb (home o (pairMethod o (dictionaryWord o c) i)) c) (takesCount o (pairSelector o (dictionaryWord o c) i) (argumentCount o (pairMethod o (dictionaryWord o c) i)))
-      (below-at (pairCount o (dictionaryWord o c)) (λ i. eqb (home o (pairMethod o (dictionaryWord o c) i)) c && takesCount o (pairSelector o (dictionaryWord o c) i) (argumentCount o (pairMethod o (dictionaryWord o c) i))) (fine-methods c t) i l)
+      (below-at (pairCount o (dictionaryWord o c)) (λ i. eqb (home o (pairMethod o (dictionaryWord o c) i)) c && takesCount o
+      (pairSelector o (dictionaryWord o c) i) (argumentCount o (pairMethod o (dictionaryWord o c) i))) (fine-methods c t) i l)

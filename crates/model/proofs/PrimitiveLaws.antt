@@ -28,7 +28,7 @@ use Rattle.model.proofs.Parts.{}
 use Rattle.model.proofs.Facts.{Right, Valid, odd, names, valid-cases, valid-odd, valid-name, valid-kind, Fits, fixed, indexed, bytes, other, in-words, least, word-valid, entry-class, entry-fits}
 use Rattle.model.proofs.Extends.{Extends, extends-refl, valid-grows}
 use Rattle.model.proofs.StoreLaws.{stored-extends, stored-right, byte-extends, byte-right}
-use Rattle.model.proofs.AppendLaws.{HasRoom, room-facts, Suits, asMany, atLeast, ofBytes, suits-kind, appended-extends, appended-right}
+use Rattle.model.proofs.AppendLaws.{HasRoom, room-facts, Suits, asMany, atLeast, ofBytes, suits-free, appended-extends, appended-right}
 
 pub record Performed (room : Room) (e : ℕ) (o : Objects) (v : ℕ) (o′ : Objects) : Type 0 where
   pub right : Right e o′
@@ -118,7 +118,8 @@ module _ {e : ℕ} {o : Objects} (r : Right e o) where
   unfolding arithmetic
   arithmetic-valid k v w =
       if-cases (ValidWord o) (isInteger v && isInteger w) _ Failed
-      (λ p. if-cases (ValidWord o) _ _ _ (λ q. bits-valid k v w (eqb→eq (v % 2) 1 (and-left (isInteger v) (isInteger w) (true→T p))) (eqb→eq (w % 2) 1 (and-right (isInteger v) (isInteger w) (true→T p)))) (λ q. integers-valid k (valueOf v) (valueOf w)))
+      (λ p. if-cases (ValidWord o) _ _ _ (λ q. bits-valid k v w (eqb→eq (v % 2) 1 (and-left (isInteger v) (isInteger w) (true→T p)))
+      (eqb→eq (w % 2) 1 (and-right (isInteger v) (isInteger w) (true→T p)))) (λ q. integers-valid k (valueOf v) (valueOf w)))
       (λ p. tt)
 
   module _ (room : Room) where
@@ -155,13 +156,15 @@ module _ {e : ℕ} {o : Objects} (r : Right e o) where
           forms (inr q) = inr (eqb→eq (form o (classOf o w)) bytesForm q)
 
           go : Valid (o .n) w → Element o w
-          go (odd h) = absurd (T-not (isInteger w) (and-left (not (isInteger w)) ((eqb (form o (classOf o w)) indexedForm || eqb (form o (classOf o w)) bytesForm) && leb (size o (w / 2)) mostElements) t) (true→T (eq-eqb (w % 2) 1 h)))
+          go (odd h) = absurd (T-not (isInteger w) (and-left (not (isInteger w))
+              ((eqb (form o (classOf o w)) indexedForm || eqb (form o (classOf o w)) bytesForm) && leb (size o (w / 2)) mostElements) t) (true→T (eq-eqb (w % 2) 1 h)))
           go (names a b c) =
               record {
                 first = b;
                 last = c;
                 classed = if-no _ _ (ne-eqb (w % 2) 1 (omega arith));
-                forms = forms (or-cases (eqb (form o (classOf o w)) indexedForm) (eqb (form o (classOf o w)) bytesForm) (and-left (eqb (form o (classOf o w)) indexedForm || eqb (form o (classOf o w)) bytesForm) (leb (size o (w / 2)) mostElements) rest));
+                forms = forms (or-cases (eqb (form o (classOf o w)) indexedForm) (eqb (form o (classOf o w)) bytesForm)
+                    (and-left (eqb (form o (classOf o w)) indexedForm || eqb (form o (classOf o w)) bytesForm) (leb (size o (w / 2)) mostElements) rest));
               }
 
       fits-class : (h : Element o w) → Fits o (w / 2) (classOf o w)
@@ -263,7 +266,7 @@ module _ {e : ℕ} {o : Objects} (r : Right e o) where
         made h =
             record {
               right = appended-right r c kd sz (replicate count fill) t s (h .objects) (subst (λ (z : ℕ). o .b + z ≤ mostBodyWords) (sym long) (h .words));
-              extends = appended-extends r c kd sz (replicate count fill) (suits-kind s);
+              extends = appended-extends r c kd sz (replicate count fill) (suits-free s);
               valid = (unfold appended in valid-name (o .n + 1) (pointer (o .n + 1)) (omega arith) (omega arith) (omega arith));
               contents = λ q. (unfold appended in h .contents);
               bodies = λ q. (unfold appended in subst (λ (z : ℕ). o .b + z ≤ room .bodies) (sym long) (h .bodies));
@@ -282,7 +285,8 @@ module _ {e : ℕ} {o : Objects} (r : Right e o) where
     new-law c =
         if-cases (Kept room e o) (isKind o classKind c && eqb (form o c) fixedForm) _ fails
         (λ p. make-law c fieldsKind (fieldCount o c) (fieldCount o c) nilWord (and-left (isKind o classKind c) (eqb (form o c) fixedForm) (true→T p))
-        (asMany refl (eqb→eq (form o c) fixedForm (and-right (isKind o classKind c) (eqb (form o c) fixedForm) (true→T p))) refl (length-replicate (fieldCount o c) nilWord) (fill-valid (fieldCount o c))))
+        (asMany refl (eqb→eq (form o c) fixedForm (and-right (isKind o classKind c) (eqb (form o c) fixedForm) (true→T p))) refl
+        (length-replicate (fieldCount o c) nilWord) (fill-valid (fieldCount o c))))
         (λ p. tt)
 
     pub newWith-law : (c x : ℕ) → Kept room e o (newWith room o c x)

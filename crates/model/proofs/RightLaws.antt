@@ -65,7 +65,8 @@ module _ {e : ℕ} {o o′ : Objects} (x : Extends o o′) (r : Right e o) where
   ends-kept zero c k t = t
   ends-kept (suc left) c k t = go (ℕ-discrete c nilWord) (ends-kept left (superclassWord o c))
     where
-      go : Dec (c ≡ nilWord) → (T (isNilOr o classKind (superclassWord o c)) → T (endsWithin left o (superclassWord o c)) → T (endsWithin left o′ (superclassWord o c))) → T (endsWithin (suc left) o′ c)
+      go : Dec (c ≡ nilWord) → (T (isNilOr o classKind (superclassWord o c)) → T (endsWithin left o (superclassWord o c))
+          → T (endsWithin left o′ (superclassWord o c))) → T (endsWithin (suc left) o′ c)
       go (yes q) ih = subst (λ (w : ℕ). T (endsWithin (suc left) o′ w)) (sym q) (ends-nil o′ (suc left))
       go (no q) ih =
           let p = is-class o c k q in
@@ -104,14 +105,16 @@ module _ {e : ℕ} {o o′ : Objects} (x : Extends o o′) (r : Right e o) where
       let f = class-facts r c t in
       let old = class-rules r c t in
       rules (classRules e o′ c)
-      (moved (ap (isNilOr o′ classKind) s ∙ nil-or-same x classKind (superclassWord o c) (omega arith)) (f .superclass)
+      (moved (ap (isNilOr o′ classKind) s ∙ nil-or-same x classKind (superclassWord o c) (omega arith) (omega arith)) (f .superclass)
       also moved (ap (isKind o′ listKind) d) (kind-kept x listKind (dictionaryWord o c) (f .dictionary))
       also moved (ap (isNatural mostFields) (class-word-same x r c 2 t (omega arith))) (rule (classRules e o c) old 2)
       also moved (ap (isNatural (lastForm e)) (class-word-same x r c 3 t (omega arith))) (rule (classRules e o c) old 3)
       also moved (ap₂ (λ (a b : ℕ). implies (leb bytesForm a) (eqb b 0)) (form-same x r c t) (fields-same x r c t)) (rule (classRules e o c) old 4)
       also ends-more o′ (o .n) (o′ .n) c (x .grows) (ends-kept (o .n) c (or-right (eqb c nilWord) (isKind o classKind c) t) (f .ends))
-      also moved (implies-same (not (eqb (superclassWord o c) nilWord)) (not (eqb (superclassWord o′ c) nilWord)) (leb (fieldCount o (superclassWord o c)) (fieldCount o c)) (leb (fieldCount o′ (superclassWord o′ c)) (fieldCount o′ c)) (ap (λ (w : ℕ). not (eqb w nilWord)) s)
-      (λ q. ap₂ leb (ap (fieldCount o′) s ∙ fields-same x r (superclassWord o c) (is-class o (superclassWord o c) (f .superclass) (λ h. T-not (eqb (superclassWord o c) nilWord) q (true→T (eq-eqb (superclassWord o c) nilWord h))))) (fields-same x r c t)))
+      also moved (implies-same (not (eqb (superclassWord o c) nilWord)) (not (eqb (superclassWord o′ c) nilWord)) (leb (fieldCount o (superclassWord o c))
+      (fieldCount o c)) (leb (fieldCount o′ (superclassWord o′ c)) (fieldCount o′ c)) (ap (λ (w : ℕ). not (eqb w nilWord)) s)
+      (λ q. ap₂ leb (ap (fieldCount o′) s ∙ fields-same x r (superclassWord o c) (is-class o (superclassWord o c) (f .superclass)
+      (λ h. T-not (eqb (superclassWord o c) nilWord) q (true→T (eq-eqb (superclassWord o c) nilWord h))))) (fields-same x r c t)))
       (rule (classRules e o c) old 6)
       also moved (ap (dictionaryFine o′) d) (dictionary-kept c t)
       also tt)
@@ -152,21 +155,22 @@ module _ {e : ℕ} {o o′ : Objects} (x : Extends o o′) (r : Right e o) where
       (λ i l. let m = pair-method-same x r d i q l in
       let k = pair-facts r c i t l .method in
       ap₂ (λ (a : ℕ) (b : Bool). eqb a c && b) (ap (home o′) m ∙ home-same x r (pairMethod o d i) k)
-      (ap₂ (takesCount o′) (pair-selector-same x r d i q l) (ap (argumentCount o′) m ∙ arguments-same x r (pairMethod o d i) k) ∙ count-same x r (pairSelector o d i) (argumentCount o (pairMethod o d i)))))
+      (ap₂ (takesCount o′) (pair-selector-same x r d i q l) (ap (argumentCount o′) m ∙ arguments-same x r (pairMethod o d i) k)
+      ∙ count-same x r (pairSelector o d i) (argumentCount o (pairMethod o d i)))))
       (fine-methods r c t)
 
   -- an object of a class's, list's or method's kind is an old one
-  old-kind : (k kd : ℕ) → 2 ≤ kd → 1 ≤ k → k ≤ o′ .n → kind o′ k ≡ kd → T (isKind o kd (pointer k))
-  old-kind k kd l h g p =
-      subst T (kind-same x kd (pointer k) l) (subst (λ (z : ℕ). T (isKind o′ z (pointer k))) p (naming o′ (kind o′ k) (pointer k) (named-pointer o′ k h g)))
+  old-kind : (k kd : ℕ) → classKind ≤ kd → kd ≤ methodKind → 1 ≤ k → k ≤ o′ .n → kind o′ k ≡ kd → T (isKind o kd (pointer k))
+  old-kind k kd l u h g p =
+      subst T (kind-same x kd (pointer k) l u) (subst (λ (z : ℕ). T (isKind o′ z (pointer k))) p (naming o′ (kind o′ k) (pointer k) (named-pointer o′ k h g)))
 
   pub rule-7-kept : T (rule7 e o′)
   unfolding rule7
   rule-7-kept =
       at-upTo (o′ .n) (λ k. implies (eqb (kind o′ k) methodKind) (allOf (methodRules e o′ (pointer k))) && implies (eqb (kind o′ k) classKind) (dictionaryMethodsFine o′ (pointer k)))
       (λ k h g. and-both (implies (eqb (kind o′ k) methodKind) (allOf (methodRules e o′ (pointer k)))) (implies (eqb (kind o′ k) classKind) (dictionaryMethodsFine o′ (pointer k)))
-      (implying (eqb (kind o′ k) methodKind) (allOf (methodRules e o′ (pointer k))) (λ q. method-kept (pointer k) (old-kind k methodKind (omega arith) h g (eqb→eq (kind o′ k) methodKind q))))
-      (implying (eqb (kind o′ k) classKind) (dictionaryMethodsFine o′ (pointer k)) (λ q. methods-kept (pointer k) (old-kind k classKind (omega arith) h g (eqb→eq (kind o′ k) classKind q)))))
+      (implying (eqb (kind o′ k) methodKind) (allOf (methodRules e o′ (pointer k))) (λ q. method-kept (pointer k) (old-kind k methodKind (omega arith) (omega arith) h g (eqb→eq (kind o′ k) methodKind q))))
+      (implying (eqb (kind o′ k) classKind) (dictionaryMethodsFine o′ (pointer k)) (λ q. methods-kept (pointer k) (old-kind k classKind (omega arith) (omega arith) h g (eqb→eq (kind o′ k) classKind q)))))
 
   -- the known objects
   known-kept : T (allOf (knownObjectRules e o′))
@@ -250,7 +254,7 @@ module _ {e : ℕ} {o o′ : Objects} (x : Extends o o′) (r : Right e o) where
       where
         go : Dec (kind o′ k ≡ fieldsKind) → Dec (k ≤ o .n) → T (isValid (o′ .n) (bodyWord o′ k i))
         go (yes p) q = y .fields k i h g p l
-        go (no p) (no q) = let z = x .new k (omega arith) g in absurd (omega arith)
+        go (no p) (no q) = let z = x .new k (omega arith) g (omega arith) in let m = laid-out k h g .kinds in absurd (omega arith)
         go (no p) (yes q) =
             let kd : kind o′ k ≡ kind o k = x .entries k 1 h q (omega arith) in
             let w = words-same x k h q in
@@ -293,8 +297,9 @@ module _ {e : ℕ} {o o′ : Objects} (x : Extends o o′) (r : Right e o) where
         and-both (allOf (knownObjectRules e o′)) (upTo (o′ .n) (objectFine e o′)) known-kept
         (at-upTo (o′ .n) (objectFine e o′)
         (λ k h g. and-both (entryFine e o′ k) (implies (eqb (kind o′ k) classKind) (allOf (classRules e o′ (pointer k))))
-        (and-both (isKind o′ classKind (classWord o′ k)) (fits e o′ k) (is-classed k h g) (fits-rule e o′ k (laid-out k h g .kinds) (entry-at (λ k. Fits o′ k (classWord o′ k)) fits-kept (y .fitting) k h g)))
-        (implying (eqb (kind o′ k) classKind) (allOf (classRules e o′ (pointer k))) (λ q. class-kept (pointer k) (old-kind k classKind (omega arith) h g (eqb→eq (kind o′ k) classKind q))))))
+        (and-both (isKind o′ classKind (classWord o′ k)) (fits e o′ k) (is-classed k h g) (fits-rule e o′ k (laid-out k h g .kinds)
+        (entry-at (λ k. Fits o′ k (classWord o′ k)) fits-kept (y .fitting) k h g)))
+        (implying (eqb (kind o′ k) classKind) (allOf (classRules e o′ (pointer k))) (λ q. class-kept (pointer k) (old-kind k classKind (omega arith) (omega arith) h g (eqb→eq (kind o′ k) classKind q))))))
 
     pub right-kept : Right e o′
     right-kept =

@@ -6,6 +6,7 @@ use mathlib.Core.Bool.{Bool, true, false, _||_}
 use native.Mathlib.Omega.{arith}
 use borrow.Author.Tests.{eq-eqb, ne-eqb, eqb-true}
 use lib.Dec.{T, eqb, eqb→eq}
+use Rattle.bytecode.specs.Constant.{nilWord}
 use Rattle.bytecode.specs.Test.{below, implies}
 use Rattle.bytecode.proofs.Choice.{if-yes, if-no}
 use Rattle.bytecode.proofs.TestLaws.{true→T, T→true, or-cases, implied, upTo-at, below-at}
@@ -71,7 +72,8 @@ module _ {e : ℕ} {o : Objects} (r : Right e o) where
   holder-of zero s c m p = absurd (nothing-found m p)
   holder-of (suc left) s c m p = go (isKind o classKind c) (findIn o (dictionaryWord o c) s) refl refl (holder-of left s (superclassWord o c) m)
     where
-      go : (b : Bool) (f : Found) → isKind o classKind c ≡ b → findIn o (dictionaryWord o c) s ≡ f → (lookupWithin left o s (superclassWord o c) ≡ found m → Holder o left s (superclassWord o c) m) → Holder o (suc left) s c m
+      go : (b : Bool) (f : Found) → isKind o classKind c ≡ b → findIn o (dictionaryWord o c) s ≡ f → (lookupWithin left o s (superclassWord o c) ≡ found m
+          → Holder o left s (superclassWord o c) m) → Holder o (suc left) s c m
       go true (Method w) q f ih =
           record {
             holder = c;
@@ -98,11 +100,13 @@ module _ {e : ℕ} {o : Objects} (r : Right e o) where
   unfolding takesCount
   count-at c s m n t p q =
       let h = named o classKind c t in
-      let all = implied (eqb (kind o (c / 2)) classKind) (counted (pointer (c / 2))) (upTo-at (o .n) (λ k. implies (eqb (kind o k) classKind) (counted (pointer k))) q (c / 2) (h .least) (h .most)) (true→T (eq-eqb (kind o (c / 2)) classKind (h .kinds))) in
+      let all = implied (eqb (kind o (c / 2)) classKind) (counted (pointer (c / 2)))
+      (upTo-at (o .n) (λ k. implies (eqb (kind o k) classKind) (counted (pointer k))) q (c / 2) (h .least) (h .most)) (true→T (eq-eqb (kind o (c / 2)) classKind (h .kinds))) in
       let mine : T (counted c) = subst (λ (x : ℕ). T (counted x)) (pointer-of c (h .even)) all in
       ap (argumentCount o) (sym (p .method))
       ∙ eqb→eq (argumentCount o (pairMethod o (dictionaryWord o c) (p .place))) n
-      (implied (eqb (pairSelector o (dictionaryWord o c) (p .place)) s) (eqb (argumentCount o (pairMethod o (dictionaryWord o c) (p .place))) n) (below-at (pairCount o (dictionaryWord o c)) (pair-test c) mine (p .place) (p .inside)) (true→T (eq-eqb (pairSelector o (dictionaryWord o c) (p .place)) s (p .selector))))
+      (implied (eqb (pairSelector o (dictionaryWord o c) (p .place)) s) (eqb (argumentCount o (pairMethod o (dictionaryWord o c) (p .place))) n)
+      (below-at (pairCount o (dictionaryWord o c)) (pair-test c) mine (p .place) (p .inside)) (true→T (eq-eqb (pairSelector o (dictionaryWord o c) (p .place)) s (p .selector))))
     where
       pair-test : ℕ → ℕ → Bool
       pair-test x i = implies (eqb (pairSelector o (dictionaryWord o x) i) s) (eqb (argumentCount o (pairMethod o (dictionaryWord o x) i)) n)
@@ -122,6 +126,21 @@ module _ {e : ℕ} {o : Objects} (r : Right e o) where
         homes = subst (λ (x : ℕ). T (inChainWithin (o .n) o x c)) (sym home-is) (true→T (h .chain));
         counts = λ n t. count-at (h .holder) s m n (h .classes) q t;
       }
+
+  -- nil as a selector finds nothing (01, "Image"): selectors of dictionaries have kind 1, and nil has kind 0.
+  pub nil-finds-nothing : (c : ℕ) → lookup o nilWord c ≡ Nothing
+  unfolding lookup
+  nil-finds-nothing c = go (lookup o nilWord c) refl
+    where
+      go : (f : Found) → lookup o nilWord c ≡ f → f ≡ Nothing
+      go Nothing p = refl
+      go (Method m) p =
+          let h = holder-of (o .n) nilWord c (m .0) p in
+          let q = h .pair in
+          let t = subst (λ (x : ℕ). T (isKind o bytesKind x)) (q .selector) (pair-facts r (h .holder) (q .place) (h .classes) (q .inside) .selector) in
+          let k : kind o 1 ≡ 1 = named o bytesKind nilWord t .kinds in
+          let z : kind o 1 ≡ 0 = known-facts r .nil in
+          absurd (omega arith)
 
   -- F is not below that of a class above
   record Above (a c : ℕ) : Type 0 where

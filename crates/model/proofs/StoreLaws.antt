@@ -91,7 +91,8 @@ module _ {e : ℕ} {o : Objects} (r : Right e o) (k j w : ℕ) (h : 1 ≤ k) (g 
         go (yes p) (no q) =
             subst (λ (x : ℕ). T (isValid (o .n) x)) (sym (ap (λ (x : ℕ). bodyWord (storeWord o k j w) x i) p ∙ put-there i q ∙ ap (λ (x : ℕ). bodyWord o x i) (sym p))) old
         go (yes p) (yes q) =
-            subst (λ (x : ℕ). T (isValid (o .n) x)) (sym (ap (λ (x : ℕ). bodyWord (storeWord o k j w) x i) p ∙ ap (λ (x : ℕ). bodyWord (storeWord o k j w) k x) q ∙ put-here)) (valid (ap (kind o) (sym p) ∙ d))
+            subst (λ (x : ℕ). T (isValid (o .n) x)) (sym (ap (λ (x : ℕ). bodyWord (storeWord o k j w) x i) p ∙ ap (λ (x : ℕ). bodyWord (storeWord o k j w) k x)
+            q ∙ put-here)) (valid (ap (kind o) (sym p) ∙ d))
 
     put-renewed : Renewed e o (storeWord o k j w)
     unfolding storeWord bodyWords
@@ -128,7 +129,8 @@ unfolding storeByte
 byte-right {o = o} r k i v h g a l =
     let q = in-bytes o k (sized-at (kind o k) bytesKind a tt) in
     put-right r k (i / 2) _ h g (omega arith) (omega arith) (λ p. absurd (omega arith))
-    (λ p s t. ap (λ (x : ℕ). x % 256) (if-yes _ _ (eq-eqb (i % 2) 0 (omega arith))) ∙ low v (bodyWord o k (i / 2)) (ap (λ (x : ℕ). bodyWord o k x % 256) t ∙ layout r k h g .padded (sized-at (kind o k) bytesKind a tt) s))
+    (λ p s t. ap (λ (x : ℕ). x % 256) (if-yes _ _ (eq-eqb (i % 2) 0 (omega arith))) ∙ low v (bodyWord o k (i / 2)) (ap (λ (x : ℕ). bodyWord o k x % 256) t
+    ∙ layout r k h g .padded (sized-at (kind o k) bytesKind a tt) s))
   where
     low : (v x : ℕ) → x % 256 ≡ 0 → (v * 256 + x % 256) % 256 ≡ 0
     low v x p = omega arith

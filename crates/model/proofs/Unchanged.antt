@@ -152,7 +152,7 @@ module _ {e : ℕ} {o o′ : Objects} (x : Extends o o′) (r : Right e o) where
   lookup-turns (suc left) s c = go (isKind o classKind c) (findIn o (dictionaryWord o c) s) refl refl (lookup-turns left s)
     where
       same : isKind o′ classKind c ≡ isKind o classKind c
-      same = kind-same x classKind c (omega arith)
+      same = kind-same x classKind c (omega arith) (omega arith)
 
       go : (b : Bool) (f : Found) → isKind o classKind c ≡ b → findIn o (dictionaryWord o c) s ≡ f → ((a : ℕ) → lookupWithin left o′ s a ≡ lookupWithin left o s a)
           → lookupWithin (suc left) o′ s c ≡ lookupWithin (suc left) o s c
@@ -177,7 +177,7 @@ module _ {e : ℕ} {o o′ : Objects} (x : Extends o o′) (r : Right e o) where
   chain-turns (suc left) a c = go (isKind o classKind c) refl (chain-turns left a)
     where
       same : isKind o′ classKind c ≡ isKind o classKind c
-      same = kind-same x classKind c (omega arith)
+      same = kind-same x classKind c (omega arith) (omega arith)
 
       go : (b : Bool) → isKind o classKind c ≡ b → ((w : ℕ) → inChainWithin left o′ a w ≡ inChainWithin left o a w) → inChainWithin (suc left) o′ a c ≡ inChainWithin (suc left) o a c
       go true p ih =
@@ -203,18 +203,20 @@ module _ {e : ℕ} {o o′ : Objects} (x : Extends o o′) (r : Right e o) where
       let d : ℕ = dictionaryWord o c in
       ap (counts o′ s n) (dictionary-same x r c t)
       ∙ ap (λ (k : ℕ). below k (λ i. implies (eqb (pairSelector o′ d i) s) (eqb (argumentCount o′ (pairMethod o′ d i)) n))) (pair-count-same x r d l)
-      ∙ below-same (pairCount o d) (λ i. implies (eqb (pairSelector o d i) s) (eqb (argumentCount o (pairMethod o d i)) n)) (λ i. implies (eqb (pairSelector o′ d i) s) (eqb (argumentCount o′ (pairMethod o′ d i)) n))
+      ∙ below-same (pairCount o d) (λ i. implies (eqb (pairSelector o d i) s) (eqb (argumentCount o (pairMethod o d i)) n))
+      (λ i. implies (eqb (pairSelector o′ d i) s) (eqb (argumentCount o′ (pairMethod o′ d i)) n))
       (λ i h. ap₂ (λ (a b : ℕ). implies (eqb a s) (eqb b n)) (pair-selector-same x r d i l h)
       (ap (argumentCount o′) (pair-method-same x r d i l h) ∙ arguments-same x r (pairMethod o d i) (pair-facts r c i t h .method)))
 
   pub count-same : (s n : ℕ) → takesCount o′ s n ≡ takesCount o s n
   unfolding takesCount
   count-same s n =
-      upTo-same (o .n) (o′ .n) (λ k. implies (eqb (kind o k) classKind) (counts o s n (dictionaryWord o (pointer k)))) (λ k. implies (eqb (kind o′ k) classKind) (counts o′ s n (dictionaryWord o′ (pointer k)))) (x .grows)
+      upTo-same (o .n) (o′ .n) (λ k. implies (eqb (kind o k) classKind) (counts o s n (dictionaryWord o (pointer k))))
+      (λ k. implies (eqb (kind o′ k) classKind) (counts o′ s n (dictionaryWord o′ (pointer k)))) (x .grows)
       (λ k h g. implies-same (eqb (kind o k) classKind) (eqb (kind o′ k) classKind) (counts o s n (dictionaryWord o (pointer k))) (counts o′ s n (dictionaryWord o′ (pointer k)))
       (ap (λ (z : ℕ). eqb z classKind) (x .entries k 1 h g (omega arith)))
       (λ t. counts-same s n (pointer k) (subst (λ (z : ℕ). T (isKind o z (pointer k))) (eqb→eq (kind o k) classKind t) (naming o (kind o k) (pointer k) (named-pointer o k h g)))))
-      (λ k h g. implying (eqb (kind o′ k) classKind) (counts o′ s n (dictionaryWord o′ (pointer k))) (λ t. let a = x .new k h g in let b = eqb→eq (kind o′ k) classKind t in absurd (omega arith)))
+      (λ k h g. implying (eqb (kind o′ k) classKind) (counts o′ s n (dictionaryWord o′ (pointer k))) (λ t. let b = eqb→eq (kind o′ k) classKind t in let a = x .new k h g (omega arith) in absurd (omega arith)))
 
   pub send-same : (s n : ℕ) → T (isValid (o .n) s) → sendFine o′ s n ≡ sendFine o s n
   unfolding sendFine

@@ -141,7 +141,15 @@ module _ (fine : ℕ → ℕ → Bool) (next : ℕ → List ℕ) (after : ℕ �
 
         grown : Inv t₁ pending₁
         grown =
-            record { long = length-set t p (suc d) ∙ inv .long; kept = λ q k e. at-notes (λ i j. T (fine i j)) f (inv .kept) q k (ℕ-discrete q p) e; path = λ q k e. at-notes (At next after) here (inv .path) q k (ℕ-discrete q p) e; queued = λ q k m. queued₁ q k (List·Memᴰ·append-cases (following fine next after p d) m); follow = λ q k r e m. follow₁ q k r (ℕ-discrete q p) e m }
+            record {
+              long = length-set t p (suc d) ∙ inv .long;
+              kept = λ q k e. at-notes (λ i j. T (fine i j)) f (inv .kept) q k (ℕ-discrete q p) e;
+              path = λ q
+                  k e. at-notes (At next after) here (inv .path) q k (ℕ-discrete q p) e;
+              queued = λ q k m. queued₁ q k
+                  (List·Memᴰ·append-cases (following fine next after p d) m);
+              follow = λ q k r e m. follow₁ q k r (ℕ-discrete q p) e m;
+            }
 
         -- what the walk from there ends with, seen from here
         back : (t′ : List ℕ) → Result t₁ t′ pending₁ → Result t t′ ((p, d) ∷ pending)
@@ -197,7 +205,13 @@ module _ (fine : ℕ → ℕ → Bool) (next : ℕ → List ℕ) (after : ℕ �
 
     start : Inv (blanks size) ((0, 0) ∷ [])
     start =
-        record { long = length-replicate size 0; kept = λ p d e. absurd (none-noted p d e); path = λ p d e. absurd (none-noted p d e); queued = start-path; follow = λ p d q e m. absurd (none-noted p d e) }
+        record {
+          long = length-replicate size 0;
+          kept = λ p d e. absurd (none-noted p d e);
+          path = λ p d e. absurd (none-noted p d e);
+          queued = start-path;
+          follow = λ p d q e m. absurd (none-noted p d e);
+        }
 
     -- notes that are closed are a depth table of the reached positions
     module _ (t : List ℕ) (closed : Inv t []) (zeroth : Noted t 0 0) where
@@ -220,7 +234,14 @@ module _ (fine : ℕ → ℕ → Bool) (next : ℕ → List ℕ) (after : ℕ �
 
       notes : Notes size t
       notes =
-          record { long = closed .long; kept = closed .kept; path = closed .path; reached = all-noted; table = record { start = ap pred zeroth; kept = λ p r. closed .kept p (depth p) (all-noted p r); along = λ p q r m. ap pred (noted-next p q (depth p) (all-noted p r) m) } }
+          record {
+            long = closed .long;
+            kept = closed .kept;
+            path = closed .path;
+            reached = all-noted;
+            table = record
+                { start = ap pred zeroth; kept = λ p r. closed .kept p (depth p) (all-noted p r); along = λ p q r m. ap pred (noted-next p q (depth p) (all-noted p r) m) };
+          }
 
     pub found : (t : List ℕ) → walkFrom fine next after size ≡ some t → Notes size t
     unfolding walkFrom
@@ -252,7 +273,13 @@ module _ (fine : ℕ → ℕ → Bool) (next : ℕ → List ℕ) (after : ℕ �
 
         more : getD t p 0 ≡ 0 → Along fuel (set t p (suc d)) (following fine next after p d ++ pending)
         more z =
-            record { long = length-set t p (suc d) ∙ along .long; path = λ q k e. path₂ q k (ℕ-discrete q p) e; queued = λ q k m. queued₂ q k (List·Memᴰ·append-cases (following fine next after p d) m); enough = enough₂ }
+            record {
+              long = length-set t p (suc d) ∙ along .long;
+              path = λ q k e. path₂ q k (ℕ-discrete q p) e;
+              queued = λ q k m. queued₂ q k
+                  (List·Memᴰ·append-cases (following fine next after p d) m);
+              enough = enough₂;
+            }
           where
             path₂ : (q k : ℕ) → Dec (q ≡ p) → Noted (set t p (suc d)) q k → At next after q k
             path₂ q k (yes s) e =
@@ -281,7 +308,12 @@ module _ (fine : ℕ → ℕ → Bool) (next : ℕ → List ℕ) (after : ℕ �
             same = sym (at-depth g table (along .path p k e)) ∙ at-depth g table this
 
             compare-gives : (b : Bool) → T b → Gives (compared fine next after again t pending b)
-            compare-gives true s = ih t pending (record { long = along .long; path = along .path; queued = λ q i m. along .queued q i (List·Memᴰ·tail m); enough = let x = along .enough in omega arith })
+            compare-gives true s = ih t pending (record {
+              long = along .long;
+              path = along .path;
+              queued = λ q i m. along .queued q i (List·Memᴰ·tail m);
+              enough = let x = along .enough in omega arith;
+            })
             compare-gives false s = absurd s
 
       walk-gives : (fuel : ℕ) (t : List ℕ) (pending : List (ℕ × ℕ)) → Along fuel t pending → Gives (walk fine next after fuel t pending)

@@ -65,7 +65,8 @@ part-front b bodies from count h g =
     (λ i s. part-at bodies from count i (omega arith) ∙ sym (getD-take b bodies (from + i) 0 (omega arith)) ∙ sym (part-at (take b bodies) from count i (omega arith)))
 
 module _ {n b : ℕ} {contents bodies : List ℕ} {m : ℕ} (h : Holds methodKind n b contents bodies m) where
-  pub code-at : (count st sz : ℕ) → count ≡ literalCount (objectsAt n b contents bodies) m → st ≡ start (objectsAt n b contents bodies) (objectNumber m) → sz ≡ size (objectsAt n b contents bodies) (objectNumber m)
+  pub code-at : (count st sz : ℕ) → count ≡ literalCount (objectsAt n b contents bodies) m → st ≡ start (objectsAt n b contents bodies) (objectNumber m)
+      → sz ≡ size (objectsAt n b contents bodies) (objectNumber m)
       → CodeAt n b contents bodies m (record { from = st + 2 + count; end = st + (sz + 1) / 2; size = sz - 4 - 2 * count })
   unfolding codeWords codeSize
   code-at count st sz p q s =
@@ -82,7 +83,8 @@ module _ {n b : ℕ} {contents bodies : List ℕ} {m : ℕ} (h : Holds methodKin
         inside = omega arith;
         words =
             ap₂ (λ (x y : ℕ). take x (drop y bodies)) lengths places
-            ∙ part-front b bodies (start (objectsAt n b contents bodies) (objectNumber m) + (2 + literalCount (objectsAt n b contents bodies) m)) (bodyWords (objectsAt n b contents bodies) (objectNumber m) - (2 + literalCount (objectsAt n b contents bodies) m)) (omega arith) r;
+            ∙ part-front b bodies (start (objectsAt n b contents bodies) (objectNumber m) + (2 + literalCount (objectsAt n b contents bodies) m))
+            (bodyWords (objectsAt n b contents bodies) (objectNumber m) - (2 + literalCount (objectsAt n b contents bodies) m)) (omega arith) r;
       }
     where
       places : st + 2 + count ≡ start (objectsAt n b contents bodies) (objectNumber m) + (2 + literalCount (objectsAt n b contents bodies) m)
@@ -91,7 +93,8 @@ module _ {n b : ℕ} {contents bodies : List ℕ} {m : ℕ} (h : Holds methodKin
       lengths : st + (sz + 1) / 2 - (st + 2 + count) ≡ bodyWords (objectsAt n b contents bodies) (objectNumber m) - (2 + literalCount (objectsAt n b contents bodies) m)
       lengths = let w = method-words (h .right) m (h .kinds) in omega arith
 
-  pub code-fits : (count st sz : ℕ) → count ≡ literalCount (objectsAt n b contents bodies) m → st ≡ start (objectsAt n b contents bodies) (objectNumber m) → sz ≡ size (objectsAt n b contents bodies) (objectNumber m)
+  pub code-fits : (count st sz : ℕ) → count ≡ literalCount (objectsAt n b contents bodies) m → st ≡ start (objectsAt n b contents bodies) (objectNumber m)
+      → sz ≡ size (objectsAt n b contents bodies) (objectNumber m)
       → (4 + 2 * count ≤ sz) × (st + (sz + 1) / 2 ≤ length bodies)
   code-fits count st sz p q s =
       let w = method-words (h .right) m (h .kinds) in

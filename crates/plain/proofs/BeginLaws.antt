@@ -65,7 +65,19 @@ module _ (room : Room) (worlds : Worlds room) (p : Plain) (r : PlainRight room p
         → BeginGoes room p (beginActivated room p m receiver arguments x)
     activated-begins m k c (answered w o′) a =
         let e : Shape (room .stack) (withFrames (withObjects p o′) [] finished 0 w) = ends refl (a .1) refl refl in
-        record { right = record { image = a .0 .right; contents = a .0 .contents; bodies = a .0 .bodies; starts = start-same (a .0 .extends) (p .registers .startReceiver) (p .registers .startSelector) (r .starts); stands = goes e }; extends = a .0 .extends; shape = e; bottom = refl }
+        record {
+          right = record {
+            image = a .0 .right;
+            contents = a .0 .contents;
+            bodies = a .0 .bodies;
+            starts = start-same (a .0 .extends)
+                (p .registers .startReceiver) (p .registers .startSelector) (r .starts);
+            stands = goes e;
+          };
+          extends = a .0 .extends;
+          shape = e;
+          bottom = refl;
+        }
     activated-begins m k c entered a =
         if-cases (BeginGoes room p) (fitsStack (room .stack) 0 (frameSize o m)) _ _
         (λ q.
@@ -82,7 +94,8 @@ module _ (room : Room) (worlds : Worlds room) (p : Plain) (r : PlainRight room p
         if-cases (BeginGoes room p) (eqb (argumentCount o (m .0)) (length arguments)) _ _
         (λ q.
         let c = eqb-true (argumentCount o (m .0)) (length arguments) q in
-        activated-begins (m .0) (world .lookupMethod selector (classOf o receiver) (m .0) e) c (activate room o (m .0) receiver arguments) (activates (After room) room p world (m .0) receiver arguments v va c))
+        activated-begins (m .0) (world .lookupMethod selector (classOf o receiver) (m .0) e) c (activate room o (m .0) receiver arguments)
+        (activates (After room) room p world (m .0) receiver arguments v va c))
         (λ q. record { not-3 = λ z. omega arith; not-11 = λ z. omega arith })
 
   pub begins : (receiver selector : ℕ) (arguments : List ℕ) → BeginGoes room p (begin room p receiver selector arguments)

@@ -100,7 +100,8 @@ module _ (o : Objects) where
           (subst (λ (b : ℕ). T (entryFine o s b (getD cache′ (3 * e + 2) 0))) (sym word1)
           (subst (λ (d : ℕ). T (entryFine o s c d)) (sym word2) (found-fine s c m r))))
       go i h (no d) =
-          subst (λ (a : ℕ). T (entryFine o a (getD cache′ (3 * i + 1) 0) (getD cache′ (3 * i + 2) 0))) (sym (ap (λ (k : ℕ). getD cache′ k 0) (add-zero (3 * i)) ∙ apart i 0 d (omega arith) ∙ ap (λ (k : ℕ). getD cache k 0) (sym (add-zero (3 * i)))))
+          subst (λ (a : ℕ). T (entryFine o a (getD cache′ (3 * i + 1) 0) (getD cache′ (3 * i + 2) 0)))
+          (sym (ap (λ (k : ℕ). getD cache′ k 0) (add-zero (3 * i)) ∙ apart i 0 d (omega arith) ∙ ap (λ (k : ℕ). getD cache k 0) (sym (add-zero (3 * i)))))
           (subst (λ (b : ℕ). T (entryFine o (getD cache (3 * i) 0) b (getD cache′ (3 * i + 2) 0))) (sym (apart i 1 d (omega arith)))
           (subst (λ (k : ℕ). T (entryFine o (getD cache (3 * i) 0) (getD cache (3 * i + 1) 0) k)) (sym (apart i 2 d (omega arith)))
           (below-at cacheEntries (entryAt cache) t i h)))

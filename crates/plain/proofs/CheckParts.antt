@@ -35,7 +35,8 @@ module _ (s : Flat) where
   pub state-parts : stateFine s ≡ (imagePart && (phasePart && (valuePart && (framesPart && cachePart))))
   unfolding stateFine plainFine plainRules plainOf
   state-parts =
-      ap (λ (d : Bool). (imagePart && (phasePart && (valuePart && (d && true)))) && cachePart) (by-frames (hasFrames (s .registers .phase)) (framesFrom (suc (s .registers .top)) (flatObjects s) (s .stack) (s .registers .top)))
+      ap (λ (d : Bool). (imagePart && (phasePart && (valuePart && (d && true)))) && cachePart) (by-frames (hasFrames (s .registers .phase))
+      (framesFrom (suc (s .registers .top)) (flatObjects s) (s .stack) (s .registers .top)))
       ∙ regroup imagePart phasePart valuePart framesPart cachePart
     where
       and-true : (b : Bool) → (b && true) ≡ b

@@ -1,19 +1,23 @@
--- What follows from the theorem: consoles agree, and handlers change no code.
+-- What follows from the theorem: consoles agree, and handlers change no code. And what follows from the calls alone: who writes the cache.
 use Prim.Native.Nat.{ℕ, _+_, _/_, _≤_, _<_}
 use mathlib.Core.Path.{_≡_, refl, sym, ap, ap₂, _∙_, subst}
-use mathlib.Core.Bool.{Bool}
+use mathlib.Core.Bool.{Bool, true, false}
 use mathlib.Core.List.{List, [], _∷_}
 use native.Mathlib.Omega.{arith}
+use lib.Dec.{eqb}
 use Rattle.bytecode.specs.Test.{if_then_else_}
 use Rattle.model.specs.Limits.{entryWords, classKind}
 use Rattle.model.specs.Objects.{Objects, kind, bodyWords, sizedInBytes}
-use Rattle.model.specs.Image.{Room, accepted, loadVerdict}
+use Rattle.model.specs.Image.{Room, Verdict, accepted, refused, loadVerdict}
+use Rattle.plain.specs.Registers.{running}
 use Rattle.plain.specs.State.{Plain, objects}
-use Rattle.plain.specs.Calls.{loaded, Call, Answer, Called, called, impossible, call}
+use Rattle.plain.specs.Calls.{loaded, Begun, begun, declined, begin, Ran, ran, stuck, steps, dropped, Call, beginCall, runCall, dropCall, forgetCall, Answer, done, refusedBy, result, wrote, Called, called, impossible, call}
+use Rattle.plain.specs.Cache.{emptyCache}
 use Rattle.plain.specs.Flat.{Flat, roomOf, flatObjects, plainOf}
 use Rattle.plain.specs.Check.{check}
-use Rattle.plain.specs.FlatCalls.{Given, gives, noAnswer, flatCall}
-use Rattle.plain.specs.CallLists.{Keeps, Agreed, Together, Agrees, Alike, Same, Consoles, nextState, lastState, KeepsAll}
+use Rattle.plain.specs.FlatCalls as F
+use Rattle.plain.specs.FlatCalls.{Given, gives, noAnswer, checked, flatBegin, flatRun, flatDrop, flatForget, flatCall}
+use Rattle.plain.specs.CallLists.{Keeps, Agreed, Together, Agrees, Alike, Same, Consoles, nextState, lastState, KeepsAll, IsRefused, CacheKept}
 use Rattle.plain.proofs.Theorem.{from-checked, from-load}
 
 -- two flat machines that agree with one plain machine are alike
@@ -57,7 +61,15 @@ body-words o o′ x k a b =
 
 keeps-trans : (o o′ o″ : Objects) → Keeps o o′ → Keeps o′ o″ → Keeps o o″
 keeps-trans o o′ o″ x y =
-    record { objects = let a = x .objects in let b = y .objects in omega arith; words = let a = x .words in let b = y .words in omega arith; entries = λ k i a b c. y .entries k i a (let d = x .objects in omega arith) c ∙ x .entries k i a b c; bodies = λ k i a b c d. y .bodies k i a (let e = x .objects in omega arith) (subst (λ (z : ℕ). classKind ≤ z) (sym (x .entries k 1 a b (omega arith))) c) (subst (λ (z : ℕ). i < z) (sym (body-words o o′ x k a b)) d) ∙ x .bodies k i a b c d }
+    record {
+      objects = let a = x .objects in let b = y .objects in omega arith;
+      words = let a = x .words in let b = y .words in omega arith;
+      entries = λ k i a
+          b c. y .entries k i a (let d = x .objects in omega arith) c ∙ x .entries k i a b c;
+      bodies = λ k i a b c d. y .bodies k i a
+          (let e = x .objects in omega arith) (subst (λ (z : ℕ). classKind ≤ z) (sym (x .entries k 1 a b (omega arith))) c)
+          (subst (λ (z : ℕ). i < z) (sym (body-words o o′ x k a b)) d) ∙ x .bodies k i a b c d;
+    }
 
 kept-next : (room : Room) (c : Call) (cs : List Call) (s : Flat) (g : Given) (h : Called)
     → ((s′ : Flat) (p′ : Plain) → plainOf s′ ≡ p′ → Agrees room cs s′ p′ → Keeps (flatObjects s′) (flatObjects (lastState s′ cs)))
@@ -79,3 +91,37 @@ keeps-list room (c ∷ cs) s p e a =
 
 pub keeps-all : KeepsAll
 keeps-all s e cs = keeps-list (roomOf s) cs s (plainOf s) refl (from-checked s e cs)
+
+-- ---- the cache
+
+-- a refused call changes nothing
+unchanged : (s : Flat) (v : Verdict) (g : Given) → (IsRefused g → nextState s g ≡ s) → IsRefused (checked s v g) → nextState s (checked s v g) ≡ s
+unchanged s accepted g h r = h r
+unchanged s (refused k) g h r = refl
+
+begin-keeps : (s : Flat) (v : Verdict) (x : Begun) → nextState s (checked s v (F.afterBegin s x)) .cache ≡ s .cache
+begin-keeps s accepted (begun p) = refl
+begin-keeps s accepted (declined k) = refl
+begin-keeps s (refused k) x = refl
+
+drop-keeps : (s : Flat) (v : Verdict) (p : Plain) → nextState s (checked s v (gives done (F.withPlain s p (s .stack) (s .cache)))) .cache ≡ s .cache
+drop-keeps s accepted p = refl
+drop-keeps s (refused k) p = refl
+
+run-refused : (s : Flat) (n : ℕ) (b : Bool) → IsRefused (F.runIf s n b) → nextState s (F.runIf s n b) ≡ s
+run-refused s n true r = go (steps (roomOf s) n (plainOf s)) r
+  where
+    go : (x : Ran) → IsRefused (F.afterRun s x) → nextState s (F.afterRun s x) ≡ s
+    go (ran k p ts) r = absurd r
+    go stuck r = absurd r
+run-refused s n false r = refl
+
+pub cache-kept : CacheKept
+unfolding flatCall flatBegin flatRun flatDrop flatForget
+cache-kept s (beginCall receiver selector arguments) h = begin-keeps s (check s) (begin (roomOf s) (plainOf s) receiver selector arguments)
+cache-kept s (runCall n) h =
+    ap (λ (x : Flat). x .cache) (unchanged s (check s) (F.runIf s n (eqb (s .registers .phase) running)) (run-refused s n (eqb (s .registers .phase) running)) (h tt))
+cache-kept s dropCall h = drop-keeps s (check s) (dropped (plainOf s))
+cache-kept s forgetCall h = ap (λ (x : Flat). x .cache)
+    (unchanged s (check s) (gives done (record { registers = s .registers; contents = s .contents; bodies = s .bodies; stack = s .stack; cache = emptyCache }))
+    (λ r. absurd r) (h tt))

@@ -53,24 +53,41 @@ unfolding check stateFine buffersFine plainOf
 check-right s e =
     let n = s .registers .n in
     let b = s .registers .b in
-    let t = both-pass (leb (entryWords * n) (length (s .contents)) && (leb b (length (s .bodies)) && eqb (length (s .cache)) cacheWords)) (plainFine (length (s .stack)) (plainOf s) && cacheFine (flatObjects s) (s .cache)) 3 11 e in
+    let t = both-pass (leb (entryWords * n) (length (s .contents)) && (leb b (length (s .bodies)) && eqb (length (s .cache)) cacheWords))
+    (plainFine (length (s .stack)) (plainOf s) && cacheFine (flatObjects s) (s .cache)) 3 11 e in
     let u = and-right (leb (entryWords * n) (length (s .contents))) (leb b (length (s .bodies)) && eqb (length (s .cache)) cacheWords) (t .0) in
     let c = leb→le (entryWords * n) (length (s .contents)) (and-left (leb (entryWords * n) (length (s .contents))) (leb b (length (s .bodies)) && eqb (length (s .cache)) cacheWords) (t .0)) in
     let d = leb→le b (length (s .bodies)) (and-left (leb b (length (s .bodies))) (eqb (length (s .cache)) cacheWords) u) in
     let f = and-left (plainFine (length (s .stack)) (plainOf s)) (cacheFine (flatObjects s) (s .cache)) (t .1) in
-    let i = image-right (editionOf (s .registers)) (flatObjects s) (s .registers .startReceiver) (s .registers .startSelector) (length-take-le (entryWords * n) (s .contents) c) (length-take-le b (s .bodies) d) (plain-image (length (s .stack)) (plainOf s) f) in
-    record { contents = c; bodies = d; cacheLength = eqb→eq (length (s .cache)) cacheWords (and-right (leb b (length (s .bodies))) (eqb (length (s .cache)) cacheWords) u); plain = record { image = i .0; contents = c; bodies = d; starts = i .1; stands = plain-stands (length (s .stack)) (plainOf s) f }; cached = and-right (plainFine (length (s .stack)) (plainOf s)) (cacheFine (flatObjects s) (s .cache)) (t .1) }
+    let i = image-right (editionOf (s .registers)) (flatObjects s) (s .registers .startReceiver) (s .registers .startSelector)
+    (length-take-le (entryWords * n) (s .contents) c) (length-take-le b (s .bodies) d) (plain-image (length (s .stack)) (plainOf s) f) in
+    record {
+      contents = c;
+      bodies = d;
+      cacheLength = eqb→eq (length (s .cache)) cacheWords
+          (and-right (leb b (length (s .bodies))) (eqb (length (s .cache)) cacheWords) u);
+      plain = record {
+        image = i .0;
+        contents = c;
+        bodies = d;
+        starts = i .1;
+        stands = plain-stands (length (s .stack)) (plainOf s) f;
+      };
+      cached = and-right (plainFine (length (s .stack)) (plainOf s)) (cacheFine (flatObjects s) (s .cache)) (t .1);
+    }
 
 pub right-check : (s : Flat) → FlatRight s → check s ≡ accepted
 unfolding check stateFine buffersFine plainOf
 right-check s r =
     let n = s .registers .n in
     let b = s .registers .b in
-    pass-both (leb (entryWords * n) (length (s .contents)) && (leb b (length (s .bodies)) && eqb (length (s .cache)) cacheWords)) (plainFine (length (s .stack)) (plainOf s) && cacheFine (flatObjects s) (s .cache)) 3 11
+    pass-both (leb (entryWords * n) (length (s .contents)) && (leb b (length (s .bodies)) && eqb (length (s .cache)) cacheWords))
+    (plainFine (length (s .stack)) (plainOf s) && cacheFine (flatObjects s) (s .cache)) 3 11
     (and-both (leb (entryWords * n) (length (s .contents))) (leb b (length (s .bodies)) && eqb (length (s .cache)) cacheWords) (le→leb (entryWords * n) (length (s .contents)) (r .contents))
     (and-both (leb b (length (s .bodies))) (eqb (length (s .cache)) cacheWords) (le→leb b (length (s .bodies)) (r .bodies)) (true→T (eq-eqb (length (s .cache)) cacheWords (r .cacheLength)))))
     (and-both (plainFine (length (s .stack)) (plainOf s)) (cacheFine (flatObjects s) (s .cache))
-    (stands-plain (length (s .stack)) (plainOf s) (right-image (editionOf (s .registers)) (flatObjects s) (s .registers .startReceiver) (s .registers .startSelector) (r .plain .image) (r .plain .starts)) (r .plain .stands))
+    (stands-plain (length (s .stack)) (plainOf s) (right-image (editionOf (s .registers)) (flatObjects s) (s .registers .startReceiver)
+    (s .registers .startSelector) (r .plain .image) (r .plain .starts)) (r .plain .stands))
     (r .cached))
 
 -- words at the front of a buffer that is long enough
@@ -105,7 +122,13 @@ module _ (s : Flat) (p : Plain) (stack cache : List ℕ) (right : PlainRight (ro
 
   objects-back : flatObjects s′ ≡ objects p
   objects-back =
-      λ i. record { n = p .registers .n; b = p .registers .b; contents = front-take (p .contents) (s .contents) (entryWords * p .registers .n) (right .image .contents) i; bodies = front-take (p .bodies) (s .bodies) (p .registers .b) (right .image .bodies) i }
+      λ i. record {
+        n = p .registers .n;
+        b = p .registers .b;
+        contents = front-take (p .contents) (s .contents) (entryWords * p .registers .n)
+            (right .image .contents) i;
+        bodies = front-take (p .bodies) (s .bodies) (p .registers .b) (right .image .bodies) i;
+      }
 
   frames-back : ifFrames (hasFrames (p .registers .phase)) (framesFrom (suc (p .registers .top)) (flatObjects s′) stack (p .registers .top)) ≡ p .frames
   frames-back = go (hasFrames (p .registers .phase)) refl
@@ -118,13 +141,23 @@ module _ (s : Flat) (p : Plain) (stack cache : List ℕ) (right : PlainRight (ro
   pub plain-back : plainOf s′ ≡ p
   unfolding plainOf
   plain-back =
-      λ i. record { registers = p .registers; contents = front-take (p .contents) (s .contents) (entryWords * p .registers .n) (right .image .contents) i; bodies = front-take (p .bodies) (s .bodies) (p .registers .b) (right .image .bodies) i; frames = frames-back i }
+      λ i. record {
+        registers = p .registers;
+        contents = front-take (p .contents) (s .contents) (entryWords * p .registers .n) (right .image .contents) i;
+        bodies = front-take (p .bodies) (s .bodies) (p .registers .b) (right .image .bodies) i;
+        frames = frames-back i;
+      }
 
   module _ (stackLength : length stack ≡ length (s .stack)) (cacheLength : length cache ≡ length (s .cache)) where
     -- in buffers of the same lengths
     pub room-back : roomOf s′ ≡ roomOf s
     room-back =
-        λ i. record { contents = front-length (p .contents) (s .contents) (let a = right .image .contents in let b = right .contents in omega arith) i; bodies = front-length (p .bodies) (s .bodies) (let a = right .image .bodies in let b = right .bodies in omega arith) i; stack = stackLength i; cache = cacheLength i }
+        λ i. record {
+          contents = front-length (p .contents) (s .contents) (let a = right .image .contents in let b = right .contents in omega arith) i;
+          bodies = front-length (p .bodies) (s .bodies) (let a = right .image .bodies in let b = right .bodies in omega arith) i;
+          stack = stackLength i;
+          cache = cacheLength i;
+        }
 
     -- and check accepts it
     pub flat-back : length (s .cache) ≡ cacheWords → T (cacheFine (objects p) cache) → FlatRight s′

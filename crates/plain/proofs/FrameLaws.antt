@@ -37,13 +37,45 @@ pub frame-right : (o : Objects) (isTop : Bool) (f : Frame) → T (allOf (frameRu
 unfolding frameRules
 frame-right o isTop f t =
     let r = rule (frameRules o isTop f) t in
-    record { isMethod = r 0; unmarked = eqb→eq (f .mark) noMark (r 1); receiver = r 2; chain = r 3; note = eqb→eq (noteAt (methodTable o (f .method)) (f .position)) (noteOf isTop f) (r 4); temporaries = eqb→eq (length (f .temporaries)) (temporaryCount o (f .method)) (r 5); depth = eqb→eq (length (f .operands)) (f .depth) (r 6); validTemporaries = r 7; validOperands = r 8 }
+    record {
+      isMethod = r 0;
+      unmarked = eqb→eq (f .mark) noMark (r 1);
+      receiver = r 2;
+      chain = r 3;
+      note = eqb→eq
+          (noteAt (methodTable o (f .method)) (f .position)) (noteOf isTop f) (r 4);
+      temporaries = eqb→eq (length (f .temporaries)) (temporaryCount o (f .method))
+          (r 5);
+      depth = eqb→eq (length (f .operands)) (f .depth) (r 6);
+      validTemporaries = r 7;
+      validOperands = r 8;
+    }
 
 pub right-frame : (o : Objects) (isTop : Bool) (f : Frame) → FrameRight o isTop f → T (allOf (frameRules o isTop f))
 unfolding frameRules
 right-frame o isTop f r =
-    rules (frameRules o isTop f)
-    (r .isMethod, (eq→eqb (f .mark) noMark (r .unmarked), (r .receiver, (r .chain, (eq→eqb (noteAt (methodTable o (f .method)) (f .position)) (noteOf isTop f) (r .note), (eq→eqb (length (f .temporaries)) (temporaryCount o (f .method)) (r .temporaries), (eq→eqb (length (f .operands)) (f .depth) (r .depth), (r .validTemporaries, (r .validOperands, tt)))))))))
+    rules (frameRules o isTop f) (
+      r .isMethod,
+      (
+        eq→eqb (f .mark) noMark (r .unmarked),
+        (
+          r .receiver,
+          (
+            r .chain,
+            (
+              eq→eqb (noteAt (methodTable o (f .method)) (f .position)) (noteOf isTop f) (r .note),
+              (
+                eq→eqb (length (f .temporaries)) (temporaryCount o (f .method)) (r .temporaries),
+                (
+                  eq→eqb (length (f .operands)) (f .depth) (r .depth),
+                  (r .validTemporaries, (r .validOperands, tt)),
+                ),
+              ),
+            ),
+          ),
+        ),
+      ),
+    )
 
 -- A frame of so many words fits at a base.
 pub record Fits (stack base words : ℕ) : Type 0 where
@@ -53,7 +85,11 @@ pub record Fits (stack base words : ℕ) : Type 0 where
 pub fits : (stack base words : ℕ) → T (fitsStack stack base words) → Fits stack base words
 unfolding fitsStack
 fits stack base words t =
-    record { inside = leb→le (base + words) stack (and-left (leb (base + words) stack) (leb (base + words) mostStackWords) t); most = leb→le (base + words) mostStackWords (and-right (leb (base + words) stack) (leb (base + words) mostStackWords) t) }
+    record {
+      inside = leb→le (base + words) stack (and-left (leb (base + words) stack) (leb (base + words) mostStackWords) t);
+      most = leb→le (base + words)
+          mostStackWords (and-right (leb (base + words) stack) (leb (base + words) mostStackWords) t);
+    }
 
 pub fitting : (stack base words : ℕ) → Fits stack base words → T (fitsStack stack base words)
 unfolding fitsStack
@@ -74,16 +110,27 @@ frames-right o stack isTop base (f ∷ []) t =
     let a = allOf (frameRules o isTop f) in
     let b = fitsStack stack base (frameSize o (f .method)) in
     let s = and-right a (b && (eqb base 0 && eqb (f .sender) 0)) t in
-    let u = and-right b (eqb base 0 && eqb (f .sender) 0) s in
-    (frame-right o isTop f (and-left a (b && (eqb base 0 && eqb (f .sender) 0)) t), fits stack base (frameSize o (f .method)) (and-left b (eqb base 0 && eqb (f .sender) 0) s), eqb→eq base 0 (and-left (eqb base 0) (eqb (f .sender) 0) u), eqb→eq (f .sender) 0 (and-right (eqb base 0) (eqb (f .sender) 0) u))
+    let u = and-right b (eqb base 0 && eqb (f .sender) 0) s in (
+      frame-right o isTop f (and-left a (b && (eqb base 0 && eqb (f .sender) 0)) t),
+      fits stack base (frameSize o (f .method))
+          (and-left b (eqb base 0 && eqb (f .sender) 0) s),
+      eqb→eq base 0 (and-left (eqb base 0) (eqb (f .sender) 0) u),
+      eqb→eq (f .sender) 0
+          (and-right (eqb base 0) (eqb (f .sender) 0) u),
+    )
 frames-right o stack isTop base (f ∷ g ∷ rest) t =
     let a = allOf (frameRules o isTop f) in
     let b = fitsStack stack base (frameSize o (f .method)) in
     let c = eqb base (f .sender + frameSize o (g .method)) in
     let d = framesFine o stack false (f .sender) (g ∷ rest) in
     let s = and-right a (b && (c && d)) t in
-    let u = and-right b (c && d) s in
-    (frame-right o isTop f (and-left a (b && (c && d)) t), fits stack base (frameSize o (f .method)) (and-left b (c && d) s), eqb→eq base (f .sender + frameSize o (g .method)) (and-left c d u), frames-right o stack false (f .sender) (g ∷ rest) (and-right c d u))
+    let u = and-right b (c && d) s in (
+      frame-right o isTop f (and-left a (b && (c && d)) t),
+      fits stack base (frameSize o (f .method)) (and-left b (c && d) s),
+      eqb→eq base
+          (f .sender + frameSize o (g .method)) (and-left c d u),
+      frames-right o stack false (f .sender) (g ∷ rest) (and-right c d u),
+    )
 
 pub right-frames : (o : Objects) (stack : ℕ) (isTop : Bool) (base : ℕ) (fs : List Frame) → FramesRight o stack isTop base fs → T (framesFine o stack isTop base fs)
 unfolding framesFine
@@ -118,7 +165,8 @@ module _ (o : Objects) (isTop : Bool) (f : Frame) (r : FrameRight o isTop f) whe
   unfolding rulesAt
   within =
       leb→le (temporaryCount o (f .method) + tableDepth isTop (f .depth)) (frameWords o (f .method))
-      (rule (rulesAt (codeWords o (f .method)) (codeSize o (f .method)) (temporaryCount o (f .method)) (frameWords o (f .method)) (allowed o (f .method)) (f .position) (tableDepth isTop (f .depth))) (frame-spot .kept) 3)
+      (rule (rulesAt (codeWords o (f .method)) (codeSize o (f .method)) (temporaryCount o (f .method)) (frameWords o (f .method)) (allowed o (f .method))
+      (f .position) (tableDepth isTop (f .depth))) (frame-spot .kept) 3)
 
   pub depth-within : temporaryCount o (f .method) + f .depth ≤ frameWords o (f .method)
   depth-within = go isTop within

@@ -55,7 +55,8 @@ part-end : (l : List ℕ) (from d k : ℕ) → k ≤ d → from + d ≤ length l
 part-end l from d k h g =
     ext-getD 0 (part l (from + (d - k)) k) (drop (d - k) (part l from d)) (left-length ∙ sym right-length)
     (λ i s. getD-take k (drop (from + (d - k)) l) i 0 (omega (arith, left-length)) ∙ getD-drop (from + (d - k)) l i 0
-    ∙ sym (getD-drop (d - k) (part l from d) i 0 ∙ getD-take d (drop from l) (d - k + i) 0 (omega (arith, left-length)) ∙ getD-drop from l (d - k + i) 0 ∙ ap (λ (x : ℕ). getD l x 0) (sums from (d - k) i)))
+    ∙ sym (getD-drop (d - k) (part l from d) i 0 ∙ getD-take d (drop from l) (d - k + i) 0 (omega (arith, left-length)) ∙ getD-drop from l (d - k + i) 0
+    ∙ ap (λ (x : ℕ). getD l x 0) (sums from (d - k) i)))
   where
     sums : (a b c : ℕ) → a + (b + c) ≡ a + b + c
     sums a b c = omega arith
@@ -149,7 +150,8 @@ module _ {n b top : ℕ} {contents bodies stack : List ℕ} {selector count clas
     found-fits room c d a =
         let w = worlds room o (s .runs .right) c d in
         let x : Activates (After room) room (runningAt 0 0 n b top contents bodies stack) w m receiver (activate room o m receiver sentArguments) =
-        activates (After room) room (runningAt 0 0 n b top contents bodies stack) w m receiver sentArguments receiver-valid (arguments-valid o f (top-right (s .runs)) count) (found-count ∙ sym arguments-count) in
+        activates (After room) room (runningAt 0 0 n b top contents bodies stack) w m receiver sentArguments receiver-valid
+        (arguments-valid o f (top-right (s .runs)) count) (found-count ∙ sym arguments-count) in
         let y : Activates (After room) room (runningAt 0 0 n b top contents bodies stack) w m receiver entered =
         subst (Activates (After room) room (runningAt 0 0 n b top contents bodies stack) w m receiver) a x in
         temporaries-fit o m (spot-start o m (method-facts (s .runs .right) m (facts .method) .sound (y .0)))
@@ -167,7 +169,8 @@ module _ {n b top : ℕ} {contents bodies stack : List ℕ} {selector count clas
       ≡ laid stack top (movedTo f position (take (f .depth - suc count) (f .operands) ++ (w ∷ [])) ∷ rest)
   unfolding frameAt
   answer-written w =
-      let h = ltb→lt (temporaryCount o (frameMethod stack top) + (depth - suc count)) (frameWords o (frameMethod stack top)) (has-word o (frameMethod stack top) position (depth - suc count) (s .noted)) in
+      let h = ltb→lt (temporaryCount o (frameMethod stack top) + (depth - suc count)) (frameWords o (frameMethod stack top))
+      (has-word o (frameMethod stack top) position (depth - suc count) (s .noted)) in
       ap₂ (λ (i k : ℕ). set (set (set stack i w) (top + 1) position) (top + 2) k) (sums top (temporaryCount o (frameMethod stack top)) (depth - suc count)) (one (depth - suc count))
       ∙ sym (pushed-writes o stack top (suc top) f rest (all-right (s .runs)) (stood (s .runs)) position (depth - suc count) w (omega arith) h)
     where
@@ -214,7 +217,8 @@ module _ {n b top : ℕ} {contents bodies stack : List ℕ} {selector count clas
       unfolding pushed frameAt
       send-answered w o′ a =
           send-found ∙ ap (activated room p (popped f position (suc count)) rest m receiver sentArguments (looked selector class m)) a
-          ∙ ap (λ (t : Bool). changed o′ (provided t (next (onTop p (answeredTop w) rest) (looked selector class m)))) (T→true (hasWord o (popped f position (suc count)) (length (without f (suc count)))) has)
+          ∙ ap (λ (t : Bool). changed o′ (provided t (next (onTop p (answeredTop w) rest) (looked selector class m))))
+          (T→true (hasWord o (popped f position (suc count)) (length (without f (suc count)))) has)
         where
           long : length (without f (suc count)) ≡ depth - suc count
           long = without-length o f (top-right (s .runs)) (suc count) (s .needs)
@@ -234,7 +238,8 @@ module _ {n b top : ℕ} {contents bodies stack : List ℕ} {selector count clas
       abbrev enteredState : ℕ → Plain
       enteredState base = withFrames p (newFrame o top m receiver sentArguments ∷ popped f position (suc count) ∷ rest) running base 0
 
-      send-framed : (base : ℕ) → base ≡ top + frameSize o (frameMethod stack top) → activate room o m receiver sentArguments ≡ entered → fitsStack (room .stack) (top + frameSize o (frameMethod stack top)) (frameSize o m) ≡ true
+      send-framed : (base : ℕ) → base ≡ top + frameSize o (frameMethod stack top) → activate room o m receiver sentArguments ≡ entered
+          → fitsStack (room .stack) (top + frameSize o (frameMethod stack top)) (frameSize o m) ≡ true
           → x ≡ next (enteredState base) (looked selector class m)
       unfolding framed frameAt
       send-framed base g a q = send-entered a ∙ if-yes _ _ q ∙ ap (λ (k : ℕ). next (enteredState k) (looked selector class m)) (sym g)
@@ -247,7 +252,17 @@ module _ {n b top : ℕ} {contents bodies stack : List ℕ} {selector count clas
           → cache′ ≡ filled cache (looked selector class m)
           → Made x (runningWith receiver₀ selector₀ n′ b′ top) contents bodies stack cache contents′ bodies′ stack′ cache′
       answered-made cache w n′ b′ o′ contents′ bodies′ stack′ cache′ a en eb ec ed es ek =
-          record { state = withObjects (onTop p (answeredTop w) rest) o′; lookup = looked selector class m; steps = send-answered w o′ a; registers = λ i. runningWith receiver₀ selector₀ (en i) (eb i) top; entries = ec; words = ed; frames = es ∙ answer-written w; cached = ek }
+          record {
+            state = withObjects (onTop p (answeredTop w) rest) o′;
+            lookup = looked selector class m;
+            steps = send-answered w o′ a;
+            registers = λ i.
+                runningWith receiver₀ selector₀ (en i) (eb i) top;
+            entries = ec;
+            words = ed;
+            frames = es ∙ answer-written w;
+            cached = ek;
+          }
 
       pub entered-made : (cache : List ℕ) (base : ℕ) (contents′ bodies′ stack′ cache′ : List ℕ) → base ≡ top + frameSize o (frameMethod stack top) → activate room o m receiver sentArguments ≡ entered
           → fitsStack (room .stack) (top + frameSize o (frameMethod stack top)) (frameSize o m) ≡ true → contents′ ≡ contents → bodies′ ≡ bodies
@@ -255,4 +270,14 @@ module _ {n b top : ℕ} {contents bodies stack : List ℕ} {selector count clas
           → cache′ ≡ filled cache (looked selector class m)
           → Made x (runningWith receiver₀ selector₀ n b base) contents bodies stack cache contents′ bodies′ stack′ cache′
       entered-made cache base contents′ bodies′ stack′ cache′ g a q ec ed es ek =
-          record { state = enteredState base; lookup = looked selector class m; steps = send-framed base g a q; registers = refl; entries = ec ∙ own-contents; words = ed ∙ own-bodies; frames = es ∙ frame-written m base; cached = ek }
+          record {
+            state = enteredState base;
+            lookup = looked selector class m;
+            steps = send-framed base g a q;
+            registers = refl;
+            entries = ec
+                ∙ own-contents;
+            words = ed ∙ own-bodies;
+            frames = es ∙ frame-written m base;
+            cached = ek;
+          }

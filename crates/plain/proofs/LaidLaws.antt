@@ -97,7 +97,17 @@ module _ (s s′ : List ℕ) (e : ℕ) (same : take e s′ ≡ take e s) where
   pub frame-same : (o : Objects) (base : ℕ) → base + (6 + (temporaryCount o (frameMethod s base) + frameDepth s base)) ≤ e → frameAt o s′ base ≡ frameAt o s base
   unfolding frameAt
   frame-same o base h =
-      λ i. record { sender = word-same base (omega arith) i; position = word-same (base + 1) (omega arith) i; depth = depth′ i; method = method′ i; mark = word-same (base + 4) (omega arith) i; receiver = word-same (base + 5) (omega arith) i; temporaries = temporaries″ i; operands = operands″ i }
+      λ i. record {
+        sender = word-same base (omega arith) i;
+        position = word-same (base + 1) (omega arith) i;
+        depth = depth′ i;
+        method = method′ i;
+        mark =
+            word-same (base + 4) (omega arith) i;
+        receiver = word-same (base + 5) (omega arith) i;
+        temporaries = temporaries″ i;
+        operands = operands″ i;
+      }
     where
       method′ : frameMethod s′ base ≡ frameMethod s base
       method′ = word-same (base + 3) (omega arith)

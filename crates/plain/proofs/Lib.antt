@@ -11,6 +11,7 @@ pub mod Preserve
 pub mod StateLaws
 pub mod CacheLaws
 pub mod After
+pub mod HaltLaws
 pub mod RunLaws
 pub mod BeginLaws
 pub mod FlatLaws

@@ -70,7 +70,23 @@ accepts room bytes a =
     let five = passed (rule5 (h .edition) o) 5 _ (four .1) in
     let six = passed (rule6 (h .edition) o) 6 _ (five .1) in
     let seven = passed (rule7 (h .edition) o) 7 _ (six .1) in
-    record { long = eqb→eq (length bytes) (imageBytes (h .n) (h .b)) (and-right (leb (2 * headerWords) (length bytes)) (eqb (length bytes) (imageBytes (h .n) (h .b))) (one .0)); edition = e; sizes = and-right (isEdition (h .edition)) (sizesFine (h .edition) (h .n) (h .b)) (two .0); contents = leb→le (entryWords * h .n) (room .contents) (and-left c (b && k) (three .0)); bodies = leb→le (h .b) (room .bodies) (and-left b k (and-right c (b && k) (three .0))); cache = eqb→eq (room .cache) cacheWords (and-right b k (and-right c (b && k) (three .0))); rule-4 = subst (λ (x : ℕ). T (rule4 x o)) e (four .0); rule-5 = subst (λ (x : ℕ). T (rule5 x o)) e (five .0); rule-6 = subst (λ (x : ℕ). T (rule6 x o)) e (six .0); rule-7 = subst (λ (x : ℕ). T (rule7 x o)) e (seven .0); rule-8 = last-passed (rule8 o (h .receiver) (h .selector) []) 8 (seven .1) }
+    record {
+      long = eqb→eq (length bytes) (imageBytes (h .n) (h .b)) (and-right (leb (2 * headerWords) (length bytes))
+          (eqb (length bytes) (imageBytes (h .n) (h .b))) (one .0));
+      edition = e;
+      sizes = and-right (isEdition (h .edition)) (sizesFine (h .edition) (h .n) (h .b))
+          (two .0);
+      contents = leb→le (entryWords * h .n) (room .contents) (and-left c (b && k) (three .0));
+      bodies = leb→le (h .b) (room .bodies)
+          (and-left b k (and-right c (b && k) (three .0)));
+      cache = eqb→eq (room .cache) cacheWords (and-right b k (and-right c (b && k) (three .0)));
+      rule-4 = subst
+          (λ (x : ℕ). T (rule4 x o)) e (four .0);
+      rule-5 = subst (λ (x : ℕ). T (rule5 x o)) e (five .0);
+      rule-6 = subst (λ (x : ℕ). T (rule6 x o)) e (six .0);
+      rule-7 = subst (λ (x : ℕ). T (rule7 x o)) e (seven .0);
+      rule-8 = last-passed (rule8 o (h .receiver) (h .selector) []) 8 (seven .1);
+    }
 
 pub loaded-right : (room : Room) (bytes : List ℕ) → Accepted room bytes → PlainRight room (loaded bytes)
 unfolding loaded imageObjects objectsIn
@@ -79,7 +95,23 @@ loaded-right room bytes a =
     let b = imageHeader bytes .b in
     let w : length (wordsOf bytes) ≡ length bytes / 2 = length-words bytes in
     let l = a .long in
-    record { image = record { contents = length-part (wordsOf bytes) 5 (entryWords * n) (omega arith); bodies = length-part (wordsOf bytes) (5 + entryWords * n) b (omega arith); sizes = a .sizes; rule-4 = a .rule-4; rule-5 = a .rule-5; rule-6 = a .rule-6; rule-7 = a .rule-7 }; contents = a .contents; bodies = a .bodies; starts = a .rule-8; stands = rests refl refl refl refl }
+    record {
+      image = record {
+        contents = length-part (wordsOf bytes) 5 (entryWords * n) (omega arith);
+        bodies = length-part (wordsOf bytes)
+            (5 + entryWords * n) b (omega arith);
+        sizes = a .sizes;
+        rule-4 = a .rule-4;
+        rule-5 = a .rule-5;
+        rule-6 = a .rule-6;
+        rule-7 = a .rule-7;
+      };
+      contents =
+          a .contents;
+      bodies = a .bodies;
+      starts = a .rule-8;
+      stands = rests refl refl refl refl;
+    }
 
 pub loaded-stood : (bytes stack : List ℕ) → Stood (loaded bytes) stack
 unfolding loaded

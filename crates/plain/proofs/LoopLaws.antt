@@ -38,7 +38,16 @@ left-one grant count h = omega arith
 -- The start
 pub turn-start : (s : Flat) (grant reach : ℕ) → check s ≡ accepted → s .registers .phase ≡ running → reach ≡ topEnd (plainOf s) → Turn s grant s 0 reach
 turn-start s grant reach c e h =
-    record { made = omega arith; checked = c; phase = e; lengths = refl; rest = ap (λ (k : ℕ). runsFrom k 0 s) (all grant); high = omega arith; ends = start ∙ ap (λ (k : ℕ). endsFrom k reach s) (all grant) }
+    record {
+      made = omega arith;
+      checked = c;
+      phase = e;
+      lengths = refl;
+      rest = ap (λ (k : ℕ). runsFrom k 0 s) (all grant);
+      high = omega arith;
+      ends = start
+          ∙ ap (λ (k : ℕ). endsFrom k reach s) (all grant);
+    }
   where
     all : (k : ℕ) → k ≡ k - 0
     all k = omega arith
@@ -51,7 +60,8 @@ turn-start s grant reach c e h =
     least stuck g = absurd g
 
     start : endsFrom grant 0 s ≡ endsFrom grant reach s
-    start = unfold endsFrom plainOf in least (steps (roomOf s) grant (plainOf s)) (runs-right (roomOf s) (worlds (roomOf s)) grant (plainOf s) (s .stack) (s .cache) (right .plain) refl (right .cacheLength) (own-stood s) (right .cached))
+    start = unfold endsFrom plainOf in least (steps (roomOf s) grant (plainOf s)) (runs-right (roomOf s) (worlds (roomOf s)) grant (plainOf s) (s .stack)
+        (s .cache) (right .plain) refl (right .cacheLength) (own-stood s) (right .cached))
 
 module _ (s₀ : Flat) (grant : ℕ) (s : Flat) (count reach : ℕ) (t : Turn s₀ grant s count reach) where
   right-s : FlatRight s
@@ -81,7 +91,8 @@ module _ (s₀ : Flat) (grant : ℕ) (s : Flat) (count reach : ℕ) (t : Turn s�
     ends-more = t .ends ∙ ap (λ (k : ℕ). endsFrom k reach s) (left-one grant count more)
 
     -- A bytecode halts.
-    pub loop-halts : (c : Cause) → step (roomOf s) (plainOf s) ≡ halts c → gives (result (phaseOf c) count 0) (flat (withPhase (s .registers) (phaseOf c) (s .registers .top) 0) (s .contents) (s .bodies) (s .stack) (s .cache)) ≡ runsFrom grant 0 s₀
+    pub loop-halts : (c : Cause) → step (roomOf s) (plainOf s) ≡ halts c → gives (result (phaseOf c) count 0)
+        (flat (withPhase (s .registers) (phaseOf c) (s .registers .top) 0) (s .contents) (s .bodies) (s .stack) (s .cache)) ≡ runsFrom grant 0 s₀
     loop-halts c e = sym (rest-more ∙ halt-runs s right-s (t .phase) c e (grant - (count + 1)) count)
 
     pub loop-halts-ends : (c : Cause) → step (roomOf s) (plainOf s) ≡ halts c → reach ≡ endsFrom grant 0 s₀
@@ -118,14 +129,24 @@ module _ (s₀ : Flat) (grant : ℕ) (s : Flat) (count reach : ℕ) (t : Turn s�
       -- on the same level no frame ends higher
       pub loop-level : r .phase ≡ running → r .top ≡ s .registers .top → topEnd (plainOf s′) ≤ reach
       loop-level a b =
-          let e = ap topEnd plain-s′ ∙ turn-level s right-s (t .phase) (m .state) (m .lookup) (m .steps) (ap (λ (x : Registers). x .phase) (m .registers) ∙ a) (ap (λ (x : Registers). x .top) (m .registers) ∙ b) in
+          let e = ap topEnd plain-s′ ∙ turn-level s right-s (t .phase) (m .state) (m .lookup) (m .steps) (ap (λ (x : Registers). x .phase) (m .registers) ∙ a)
+          (ap (λ (x : Registers). x .top) (m .registers) ∙ b) in
           let h = t .high in
           omega arith
 
       -- and the run goes on,
       pub loop-next : r .phase ≡ running → (reach′ : ℕ) → reach′ ≡ max reach (topEnd (plainOf s′)) → Turn s₀ grant s′ (count + 1) reach′
       loop-next a reach′ h =
-          record { made = omega arith; checked = right-check s′ right-s′; phase = a; lengths = ap roomOf s′-is ∙ turn-room s right-s (t .phase) (m .state) (m .lookup) (m .steps) ∙ t .lengths; rest = runs-s′; high = omega arith; ends = ends-s′ ∙ ap (λ (k : ℕ). endsFrom (grant - (count + 1)) k s′) (sym h) }
+          record {
+            made = omega arith;
+            checked = right-check s′ right-s′;
+            phase = a;
+            lengths = ap roomOf s′-is ∙ turn-room s right-s (t .phase) (m .state)
+                (m .lookup) (m .steps) ∙ t .lengths;
+            rest = runs-s′;
+            high = omega arith;
+            ends = ends-s′ ∙ ap (λ (k : ℕ). endsFrom (grant - (count + 1)) k s′) (sym h);
+          }
 
       -- or is over.
       pub loop-over : eqb (r .phase) running ≡ false → gives (result (r .phase) (count + 1) (r .value)) s′ ≡ runsFrom grant 0 s₀

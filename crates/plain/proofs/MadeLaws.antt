@@ -29,7 +29,18 @@ pub moved-made : (n b top : ℕ) (contents bodies stack cache bodies′ stack′
 unfolding filled
 moved-made n b top contents bodies stack cache bodies′ stack′ r m receiver selector room =
     let x = m receiver selector room in
-    record { state = x .state; lookup = noLookup; steps = x .steps; registers = x .registers; entries = sym (ap (λ (l : List ℕ). atFront l contents) (x .contents) ∙ front-same (entryWords * n) contents (contents-room n b contents bodies (r .right))); words = x .words; frames = x .frames ∙ ap (λ (t : ℕ). laid stack t (x .state .frames)) (sym (ap (λ (g : Registers). g .top) (x .registers))); cached = refl }
+    record {
+      state = x .state;
+      lookup = noLookup;
+      steps = x .steps;
+      registers = x .registers;
+      entries = sym (ap (λ (l : List ℕ). atFront l contents)
+          (x .contents) ∙ front-same (entryWords * n) contents (contents-room n b contents bodies (r .right)));
+      words = x .words;
+      frames = x .frames
+          ∙ ap (λ (t : ℕ). laid stack t (x .state .frames)) (sym (ap (λ (g : Registers). g .top) (x .registers)));
+      cached = refl;
+    }
 
 -- the same step under another name
 pub made-as : {x y : Stepped} {r : Registers} {contents bodies stack cache contents′ bodies′ stack′ cache′ : List ℕ} → x ≡ y
@@ -37,7 +48,8 @@ pub made-as : {x y : Stepped} {r : Registers} {contents bodies stack cache conte
 made-as e m =
     record { state = m .state; lookup = m .lookup; steps = e ∙ m .steps; registers = m .registers; entries = m .entries; words = m .words; frames = m .frames; cached = m .cached }
 
-pub made-flat : (r₀ : Registers) {x : Stepped} {r : Registers} {contents bodies stack cache contents′ bodies′ stack′ cache′ : List ℕ} (m : Made x r contents bodies stack cache contents′ bodies′ stack′ cache′)
+pub made-flat : (r₀ : Registers) {x : Stepped} {r : Registers} {contents bodies stack cache contents′ bodies′ stack′ cache′ : List ℕ}
+    (m : Made x r contents bodies stack cache contents′ bodies′ stack′ cache′)
     → flat r contents′ bodies′ stack′ cache′ ≡ withPlain (flat r₀ contents bodies stack cache) (m .state) (laid stack (m .state .registers .top) (m .state .frames)) (filled cache (m .lookup))
 made-flat r₀ m = λ i. flat (sym (m .registers) i) (m .entries i) (m .words i) (m .frames i) (m .cached i)
 
@@ -55,8 +67,10 @@ module _ (receiver selector n b top : ℕ) (contents bodies stack cache : List �
   running-runs r = record { right = r .plain .image; frames = by-stands (r .plain .stands) }
     where
       by-stands : Stands (length stack) (plainOf s)
-          → T (Rattle.plain.specs.Check.framesFine (objectsAt n b contents bodies) (length stack) true top (Rattle.plain.specs.Flat.framesFrom (suc top) (objectsAt n b contents bodies) stack top))
-      by-stands (goes (runs x y f)) = right-frames (objectsAt n b contents bodies) (length stack) true top (Rattle.plain.specs.Flat.framesFrom (suc top) (objectsAt n b contents bodies) stack top) f
+          → T (Rattle.plain.specs.Check.framesFine (objectsAt n b contents bodies) (length stack) true top (Rattle.plain.specs.Flat.framesFrom
+          (suc top) (objectsAt n b contents bodies) stack top))
+      by-stands (goes (runs x y f)) = right-frames (objectsAt n b contents bodies) (length stack) true top (Rattle.plain.specs.Flat.framesFrom (suc top)
+          (objectsAt n b contents bodies) stack top) f
       by-stands (goes (ends x y z f)) = absurd (omega arith)
       by-stands (rests x y z f) = absurd (omega arith)
       by-stands (waits x y z f) = absurd (omega arith)

@@ -93,5 +93,12 @@ pub now : (o : Objects) (f : Frame) → FrameRight o true f
 unfolding rulesAt successorsAt depthAfterAt
 now o f r =
     let s = frame-spot o true f r in
-    let t = rule (rulesAt (codeWords o (f .method)) (codeSize o (f .method)) (temporaryCount o (f .method)) (frameWords o (f .method)) (Rattle.model.specs.Rules.allowed o (f .method)) (f .position) (f .depth)) (s .kept) in
-    record { usable = t 0; allowed = t 1; needs = leb→le (need (decodeAt (codeWords o (f .method)) (codeSize o (f .method)) (f .position))) (f .depth) (t 2); constant = decode-fine (codeWords o (f .method)) (codeSize o (f .method)) (f .position); goes = s .along }
+    let t = rule (rulesAt (codeWords o (f .method)) (codeSize o (f .method)) (temporaryCount o (f .method)) (frameWords o (f .method))
+    (Rattle.model.specs.Rules.allowed o (f .method)) (f .position) (f .depth)) (s .kept) in
+    record {
+      usable = t 0;
+      allowed = t 1;
+      needs = leb→le (need (decodeAt (codeWords o (f .method)) (codeSize o (f .method)) (f .position))) (f .depth) (t 2);
+      constant = decode-fine (codeWords o (f .method)) (codeSize o (f .method)) (f .position);
+      goes = s .along;
+    }

@@ -198,7 +198,18 @@ module _ (After : Objects → Objects → Type 0) (room : Room) (s : Plain) wher
         → T (runsCode o m) → T (inChain o (home o m) (classOf o receiver)) → (sender : ℕ) → FrameRight o true (newFrame o sender m receiver arguments)
     unfolding newFrame
     new-right m receiver arguments k v va c t h sender =
-        record { isMethod = k; unmarked = refl; receiver = v; chain = h; note = spot-start o m (world .runs m k t) ∙ sym (note-is true _); temporaries = temps; depth = refl; validTemporaries = valid-append (o .n) arguments (replicate (temporaryCount o m - length arguments) nilWord) va (valid-replicate (o .n) (temporaryCount o m - length arguments) nilWord (small-valid (o .n) nilWord (world .least) nil-valid)); validOperands = tt }
+        record {
+          isMethod = k;
+          unmarked = refl;
+          receiver = v;
+          chain = h;
+          note = spot-start o m (world .runs m k t) ∙ sym (note-is true _);
+          temporaries = temps;
+          depth = refl;
+          validTemporaries = valid-append (o .n) arguments (replicate (temporaryCount o m - length arguments) nilWord) va
+              (valid-replicate (o .n) (temporaryCount o m - length arguments) nilWord (small-valid (o .n) nilWord (world .least) nil-valid));
+          validOperands = tt;
+        }
       where
         temps : length (arguments ++ replicate (temporaryCount o m - length arguments) nilWord) ≡ temporaryCount o m
         temps =
@@ -219,8 +230,13 @@ module _ (After : Objects → Objects → Type 0) (room : Room) (s : Plain) wher
     frames-keep o′ a b base (g ∷ []) t =
         (world .keeps o′ a b g (t .0), subst (Fits (room .stack) base) (sym (world .sizes o′ a (g .method) (t .0 .isMethod))) (t .1), t .2, t .3)
     frames-keep o′ a b base (g ∷ h ∷ gs) t =
-        let u : FrameRight o false h = head-right h gs (t .3) in
-        (world .keeps o′ a b g (t .0), subst (Fits (room .stack) base) (sym (world .sizes o′ a (g .method) (t .0 .isMethod))) (t .1), t .2 ∙ ap (λ (k : ℕ). g .sender + k) (sym (world .sizes o′ a (h .method) (u .isMethod))), frames-keep o′ a false (g .sender) (h ∷ gs) (t .3))
+        let u : FrameRight o false h = head-right h gs (t .3) in (
+          world .keeps o′ a b g (t .0),
+          subst (Fits (room .stack) base) (sym (world .sizes o′ a (g .method) (t .0 .isMethod))) (t .1),
+          t .2
+              ∙ ap (λ (k : ℕ). g .sender + k) (sym (world .sizes o′ a (h .method) (u .isMethod))),
+          frames-keep o′ a false (g .sender) (h ∷ gs) (t .3),
+        )
       where
         head-right : (h : Frame) (gs : List Frame) → FramesRight o (room .stack) false (g .sender) (h ∷ gs) → FrameRight o false h
         head-right h [] x = x .0
@@ -228,14 +244,33 @@ module _ (After : Objects → Objects → Type 0) (room : Room) (s : Plain) wher
 
     -- a state that runs on with another top frame, of the same method and sender
     run-on : (f′ : Frame) → f′ .sender ≡ f .sender → f′ .method ≡ f .method → FrameRight o true f′ → (l : Looked) → LookedRight o l → Goes (next (onTop s f′ rest) l)
-    run-on f′ a b r′ l q =
-        (record { after = world .self; receiver = refl; selector = refl; shape = runs refl refl (new-top o (room .stack) true true (s .registers .top) f f′ rest a b r′ fr); level = λ x y. unfold topEnd in (ap (λ (m : ℕ). s .registers .top + frameSize o m) b ∙ sym own-end) }, q)
+    run-on f′ a b r′ l q = (
+      record {
+        after = world .self;
+        receiver = refl;
+        selector = refl;
+        shape = runs refl refl (new-top o (room .stack) true true (s .registers .top) f f′
+            rest a b r′ fr);
+        level = λ x y. unfold topEnd in (ap (λ (m : ℕ). s .registers .top + frameSize o m) b ∙ sym own-end);
+      },
+      q,
+    )
 
     -- the same with other objects
     run-on-with : (o′ : Objects) → After o o′ → (f′ : Frame) → f′ .sender ≡ f .sender → f′ .method ≡ f .method → FrameRight o′ true f′ → (l : Looked) → LookedRight o l
         → Goes (next (withObjects (onTop s f′ rest) o′) l)
-    run-on-with o′ x f′ a b r′ l q =
-        (record { after = x; receiver = refl; selector = refl; shape = runs refl refl (new-top o′ (room .stack) true true (s .registers .top) f f′ rest a b r′ (frames-keep o′ x true (s .registers .top) (f ∷ rest) fr)); level = λ y z. unfold topEnd in (ap (λ (m : ℕ). s .registers .top + frameSize o′ m) b ∙ ap (λ (k : ℕ). s .registers .top + k) (world .sizes o′ x (f .method) (r .isMethod)) ∙ sym own-end) }, q)
+    run-on-with o′ x f′ a b r′ l q = (
+      record {
+        after = x;
+        receiver = refl;
+        selector = refl;
+        shape = runs refl refl (new-top o′ (room .stack) true true (s .registers .top) f f′ rest a b r′
+            (frames-keep o′ x true (s .registers .top) (f ∷ rest) fr));
+        level = λ y z. unfold topEnd in (ap (λ (m : ℕ). s .registers .top + frameSize o′ m) b
+            ∙ ap (λ (k : ℕ). s .registers .top + k) (world .sizes o′ x (f .method) (r .isMethod)) ∙ sym own-end);
+      },
+      q,
+    )
 
     -- a push on a frame of the same method and sender, which is right on top or below it
     length-more : (ops : List ℕ) (w : ℕ) → length (ops ++ (w ∷ [])) ≡ suc (length ops)
@@ -343,10 +378,20 @@ module _ (After : Objects → Objects → Type 0) (room : Room) (s : Plain) wher
     unfolding returned
     returns w v [] e = (record { after = world .self; receiver = refl; selector = refl; shape = ends refl v refl refl; level = λ x y. absurd (omega arith) }, tt)
     returns w v (g ∷ gs) e =
-        goes-provided (hasWord o g (g .depth)) _ (lt→ltb (temporaryCount o (g .method) + g .depth) (frameWords o (g .method)) (let h = within o false g rg in omega arith))
-        (record { after = world .self; receiver = refl; selector = refl; shape = runs refl refl (new-top o (room .stack) false true (f .sender) g g′ gs refl refl rg′ below); level = λ x y. absurd (let z = parts .2 in omega arith) }, tt)
+        goes-provided (hasWord o g (g .depth)) _ (lt→ltb (temporaryCount o (g .method) + g .depth) (frameWords o (g .method)) (let h = within o false g rg in omega arith)) (
+          record {
+            after = world .self;
+            receiver = refl;
+            selector = refl;
+            shape = runs refl refl (new-top o (room .stack) false true (f .sender) g g′ gs refl
+                refl rg′ below);
+            level = λ x y. absurd (let z = parts .2 in omega arith);
+          },
+          tt,
+        )
       where
-        parts : FrameRight o true f × Fits (room .stack) (s .registers .top) (frameSize o (f .method)) × (s .registers .top ≡ f .sender + frameSize o (g .method)) × FramesRight o (room .stack) false (f .sender) (g ∷ gs)
+        parts : FrameRight o true f × Fits (room .stack) (s .registers .top) (frameSize o (f .method))
+            × (s .registers .top ≡ f .sender + frameSize o (g .method)) × FramesRight o (room .stack) false (f .sender) (g ∷ gs)
         parts = subst (λ (x : List Frame). FramesRight o (room .stack) true (s .registers .top) (f ∷ x)) (sym e) fr
 
         below : FramesRight o (room .stack) false (f .sender) (g ∷ gs)
@@ -388,8 +433,22 @@ module _ (After : Objects → Objects → Type 0) (room : Room) (s : Plain) wher
       unfolding framed newFrame
       framed-goes m receiver rn l k =
           if-cases Goes (fitsStack (room .stack) (s .registers .top + frameSize o (f .method)) (frameSize o m)) _ _
-          (λ e.
-          (record { after = world .self; receiver = refl; selector = refl; shape = runs refl refl (rn, fits (room .stack) (s .registers .top + frameSize o (f .method)) (frameSize o m) (true→T e), refl, new-top o (room .stack) true false (s .registers .top) f f′ rest refl refl right′ fr); level = λ x y. absurd (omega arith) }, k))
+          (λ e. (
+            record {
+              after = world .self;
+              receiver = refl;
+              selector = refl;
+              shape = runs refl refl (
+                rn,
+                fits (room .stack) (s .registers .top + frameSize o (f .method)) (frameSize o m) (true→T e),
+                refl,
+                new-top o (room .stack) true false
+                    (s .registers .top) f f′ rest refl refl right′ fr,
+              );
+              level = λ x y. absurd (omega arith);
+            },
+            k,
+          ))
           (λ e. tt)
 
       activated-goes : (selector class m receiver : ℕ) → lookup o selector class ≡ found m → argumentCount o m ≡ length arguments′ → T (isValid (o .n) receiver)
@@ -397,7 +456,8 @@ module _ (After : Objects → Objects → Type 0) (room : Room) (s : Plain) wher
       activated-goes selector class m receiver e c v (answered w o′) a =
           pushes-changed false f′ refl refl right′ o′ (a .0) q (without f (suc n)) w noted′ (without-valid o f r (suc n)) (a .1) (looked selector class m) e
       activated-goes selector class m receiver e c v entered a =
-          framed-goes m receiver (new-right world m receiver arguments′ (world .lookupMethod selector class m e) v (arguments-valid o f r n) c (a .0) (a .1) (s .registers .top)) (looked selector class m) e
+          framed-goes m receiver (new-right world m receiver arguments′ (world .lookupMethod selector class m e) v (arguments-valid o f r n) c (a .0) (a .1)
+          (s .registers .top)) (looked selector class m) e
       activated-goes selector class m receiver e c v unfit a = tt
 
       found-goes : (selector class receiver : ℕ) → T (takesCount o selector n) → T (isValid (o .n) receiver) → (x : Found) → lookup o selector class ≡ x
@@ -539,7 +599,9 @@ module _ (After : Objects → Objects → Type 0) (room : Room) (s : Plain) wher
     executes q (Jump ahead back) now =
         goes-provided (leb back (q + ahead)) _ (now .usable)
         (run-on (movedTo f (q + ahead - back) (f .operands)) refl refl
-        (stays (q + ahead - back) (now .goes (q + ahead - back) (subst (List·Memᴰ (q + ahead - back)) (sym (if-yes ((q + ahead - back) ∷ []) [] (T→true (leb back (q + ahead)) (now .usable)))) (List·Memᴰ·head refl)) ∙ ap suc (omega arith))) noLookup tt)
+        (stays (q + ahead - back) (now .goes (q + ahead - back)
+        (subst (List·Memᴰ (q + ahead - back)) (sym (if-yes ((q + ahead - back) ∷ []) [] (T→true (leb back (q + ahead)) (now .usable)))) (List·Memᴰ·head refl))
+        ∙ ap suc (omega arith))) noLookup tt)
     executes q (JumpOn condition ahead) now =
         jump-goes q ahead condition (now .needs) (now .goes q (List·Memᴰ·head refl) ∙ ap suc (omega arith)) (now .goes (q + ahead) (List·Memᴰ·tail (List·Memᴰ·head refl)) ∙ ap suc (omega arith))
     executes q (Send l n) now =

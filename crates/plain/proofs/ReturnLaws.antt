@@ -45,10 +45,22 @@ module _ {n b top : ℕ} {contents bodies stack : List ℕ} (r : Runs n b top co
 
   -- From the bottom frame: finished with the value
   pub bottom-returns : (receiver selector w : ℕ) (cache : List ℕ) → top ≡ 0
-      → Made (returned (runningAt receiver selector n b top contents bodies stack) f (restFrames n b top contents bodies stack) w) (finishedWith receiver selector n b w) contents bodies stack cache contents bodies stack cache
+      → Made (returned (runningAt receiver selector n b top contents bodies stack) f (restFrames n b top contents bodies stack) w)
+      (finishedWith receiver selector n b w) contents bodies stack cache contents bodies stack cache
   unfolding returned laid filled
   bottom-returns receiver selector w cache e =
-      record { state = withFrames (runningAt receiver selector n b top contents bodies stack) [] finished 0 w; lookup = noLookup; steps = ap (λ (t : ℕ). returned (runningAt receiver selector n b top contents bodies stack) f (unlessBottom t (framesFrom top o stack s)) w) e; registers = refl; entries = sym (front-same (entryWords * n) contents (contents-room n b contents bodies (r .right))); words = sym (front-same b bodies (bodies-room n b contents bodies (r .right))); frames = refl; cached = refl }
+      record {
+        state = withFrames (runningAt receiver selector n b top contents bodies stack) [] finished 0 w;
+        lookup = noLookup;
+        steps = ap
+            (λ (t : ℕ). returned (runningAt receiver selector n b top contents bodies stack) f (unlessBottom t (framesFrom top o stack s)) w) e;
+        registers = refl;
+        entries = sym (front-same (entryWords * n) contents (contents-room n b contents bodies (r .right)));
+        words = sym
+            (front-same b bodies (bodies-room n b contents bodies (r .right)));
+        frames = refl;
+        cached = refl;
+      }
 
   module _ (above : 0 < top) where
     -- the frame below, and those below it
@@ -80,7 +92,16 @@ module _ {n b top : ℕ} {contents bodies stack : List ℕ} (r : Runs n b top co
         go [] e x = absurd (let z = x .2 in omega arith)
         go (g ∷ gs) e x =
             let y : FramesRight o (length stack) false s (g ∷ gs) = subst (λ (k : ℕ). FramesRight o (length stack) false k (g ∷ gs)) sender-is (x .3) in
-            record { g = g; gs = gs; are = e; stood = sym (not-bottom top (framesFrom top o stack s) above) ∙ e; base = x .2 ∙ ap (λ (k : ℕ). k + frameSize o (g .method)) sender-is; fits = fits-of g gs y; rights = y }
+            record {
+              g = g;
+              gs = gs;
+              are = e;
+              stood = sym (not-bottom top (framesFrom top o stack s) above) ∙ e;
+              base = x .2
+                  ∙ ap (λ (k : ℕ). k + frameSize o (g .method)) sender-is;
+              fits = fits-of g gs y;
+              rights = y;
+            }
 
     g-here : frameAt o stack s ≡ below .g
     g-here = frame-here-at false o stack s top (below .g) (below .gs) (below .rights) (below .stood)
@@ -98,7 +119,8 @@ module _ {n b top : ℕ} {contents bodies stack : List ℕ} (r : Runs n b top co
     position-g = unfold frameAt in ap (λ (x : Frame). x .position) g-here
 
     abbrev Limits : ℕ → ℕ → Type 0
-    Limits m d = (s + (6 + frameWords o m) ≡ top) × (s + (6 + frameWords o m) ≤ length stack) × (s + (6 + frameWords o m) ≤ 65536) × (temporaryCount o m + suc d ≤ frameWords o m) × (frameWords o m ≤ 32) × T (isKind o methodKind m)
+    Limits m d = (s + (6 + frameWords o m) ≡ top) × (s + (6 + frameWords o m) ≤ length stack) × (s + (6 + frameWords o m) ≤ 65536)
+        × (temporaryCount o m + suc d ≤ frameWords o m) × (frameWords o m ≤ 32) × T (isKind o methodKind m)
 
     limits : Limits (below .g .method) (below .g .depth)
     limits = (sym (below .base), below .fits .inside, below .fits .most, within o false (below .g) g-right, words-cases o (below .g .method) .1, g-right .isMethod)
@@ -141,8 +163,23 @@ module _ {n b top : ℕ} {contents bodies stack : List ℕ} (r : Runs n b top co
     provided-yes t x e = ap (λ (c : Bool). provided c x) e
 
     pub sender-returns : (receiver selector w : ℕ) (cache : List ℕ)
-        → Made (returned (runningAt receiver selector n b top contents bodies stack) f (restFrames n b top contents bodies stack) w) (runningWith receiver selector n b s) contents bodies stack cache contents bodies (after w) cache
+        → Made (returned (runningAt receiver selector n b top contents bodies stack) f (restFrames n b top contents bodies stack) w)
+        (runningWith receiver selector n b s) contents bodies stack cache contents bodies (after w) cache
     unfolding returned filled frameAt
     sender-returns receiver selector w cache =
         let p = runningAt receiver selector n b top contents bodies stack in
-        record { state = withFrames p (movedTo (below .g) (below .g .position) (below .g .operands ++ (w ∷ [])) ∷ below .gs) Rattle.plain.specs.Registers.running s 0; lookup = noLookup; steps = ap (λ (fs : List Frame). returned p f fs w) (below .are) ∙ provided-yes (ltb (temporaryCount o (below .g .method) + below .g .depth) (frameWords o (below .g .method))) _ (lt-ltb (temporaryCount o (below .g .method) + below .g .depth) (frameWords o (below .g .method)) (let x = limits .3 in omega arith)); registers = refl; entries = sym (front-same (entryWords * n) contents (contents-room n b contents bodies (r .right))); words = sym (front-same b bodies (bodies-room n b contents bodies (r .right))); frames = sym (laid-is w); cached = refl }
+        record {
+          state = withFrames p (movedTo (below .g) (below .g .position) (below .g .operands ++ (w ∷ [])) ∷ below .gs)
+              Rattle.plain.specs.Registers.running s 0;
+          lookup = noLookup;
+          steps = ap (λ (fs : List Frame). returned p f fs w) (below .are)
+              ∙ provided-yes (ltb (temporaryCount o (below .g .method) + below .g .depth) (frameWords o (below .g .method))) _
+              (lt-ltb (temporaryCount o (below .g .method) + below .g .depth) (frameWords o (below .g .method)) (let x = limits .3 in omega arith));
+          registers =
+              refl;
+          entries = sym (front-same (entryWords * n) contents (contents-room n b contents bodies (r .right)));
+          words = sym
+              (front-same b bodies (bodies-room n b contents bodies (r .right)));
+          frames = sym (laid-is w);
+          cached = refl;
+        }

@@ -28,7 +28,9 @@ use Rattle.plain.proofs.NowLaws.{now}
 use Rattle.plain.proofs.Preserve.{World, Shape, runs, ends, LookedRight, Kept, Goes, executes}
 use Rattle.plain.proofs.StateLaws.{PlainRight, Stands, goes, rests, waits}
 use Rattle.plain.proofs.CacheLaws.{cache-filled, cache-kept, length-filled}
+use Rattle.plain.specs.CallLists.{Halted}
 use Rattle.plain.proofs.After.{After, kept-right}
+use Rattle.plain.proofs.HaltLaws.{halts-for}
 
 -- The frames of a state stand in a stack.
 abbrev pub Stood : Plain → List ℕ → Type 0
@@ -117,6 +119,7 @@ module _ (room : Room) (worlds : Worlds room) where
   pub record RanRight (n : ℕ) (p : Plain) (stack cache : List ℕ) (k : ℕ) (p′ : Plain) (ts : List Taken) : Type 0 where
     pub made : k ≤ n
     pub whole : p′ .registers .phase ≡ running → k ≡ n
+    pub halts : p .registers .phase < 3 → 3 ≤ p′ .registers .phase → Halted room p′ (p′ .registers .phase)
     pub busy : (p .registers .phase ≡ idle → ⊥) → p′ .registers .phase ≡ idle → ⊥
     pub right : PlainRight room p′
     pub extends : Extends (objects p) (objects p′)
@@ -132,23 +135,54 @@ module _ (room : Room) (worlds : Worlds room) where
 
   -- a run of no steps
   none : (n : ℕ) (p p′ : Plain) (stack cache : List ℕ) → PlainRight room p → PlainRight room p′ → objects p′ ≡ objects p → Stood p′ stack → T (cacheFine (objects p) cache)
-      → (p′ .registers .phase ≡ running → 0 ≡ n) → ((p .registers .phase ≡ idle → ⊥) → p′ .registers .phase ≡ idle → ⊥) → RanRight n p stack cache 0 p′ []
+      → (p′ .registers .phase ≡ running → 0 ≡ n) → (p .registers .phase < 3 → 3 ≤ p′ .registers .phase → Halted room p′ (p′ .registers .phase))
+      → ((p .registers .phase ≡ idle → ⊥) → p′ .registers .phase ≡ idle → ⊥) → RanRight n p stack cache 0 p′ []
   unfolding stackAfter cacheAfter highestEnd
-  none n p p′ stack cache r r′ e s c w i =
-      record { made = omega arith; whole = w; busy = i; right = r′; extends = subst (Extends (objects p)) (sym e) (extends-refl (objects p)); stood = s; cached = subst (λ (o : Objects). T (cacheFine o cache)) (sym e) c; stackLength = refl; cacheLength = refl; reach = top-end room p (r .stands) }
+  none n p p′ stack cache r r′ e s c w h i =
+      record {
+        made = omega arith;
+        whole = w;
+        halts = h;
+        busy = i;
+        right = r′;
+        extends = subst (Extends (objects p)) (sym e) (extends-refl (objects p));
+        stood = s;
+        cached = subst (λ (o : Objects). T (cacheFine o cache)) (sym e) c;
+        stackLength = refl;
+        cacheLength = refl;
+        reach = top-end room p (r .stands);
+      }
 
   -- one step and a run
-  more : (n : ℕ) (p p₁ : Plain) (l : Looked) (stack cache : List ℕ) → PlainRight room p → (p₁ .registers .phase ≡ idle → ⊥) → Extends (objects p) (objects p₁) → length (filled cache l) ≡ length cache
+  more : (n : ℕ) (p p₁ : Plain) (l : Looked) (stack cache : List ℕ) → PlainRight room p → (p₁ .registers .phase ≡ idle → ⊥) → p₁ .registers .phase < 3
+      → Extends (objects p) (objects p₁) → length (filled cache l) ≡ length cache
       → length (laid stack (p₁ .registers .top) (p₁ .frames)) ≡ length stack → (x : Ran)
       → RunGoes n p₁ (laid stack (p₁ .registers .top) (p₁ .frames)) (filled cache l) x → RunGoes (suc n) p stack cache (counted (taken l p₁) x)
   unfolding stackAfter cacheAfter highestEnd
-  more n p p₁ l stack cache r i e lc ls (ran k p′ ts) g =
-      record { made = let m = g .made in omega arith; whole = λ q. ap suc (g .whole q); busy = λ q. g .busy i; right = g .right; extends = extends-trans e (g .extends); stood = g .stood; cached = g .cached; stackLength = g .stackLength ∙ ls; cacheLength = g .cacheLength ∙ lc; reach = let a = top-end room p (r .stands) in let b = g .reach in omega arith }
-  more n p p₁ l stack cache r i e lc ls stuck g = g
+  more n p p₁ l stack cache r i b e lc ls (ran k p′ ts) g =
+      record {
+        made = let m = g .made in omega arith;
+        whole = λ q. ap suc (g .whole q);
+        halts = λ q. g .halts b;
+        busy = λ q. g .busy i;
+        right = g .right;
+        extends = extends-trans e (g .extends);
+        stood = g .stood;
+        cached = g .cached;
+        stackLength = g .stackLength ∙ ls;
+        cacheLength = g .cacheLength
+            ∙ lc;
+        reach = let a = top-end room p (r .stands) in let d = g .reach in omega arith;
+      }
+  more n p p₁ l stack cache r i b e lc ls stuck g = g
 
   shape-busy : (p : Plain) → Shape (room .stack) p → p .registers .phase ≡ idle → ⊥
   shape-busy p (runs a b f) e = omega arith
   shape-busy p (ends a b c f) e = omega arith
+
+  shape-goes : (p : Plain) → Shape (room .stack) p → p .registers .phase < 3
+  shape-goes p (runs a b f) = omega arith
+  shape-goes p (ends a b c f) = omega arith
 
   -- after a step the frames stand in the stack in which they were laid
   pub shape-stood : (p : Plain) (stack : List ℕ) → length stack ≡ room .stack → Shape (room .stack) p → Stood p (laid stack (p .registers .top) (p .frames))
@@ -158,7 +192,7 @@ module _ (room : Room) (worlds : Worlds room) where
   pub runs-right : (n : ℕ) (p : Plain) (stack cache : List ℕ) → PlainRight room p → length stack ≡ room .stack → length cache ≡ cacheWords → Stood p stack → T (cacheFine (objects p) cache)
       → RunGoes n p stack cache (steps room n p)
   unfolding steps
-  runs-right zero p stack cache r ls lc s c = none zero p p stack cache r r refl s c (λ q. refl) (λ i. i)
+  runs-right zero p stack cache r ls lc s c = none zero p p stack cache r r refl s c (λ q. refl) (λ a b. absurd (omega arith)) (λ i. i)
   runs-right (suc n) p stack cache r ls lc s c =
       by-phase (eqb (p .registers .phase) running) refl (λ p₁ stack₁ cache₁ r₁ a b d f. runs-right n p₁ stack₁ cache₁ r₁ a b d f)
     where
@@ -167,21 +201,22 @@ module _ (room : Room) (worlds : Worlds room) where
           (p₁ : Plain) (stack₁ cache₁ : List ℕ) → PlainRight room p₁ → length stack₁ ≡ room .stack → length cache₁ ≡ cacheWords → Stood p₁ stack₁ → T (cacheFine (objects p₁) cache₁)
           → RunGoes n p₁ stack₁ cache₁ (steps room n p₁)
 
-      after-step : (x : Stepped) → Goes (After room) room p x → p .registers .phase ≡ running → Again → RunGoes (suc n) p stack cache (onward (λ s′. steps room n s′) p x)
-      after-step (next p₁ l) g e again =
+      after-step : (x : Stepped) → step room p ≡ x → Goes (After room) room p x → p .registers .phase ≡ running → Again → RunGoes (suc n) p stack cache (onward (λ s′. steps room n s′) p x)
+      after-step (next p₁ l) x g e again =
           let r₁ = kept-right room p p₁ r (g .0) in
           let ls₁ = length-laid stack (p₁ .registers .top) (p₁ .frames) in
           let lc₁ = length-filled cache l in
-          let x : Extends (objects p) (objects p₁) = g .0 .after .extends in
-          more n p p₁ l stack cache r (shape-busy p₁ (g .0 .shape)) x lc₁ ls₁ (steps room n p₁)
+          let d : Extends (objects p) (objects p₁) = g .0 .after .extends in
+          more n p p₁ l stack cache r (shape-busy p₁ (g .0 .shape)) (shape-goes p₁ (g .0 .shape)) d lc₁ ls₁ (steps room n p₁)
           (again p₁ (laid stack (p₁ .registers .top) (p₁ .frames)) (filled cache l) r₁ (ls₁ ∙ ls) (lc₁ ∙ lc) (shape-stood p₁ stack ls (g .0 .shape))
-          (cache-kept (objects p) (objects p₁) (lookup-same x (r .image)) (filled cache l) (cache-filled (objects p) cache l lc (g .1) c)))
-      after-step (halts cause) g e again =
-          none (suc n) p (halted p cause) stack cache r (halted-right p r e cause) refl (λ q. s (ap hasFrames e)) c (λ q. absurd (let h = cause-least cause in omega arith)) (λ i q. let h = cause-least cause in omega arith)
-      after-step missing g e again = absurd g
+          (cache-kept (objects p) (objects p₁) (lookup-same d (r .image)) (filled cache l) (cache-filled (objects p) cache l lc (g .1) c)))
+      after-step (halts cause) x g e again =
+          none (suc n) p (halted p cause) stack cache r (halted-right p r e cause) refl (λ q. s (ap hasFrames e)) c
+          (λ q. absurd (let h = cause-least cause in omega arith)) (λ a b. (cause, refl, halts-for room p cause x)) (λ i q. let h = cause-least cause in omega arith)
+      after-step missing x g e again = absurd g
 
       by-phase : (b : Bool) → eqb (p .registers .phase) running ≡ b → Again → RunGoes (suc n) p stack cache (ifRunning (λ s′. steps room n s′) room p b)
       by-phase true q again =
           let e = eqb-true (p .registers .phase) running q in
-          after-step (step room p) (step-goes p r e) e again
-      by-phase false q again = none (suc n) p p stack cache r r refl s c (λ e. absurd (eqb-false (p .registers .phase) running q e)) (λ i. i)
+          after-step (step room p) refl (step-goes p r e) e again
+      by-phase false q again = none (suc n) p p stack cache r r refl s c (λ e. absurd (eqb-false (p .registers .phase) running q e)) (λ a b. absurd (omega arith)) (λ i. i)

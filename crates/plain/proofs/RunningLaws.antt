@@ -98,7 +98,8 @@ module _ {n b top position : ℕ} {contents bodies stack : List ℕ} {i : Instru
   fₐ = topFrame n b top contents bodies stack
 
   pub step-is : (receiver selector : ℕ) (room : Room)
-      → step room (runningAt receiver selector n b top contents bodies stack) ≡ execute room (runningAt receiver selector n b top contents bodies stack) fₐ (restFrames n b top contents bodies stack) position i
+      → step room (runningAt receiver selector n b top contents bodies stack) ≡ execute room (runningAt receiver selector n b top contents bodies stack) fₐ
+      (restFrames n b top contents bodies stack) position i
   unfolding step stepFrame framesFrom frameAt
   step-is receiver selector room =
       λ j. execute room (runningAt receiver selector n b top contents bodies stack) fₐ (restFrames n b top contents bodies stack) (sym (a .behind) j) (sym (a .decoded) j)

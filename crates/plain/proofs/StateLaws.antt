@@ -112,7 +112,12 @@ module _ (stack : ℕ) (s : Plain) where
   fine-by (suc (suc (suc p))) e (goes (ends a v t f)) = absurd (omega arith)
   fine-by (suc (suc (suc p))) e (rests a v t f) = absurd (omega arith)
   fine-by (suc (suc (suc p))) e (waits a b v f) =
-      record { most = le→leb (suc (suc (suc p))) lastPhase (omega arith); value = not-two (eq→eqb (s .registers .value) 0 v); frames = framed p (right-frames (objects s) stack true (s .registers .top) (s .frames) f) }
+      record {
+        most = le→leb (suc (suc (suc p))) lastPhase (omega arith);
+        value = not-two (eq→eqb (s .registers .value) 0 v);
+        frames = framed p
+            (right-frames (objects s) stack true (s .registers .top) (s .frames) f);
+      }
     where
       not-two : T (eqb (s .registers .value) 0) → T (valueFine (suc (suc (suc p))))
       not-two t = subst T (sym (if-no (isValid (s .registers .n) (s .registers .value)) (eqb (s .registers .value) 0) (ne-eqb (suc (suc (suc p))) 2 (λ q. omega arith)))) t

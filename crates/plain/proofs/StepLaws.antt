@@ -83,12 +83,34 @@ module _ (o : Objects) where
   pub moved-right : (was isTop : Bool) (f : Frame) → FrameRight o was f → (q : ℕ) (ops : List ℕ)
       → noteAt (methodTable o (f .method)) q ≡ suc (tableDepth isTop (length ops)) → Valid (o .n) ops → FrameRight o isTop (movedTo f q ops)
   moved-right was isTop f r q ops e v =
-      record { isMethod = r .isMethod; unmarked = r .unmarked; receiver = r .receiver; chain = r .chain; note = moved-note isTop f q ops e; temporaries = r .temporaries; depth = refl; validTemporaries = r .validTemporaries; validOperands = v }
+      record {
+        isMethod = r .isMethod;
+        unmarked = r .unmarked;
+        receiver = r .receiver;
+        chain = r .chain;
+        note = moved-note isTop f q ops e;
+        temporaries =
+            r .temporaries;
+        depth = refl;
+        validTemporaries = r .validTemporaries;
+        validOperands = v;
+      }
 
   -- and with another temporary
   pub stored-temporary : (f : Frame) → FrameRight o true f → (i w : ℕ) → T (isValid (o .n) w) → FrameRight o true (withTemporaries f (set (f .temporaries) i w))
   stored-temporary f r i w v =
-      record { isMethod = r .isMethod; unmarked = r .unmarked; receiver = r .receiver; chain = r .chain; note = r .note ∙ note-is true f ∙ sym (note-is true (withTemporaries f (set (f .temporaries) i w))); temporaries = length-set (f .temporaries) i w ∙ r .temporaries; depth = r .depth; validTemporaries = valid-set (o .n) i w (f .temporaries) v (r .validTemporaries); validOperands = r .validOperands }
+      record {
+        isMethod = r .isMethod;
+        unmarked = r .unmarked;
+        receiver = r .receiver;
+        chain = r .chain;
+        note = r .note ∙ note-is true f
+            ∙ sym (note-is true (withTemporaries f (set (f .temporaries) i w)));
+        temporaries = length-set (f .temporaries) i w ∙ r .temporaries;
+        depth = r .depth;
+        validTemporaries = valid-set (o .n) i w (f .temporaries) v (r .validTemporaries);
+        validOperands = r .validOperands;
+      }
 
   -- a noted position has room for the operands of its depth
   pub has-word : (m p d : ℕ) → noteAt (methodTable o m) p ≡ suc (suc d) → T (ltb (temporaryCount o m + d) (frameWords o m))
@@ -103,8 +125,13 @@ module _ (o : Objects) where
       → FrameRight o isTop f′ → FramesRight o n was base (f ∷ rest) → FramesRight o n isTop base (f′ ∷ rest)
   new-top n was isTop base f f′ [] s m r fr =
       (r, subst (λ (k : ℕ). Fits n base (frameSize o k)) (sym m) (fr .1), fr .2, s ∙ fr .3)
-  new-top n was isTop base f f′ (g ∷ rest) s m r fr =
-      (r, subst (λ (k : ℕ). Fits n base (frameSize o k)) (sym m) (fr .1), fr .2 ∙ ap (λ (k : ℕ). k + frameSize o (g .method)) (sym s), subst (λ (k : ℕ). FramesRight o n false k (g ∷ rest)) (sym s) (fr .3))
+  new-top n was isTop base f f′ (g ∷ rest) s m r fr = (
+    r,
+    subst (λ (k : ℕ). Fits n base (frameSize o k)) (sym m) (fr .1),
+    fr .2 ∙ ap (λ (k : ℕ). k + frameSize o (g .method)) (sym s),
+    subst
+        (λ (k : ℕ). FramesRight o n false k (g ∷ rest)) (sym s) (fr .3),
+  )
 
   module _ (f : Frame) (r : FrameRight o true f) where
     -- an operand that is there, the operands without some, the arguments

@@ -14,7 +14,7 @@ use Rattle.model.specs.Image.{Room, Verdict, accepted, refused, loadVerdict}
 use Rattle.model.proofs.Facts.{Right}
 use Rattle.model.proofs.Extends.{Extends, extends-refl, extends-trans}
 use Rattle.model.proofs.Unchanged.{lookup-same}
-use Rattle.plain.specs.Registers.{idle, running, finished, hasFrames, Cause, notUnderstood, noBoolean, noStackRoom, phaseOf}
+use Rattle.plain.specs.Registers.{idle, running, finished, hasFrames}
 use Rattle.plain.specs.State.{Frame, Plain, objects}
 use Rattle.plain.specs.Calls.{loaded, Begun, begun, declined, begin, Taken, Ran, ran, stuck, steps, dropped, Call, beginCall, runCall, dropCall, forgetCall, Answer, done, refusedBy, result, wrote, Called, called, impossible, call, afterBegin, afterRun, runIf}
 use Rattle.plain.specs.Cache.{emptyCache, cacheFine}
@@ -22,7 +22,7 @@ use Rattle.plain.specs.Flat.{Flat, roomOf, flatObjects, plainOf, framesF
 use Rattle.plain.specs.Check.{check}
 use Rattle.plain.specs.FlatCalls as F
 use Rattle.plain.specs.FlatCalls.{Given, gives, noAnswer, checked, withPlain, laid, stackAfter, cacheAfter, highestEnd, flatLoad, afterLoad, flatBegin, flatRun, flatDrop, flatForget, flatCall}
-use Rattle.plain.specs.CallLists.{RunEnds, Ends, Keeps, Agreed, Together, Agrees, FromChecked, Loads, FromLoad}
+use Rattle.plain.specs.CallLists.{Halted, RunEnds, Ends, Keeps, Agreed, Together, Agrees, FromChecked, Loads, FromLoad}
 use Rattle.plain.proofs.LaidLaws.{laid-back, length-laid}
 use Rattle.plain.proofs.Preserve.{Shape, runs, ends}
 use Rattle.plain.proofs.StateLaws.{PlainRight, Stands, goes, rests, waits}
@@ -51,23 +51,14 @@ keeps : (o o′ : Objects) → Right 1 o → Right 1 o′ → Extends o o′ →
 keeps o o′ r r′ x =
     record { objects = x .grows; words = let a = r .bodies in let b = r′ .bodies in let c = x .longer in omega arith; entries = x .entries; bodies = x .bodies }
 
--- ---- a phase with its cause
+-- ---- how a run ends
 
-cause-of : (k : ℕ) → 3 ≤ k → k ≤ 5 → (cause : Cause) × (k ≡ phaseOf cause)
-cause-of zero a b = absurd (omega arith)
-cause-of (suc zero) a b = absurd (omega arith)
-cause-of (suc (suc zero)) a b = absurd (omega arith)
-cause-of (suc (suc (suc zero))) a b = (notUnderstood, refl)
-cause-of (suc (suc (suc (suc zero)))) a b = (noBoolean, refl)
-cause-of (suc (suc (suc (suc (suc zero))))) a b = (noStackRoom, refl)
-cause-of (suc (suc (suc (suc (suc (suc k)))))) a b = absurd (omega arith)
-
-run-ends : (stack n k : ℕ) (p : Plain) → k ≤ n → (p .registers .phase ≡ running → k ≡ n) → (p .registers .phase ≡ idle → ⊥) → Stands stack p
-    → RunEnds n (result (p .registers .phase) k (p .registers .value))
-run-ends stack n k p m w i (goes (runs a b f)) = (m, inl (a, w a))
-run-ends stack n k p m w i (goes (ends a b c f)) = (m, inr (inl a))
-run-ends stack n k p m w i (rests a b c f) = absurd (i a)
-run-ends stack n k p m w i (waits a b c f) = (m, inr (inr (cause-of (p .registers .phase) a b)))
+run-ends : (room : Room) (n k : ℕ) (p : Plain) → k ≤ n → (p .registers .phase ≡ running → k ≡ n) → (p .registers .phase ≡ idle → ⊥)
+    → (3 ≤ p .registers .phase → Halted room p (p .registers .phase)) → Stands (room .stack) p → RunEnds room n p (result (p .registers .phase) k (p .registers .value))
+run-ends room n k p m w i h (goes (runs a b f)) = (m, inl (a, w a))
+run-ends room n k p m w i h (goes (ends a b c f)) = (m, inr (inl a))
+run-ends room n k p m w i h (rests a b c f) = absurd (i a)
+run-ends room n k p m w i h (waits a b c f) = (m, inr (inr (h a)))
 
 -- ---- one call
 
@@ -95,20 +86,43 @@ module _ (s : Flat) (right : FlatRight s) where
   cached = right .cached
 
   -- a refused call
-  refuses : (c : Call) (k : ℕ) → OwnNumber k → Ends c (refusedBy k) → Both c (gives (refusedBy k) s) (called (refusedBy k) p [])
+  refuses : (c : Call) (k : ℕ) → OwnNumber k → Ends room c p (refusedBy k) → Both c (gives (refusedBy k) s) (called (refusedBy k) p [])
   unfolding highestEnd number-of
   refuses c k n e = (
-    record { answer = refl; state = refl; checks = right-check s right; lengths = refl; never3 = other-number (refusedBy k) 3 (n .not-3); never11 = other-number (refusedBy k) 11 (n .not-11); ends = e; reach = top-end room p (right .plain .stands); keeps = keeps (objects p) (objects p) (right .plain .image) (right .plain .image) (extends-refl (objects p)) },
+    record {
+      answer = refl;
+      state = refl;
+      checks = right-check s right;
+      lengths = refl;
+      never3 = other-number (refusedBy k) 3 (n .not-3);
+      never11 =
+          other-number (refusedBy k) 11 (n .not-11);
+      ends = e;
+      reach = top-end room p (right .plain .stands);
+      keeps = keeps (objects p) (objects p)
+          (right .plain .image) (right .plain .image) (extends-refl (objects p));
+    },
     (right, refl, refl),
   )
 
   -- a call that leads to a right plain state, laid into the buffers
   leads : (c : Call) (a : Answer) (p′ : Plain) (ts : List Taken) (stack cache : List ℕ) → PlainRight room p′ → Extends (objects p) (objects p′) → Stood p′ stack
-      → length stack ≡ length (s .stack) → length cache ≡ length (s .cache) → T (cacheFine (objects p′) cache) → a ≢ refusedBy 3 → a ≢ refusedBy 11 → Ends c a → highestEnd p ts ≤ room .stack
+      → length stack ≡ length (s .stack) → length cache ≡ length (s .cache) → T (cacheFine (objects p′) cache) → a ≢ refusedBy 3 → a ≢ refusedBy 11 → Ends room c p′ a → highestEnd p ts ≤ room .stack
       → Both c (gives a (withPlain s p′ stack cache)) (called a p′ ts)
   leads c a p′ ts stack cache r x st ls lc t n3 n11 e h =
       let f = flat-back s p′ stack cache r st ls lc (right .cacheLength) t in (
-        record { answer = refl; state = plain-back s p′ stack cache r st; checks = right-check (withPlain s p′ stack cache) f; lengths = room-back s p′ stack cache r st ls lc; never3 = n3; never11 = n11; ends = e; reach = h; keeps = keeps (objects p) (objects p′) (right .plain .image) (r .image) x },
+        record {
+          answer = refl;
+          state = plain-back s p′ stack cache r st;
+          checks = right-check (withPlain s p′ stack cache) f;
+          lengths = room-back s p′ stack
+              cache r st ls lc;
+          never3 = n3;
+          never11 = n11;
+          ends = e;
+          reach = h;
+          keeps = keeps (objects p) (objects p′) (right .plain .image) (r .image) x;
+        },
         (f, plain-back s p′ stack cache r st, room-back s p′ stack cache r st ls lc),
       )
 
@@ -132,18 +146,19 @@ module _ (s : Flat) (right : FlatRight s) where
   begin-agrees receiver selector arguments (declined k) g = refuses (beginCall receiver selector arguments) k g tt
 
   -- run
-  run-agrees : (n : ℕ) → (p .registers .phase ≡ idle → ⊥) → (x : Ran) → RunGoes room (worlds room) n p (s .stack) (s .cache) x → Both (runCall n) (F.afterRun s x) (afterRun x)
+  run-agrees : (n : ℕ) → p .registers .phase ≡ running → (x : Ran) → RunGoes room (worlds room) n p (s .stack) (s .cache) x → Both (runCall n) (F.afterRun s x) (afterRun x)
   unfolding number-of
   run-agrees n i (ran k p′ ts) g =
       leads (runCall n) (result (p′ .registers .phase) k (p′ .registers .value)) p′ ts (stackAfter (s .stack) ts) (cacheAfter (s .cache) ts) (g .right) (g .extends) (g .stood)
-      (g .stackLength) (g .cacheLength) (g .cached) (other-number (result (p′ .registers .phase) k (p′ .registers .value)) 3 (λ e. omega arith)) (other-number (result (p′ .registers .phase) k (p′ .registers .value)) 11 (λ e. omega arith))
-      (run-ends (room .stack) n k p′ (g .made) (g .whole) (g .busy i) (g .right .stands)) (g .reach)
+      (g .stackLength) (g .cacheLength) (g .cached) (other-number (result (p′ .registers .phase) k (p′ .registers .value)) 3 (λ e. omega arith))
+      (other-number (result (p′ .registers .phase) k (p′ .registers .value)) 11 (λ e. omega arith))
+      (run-ends room n k p′ (g .made) (g .whole) (g .busy (λ e. omega arith)) (g .halts (omega arith)) (g .right .stands)) (g .reach)
   run-agrees n i stuck g = absurd g
 
   run-by : (n : ℕ) (b : Bool) → eqb (s .registers .phase) running ≡ b → Both (runCall n) (F.runIf s n b) (runIf room n p b)
   unfolding plainOf
   run-by n true e =
-      run-agrees n (λ i. let q = eqb-true (s .registers .phase) running e in omega arith) (steps room n p)
+      run-agrees n (eqb-true (s .registers .phase) running e) (steps room n p)
       (runs-right room (worlds room) n p (s .stack) (s .cache) (right .plain) refl (right .cacheLength) stood cached)
   run-by n false e = refuses (runCall n) 12 (record { not-3 = λ z. omega arith; not-11 = λ z. omega arith }) refl
 
@@ -151,7 +166,19 @@ module _ (s : Flat) (right : FlatRight s) where
   forget-agrees : Both forgetCall (gives done (record { registers = s .registers; contents = s .contents; bodies = s .bodies; stack = s .stack; cache = emptyCache })) (called done p [])
   unfolding plainOf highestEnd number-of
   forget-agrees = (
-    record { answer = refl; state = refl; checks = right-check s₁ right₁; lengths = lengths₁; never3 = other-number done 3 (λ e. omega arith); never11 = other-number done 11 (λ e. omega arith); ends = refl; reach = top-end room p (right .plain .stands); keeps = keeps (objects p) (objects p) (right .plain .image) (right .plain .image) (extends-refl (objects p)) },
+    record {
+      answer = refl;
+      state = refl;
+      checks = right-check s₁ right₁;
+      lengths = lengths₁;
+      never3 = other-number done 3 (λ e. omega arith);
+      never11 =
+          other-number done 11 (λ e. omega arith);
+      ends = refl;
+      reach = top-end room p (right .plain .stands);
+      keeps = keeps (objects p) (objects p)
+          (right .plain .image) (right .plain .image) (extends-refl (objects p));
+    },
     (right₁, refl, lengths₁),
   )
     where
@@ -166,12 +193,20 @@ module _ (s : Flat) (right : FlatRight s) where
 
       right₁ : FlatRight s₁
       right₁ =
-          record { contents = right .contents; bodies = right .bodies; cacheLength = empty; plain = subst (λ (x : Room). PlainRight x p) (sym lengths₁) (right .plain); cached = cache-empty (flatObjects s) }
+          record {
+            contents = right .contents;
+            bodies = right .bodies;
+            cacheLength = empty;
+            plain = subst (λ (x : Room). PlainRight x p) (sym lengths₁)
+                (right .plain);
+            cached = cache-empty (flatObjects s);
+          }
 
   call-agrees : (c : Call) → Both c (flatCall s c) (call room p c)
   unfolding flatCall call flatBegin flatRun flatDrop flatForget
   call-agrees (beginCall receiver selector arguments) =
-      subst (λ (g : Given). Both (beginCall receiver selector arguments) g (afterBegin p (begin room p receiver selector arguments))) (sym (passes (F.afterBegin s (begin room p receiver selector arguments))))
+      subst (λ (g : Given). Both (beginCall receiver selector arguments) g (afterBegin p (begin room p receiver selector arguments)))
+      (sym (passes (F.afterBegin s (begin room p receiver selector arguments))))
       (begin-agrees receiver selector arguments (begin room p receiver selector arguments) (begins room (worlds room) p (right .plain) receiver selector arguments))
   call-agrees (runCall n) =
       subst (λ (g : Given). Both (runCall n) g (runIf room n p (eqb (p .registers .phase) running))) (sym (passes (F.runIf s n (eqb (s .registers .phase) running))))
@@ -184,7 +219,8 @@ module _ (s : Flat) (right : FlatRight s) where
           leads dropCall done (dropped p) [] (s .stack) (s .cache) (dropped-right room p (right .plain)) (extends-refl (objects p)) (λ e. absurd (subst T (sym e) tt)) refl refl cached
           (other-number done 3 (λ e. omega arith)) (other-number done 11 (λ e. omega arith)) refl (top-end room p (right .plain .stands))
   call-agrees forgetCall =
-      subst (λ (g : Given). Both forgetCall g (called done p [])) (sym (passes (gives done (record { registers = s .registers; contents = s .contents; bodies = s .bodies; stack = s .stack; cache = emptyCache })))) forget-agrees
+      subst (λ (g : Given). Both forgetCall g (called done p []))
+      (sym (passes (gives done (record { registers = s .registers; contents = s .contents; bodies = s .bodies; stack = s .stack; cache = emptyCache })))) forget-agrees
 
 -- ---- a list of calls
 
@@ -210,8 +246,16 @@ from-checked s e cs = agrees cs s (check-right s e)
 
 -- and from an accepted load
 pub from-load : FromLoad
-from-load s image e =
-    (s₀, record { gave = gave′; start = start′; checks = right-check s₀ right₀; agrees = λ cs. subst (λ (x : Room). Agrees x cs s₀ (loaded image)) lengths′ (subst (λ (x : Plain). Agrees (roomOf s₀) cs s₀ x) start′ (agrees cs s₀ right₀)) })
+from-load s image e = (
+  s₀,
+  record {
+    gave = gave′;
+    start = start′;
+    checks = right-check s₀ right₀;
+    agrees = λ cs. subst (λ (x : Room). Agrees x cs s₀ (loaded image)) lengths′
+        (subst (λ (x : Plain). Agrees (roomOf s₀) cs s₀ x) start′ (agrees cs s₀ right₀));
+  },
+)
   where
     a : Accepted (roomOf s) image
     a = accepts (roomOf s) image e

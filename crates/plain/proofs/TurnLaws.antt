@@ -47,7 +47,14 @@ own-stood s e = sym (ap (λ (b : Bool). ifFrames b (framesFrom (suc (s .register
 pub plain-same : (s : Flat) → FlatRight s → withPlain s (plainOf s) (s .stack) (s .cache) ≡ s
 unfolding plainOf
 plain-same s r =
-    λ i. record { registers = s .registers; contents = front-same (entryWords * s .registers .n) (s .contents) (r .contents) i; bodies = front-same (s .registers .b) (s .bodies) (r .bodies) i; stack = s .stack; cache = s .cache }
+    λ i. record {
+      registers = s .registers;
+      contents = front-same (entryWords * s .registers .n) (s .contents) (r .contents) i;
+      bodies = front-same
+          (s .registers .b) (s .bodies) (r .bodies) i;
+      stack = s .stack;
+      cache = s .cache;
+    }
 
 -- A run that makes no bytecode: none is granted, or the phase is not 1.
 no-more : (left k : ℕ) (s : Flat) → FlatRight s → steps (roomOf s) left (plainOf s) ≡ ran 0 (plainOf s) []
@@ -143,13 +150,23 @@ module _ (s : Flat) (right : FlatRight s) (phase : s .registers .phase ≡ runni
   unfolding stackAfter cacheAfter
   counted-from k (ran j q ts) h =
       let g = h j q ts refl in
-      λ i. gives (result (q .registers .phase) (sums k j i) (q .registers .value)) (record { registers = q .registers; contents = sym (front-over (q .contents) (p′ .contents) (s .contents) (g .0) (let a = right-p .image .contents in let b = right-p .contents in omega arith)) i; bodies = sym (front-over (q .bodies) (p′ .bodies) (s .bodies) (g .1) (let a = right-p .image .bodies in let b = right-p .bodies in omega arith)) i; stack = stackAfter stack′ ts; cache = cacheAfter cache′ ts })
+      λ i. gives (result (q .registers .phase) (sums k j i) (q .registers .value))
+      (record {
+        registers = q .registers;
+        contents = sym (front-over (q .contents) (p′ .contents) (s .contents) (g .0)
+            (let a = right-p .image .contents in let b = right-p .contents in omega arith)) i;
+        bodies = sym (front-over (q .bodies) (p′ .bodies) (s .bodies) (g .1)
+            (let a = right-p .image .bodies in let b = right-p .bodies in omega arith)) i;
+        stack = stackAfter stack′ ts;
+        cache = cacheAfter cache′ ts;
+      })
     where
       sums : (a b : ℕ) → a + suc b ≡ a + 1 + b
       sums a b = omega arith
   counted-from k stuck h = refl
 
-  grown : (left : ℕ) (x : Ran) → RunGoes room (worlds room) left p′ stack′ cache′ x → (j : ℕ) (q : Plain) (ts : List Taken) → x ≡ ran j q ts → (length (p′ .contents) ≤ length (q .contents)) × (length (p′ .bodies) ≤ length (q .bodies))
+  grown : (left : ℕ) (x : Ran) → RunGoes room (worlds room) left p′ stack′ cache′ x → (j : ℕ) (q : Plain) (ts : List Taken) → x ≡ ran j q ts
+      → (length (p′ .contents) ≤ length (q .contents)) × (length (p′ .bodies) ≤ length (q .bodies))
   grown left x g j q ts e = go (subst (RunGoes room (worlds room) left p′ stack′ cache′) e g)
     where
       go : RanRight room (worlds room) left p′ stack′ cache′ j q ts → (length (p′ .contents) ≤ length (q .contents)) × (length (p′ .bodies) ≤ length (q .bodies))
@@ -172,7 +189,8 @@ module _ (s : Flat) (right : FlatRight s) (phase : s .registers .phase ≡ runni
   unfolding runsFrom
   turn-runs left k =
       ap (afterRunFrom k s) (steps-more left)
-      ∙ counted-from k (steps room left p′) (grown left (steps room left p′) (runs-right room (worlds room) left p′ stack′ cache′ right-p (length-laid (s .stack) (p′ .registers .top) (p′ .frames)) (length-filled (s .cache) l ∙ right .cacheLength) stood-p cached-p))
+      ∙ counted-from k (steps room left p′) (grown left (steps room left p′) (runs-right room (worlds room) left p′ stack′ cache′ right-p
+      (length-laid (s .stack) (p′ .registers .top) (p′ .frames)) (length-filled (s .cache) l ∙ right .cacheLength) stood-p cached-p))
       ∙ ap (afterRunFrom (k + 1) s′) (same-steps left)
 
   -- and the highest end
@@ -180,7 +198,8 @@ module _ (s : Flat) (right : FlatRight s) (phase : s .registers .phase ≡ runni
   unfolding endsFrom
   turn-ends left h t =
       ap (λ (x : Ran). max h (highestOf p x)) (steps-more left)
-      ∙ higher (steps room left p′) (runs-right room (worlds room) left p′ stack′ cache′ right-p (length-laid (s .stack) (p′ .registers .top) (p′ .frames)) (length-filled (s .cache) l ∙ right .cacheLength) stood-p cached-p)
+      ∙ higher (steps room left p′) (runs-right room (worlds room) left p′ stack′ cache′ right-p (length-laid (s .stack) (p′ .registers .top) (p′ .frames))
+      (length-filled (s .cache) l ∙ right .cacheLength) stood-p cached-p)
       ∙ (λ i. max (max h (topEnd p′)) (highestOf (sym turn-plain i) (same-steps left i)))
     where
       higher : (x : Ran) → RunGoes room (worlds room) left p′ stack′ cache′ x → max h (highestOf p (counted (taken l p′) x)) ≡ max (max h (topEnd p′)) (highestOf p′ x)
@@ -195,11 +214,25 @@ module _ (s : Flat) (right : FlatRight s) (phase : s .registers .phase ≡ runni
       ap (ifRunning (λ q. steps (roomOf s) left q) (roomOf s) (plainOf s)) (eq-eqb (s .registers .phase) running phase) ∙ ap (onward (λ q. steps (roomOf s) left q) (plainOf s)) made
 
   pub halt-runs : (left k : ℕ)
-      → runsFrom (suc left) k s ≡ gives (result (phaseOf c) k 0) (record { registers = withPhase (s .registers) (phaseOf c) (s .registers .top) 0; contents = s .contents; bodies = s .bodies; stack = s .stack; cache = s .cache })
+      → runsFrom (suc left) k s ≡ gives (result (phaseOf c) k 0) (record {
+        registers = withPhase (s .registers) (phaseOf c) (s .registers .top) 0;
+        contents =
+            s .contents;
+        bodies = s .bodies;
+        stack = s .stack;
+        cache = s .cache;
+      })
   unfolding runsFrom stackAfter cacheAfter plainOf
   halt-runs left k =
       ap (afterRunFrom k s) (halt-steps left)
-      ∙ (λ i. gives (result (phaseOf c) (none k i) 0) (record { registers = withPhase (s .registers) (phaseOf c) (s .registers .top) 0; contents = plain-same s right i .contents; bodies = plain-same s right i .bodies; stack = s .stack; cache = s .cache }))
+      ∙ (λ i. gives (result (phaseOf c) (none k i) 0) (record {
+        registers = withPhase (s .registers) (phaseOf c) (s .registers .top) 0;
+        contents = plain-same s
+            right i .contents;
+        bodies = plain-same s right i .bodies;
+        stack = s .stack;
+        cache = s .cache;
+      }))
     where
       none : (k : ℕ) → k + 0 ≡ k
       none k = omega arith

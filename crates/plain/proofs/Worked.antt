@@ -12,7 +12,8 @@ use Rattle.model.specs.declared.Computed.the-variants.{Word, Failed}
 use Rattle.model.specs.Word.{wordOf}
 use Rattle.model.specs.Arithmetic.{arithmetic}
 use Rattle.model.specs.Depth.{depthTable, successorsAt}
-use Rattle.plain.specs.Program.{Line, line, refusal, step80}
+use Rattle.plain.specs.Program.{step80}
+use Rattle.plain.specs.Text.{digits, decimal, lineBytes}
 use Rattle.plain.proofs.Computing.{computing}
 use Rattle.plain.proofs.Images.{addTwo}
 
@@ -44,11 +45,32 @@ pub record Worked : Type 0 where
   pub shiftFourteenFails : arithmetic 17 (plus 1) (plus 14) ≡ Failed
   pub loopSound : loopTable ≡ some (1 ∷ 0 ∷ [])
   pub loopItself : successorsAt loopCode 2 0 ≡ 0 ∷ []
-  pub finishes : step80 (addTwo 81) ≡ line 2 4 85
-  pub halts : step80 (addTwo 32767) ≡ line 3 2 0
-  pub empty : step80 [] ≡ refusal 1
+  -- phase 2 count 4 value 85
+  pub finishes : lineBytes (step80 (addTwo 81)) ≡ 112 ∷ 104 ∷ 97 ∷ 115 ∷ 101 ∷ 32 ∷ 50 ∷ 32 ∷ 99 ∷ 111 ∷ 117 ∷ 110 ∷ 116 ∷ 32 ∷ 52 ∷ 32 ∷ 118 ∷ 97 ∷ 108 ∷ 117 ∷ 101 ∷ 32 ∷ 56 ∷ 53 ∷ 10 ∷ []
+  -- phase 3 count 2 value 0
+  pub halts : lineBytes (step80 (addTwo 32767)) ≡ 112 ∷ 104 ∷ 97 ∷ 115 ∷ 101 ∷ 32 ∷ 51 ∷ 32 ∷ 99 ∷ 111 ∷ 117 ∷ 110 ∷ 116 ∷ 32 ∷ 50 ∷ 32 ∷ 118 ∷ 97 ∷ 108 ∷ 117 ∷ 101 ∷ 32 ∷ 48 ∷ 10 ∷ []
+  -- refused 1
+  pub empty : lineBytes (step80 []) ≡ 114 ∷ 101 ∷ 102 ∷ 117 ∷ 115 ∷ 101 ∷ 100 ∷ 32 ∷ 49 ∷ 10 ∷ []
 
 pub worked : Worked
-unfolding computing addTwo
+unfolding computing addTwo digits decimal lineBytes
 worked =
-    record { minusOne = refl; least = refl; sumFails = refl; quotientDown = refl; remainder = refl; quotientTowardZero = refl; exactFails = refl; downFails = refl; towardZeroFails = refl; shiftThirteen = refl; shiftFourteenFails = refl; loopSound = refl; loopItself = refl; finishes = refl; halts = refl; empty = refl }
+    record {
+      minusOne = refl;
+      least = refl;
+      sumFails = refl;
+      quotientDown = refl;
+      remainder = refl;
+      quotientTowardZero = refl;
+      exactFails = refl;
+      downFails =
+          refl;
+      towardZeroFails = refl;
+      shiftThirteen = refl;
+      shiftFourteenFails = refl;
+      loopSound = refl;
+      loopItself = refl;
+      finishes = refl;
+      halts = refl;
+      empty = refl;
+    }

@@ -36,7 +36,20 @@ use Rattle.plain.proofs.RunLaws.{Worlds}
 -- a right frame is right in later objects
 frame-kept : (o o′ : Objects) → Right 1 o → Extends o o′ → (b : Bool) (f : Frame) → FrameRight o b f → FrameRight o′ b f
 frame-kept o o′ r x b f g =
-    record { isMethod = kind-kept x methodKind (f .method) (g .isMethod); unmarked = g .unmarked; receiver = valid-grows x (f .receiver) (g .receiver); chain = chain′; note = ap (λ t. noteAt t (f .position)) (table-same x r (f .method) (g .isMethod)) ∙ g .note; temporaries = g .temporaries ∙ sym (temporaries-same x r (f .method) (g .isMethod)); depth = g .depth; validTemporaries = grown (f .temporaries) (g .validTemporaries); validOperands = grown (f .operands) (g .validOperands) }
+    record {
+      isMethod = kind-kept x methodKind (f .method) (g .isMethod);
+      unmarked = g .unmarked;
+      receiver = valid-grows x (f .receiver) (g .receiver);
+      chain =
+          chain′;
+      note = ap (λ t. noteAt t (f .position)) (table-same x r (f .method) (g .isMethod)) ∙ g .note;
+      temporaries = g .temporaries
+          ∙ sym (temporaries-same x r (f .method) (g .isMethod));
+      depth = g .depth;
+      validTemporaries = grown (f .temporaries) (g .validTemporaries);
+      validOperands =
+          grown (f .operands) (g .validOperands);
+    }
   where
     grown : (ws : List ℕ) → T (every (isValid (o .n)) ws) → T (every (isValid (o′ .n)) ws)
     grown [] t = tt
@@ -53,7 +66,32 @@ frame-kept o o′ r x b f g =
 pub worlds : (room : Room) → Worlds room
 unfolding storeWord
 worlds room o r c b =
-    record { least = let l = least r in omega arith; self = record { extends = extends-refl o; right = r; contents = c; bodies = b }; keeps = λ o′ a x f g. frame-kept o o′ r (a .extends) x f g; tables = λ o′ a m t. table-same (a .extends) r m t; sizes = λ o′ a m t. ap (λ (k : ℕ). 6 + k) (frame-same (a .extends) r m t); grows = λ o′ a w v. valid-grows (a .extends) w v; fieldValid = λ w i t. field-valid r w i (and-left (isKind o fieldsKind w) (ltb i (size o (w / 2))) t) (ltb→lt i (size o (w / 2)) (and-right (isKind o fieldsKind w) (ltb i (size o (w / 2))) t)); literalValid = λ m i t l. method-facts r m t .literals i l; classValid = class-valid r; fields = λ w h i v t l. let q = receiver-fields r w h i v t l in and-both (isKind o fieldsKind w) (ltb i (size o (w / 2))) (q .0) (lt→ltb i (size o (w / 2)) (q .1)); lookupMethod = λ s k m e. lookup-facts r s k m e .method; lookupCount = λ s k m n e t. lookup-facts r s k m e .counts n t; arguments = λ m t. method-facts r m t .arguments; runs = λ m t. method-facts r m t .sound; computes = λ k v w x e. subst (ValidWord o) e (arithmetic-valid r k v w); stores = store; performs = λ k n w arguments v o′ vw va e p. let q = primitive-law room k n w v arguments r e vw va p in (record { extends = q .extends; right = q .right; contents = q .contents c; bodies = q .bodies b }, q .valid) }
+    record {
+      least = let l = least r in omega arith;
+      self = record { extends = extends-refl o; right = r; contents = c; bodies = b };
+      keeps = λ o′ a x f g.
+          frame-kept o o′ r (a .extends) x f g;
+      tables = λ o′ a m t. table-same (a .extends) r m t;
+      sizes = λ o′ a m t. ap (λ (k : ℕ). 6 + k)
+          (frame-same (a .extends) r m t);
+      grows = λ o′ a w v. valid-grows (a .extends) w v;
+      fieldValid = λ w i t. field-valid r w i
+          (and-left (isKind o fieldsKind w) (ltb i (size o (w / 2))) t) (ltb→lt i (size o (w / 2)) (and-right (isKind o fieldsKind w) (ltb i (size o (w / 2))) t));
+      literalValid = λ m i t l. method-facts r m t .literals i l;
+      classValid = class-valid r;
+      fields = λ w h i v t l. let q = receiver-fields r w h i v t
+          l in and-both (isKind o fieldsKind w) (ltb i (size o (w / 2))) (q .0) (lt→ltb i (size o (w / 2)) (q .1));
+      lookupMethod = λ s k m e. lookup-facts r s k m
+          e .method;
+      lookupCount = λ s k m n e t. lookup-facts r s k m e .counts n t;
+      arguments = λ m t. method-facts r m t .arguments;
+      runs = λ m t. method-facts r
+          m t .sound;
+      computes = λ k v w x e. subst (ValidWord o) e (arithmetic-valid r k v w);
+      stores = store;
+      performs = λ k n w arguments v o′ vw va e p. let q =
+          primitive-law room k n w v arguments r e vw va p in (record { extends = q .extends; right = q .right; contents = q .contents c; bodies = q .bodies b }, q .valid);
+    }
   where
     store : (w i v : ℕ) → T (isKind o fieldsKind w && ltb i (size o (objectNumber w))) → T (isValid (o .n) v) → After room o (storeWord o (objectNumber w) i v)
     store w i v t u =

@@ -92,7 +92,8 @@ module _ (o : Objects) (stack : List ℕ) (t : ℕ) (f : Frame) (isTop : Bool) (
   pub temporary-here : (j : ℕ) → j < temps → getD stack (t + (6 + j)) 0 ≡ getD (f .temporaries) j 0
   temporary-here j h =
       let e : part stack (t + 6) (temporaryCount o (frameMethod stack t)) ≡ f .temporaries = unfold frameAt in ap (λ (x : Frame). x .temporaries) here in
-      ap (λ (x : ℕ). getD stack x 0) (assoc t j) ∙ sym (part-word stack (t + 6) (temporaryCount o (frameMethod stack t)) j (subst (λ (m : ℕ). j < temporaryCount o m) (sym method-here) h)) ∙ ap (λ (l : List ℕ). getD l j 0) e
+      ap (λ (x : ℕ). getD stack x 0) (assoc t j) ∙ sym (part-word stack (t + 6) (temporaryCount o (frameMethod stack t)) j
+      (subst (λ (m : ℕ). j < temporaryCount o m) (sym method-here) h)) ∙ ap (λ (l : List ℕ). getD l j 0) e
     where
       assoc : (a b : ℕ) → a + (6 + b) ≡ a + 6 + b
       assoc a b = omega arith
@@ -305,10 +306,14 @@ module _ (isTop : Bool) (o : Objects) (stack : List ℕ) (t left : ℕ) (f : Fra
       laid-at (movedTo f q (take k (f .operands) ++ (w ∷ []))) refl
       ∙ frame-written o stack t f isTop frame-here-at r (movedTo f q (take k (f .operands) ++ (w ∷ []))) s refl refl refl refl
       (length-set (set (set stack (t + (6 + (tc + k))) w) (t + 1) q) (t + 2) (suc k) ∙ length-set (set stack (t + (6 + (tc + k))) w) (t + 1) q ∙ length-set stack (t + (6 + (tc + k))) w) (omega arith)
-      (λ i x. other-three stack (t + (6 + (tc + k))) (t + 1) (t + 2) i w q (suc k) (header-apart i (t + (6 + (tc + k))) x (inr (omega arith))) (header-apart i (t + 1) x (inl (omega arith, omega arith))) (header-apart i (t + 2) x (inl (omega arith, omega arith))))
-      (getD-set-other (set (set stack (t + (6 + (tc + k))) w) (t + 1) q) (t + 2) (t + 1) (suc k) 0 (λ e. omega arith) ∙ getD-set-same (set stack (t + (6 + (tc + k))) w) (t + 1) q 0 (subst (λ (n : ℕ). t + 1 < n) (sym (length-set stack (t + (6 + (tc + k))) w)) (omega arith)))
-      (getD-set-same (set (set stack (t + (6 + (tc + k))) w) (t + 1) q) (t + 2) (suc k) 0 (subst (λ (n : ℕ). t + 2 < n) (sym (length-set (set stack (t + (6 + (tc + k))) w) (t + 1) q ∙ length-set stack (t + (6 + (tc + k))) w)) (omega arith)) ∙ sym ln)
-      (λ j y. other-three stack (t + (6 + (tc + k))) (t + 1) (t + 2) (t + (6 + j)) w q (suc k) (λ e. omega arith) (λ e. omega arith) (λ e. omega arith) ∙ temporary-here o stack t f isTop frame-here-at r j (omega arith))
+      (λ i x. other-three stack (t + (6 + (tc + k))) (t + 1) (t + 2) i w q (suc k) (header-apart i (t + (6 + (tc + k))) x (inr (omega arith)))
+      (header-apart i (t + 1) x (inl (omega arith, omega arith))) (header-apart i (t + 2) x (inl (omega arith, omega arith))))
+      (getD-set-other (set (set stack (t + (6 + (tc + k))) w) (t + 1) q) (t + 2) (t + 1) (suc k) 0 (λ e. omega arith)
+      ∙ getD-set-same (set stack (t + (6 + (tc + k))) w) (t + 1) q 0 (subst (λ (n : ℕ). t + 1 < n) (sym (length-set stack (t + (6 + (tc + k))) w)) (omega arith)))
+      (getD-set-same (set (set stack (t + (6 + (tc + k))) w) (t + 1) q) (t + 2) (suc k) 0
+      (subst (λ (n : ℕ). t + 2 < n) (sym (length-set (set stack (t + (6 + (tc + k))) w) (t + 1) q ∙ length-set stack (t + (6 + (tc + k))) w)) (omega arith)) ∙ sym ln)
+      (λ j y. other-three stack (t + (6 + (tc + k))) (t + 1) (t + 2) (t + (6 + j)) w q (suc k) (λ e. omega arith) (λ e. omega arith) (λ e. omega arith)
+      ∙ temporary-here o stack t f isTop frame-here-at r j (omega arith))
       (λ j y. subst (λ (x : ℕ). getD s (t + (6 + (x + j))) 0 ≡ getD (take k (f .operands) ++ (w ∷ [])) j 0) (sym a) (ops j (subst (λ (n : ℕ). j < n) ln y) lk (ℕ-discrete j k)))
       (λ i y. other-three stack (t + (6 + (tc + k))) (t + 1) (t + 2) i w q (suc k) (λ e. omega arith) (λ e. omega arith) (λ e. omega arith))
     where
@@ -340,9 +345,12 @@ module _ (isTop : Bool) (o : Objects) (stack : List ℕ) (t left : ℕ) (f : Fra
       laid-at f′ refl
       ∙ frame-written o stack t f isTop frame-here-at r f′ s refl refl refl refl
       (length-set (set (set stack (t + (6 + i)) w) (t + 1) q) (t + 2) k ∙ length-set (set stack (t + (6 + i)) w) (t + 1) q ∙ length-set stack (t + (6 + i)) w) (omega arith)
-      (λ j x. other-three stack (t + (6 + i)) (t + 1) (t + 2) j w q k (header-apart j (t + (6 + i)) x (inr (omega arith))) (header-apart j (t + 1) x (inl (omega arith, omega arith))) (header-apart j (t + 2) x (inl (omega arith, omega arith))))
-      (getD-set-other (set (set stack (t + (6 + i)) w) (t + 1) q) (t + 2) (t + 1) k 0 (λ e. omega arith) ∙ getD-set-same (set stack (t + (6 + i)) w) (t + 1) q 0 (subst (λ (n : ℕ). t + 1 < n) (sym (length-set stack (t + (6 + i)) w)) (omega arith)))
-      (getD-set-same (set (set stack (t + (6 + i)) w) (t + 1) q) (t + 2) k 0 (subst (λ (n : ℕ). t + 2 < n) (sym (length-set (set stack (t + (6 + i)) w) (t + 1) q ∙ length-set stack (t + (6 + i)) w)) (omega arith)) ∙ sym lk)
+      (λ j x. other-three stack (t + (6 + i)) (t + 1) (t + 2) j w q k (header-apart j (t + (6 + i)) x (inr (omega arith)))
+      (header-apart j (t + 1) x (inl (omega arith, omega arith))) (header-apart j (t + 2) x (inl (omega arith, omega arith))))
+      (getD-set-other (set (set stack (t + (6 + i)) w) (t + 1) q) (t + 2) (t + 1) k 0 (λ e. omega arith) ∙ getD-set-same (set stack (t + (6 + i)) w) (t + 1) q
+      0 (subst (λ (n : ℕ). t + 1 < n) (sym (length-set stack (t + (6 + i)) w)) (omega arith)))
+      (getD-set-same (set (set stack (t + (6 + i)) w) (t + 1) q) (t + 2) k 0
+      (subst (λ (n : ℕ). t + 2 < n) (sym (length-set (set stack (t + (6 + i)) w) (t + 1) q ∙ length-set stack (t + (6 + i)) w)) (omega arith)) ∙ sym lk)
       (λ j y. tmp j (subst (λ (n : ℕ). j < n) lt y) (ℕ-discrete j i))
       (λ j y. subst (λ (x : ℕ). getD s (t + (6 + (x + j))) 0 ≡ getD (take k (f .operands)) j 0) (sym lt) (ops j (subst (λ (n : ℕ). j < n) lk y)))
       (λ j y. other-three stack (t + (6 + i)) (t + 1) (t + 2) j w q k (λ e. omega arith) (λ e. omega arith) (λ e. omega arith))

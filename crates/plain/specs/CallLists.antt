@@ -3,7 +3,8 @@
 -- Two machines are fed the same list of begin, run, drop and forget calls, refused ones included: the flat one, which works on the lent
 -- buffers and checks its state at each call, and the plain one of 01. After each call their answers are equal (reach aside), the flat state
 -- stands for the plain one, and check accepts it; no call meets a bytecode that pops an empty stack, pushes past a frame, leaves its code or
--- touches what is not there; a run does all its bytecodes, or finishes, or halts for a listed cause.
+-- touches what is not there; a run does all its bytecodes, or finishes, or halts where a listed cause
+-- stands: no method for a send, or by a super send one that cannot run on the receiver; no boolean for a jump; no room for a frame.
 use Prim.Native.Nat.{ℕ, _≤_, _<_}
 use mathlib.Core.Path.{_≡_}
 use mathlib.Core.Logic.{_⊎_, _≢_}
@@ -13,6 +14,7 @@ use Rattle.model.specs.Objects.{Objects, entryWord, kind, bodyWords, bodyWord}
 use Rattle.model.specs.Image.{Room, accepted, loadVerdict}
 use Rattle.plain.specs.Registers.{running, finished, Cause, phaseOf}
 use Rattle.plain.specs.State.{Plain, objects}
+use Rattle.plain.specs.Causes.{HaltsFor}
 use Rattle.plain.specs.Calls.{loaded, Taken, Call, beginCall, runCall, dropCall, forgetCall, Answer, done, refusedBy, result, wrote, Called, called, impossible, call}
 use Rattle.plain.specs.Flat.{Flat, roomOf, flatObjects, plainOf}
 use Rattle.plain.specs.Check.{check}
@@ -21,18 +23,22 @@ use Rattle.plain.specs.FlatCalls.{Given, gives, noAnswer, highestEnd, fl
 -- The statement is `FromLoad`: from an accepted load of an image, in buffers of any sufficient lengths and with any stack. `FromChecked` is the
 -- same from every state that check accepts. What they speak of stands before them, what follows from them behind.
 
--- How a run ended: all n bytecodes made, or finished, or halted for a cause
-abbrev pub RunEnds : ℕ → Answer → Type 0
-RunEnds n (result phase count value) = (count ≤ n) × (((phase ≡ running) × (count ≡ n)) ⊎ ((phase ≡ finished) ⊎ ((cause : Cause) × (phase ≡ phaseOf cause))))
-RunEnds n done = ⊥
-RunEnds n (refusedBy k) = k ≡ 12
-RunEnds n (wrote k) = ⊥
+-- A run halted: its phase is that of a cause, and the cause stands at the top frame's position (specs/Causes.antt has what each of them asks).
+abbrev pub Halted : Room → Plain → ℕ → Type 0
+Halted room p phase = (cause : Cause) × (phase ≡ phaseOf cause) × HaltsFor room p cause (p .frames)
 
-abbrev pub Ends : Call → Answer → Type 0
-Ends (beginCall receiver selector arguments) a = Unit {0}
-Ends (runCall n) a = RunEnds n a
-Ends dropCall a = a ≡ done
-Ends forgetCall a = a ≡ done
+-- How a run ended, and the state that it left: all n bytecodes made, or finished, or halted for a cause
+abbrev pub RunEnds : Room → ℕ → Plain → Answer → Type 0
+RunEnds room n p (result phase count value) = (count ≤ n) × (((phase ≡ running) × (count ≡ n)) ⊎ ((phase ≡ finished) ⊎ Halted room p phase))
+RunEnds room n p done = ⊥
+RunEnds room n p (refusedBy k) = k ≡ 12
+RunEnds room n p (wrote k) = ⊥
+
+abbrev pub Ends : Room → Call → Plain → Answer → Type 0
+Ends room (beginCall receiver selector arguments) p a = Unit {0}
+Ends room (runCall n) p a = RunEnds room n p a
+Ends room dropCall p a = a ≡ done
+Ends room forgetCall p a = a ≡ done
 
 -- What calls leave of the objects: N and B never shrink, no entry changes, and no word of a class, list or method does.
 pub record Keeps (o o′ : Objects) : Type 0 where
@@ -50,7 +56,7 @@ pub record Agreed (room : Room) (c : Call) (p : Plain) (a : Answer) (s′ : Flat
   pub lengths : roomOf s′ ≡ room
   pub never3 : a ≢ refusedBy 3
   pub never11 : a ≢ refusedBy 11
-  pub ends : Ends c a
+  pub ends : Ends room c p′ a
   pub reach : highestEnd p ts ≤ room .stack
   pub keeps : Keeps (objects p) (objects p′)
 
@@ -110,3 +116,20 @@ lastState s (c ∷ cs) = lastState (nextState s (flatCall s c)) cs
 
 abbrev pub KeepsAll : Type 0
 KeepsAll = (s : Flat) → check s ≡ accepted → (cs : List Call) → Keeps (flatObjects s) (flatObjects (lastState s cs))
+
+-- After load only run and forget write the cache: every other call leaves it, and so does every call that is refused.
+abbrev pub WritesCache : Call → Type 0
+WritesCache (beginCall receiver selector arguments) = ⊥
+WritesCache (runCall n) = Unit {0}
+WritesCache dropCall = ⊥
+WritesCache forgetCall = Unit {0}
+
+abbrev pub IsRefused : Given → Type 0
+IsRefused (gives done s) = ⊥
+IsRefused (gives (refusedBy k) s) = Unit {0}
+IsRefused (gives (result phase count value) s) = ⊥
+IsRefused (gives (wrote k) s) = ⊥
+IsRefused noAnswer = ⊥
+
+abbrev pub CacheKept : Type 0
+CacheKept = (s : Flat) (c : Call) → (WritesCache c → IsRefused (flatCall s c)) → nextState s (flatCall s c) .cache ≡ s .cache

@@ -1,6 +1,7 @@
 pub mod Registers
 pub mod State
 pub mod Step
+pub mod Causes
 pub mod Calls
 pub mod Cache
 pub mod Flat
@@ -9,4 +10,5 @@ pub mod FlatCalls
 pub mod Running
 pub mod RunLoop
 pub mod Program
+pub mod Text
 pub mod CallLists

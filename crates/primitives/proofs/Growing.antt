@@ -78,9 +78,17 @@ pub does-none : (n b : ℕ) (contents bodies : List ℕ) {z : Outcome} → Right
 unfolding answerOf objectsAfter
 does-none n b contents bodies r p =
     subst (λ (z : Outcome). Does (objectsAt n b contents bodies) z (record { answer = Failed; n = n; b = b }) contents bodies contents bodies) p
-    (record { answer = refl; count = refl; size = refl; entries = sym (front-same (entryWords * n) contents (contents-room n b contents bodies r)); words = sym (front-same b bodies (bodies-room n b contents bodies r)) })
+    (record {
+      answer = refl;
+      count = refl;
+      size = refl;
+      entries = sym (front-same (entryWords * n) contents (contents-room n b contents bodies r));
+      words = sym
+          (front-same b bodies (bodies-room n b contents bodies r));
+    })
 
-pub does-same : {o : Objects} {z z′ : Outcome} {r : Done} {contents bodies contents′ bodies′ : List ℕ} → z ≡ z′ → Does o z r contents bodies contents′ bodies′ → Does o z′ r contents bodies contents′ bodies′
+pub does-same : {o : Objects} {z z′ : Outcome} {r : Done} {contents bodies contents′ bodies′ : List ℕ} → z ≡ z′ → Does o z r contents bodies contents′ bodies′
+    → Does o z′ r contents bodies contents′ bodies′
 does-same {o} {z} {z′} {r} {contents} {bodies} {contents′} {bodies′} p h = subst (λ (x : Outcome). Does o x r contents bodies contents′ bodies′) p h
 
 -- Room for one more
@@ -95,14 +103,17 @@ no-room room o class kd sz count w f = sym (if-no _ _ (not-test (hasRoom room o 
 has-room : (room : Room) (o : Objects) (count : ℕ) → HasRoom room o count → hasRoom room o count ≡ true
 unfolding hasRoom
 has-room room o count h =
-    T→true _ (and-both (ltb (o .n) mostObjects) (leb (o .b + count) mostBodyWords && (leb (entryWords * (o .n + 1)) (room .contents) && leb (o .b + count) (room .bodies))) (lt→ltb (o .n) mostObjects (h .objects))
+    T→true _ (and-both (ltb (o .n) mostObjects) (leb (o .b + count) mostBodyWords && (leb (entryWords * (o .n + 1)) (room .contents) && leb (o .b + count)
+    (room .bodies))) (lt→ltb (o .n) mostObjects (h .objects))
     (and-both (leb (o .b + count) mostBodyWords) (leb (entryWords * (o .n + 1)) (room .contents) && leb (o .b + count) (room .bodies)) (le→leb (o .b + count) mostBodyWords (h .words))
-    (and-both (leb (entryWords * (o .n + 1)) (room .contents)) (leb (o .b + count) (room .bodies)) (le→leb (entryWords * (o .n + 1)) (room .contents) (h .contents)) (le→leb (o .b + count) (room .bodies) (h .bodies)))))
+    (and-both (leb (entryWords * (o .n + 1)) (room .contents)) (leb (o .b + count) (room .bodies)) (le→leb (entryWords * (o .n + 1)) (room .contents)
+    (h .contents)) (le→leb (o .b + count) (room .bodies) (h .bodies)))))
 
 -- The new object in the buffers
 pub does-make : (n b : ℕ) (contents bodies contents′ bodies′ : List ℕ) (class kd sz count w : ℕ) → HasRoom (roomOf contents bodies) (objectsAt n b contents bodies) count
     → contents′ ≡ front (take (entryWords * n) contents ++ (class ∷ kd ∷ b ∷ sz ∷ [])) contents → bodies′ ≡ front (take b bodies ++ replicate count w) bodies
-    → Does (objectsAt n b contents bodies) (make (roomOf contents bodies) (objectsAt n b contents bodies) class kd sz count w) (record { answer = Word (2 * (n + 1)); n = n + 1; b = b + count }) contents bodies contents′ bodies′
+    → Does (objectsAt n b contents bodies) (make (roomOf contents bodies) (objectsAt n b contents bodies) class kd sz count w)
+    (record { answer = Word (2 * (n + 1)); n = n + 1; b = b + count }) contents bodies contents′ bodies′
 unfolding make answerOf objectsAfter appended
 does-make n b contents bodies contents′ bodies′ class kd sz count w h p q =
     does-same (sym (if-yes _ _ (has-room (roomOf contents bodies) (objectsAt n b contents bodies) count h)))

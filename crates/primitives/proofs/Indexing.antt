@@ -36,8 +36,10 @@ unfolding isIndexable
 indexable-facts o w t =
     record {
       even = λ h. T-not (isInteger w) (and-left (not (isInteger w)) _ t) (true→T (eq-eqb (w % 2) 1 h));
-      forms = go (or-cases (eqb (form o (classOf o w)) indexedForm) (eqb (form o (classOf o w)) bytesForm) (and-left (eqb (form o (classOf o w)) indexedForm || eqb (form o (classOf o w)) bytesForm) (leb (size o (objectNumber w)) mostElements) rest));
-      small = leb→le (size o (objectNumber w)) mostElements (and-right (eqb (form o (classOf o w)) indexedForm || eqb (form o (classOf o w)) bytesForm) (leb (size o (objectNumber w)) mostElements) rest);
+      forms = go (or-cases (eqb (form o (classOf o w)) indexedForm) (eqb (form o (classOf o w)) bytesForm)
+          (and-left (eqb (form o (classOf o w)) indexedForm || eqb (form o (classOf o w)) bytesForm) (leb (size o (objectNumber w)) mostElements) rest));
+      small = leb→le (size o (objectNumber w)) mostElements (and-right (eqb (form o (classOf o w)) indexedForm || eqb (form o (classOf o w)) bytesForm)
+          (leb (size o (objectNumber w)) mostElements) rest);
     }
   where
     rest : T ((eqb (form o (classOf o w)) indexedForm || eqb (form o (classOf o w)) bytesForm) && leb (size o (objectNumber w)) mostElements)
@@ -52,7 +54,8 @@ unfolding isIndexable
 facts-indexable o w h =
     and-both (not (isInteger w)) ((eqb (form o (classOf o w)) indexedForm || eqb (form o (classOf o w)) bytesForm) && leb (size o (objectNumber w)) mostElements)
     (not-T (isInteger w) (λ q. h .even (eqb→eq (w % 2) 1 q)))
-    (and-both (eqb (form o (classOf o w)) indexedForm || eqb (form o (classOf o w)) bytesForm) (leb (size o (objectNumber w)) mostElements) (go (h .forms)) (le→leb (size o (objectNumber w)) mostElements (h .small)))
+    (and-both (eqb (form o (classOf o w)) indexedForm || eqb (form o (classOf o w)) bytesForm) (leb (size o (objectNumber w)) mostElements) (go (h .forms))
+    (le→leb (size o (objectNumber w)) mostElements (h .small)))
   where
     go : (form o (classOf o w) ≡ indexedForm) ⊎ (form o (classOf o w) ≡ bytesForm) → T (eqb (form o (classOf o w)) indexedForm || eqb (form o (classOf o w)) bytesForm)
     go (inl q) = or-left (eqb (form o (classOf o w)) indexedForm) (eqb (form o (classOf o w)) bytesForm) (true→T (eq-eqb (form o (classOf o w)) indexedForm q))
@@ -207,7 +210,8 @@ module _ {n b : ℕ} {contents bodies : List ℕ} {w : ℕ} (r : Receives n b co
       words : kind (objectsAt n b contents bodies) (objectNumber w) ≡ fieldsKind → i - 1 < bodyWords (objectsAt n b contents bodies) (objectNumber w)
       words h = let m = k .most in let l = k .least in let q = in-words (objectsAt n b contents bodies) (objectNumber w) (omega arith) (omega arith) in omega arith
 
-      go : Fits (objectsAt n b contents bodies) (objectNumber w) (classOf (objectsAt n b contents bodies) w) → form (objectsAt n b contents bodies) (classOf (objectsAt n b contents bodies) w) ≡ f → (f ≡ 1) ⊎ (f ≡ 2)
+      go : Fits (objectsAt n b contents bodies) (objectNumber w) (classOf (objectsAt n b contents bodies) w) → form (objectsAt n b contents bodies)
+          (classOf (objectsAt n b contents bodies) w) ≡ f → (f ≡ 1) ⊎ (f ≡ 2)
           → i - 1 < bodyWords (objectsAt n b contents bodies) (objectNumber w)
       go (fixed x y z) p q = words y
       go (indexed x y z) p q = words y
@@ -224,7 +228,8 @@ module _ {n b : ℕ} {contents bodies : List ℕ} {w : ℕ} (r : Receives n b co
           → (i - 1) / 2 < bodyWords (objectsAt n b contents bodies) (objectNumber w)
       go (fixed x y z) p = absurd (omega arith)
       go (indexed x y z) p = absurd (omega arith)
-      go (bytes x y) p = let m = k .most in let l = k .least in let q = in-bytes (objectsAt n b contents bodies) (objectNumber w) (sized-at (kind (objectsAt n b contents bodies) (objectNumber w)) bytesKind y tt) in omega arith
+      go (bytes x y) p = let m = k .most in let l = k .least in let q = in-bytes (objectsAt n b contents bodies) (objectNumber w)
+          (sized-at (kind (objectsAt n b contents bodies) (objectNumber w)) bytesKind y tt) in omega arith
       go (other x y) p = absurd (omega arith)
 
 -- 60 to 62, case by case

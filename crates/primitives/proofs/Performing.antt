@@ -31,7 +31,14 @@ pub does-computed : (n b : ℕ) (contents bodies : List ℕ) (r : Computed) {z :
 unfolding answerOf objectsAfter
 does-computed n b contents bodies (Word v) h p =
     subst (λ (z : Outcome). Does (objectsAt n b contents bodies) z (record { answer = Word v; n = n; b = b }) contents bodies contents bodies) p
-    (record { answer = refl; count = refl; size = refl; entries = sym (front-same (entryWords * n) contents (contents-room n b contents bodies h)); words = sym (front-same b bodies (bodies-room n b contents bodies h)) })
+    (record {
+      answer = refl;
+      count = refl;
+      size = refl;
+      entries = sym (front-same (entryWords * n) contents (contents-room n b contents bodies h));
+      words = sym
+          (front-same b bodies (bodies-room n b contents bodies h));
+    })
 does-computed n b contents bodies Failed h p = does-none n b contents bodies h p
 
 -- The objects in the buffers are then those of the outcome.

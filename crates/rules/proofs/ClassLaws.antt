@@ -263,7 +263,8 @@ pub above-class : (o : Objects) → upTo (o .n) (shapeFine o) ≡ true → (c : 
 unfolding shapeFine shapeRules
 above-class o e c q =
     let h = is-named o classKind c q in
-    let t = and-right (entryFine 1 o (c / 2)) (implies (eqb (kind o (c / 2)) classKind) (allOf (shapeRules o (pointer (c / 2))))) (upTo-at (o .n) (shapeFine o) (true→T e) (c / 2) (h .least) (h .most)) in
+    let t = and-right (entryFine 1 o (c / 2)) (implies (eqb (kind o (c / 2)) classKind) (allOf (shapeRules o (pointer (c / 2)))))
+    (upTo-at (o .n) (shapeFine o) (true→T e) (c / 2) (h .least) (h .most)) in
     let s = implied (eqb (kind o (c / 2)) classKind) (allOf (shapeRules o (pointer (c / 2)))) t (true→T (eq-eqb (kind o (c / 2)) classKind (h .kinds))) in
     T→true (isNilOr o classKind (superclassWord o c)) (subst (λ (x : ℕ). T (isNilOr o classKind (superclassWord o x))) (pointer-of c (h .even)) (rule (shapeRules o (pointer (c / 2))) s 0))
 

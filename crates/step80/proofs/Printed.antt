@@ -7,7 +7,7 @@ use Rattle.io.specs.Counts.{Counts}
 use Rattle.plain.specs.Flat.{Flat, flat, roomOf}
 use Rattle.plain.specs.FlatCalls.{flatLoad, flatBegin, flatRun}
 use Rattle.plain.specs.Program.{Line, line, refusal, step80Room, step80}
-use Rattle.lines.specs.Text.{lineBytes}
+use Rattle.plain.specs.Text.{lineBytes}
 use Rattle.machine.specs.declared.Registers.{Registers}
 use Rattle.machine.specs.declared.Loaded.{Loaded}
 use Rattle.machine.specs.declared.Begun.{Begun}

@@ -5,7 +5,7 @@ ghost use mathlib.Core.List.{_++_};
 ghost use lib.ListN.{length, drop};
 ghost use Rattle.io.specs.Counts.{Counts};
 ghost use Rattle.plain.specs.Program.{step80};
-ghost use Rattle.lines.specs.Text.{lineBytes};
+ghost use Rattle.plain.specs.Text.{lineBytes};
 ghost use Rattle.step80.specs.Input.{bytesRead};
 use machine::Begun;
 use machine::Loaded;

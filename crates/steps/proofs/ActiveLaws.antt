@@ -160,7 +160,12 @@ module _ {n b : ℕ} {contents bodies stack : List ℕ} {a : Active} (r : IsActi
   pub stands-on : (q : CodePosition) (e : StackPosition) (stack′ : List ℕ) → frameMethod stack′ (a .base .0) ≡ m → a .operands .0 ≤ e .0 → Stands n b contents bodies stack′ (movedOn a q e)
   stands-on q e stack′ p h =
       let s = r .stands in
-      record { code = subst (λ (k : ℕ). a .code ≡ start o (objectNumber k) + (2 + literalCount o k)) (sym p) (s .code); operands = subst (λ (k : ℕ). a .operands .0 ≡ operandsStart o k (a .base .0)) (sym p) (s .operands); above = h }
+      record {
+        code = subst (λ (k : ℕ). a .code ≡ start o (objectNumber k) + (2 + literalCount o k)) (sym p) (s .code);
+        operands = subst
+            (λ (k : ℕ). a .operands .0 ≡ operandsStart o k (a .base .0)) (sym p) (s .operands);
+        above = h;
+      }
 
 -- ---- a frame taken from its words
 
@@ -179,11 +184,26 @@ module _ {n b : ℕ} {contents bodies stack : List ℕ} (t : StackPosition) (r :
 
   pub entered : (c : Code) (word temporaries : ℕ) → CodeAt n b contents bodies mₑ c → word ≡ header oₑ mₑ → temporaries ≡ temporariesOf word
       → (t .0 ≡ t .0)
-      × (written (record { base = t; code = c .from; operands = record { 0 = t .0 + 6 + temporaries }; position = record { 0 = framePosition stack (t .0) }; end = record { 0 = t .0 + 6 + temporaries + frameDepth stack (t .0) } }) stack ≡ stack)
-      × Stands n b contents bodies stack (record { base = t; code = c .from; operands = record { 0 = t .0 + 6 + temporaries }; position = record { 0 = framePosition stack (t .0) }; end = record { 0 = t .0 + 6 + temporaries + frameDepth stack (t .0) } })
+      × (written (record {
+        base = t;
+        code = c .from;
+        operands = record { 0 = t .0 + 6 + temporaries };
+        position = record { 0 = framePosition stack (t .0) };
+        end = record { 0 = t .0 + 6 + temporaries + frameDepth stack (t .0) };
+      }) stack ≡ stack)
+      × Stands n b contents bodies stack (record {
+        base = t;
+        code = c .from;
+        operands = record { 0 = t .0 + 6 + temporaries };
+        position = record
+            { 0 = framePosition stack (t .0) };
+        end = record { 0 = t .0 + 6 + temporaries + frameDepth stack (t .0) };
+      })
   entered c word temporaries q e d = (
     refl,
-    ap (λ (l : List ℕ). set l (t .0 + 2) (t .0 + 6 + temporaries + frameDepth stack (t .0) - (t .0 + 6 + temporaries))) (set-same stack (t .0 + 1) (framePosition stack (t .0)) refl) ∙ set-same stack (t .0 + 2) (t .0 + 6 + temporaries + frameDepth stack (t .0) - (t .0 + 6 + temporaries)) (omega arith),
+    ap (λ (l : List ℕ). set l (t .0 + 2) (t .0 + 6 + temporaries + frameDepth stack (t .0) - (t .0 + 6 + temporaries)))
+        (set-same stack (t .0 + 1) (framePosition stack (t .0)) refl) ∙ set-same stack (t .0 + 2) (t .0 + 6 + temporaries + frameDepth stack (t .0) -
+        (t .0 + 6 + temporaries)) (omega arith),
     record { code = q .from; operands = ap (λ (k : ℕ). t .0 + 6 + k) (d ∙ ap temporariesOf e); above = omega arith },
   )
 
@@ -212,13 +232,19 @@ module _ {n b : ℕ} {contents bodies stack : List ℕ} {a : Active} {op : ℕ} 
   pub op-whole : p + lengthOf op ≤ codeSize oₒ (frameMethod stack (a .base .0))
   op-whole =
       subst (λ (x : ℕ). x ≤ codeSize oₒ (frameMethod stack (a .base .0))) (sym next-read ∙ op-next)
-      (subst (λ (k : ℕ). nextAt (codeWords oₒ (frameMethod (written a stack) (a .base .0))) (framePosition (written a stack) (a .base .0)) ≤ codeSize oₒ k) (method-read (f .active)) (next-inside (f .active .runs)))
+      (subst (λ (k : ℕ). nextAt (codeWords oₒ (frameMethod (written a stack) (a .base .0))) (framePosition (written a stack) (a .base .0)) ≤ codeSize oₒ k)
+      (method-read (f .active)) (next-inside (f .active .runs)))
 
   pub doing : (k next : ℕ) (i : Instruction) → lengthOf op ≡ k → next ≡ p + k → instructionOf op (byteAt words (p + 1)) (byteAt words (p + 2)) ≡ i → Doing n b contents bodies stack a next i
   doing k next i e d g =
       record {
         active = f .active;
-        at = record { runs = f .active .runs; behind = d ∙ ap (λ (x : ℕ). p + x) (sym e) ∙ sym op-next ∙ next-read; decoded = sym g ∙ ap (λ (x : ℕ). instructionOf x (byteAt words (p + 1)) (byteAt words (p + 2))) (f .byte) ∙ read ∙ decode-is (f .active .runs) };
+        at = record {
+          runs = f .active .runs;
+          behind = d ∙ ap (λ (x : ℕ). p + x) (sym e) ∙ sym op-next ∙ next-read;
+          decoded = sym g
+              ∙ ap (λ (x : ℕ). instructionOf x (byteAt words (p + 1)) (byteAt words (p + 2))) (f .byte) ∙ read ∙ decode-is (f .active .runs);
+        };
       }
     where
       read : at-bytes words p ≡ at-bytes (codeWords oₒ (frameMethod (written a stack) (a .base .0))) (framePosition (written a stack) (a .base .0))
@@ -263,13 +289,17 @@ module _ {n b : ℕ} {contents bodies stack : List ℕ} {a : Active} {next : ℕ
       (g (written (movedOn a q e) stack) (moves-on a stack q e ∙ same-two (written a stack) refl refl refl c), stands-on (d .active) q e stack refl h)
 
   -- a word in the place of the `taken` uppermost operands
-  pub says-answered : (taken w at : ℕ) (q : CodePosition) (e : StackPosition) (stack′ : List ℕ) → stack′ ≡ set stack at w → q .0 ≡ next → at ≡ a .end .0 - taken → e .0 ≡ a .end .0 - taken + 1 → taken ≤ a .end .0 - a .operands .0
+  pub says-answered : (taken w at : ℕ) (q : CodePosition) (e : StackPosition) (stack′ : List ℕ) → stack′ ≡ set stack at w → q .0 ≡ next
+      → at ≡ a .end .0 - taken → e .0 ≡ a .end .0 - taken + 1 → taken ≤ a .end .0 - a .operands .0
       → ((s : List ℕ) → s ≡ answered (written a stack) (a .base .0) (hereOf stack a next) taken w → Moved n b (a .base .0) contents bodies (written a stack) bodies s)
       → Says n b contents a bodies stack bodies stack′ (Next q e)
   says-answered taken w at q e stack′ c g p t l m =
       let k = ends (d .active) in
-      subst (λ (s : List ℕ). Says n b contents a bodies stack bodies s (Next q e)) (sym c)
-      (m (written (movedOn a q e) (set stack at w)) (puts a stack at w (omega arith) q e ∙ same-three (written a stack) (omega arith) refl refl g refl (omega arith)), stands-on (d .active) q e (set stack at w) (put-method a stack at w (omega arith) (omega arith)) (omega arith))
+      subst (λ (s : List ℕ). Says n b contents a bodies stack bodies s (Next q e)) (sym c) (
+        m (written (movedOn a q e) (set stack at w)) (puts a stack at w (omega arith) q e ∙ same-three (written a stack) (omega arith) refl refl g refl
+            (omega arith)),
+        stands-on (d .active) q e (set stack at w) (put-method a stack at w (omega arith) (omega arith)) (omega arith),
+      )
 
   -- a push
   pub says-pushed : (w : ℕ) (stack′ : List ℕ) (r : Event) → Pushed stack a next w stack′ r

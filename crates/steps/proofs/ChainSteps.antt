@@ -54,7 +54,8 @@ module _ {e : ℕ} {o : Objects} (r : Right e o) where
   within-up (suc left) a c t u =
       subst T (sym (chain-class o left a c (T→true (isKind o classKind c) (up-class u)))) (go (λ d v. within-up left a (superclassWord o c) d v) u)
     where
-      go : (T (endsWithin left o (superclassWord o c)) → Up o a (superclassWord o c) → T (inChainWithin left o a (superclassWord o c))) → Up o a c → T (eqb a c || inChainWithin left o a (superclassWord o c))
+      go : (T (endsWithin left o (superclassWord o c)) → Up o a (superclassWord o c) → T (inChainWithin left o a (superclassWord o c))) → Up o a c
+          → T (eqb a c || inChainWithin left o a (superclassWord o c))
       go ih (same k p) = subst (λ (x : Bool). T (x || inChainWithin left o a (superclassWord o c))) (sym (eq-eqb a c p)) tt
       go ih (above k v) =
           or-right (eqb a c) (inChainWithin left o a (superclassWord o c)) (ih (subst T (ends-above o left c (class-no-nil c k)) t) v)

@@ -51,12 +51,15 @@ use Rattle.steps.specs.declared.Event.the-variants as E
 use Rattle.steps.proofs.SpecialLaws as S
 
 -- The instruction of a byte that is known
-pub doing-at : {n b : ℕ} {contents bodies stack : List ℕ} {a : Active} {op : ℕ} → Fetched n b contents bodies stack a op → (c k next : ℕ) (i : Instruction) → op ≡ c → lengthOf c ≡ k → next ≡ a .position .0 + k
-    → instructionOf c (byteAt (codeWords (objectsAt n b contents bodies) (frameMethod stack (a .base .0))) (a .position .0 + 1)) (byteAt (codeWords (objectsAt n b contents bodies) (frameMethod stack (a .base .0))) (a .position .0 + 2)) ≡ i
+pub doing-at : {n b : ℕ} {contents bodies stack : List ℕ} {a : Active} {op : ℕ} → Fetched n b contents bodies stack a op → (c k next : ℕ) (i : Instruction)
+    → op ≡ c → lengthOf c ≡ k → next ≡ a .position .0 + k
+    → instructionOf c (byteAt (codeWords (objectsAt n b contents bodies) (frameMethod stack (a .base .0))) (a .position .0 + 1))
+    (byteAt (codeWords (objectsAt n b contents bodies) (frameMethod stack (a .base .0))) (a .position .0 + 2)) ≡ i
     → Doing n b contents bodies stack a next i
 doing-at {n} {b} {contents} {bodies} {stack} {a} f c k next i e l d g =
     doing f k next i (ap lengthOf e ∙ l) d
-    (ap (λ (x : ℕ). instructionOf x (byteAt (codeWords (objectsAt n b contents bodies) (frameMethod stack (a .base .0))) (a .position .0 + 1)) (byteAt (codeWords (objectsAt n b contents bodies) (frameMethod stack (a .base .0))) (a .position .0 + 2))) e ∙ g)
+    (ap (λ (x : ℕ). instructionOf x (byteAt (codeWords (objectsAt n b contents bodies) (frameMethod stack (a .base .0))) (a .position .0 + 1))
+    (byteAt (codeWords (objectsAt n b contents bodies) (frameMethod stack (a .base .0))) (a .position .0 + 2))) e ∙ g)
 
 module _ {n b : ℕ} {contents bodies stack : List ℕ} {a : Active} {next : ℕ} {i : Instruction} (d : Doing n b contents bodies stack a next i) where
   room-of : Answers (a .base .0) (written a stack) (hereOf stack a next) 0 → Pushing stack a
@@ -112,13 +115,15 @@ module _ {n b : ℕ} {contents bodies stack : List ℕ} {a : Active} {next j : �
   pub literal-lies : Doing n b contents bodies stack a next (Push (Literal j)) → ReadsLiteral n b contents bodies (frameMethod stack (a .base .0)) j
   literal-lies d = literal-there (here d) j (literal-below (d .active .runs) j (push-place (here d)))
 
-  pub literal-reads : Doing n b contents bodies stack a next (Push (Literal j)) → (w : ℕ) → w ≡ literal (objectsAt n b contents bodies) (frameMethod stack (a .base .0)) j → ReadIs n b contents bodies stack a (Literal j) w
+  pub literal-reads : Doing n b contents bodies stack a next (Push (Literal j)) → (w : ℕ) → w ≡ literal (objectsAt n b contents bodies)
+      (frameMethod stack (a .base .0)) j → ReadIs n b contents bodies stack a (Literal j) w
   literal-reads d w e = literal-read (d .active .runs) j w (frameMethod stack (a .base .0)) (sym (method-read (d .active))) (push-place (here d)) e
 
   pub variable-lies : Doing n b contents bodies stack a next (Push (LiteralVariable j)) → ReadsLiteral n b contents bodies (frameMethod stack (a .base .0)) j
   variable-lies d = literal-there (here d) j (variable-below (d .active .runs) j (push-place (here d)))
 
-  pub variable-there : Doing n b contents bodies stack a next (Push (LiteralVariable j)) → (v : ℕ) → v ≡ literal (objectsAt n b contents bodies) (frameMethod stack (a .base .0)) j → Inside n b contents bodies v 1
+  pub variable-there : Doing n b contents bodies stack a next (Push (LiteralVariable j)) → (v : ℕ) → v ≡ literal (objectsAt n b contents bodies)
+      (frameMethod stack (a .base .0)) j → Inside n b contents bodies v 1
   variable-there d v e = variable-inside (d .active .runs) j v (frameMethod stack (a .base .0)) (sym (method-read (d .active))) (push-place (here d)) e
 
   pub variable-reads : Doing n b contents bodies stack a next (Push (LiteralVariable j)) → (v w : ℕ) → v ≡ literal (objectsAt n b contents bodies) (frameMethod stack (a .base .0)) j
@@ -164,7 +169,13 @@ module _ {n b : ℕ} {contents bodies stack : List ℕ} {a : Active} {next : ℕ
   stands-stored : (v j w : ℕ) (bodies′ : List ℕ) → HasField n b contents bodies v j → bodies′ ≡ atFront (storeWord o (objectNumber v) j w .bodies) bodies
       → Stands n b contents bodies′ stack (movedOn a (record { 0 = next }) (record { 0 = end }))
   stands-stored v j w bodies′ f e =
-      record { code = st .code ∙ ap₂ (λ (x y : ℕ). x + (2 + y)) (sym starts) (sym (literal-count-same x right m t)) ∙ ap (λ (q : Objects). start q (objectNumber m) + (2 + literalCount q m)) (sym same); operands = st .operands ∙ ap (λ (k : ℕ). a .base .0 + 6 + k) (sym (temporaries-same x right m t)) ∙ ap (λ (q : Objects). operandsStart q m (a .base .0)) (sym same); above = store-above }
+      record {
+        code = st .code ∙ ap₂ (λ (x y : ℕ). x + (2 + y)) (sym starts) (sym (literal-count-same x right m t))
+            ∙ ap (λ (q : Objects). start q (objectNumber m) + (2 + literalCount q m)) (sym same);
+        operands = st .operands ∙ ap (λ (k : ℕ). a .base .0 + 6 + k)
+            (sym (temporaries-same x right m t)) ∙ ap (λ (q : Objects). operandsStart q m (a .base .0)) (sym same);
+        above = store-above;
+      }
     where
       r : IsActive n b contents bodies stack a
       r = z .doing .active
@@ -199,11 +210,19 @@ module _ {n b : ℕ} {contents bodies stack : List ℕ} {a : Active} {next j end
       subst (λ (x : ℕ). Inside n b contents bodies x j) (receiver-read (z .doing .active)) (own-inside (z .doing .active .runs) j (store-place (store-at z)))
 
   pub own-stored : (z : Storing n b contents bodies stack a next (Field j) end) (at : ℕ) (bodies′ : List ℕ) → at ≡ a .end .0 - 1
-      → bodies′ ≡ atFront (storeWord (objectsAt n b contents bodies) (objectNumber (frameReceiver stack (a .base .0))) j (getD stack at 0) .bodies) bodies → Says n b contents a bodies stack bodies′ stack (Next (record { 0 = next }) (record { 0 = end }))
+      → bodies′ ≡ atFront (storeWord (objectsAt n b contents bodies) (objectNumber (frameReceiver stack (a .base .0))) j (getD stack at 0) .bodies) bodies
+      → Says n b contents a bodies stack bodies′ stack (Next (record { 0 = next }) (record { 0 = end }))
   own-stored z at bodies′ p e =
       let v = written a stack in
-      let e′ : bodies′ ≡ atFront (storeWord (objectsAt n b contents bodies) (objectNumber (frameReceiver v (a .base .0))) j (getD v (a .operands .0 + (a .end .0 - a .operands .0 - 1)) 0) .bodies) bodies = e ∙ ap₂ (λ (x y : ℕ). atFront (storeWord (objectsAt n b contents bodies) (objectNumber x) j y .bodies) bodies) (sym (receiver-read (z .doing .active))) (sym (top-read z at p)) in
-      (store-field (store-at z) bodies′ (written (movedOn a (record { 0 = next }) (record { 0 = end })) stack) e′ (moves-on a stack (record { 0 = next }) (record { 0 = end })), stands-stored z (frameReceiver v (a .base .0)) j _ bodies′ (own-field (z .doing .active .runs) j (store-place (store-at z))) e′)
+      let e′ : bodies′ ≡ atFront (storeWord (objectsAt n b contents bodies) (objectNumber (frameReceiver v (a .base .0))) j
+      (getD v (a .operands .0 + (a .end .0 - a .operands .0 - 1)) 0) .bodies) bodies = e
+      ∙ ap₂ (λ (x y : ℕ). atFront (storeWord (objectsAt n b contents bodies) (objectNumber x) j y .bodies) bodies) (sym (receiver-read (z .doing .active)))
+      (sym (top-read z at p)) in (
+        store-field (store-at z) bodies′ (written (movedOn a (record { 0 = next }) (record { 0 = end })) stack) e′
+            (moves-on a stack (record { 0 = next }) (record { 0 = end })),
+        stands-stored z (frameReceiver v (a .base .0)) j _ bodies′
+            (own-field (z .doing .active .runs) j (store-place (store-at z))) e′,
+      )
 
   pub temporary-room : Storing n b contents bodies stack a next (Temporary j) end → (a .base .0 + 6 + j < length stack) × (a .base .0 + 6 + j < 65536)
   temporary-room z =
@@ -218,7 +237,8 @@ module _ {n b : ℕ} {contents bodies stack : List ℕ} {a : Active} {next j end
       subst (λ (l : List ℕ). Says n b contents a bodies stack bodies l (Next (record { 0 = next }) (record { 0 = end }))) (sym e) (
         store-temporary (store-at z) (written (movedOn a (record { 0 = next }) (record { 0 = end })) (set stack (a .base .0 + 6 + j) (getD stack at 0)))
             (puts a stack (a .base .0 + 6 + j) (getD stack at 0) (omega arith) (record { 0 = next }) (record { 0 = end }) ∙ same-three v refl (sym (top-read z at p)) refl refl refl refl),
-        stands-on (z .doing .active) (record { 0 = next }) (record { 0 = end }) (set stack (a .base .0 + 6 + j) (getD stack at 0)) (put-method a stack (a .base .0 + 6 + j) (getD stack at 0) (omega arith) (omega arith)) (store-above z),
+        stands-on (z .doing .active) (record { 0 = next }) (record { 0 = end }) (set stack (a .base .0 + 6 + j) (getD stack at 0))
+            (put-method a stack (a .base .0 + 6 + j) (getD stack at 0) (omega arith) (omega arith)) (store-above z),
       )
 
   pub literal-never : Storing n b contents bodies stack a next (Literal j) end → ⊥
@@ -227,22 +247,33 @@ module _ {n b : ℕ} {contents bodies stack : List ℕ} {a : Active} {next j end
   pub variable-holds : Storing n b contents bodies stack a next (LiteralVariable j) end → ReadsLiteral n b contents bodies (frameMethod stack (a .base .0)) j
   variable-holds z = literal-there (here (z .doing)) j (variable-below (z .doing .active .runs) j (store-place (store-at z)))
 
-  variable-has : (z : Storing n b contents bodies stack a next (LiteralVariable j) end) (v : ℕ) → v ≡ literal (objectsAt n b contents bodies) (frameMethod stack (a .base .0)) j → HasField n b contents bodies v 1
+  variable-has : (z : Storing n b contents bodies stack a next (LiteralVariable j) end) (v : ℕ) → v ≡ literal (objectsAt n b contents bodies)
+      (frameMethod stack (a .base .0)) j → HasField n b contents bodies v 1
   variable-has z v e = variable-field (z .doing .active .runs) j v (frameMethod stack (a .base .0)) (sym (method-read (z .doing .active))) (store-place (store-at z)) e
 
-  pub variable-room : Storing n b contents bodies stack a next (LiteralVariable j) end → (v : ℕ) → v ≡ literal (objectsAt n b contents bodies) (frameMethod stack (a .base .0)) j → Inside n b contents bodies v 1
+  pub variable-room : Storing n b contents bodies stack a next (LiteralVariable j) end → (v : ℕ) → v ≡ literal (objectsAt n b contents bodies)
+      (frameMethod stack (a .base .0)) j → Inside n b contents bodies v 1
   variable-room z v e = variable-inside (z .doing .active .runs) j v (frameMethod stack (a .base .0)) (sym (method-read (z .doing .active))) (store-place (store-at z)) e
 
-  pub variable-stored : (z : Storing n b contents bodies stack a next (LiteralVariable j) end) (at v : ℕ) (bodies′ : List ℕ) → at ≡ a .end .0 - 1 → v ≡ literal (objectsAt n b contents bodies) (frameMethod stack (a .base .0)) j
-      → bodies′ ≡ atFront (storeWord (objectsAt n b contents bodies) (objectNumber v) 1 (getD stack at 0) .bodies) bodies → Says n b contents a bodies stack bodies′ stack (Next (record { 0 = next }) (record { 0 = end }))
+  pub variable-stored : (z : Storing n b contents bodies stack a next (LiteralVariable j) end) (at v : ℕ) (bodies′ : List ℕ) → at ≡ a .end .0 - 1
+      → v ≡ literal (objectsAt n b contents bodies) (frameMethod stack (a .base .0)) j
+      → bodies′ ≡ atFront (storeWord (objectsAt n b contents bodies) (objectNumber v) 1 (getD stack at 0) .bodies) bodies → Says n b contents a bodies stack
+      bodies′ stack (Next (record { 0 = next }) (record { 0 = end }))
   variable-stored z at v bodies′ p q e =
-      let e′ : bodies′ ≡ atFront (storeWord (objectsAt n b contents bodies) (objectNumber v) 1 (getD (written a stack) (a .operands .0 + (a .end .0 - a .operands .0 - 1)) 0) .bodies) bodies = e ∙ ap (λ (y : ℕ). atFront (storeWord (objectsAt n b contents bodies) (objectNumber v) 1 y .bodies) bodies) (sym (top-read z at p)) in
-      (store-variable (store-at z) v bodies′ (written (movedOn a (record { 0 = next }) (record { 0 = end })) stack) q e′ (moves-on a stack (record { 0 = next }) (record { 0 = end })), stands-stored z v 1 _ bodies′ (variable-has z v q) e′)
+      let e′ : bodies′ ≡ atFront (storeWord (objectsAt n b contents bodies) (objectNumber v) 1
+      (getD (written a stack) (a .operands .0 + (a .end .0 - a .operands .0 - 1)) 0) .bodies) bodies = e
+      ∙ ap (λ (y : ℕ). atFront (storeWord (objectsAt n b contents bodies) (objectNumber v) 1 y .bodies) bodies) (sym (top-read z at p)) in (
+        store-variable (store-at z) v bodies′ (written (movedOn a (record { 0 = next }) (record { 0 = end })) stack) q e′
+            (moves-on a stack (record { 0 = next }) (record { 0 = end })),
+        stands-stored z v 1 _ bodies′ (variable-has z v q) e′,
+      )
 
-pub storing-kept : {n b : ℕ} {contents bodies stack : List ℕ} {a : Active} {next : ℕ} {p : Place} → Doing n b contents bodies stack a next (Store p) → (end : ℕ) → end ≡ a .end .0 → Storing n b contents bodies stack a next p end
+pub storing-kept : {n b : ℕ} {contents bodies stack : List ℕ} {a : Active} {next : ℕ} {p : Place} → Doing n b contents bodies stack a next (Store p)
+    → (end : ℕ) → end ≡ a .end .0 → Storing n b contents bodies stack a next p end
 storing-kept d end e = record { pop = false; doing = d; after = e }
 
-pub storing-popped : {n b : ℕ} {contents bodies stack : List ℕ} {a : Active} {next : ℕ} {p : Place} → Doing n b contents bodies stack a next (PopStore p) → (end : ℕ) → end ≡ a .end .0 - 1 → Storing n b contents bodies stack a next p end
+pub storing-popped : {n b : ℕ} {contents bodies stack : List ℕ} {a : Active} {next : ℕ} {p : Place} → Doing n b contents bodies stack a next (PopStore p)
+    → (end : ℕ) → end ≡ a .end .0 - 1 → Storing n b contents bodies stack a next p end
 storing-popped d end e = record { pop = true; doing = d; after = e }
 
 -- ---- jumps on a boolean
@@ -263,7 +294,8 @@ module _ {n b : ℕ} {contents bodies stack : List ℕ} {a : Active} {next ahead
       let o = on-one in
       says-moved d (record { 0 = next + ahead }) (record { 0 = at }) (a .end .0 - a .operands .0 - 1) (omega arith) (omega arith) (λ s q. on-jumps (here d) w s e (operand-read d 0 at on-one p ∙ t) q)
 
-  pub passes : (w at : ℕ) → at ≡ a .end .0 - 1 → w ≡ booleanWord condition → (getD stack at 0 ≡ w → ⊥) → (getD stack at 0 ≡ 6) ⊎ (getD stack at 0 ≡ 4) → Says n b contents a bodies stack bodies stack (Next (record { 0 = next }) (record { 0 = at }))
+  pub passes : (w at : ℕ) → at ≡ a .end .0 - 1 → w ≡ booleanWord condition → (getD stack at 0 ≡ w → ⊥) → (getD stack at 0 ≡ 6) ⊎ (getD stack at 0 ≡ 4)
+      → Says n b contents a bodies stack bodies stack (Next (record { 0 = next }) (record { 0 = at }))
   passes w at p e t u =
       let k = ends (d .active) in
       let o = on-one in
@@ -275,7 +307,8 @@ module _ {n b : ℕ} {contents bodies stack : List ℕ} {a : Active} {next ahead
       either (inl x) = inl (operand-read d 0 at on-one p ∙ x)
       either (inr x) = inr (operand-read d 0 at on-one p ∙ x)
 
-  pub halts-there : (w at : ℕ) → at ≡ a .end .0 - 1 → w ≡ booleanWord condition → (getD stack at 0 ≡ w → ⊥) → (getD stack at 0 ≡ 6 → ⊥) → (getD stack at 0 ≡ 4 → ⊥) → Says n b contents a bodies stack bodies stack NoBoolean
+  pub halts-there : (w at : ℕ) → at ≡ a .end .0 - 1 → w ≡ booleanWord condition → (getD stack at 0 ≡ w → ⊥) → (getD stack at 0 ≡ 6 → ⊥)
+      → (getD stack at 0 ≡ 4 → ⊥) → Says n b contents a bodies stack bodies stack NoBoolean
   halts-there w at p e t u v =
       on-halts (here d) w e (λ x. t (sym (operand-read d 0 at on-one p) ∙ x)) (λ x. u (sym (operand-read d 0 at on-one p) ∙ x)) (λ x. v (sym (operand-read d 0 at on-one p) ∙ x))
 
@@ -308,7 +341,8 @@ module _ {n b : ℕ} {contents bodies stack : List ℕ} {a : Active} {next : ℕ
   pub self-pushing : Doing n b contents bodies stack a next PushSelf → Pushing stack a
   self-pushing d = room-of d (self-room (here d))
 
-  pub self-done : Doing n b contents bodies stack a next PushSelf → (stack′ : List ℕ) (r : Event) → Pushed stack a next (frameReceiver stack (a .base .0)) stack′ r → Says n b contents a bodies stack bodies stack′ r
+  pub self-done : Doing n b contents bodies stack a next PushSelf → (stack′ : List ℕ) (r : Event) → Pushed stack a next (frameReceiver stack (a .base .0))
+      stack′ r → Says n b contents a bodies stack bodies stack′ r
   self-done d stack′ r q =
       says-pushed d (frameReceiver stack (a .base .0)) stack′ r q
       (λ s x. self-says (here d) s (x ∙ same-three (written a stack) refl (sym (receiver-read (d .active))) refl refl refl refl))
@@ -316,7 +350,8 @@ module _ {n b : ℕ} {contents bodies stack : List ℕ} {a : Active} {next : ℕ
   pub constant-pushing : {w : ℕ} → Doing n b contents bodies stack a next (PushConstant w) → Pushing stack a
   constant-pushing d = room-of d (constant-room (here d))
 
-  pub constant-done : {w : ℕ} → Doing n b contents bodies stack a next (PushConstant w) → (stack′ : List ℕ) (r : Event) → Pushed stack a next w stack′ r → Says n b contents a bodies stack bodies stack′ r
+  pub constant-done : {w : ℕ} → Doing n b contents bodies stack a next (PushConstant w) → (stack′ : List ℕ) (r : Event) → Pushed stack a next w stack′ r
+      → Says n b contents a bodies stack bodies stack′ r
   constant-done {w} d stack′ r q = says-pushed d w stack′ r q (λ s x. constant-says (here d) s x)
 
   pub duplicate-one : Doing n b contents bodies stack a next Duplicate → 1 ≤ a .end .0 - a .operands .0
@@ -325,7 +360,8 @@ module _ {n b : ℕ} {contents bodies stack : List ℕ} {a : Active} {next : ℕ
   pub duplicate-pushing : Doing n b contents bodies stack a next Duplicate → Pushing stack a
   duplicate-pushing d = room-of d (duplicate-room (here d))
 
-  pub duplicate-done : Doing n b contents bodies stack a next Duplicate → (at : ℕ) (stack′ : List ℕ) (r : Event) → at ≡ a .end .0 - 1 → Pushed stack a next (getD stack at 0) stack′ r → Says n b contents a bodies stack bodies stack′ r
+  pub duplicate-done : Doing n b contents bodies stack a next Duplicate → (at : ℕ) (stack′ : List ℕ) (r : Event) → at ≡ a .end .0 - 1 → Pushed stack a next
+      (getD stack at 0) stack′ r → Says n b contents a bodies stack bodies stack′ r
   duplicate-done d at stack′ r p q =
       says-pushed d (getD stack at 0) stack′ r q
       (λ s x. duplicate-says (here d) s (x ∙ same-three (written a stack) refl (sym (operand-read d 0 at (duplicate-one d) p)) refl refl refl refl))
@@ -375,7 +411,8 @@ module _ {n b : ℕ} {contents bodies stack : List ℕ} {a : Active} {next l k :
   pub send-literal : Doing n b contents bodies stack a next (Send l k) → ReadsLiteral n b contents bodies (frameMethod stack (a .base .0)) l
   send-literal d = literal-there (here d) l (send-below (here d))
 
-  pub send-done : Doing n b contents bodies stack a next (Send l k) → (s : ℕ) → s ≡ literal (objectsAt n b contents bodies) (frameMethod stack (a .base .0)) l → Sends n b contents bodies stack a next s k
+  pub send-done : Doing n b contents bodies stack a next (Send l k) → (s : ℕ) → s ≡ literal (objectsAt n b contents bodies) (frameMethod stack (a .base .0)) l
+      → Sends n b contents bodies stack a next s k
   send-done d s e = record { active = d .active; sends = send-sends (here d) s e }
 
 module _ {n b : ℕ} {contents bodies stack : List ℕ} {a : Active} {next l k : ℕ} (d : Doing n b contents bodies stack a next (SuperSend l k)) where
@@ -422,7 +459,8 @@ module _ {n b : ℕ} {contents bodies stack : List ℕ} {a : Active} {next k : �
     two = arithmetic-two (here d) small
 
     operands-read : (t under last : ℕ) → under ≡ a .end .0 - 2 → last ≡ a .end .0 - 1
-        → arithmetic t (getD stack under 0) (getD stack last 0) ≡ arithmetic t (getD (written a stack) (a .operands .0 + (a .end .0 - a .operands .0 - 2)) 0) (getD (written a stack) (a .operands .0 + (a .end .0 - a .operands .0 - 1)) 0)
+        → arithmetic t (getD stack under 0) (getD stack last 0) ≡ arithmetic t (getD (written a stack) (a .operands .0 + (a .end .0 - a .operands .0 - 2)) 0)
+        (getD (written a stack) (a .operands .0 + (a .end .0 - a .operands .0 - 1)) 0)
     operands-read t under last p q = ap₂ (λ (u w : ℕ). arithmetic t u w) (sym (operand-read d 1 under two p)) (sym (operand-read d 0 last special-one q))
 
     pub computed-done : (under last w : ℕ) (x : Computed) (e : StackPosition) (stack′ : List ℕ) → under ≡ a .end .0 - 2 → last ≡ a .end .0 - 1
@@ -431,7 +469,8 @@ module _ {n b : ℕ} {contents bodies stack : List ℕ} {a : Active} {next k : �
     computed-done under last w x e stack′ p q c y u s =
         let o = two in
         let z = ends (d .active) in
-        says-answered d 2 w under (record { 0 = next }) e stack′ s refl p (omega arith) two (λ l r. arithmetic-says (here d) small (triedPrimitive k) w x l refl (c ∙ operands-read (triedPrimitive k) under last p q) y r)
+        says-answered d 2 w under (record { 0 = next }) e stack′ s refl p (omega arith) two (λ l r. arithmetic-says (here d) small (triedPrimitive k) w x l
+        refl (c ∙ operands-read (triedPrimitive k) under last p q) y r)
 
     pub failed-sends : (under last s : ℕ) (x : Computed) → under ≡ a .end .0 - 2 → last ≡ a .end .0 - 1
         → x ≡ arithmetic (triedPrimitive k) (getD stack under 0) (getD stack last 0) → x ≡ Failed → s ≡ specialSelector (objectsAt n b contents bodies) k → Sends n b contents bodies stack a next s 1

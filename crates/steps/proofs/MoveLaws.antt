@@ -65,14 +65,29 @@ module _ {n b top : ℕ} {contents bodies stack : List ℕ} {h : Here} {i : Inst
   pub moves : (f′ : Frame) (stack′ : List ℕ) → Does (λ s room. next (onTop s f′ rest) noLookup) → stack′ ≡ laid stack top (f′ ∷ rest)
       → Moved n b top contents bodies stack bodies stack′
   moves f′ stack′ e l receiver selector room =
-      record { state = onTop (at receiver selector) f′ rest; steps = step-is (a .at) receiver selector room ∙ e receiver selector room; registers = refl; contents = refl; words = sym (front-same b bodies (bodies-room n b contents bodies (a .at .runs .right))); frames = l }
+      record {
+        state = onTop (at receiver selector) f′ rest;
+        steps = step-is (a .at) receiver selector room ∙ e receiver selector room;
+        registers = refl;
+        contents = refl;
+        words = sym (front-same b bodies (bodies-room n b contents bodies (a .at .runs .right)));
+        frames = l;
+      }
 
   -- and a word of an object another word
   pub moves-storing : (f′ : Frame) (stack′ bodies′ : List ℕ) (k j w : ℕ) → Does (λ s room. next (withObjects (onTop s f′ rest) (storeWord o k j w)) noLookup)
       → stack′ ≡ laid stack top (f′ ∷ rest) → bodies′ ≡ atFront (storeWord o k j w .bodies) bodies → Moved n b top contents bodies stack bodies′ stack′
   unfolding storeWord
   moves-storing f′ stack′ bodies′ k j w e l x receiver selector room =
-      record { state = withObjects (onTop (at receiver selector) f′ rest) (storeWord o k j w); steps = step-is (a .at) receiver selector room ∙ e receiver selector room; registers = refl; contents = refl; words = x; frames = l }
+      record {
+        state = withObjects (onTop (at receiver selector) f′ rest) (storeWord o k j w);
+        steps = step-is (a .at) receiver selector room
+            ∙ e receiver selector room;
+        registers = refl;
+        contents = refl;
+        words = x;
+        frames = l;
+      }
 
   abbrev right : FrameRight o true f
   right = top-right (a .at .runs)
@@ -99,13 +114,15 @@ module _ {n b top : ℕ} {contents bodies stack : List ℕ} {h : Here} {i : Inst
   pub goes-whole : (q : ℕ) → Does (λ s room. next (onTop s (movedTo f q (f .operands)) rest) noLookup)
       → Moved n b top contents bodies stack bodies (set (set stack (top + 1) q) (top + 2) (h .depth))
   goes-whole q e =
-      goes-on q (h .depth) (omega arith) (λ receiver selector room. e receiver selector room ∙ ap (λ (l : List ℕ). next (onTop (at receiver selector) (movedTo f q l) rest) noLookup) (sym (all-operands (h .depth) refl)))
+      goes-on q (h .depth) (omega arith) (λ receiver selector room. e receiver selector room
+      ∙ ap (λ (l : List ℕ). next (onTop (at receiver selector) (movedTo f q l) rest) noLookup) (sym (all-operands (h .depth) refl)))
 
   -- It moves on without the uppermost operand.
   pub goes-popped : (q : ℕ) → Does (λ s room. next (onTop s (popped f q 1) rest) noLookup)
       → Moved n b top contents bodies stack bodies (set (set stack (top + 1) q) (top + 2) (h .depth - 1))
   goes-popped q e =
-      goes-on q (h .depth - 1) (omega arith) (λ receiver selector room. e receiver selector room ∙ ap (λ (k : ℕ). next (onTop (at receiver selector) (movedTo f q (take (k - 1) (f .operands))) rest) noLookup) depth-of)
+      goes-on q (h .depth - 1) (omega arith) (λ receiver selector room. e receiver selector room
+      ∙ ap (λ (k : ℕ). next (onTop (at receiver selector) (movedTo f q (take (k - 1) (f .operands))) rest) noLookup) depth-of)
 
   -- It moves on with the first k operands, and a word of an object is stored.
   pub goes-storing : (q k v j w : ℕ) (bodies′ : List ℕ) → k ≤ h .depth → Does (λ s room. next (withObjects (onTop s (movedTo f q (take k (f .operands))) rest) (storeWord o v j w)) noLookup)
@@ -121,10 +138,12 @@ module _ {n b top : ℕ} {contents bodies stack : List ℕ} {h : Here} {i : Inst
   goes-temporary q k j w l t e =
       moves (withTemporaries (movedTo f q (take k (f .operands))) (set (f .temporaries) j w)) (set (set (set stack (top + 6 + j) w) (top + 1) q) (top + 2) k) e
       (same-three stack (omega arith) refl refl refl refl refl
-      ∙ sym (temporary-writes o stack top (suc top) f rest (all-right (a .at .runs)) (stood (a .at .runs)) q k j w (let y = depth-of in omega arith) (subst (λ (x : ℕ). j < temporaryCount o x) (sym (method-is (a .at .runs))) t)))
+      ∙ sym (temporary-writes o stack top (suc top) f rest (all-right (a .at .runs)) (stood (a .at .runs)) q k j w (let y = depth-of in omega arith)
+      (subst (λ (x : ℕ). j < temporaryCount o x) (sym (method-is (a .at .runs))) t)))
 
   -- A word in the place of the `taken` uppermost operands
-  room-for : (taken : ℕ) → noteAt (methodTable o (frameMethod stack top)) (h .next) ≡ suc (suc (h .depth - taken)) → temporaryCount o (frameMethod stack top) + (h .depth - taken) < frameWords o (frameMethod stack top)
+  room-for : (taken : ℕ) → noteAt (methodTable o (frameMethod stack top)) (h .next) ≡ suc (suc (h .depth - taken)) → temporaryCount o (frameMethod stack top) +
+      (h .depth - taken) < frameWords o (frameMethod stack top)
   room-for taken e = ltb→lt (temporaryCount o (frameMethod stack top) + (h .depth - taken)) (frameWords o (frameMethod stack top)) (has-word o (frameMethod stack top) (h .next) (h .depth - taken) e)
 
   pub answer-room : (taken : ℕ) → taken ≤ h .depth → noteAt (methodTable o (frameMethod stack top)) (h .next) ≡ suc (suc (h .depth - taken)) → Answers top stack h taken
@@ -141,7 +160,8 @@ module _ {n b top : ℕ} {contents bodies stack : List ℕ} {h : Here} {i : Inst
   unfolding pushed
   answers taken w l e d =
       moves (movedTo f (h .next) (without f taken ++ (w ∷ []))) (answered stack top h taken w)
-      (λ receiver selector room. d receiver selector room ∙ provided-holds (hasWord o f (length (without f taken))) (next (onTop (at receiver selector) (movedTo f (h .next) (without f taken ++ (w ∷ []))) rest) noLookup) has)
+      (λ receiver selector room. d receiver selector room ∙ provided-holds (hasWord o f (length (without f taken)))
+      (next (onTop (at receiver selector) (movedTo f (h .next) (without f taken ++ (w ∷ []))) rest) noLookup) has)
       (same-three stack (let x = first-of in let y = depth-of in omega arith) refl refl refl refl (let y = depth-of in omega arith)
       ∙ sym (pushed-writes o stack top (suc top) f rest (all-right (a .at .runs)) (stood (a .at .runs)) (h .next) (f .depth - taken) w (omega arith) room))
     where
@@ -160,4 +180,5 @@ module _ {n b top : ℕ} {contents bodies stack : List ℕ} {h : Here} {i : Inst
       → Moved n b top contents bodies stack bodies (answered stack top h 0 w)
   pushes w e d =
       answers 0 w (omega arith) e
-      (λ receiver selector room. d receiver selector room ∙ ap (λ (l : List ℕ). pushed (at receiver selector) f rest (h .next) l w noLookup) (sym (all-operands (f .depth - 0) (let y = depth-of in omega arith))))
+      (λ receiver selector room. d receiver selector room ∙ ap (λ (l : List ℕ). pushed (at receiver selector) f rest (h .next) l w noLookup)
+      (sym (all-operands (f .depth - 0) (let y = depth-of in omega arith))))

@@ -117,7 +117,11 @@ module _ {n b top : ℕ} {contents bodies stack : List ℕ} (r : Runs n b top co
       let y = and-right (ltb j (literalCount o m)) (variableFine o (literal o m j)) t in
       let e′ : v ≡ literal o m j = e ∙ ap (λ (z : ℕ). literal o z j) q in
       subst (λ (z : ℕ). HasField n b contents bodies z 1) (sym e′)
-      (record { kinds = and-left (isKind o fieldsKind x) (leb 2 (size o (objectNumber x))) y; below = leb→le 2 (size o (objectNumber x)) (and-right (isKind o fieldsKind x) (leb 2 (size o (objectNumber x))) y) })
+      (record {
+        kinds = and-left (isKind o fieldsKind x) (leb 2 (size o (objectNumber x))) y;
+        below = leb→le 2 (size o (objectNumber x))
+            (and-right (isKind o fieldsKind x) (leb 2 (size o (objectNumber x))) y);
+      })
 
   pub variable-inside : (j v m′ : ℕ) → m′ ≡ m → T (placeFine o m (LiteralVariable j)) → v ≡ literal o m′ j → Inside n b contents bodies v 1
   variable-inside j v m′ q t e = field-inner (variable-field j v m′ q t e)
@@ -198,12 +202,15 @@ module _ {n b top : ℕ} {contents bodies stack : List ℕ} {h : Here} {p : Plac
   stores receiver selector room = go (z .pop) (z .here) (z .after)
     where
       go : (pop : Bool) (a : HereAt n b top contents bodies stack h (storing pop p)) → left ≡ leftBy pop (h .depth)
-          → execute room (runningAt receiver selector n b top contents bodies stack) fₛ restₛ (h .next) (storing pop p) ≡ stored (runningAt receiver selector n b top contents bodies stack) (movedTo fₛ (h .next) (take left (fₛ .operands))) restₛ p top-word
+          → execute room (runningAt receiver selector n b top contents bodies stack) fₛ restₛ (h .next) (storing pop p) ≡ stored
+          (runningAt receiver selector n b top contents bodies stack) (movedTo fₛ (h .next) (take left (fₛ .operands))) restₛ p top-word
       go true a e =
-          ap (λ (x : Option ℕ). x >>= λ w. stored (runningAt receiver selector n b top contents bodies stack) (popped fₛ (h .next) 1) restₛ p w) (operand-is a 0 (h .operands + (h .depth - 1)) store-needs refl)
+          ap (λ (x : Option ℕ). x >>= λ w. stored (runningAt receiver selector n b top contents bodies stack) (popped fₛ (h .next) 1) restₛ p w)
+          (operand-is a 0 (h .operands + (h .depth - 1)) store-needs refl)
           ∙ ap (λ (k : ℕ). stored (runningAt receiver selector n b top contents bodies stack) (movedTo fₛ (h .next) (take k (fₛ .operands))) restₛ p top-word) (one-less a e)
       go false a e =
-          ap (λ (x : Option ℕ). x >>= λ w. stored (runningAt receiver selector n b top contents bodies stack) (movedTo fₛ (h .next) (fₛ .operands)) restₛ p w) (operand-is a 0 (h .operands + (h .depth - 1)) store-needs refl)
+          ap (λ (x : Option ℕ). x >>= λ w. stored (runningAt receiver selector n b top contents bodies stack) (movedTo fₛ (h .next) (fₛ .operands)) restₛ p w)
+          (operand-is a 0 (h .operands + (h .depth - 1)) store-needs refl)
           ∙ ap (λ (l : List ℕ). stored (runningAt receiver selector n b top contents bodies stack) (movedTo fₛ (h .next) l) restₛ p top-word) (sym (all-operands a left e))
 
   -- a word that has the field
@@ -214,4 +221,6 @@ module _ {n b top : ℕ} {contents bodies stack : List ℕ} {h : Here} {p : Plac
   unfolding storedField
   stores-in v j bodies′ q d e =
       goes-storing (z .here) (h .next) left (objectNumber v) j top-word bodies′ store-left
-      (λ receiver selector room. d receiver selector room ∙ ap (λ (x : Option ℕ). x >>= λ old. next (withObjects (onTop (runningAt receiver selector n b top contents bodies stack) (movedTo fₛ (h .next) (take left (fₛ .operands))) restₛ) (storeWord oₛ (objectNumber v) j top-word)) noLookup) (field-is store-runs q)) e
+      (λ receiver selector room. d receiver selector room
+      ∙ ap (λ (x : Option ℕ). x >>= λ old. next (withObjects (onTop (runningAt receiver selector n b top contents bodies stack)
+      (movedTo fₛ (h .next) (take left (fₛ .operands))) restₛ) (storeWord oₛ (objectNumber v) j top-word)) noLookup) (field-is store-runs q)) e

@@ -62,7 +62,8 @@ module _ {n b top : ℕ} {contents bodies stack : List ℕ} {h : Here} {i : Inst
   one-more : List·Memᴰ (h .next) (successors (h .next) i) → leaves i ≡ suc (need i) → noteAt (methodTable o m) (h .next) ≡ suc (suc (h .depth - 0))
   one-more t e = noted (h .next) t ∙ ap suc (let x = needed in omega arith)
 
-  done : (x : Plain → Room → Stepped) → Does a x → (receiver selector : ℕ) (room : Room) → stepAt room receiver selector n b top contents bodies stack ≡ x (runningAt receiver selector n b top contents bodies stack) room
+  done : (x : Plain → Room → Stepped) → Does a x → (receiver selector : ℕ) (room : Room) → stepAt room receiver selector n b top contents bodies stack ≡ x
+      (runningAt receiver selector n b top contents bodies stack) room
   done x d receiver selector room = step-is (a .at) receiver selector room ∙ d receiver selector room
 
 abbrev Returns : ℕ → ℕ → ℕ → List ℕ → List ℕ → List ℕ → ℕ → Type 0
@@ -84,7 +85,9 @@ module _ {n b top : ℕ} {contents bodies stack : List ℕ} {h : Here} where
   unfolding execute successors need leaves
   push-says a w stack′ e q =
       subst (λ (l : List ℕ). Moved n b top contents bodies stack bodies l) (sym q)
-      (pushes a w (one-more a (List·Memᴰ·head refl) refl) (λ receiver selector room. ap (λ (x : Option ℕ). x >>= λ y. pushed (runningAt receiver selector n b top contents bodies stack) (topFrame n b top contents bodies stack) (restFrames n b top contents bodies stack) (h .next) (topFrame n b top contents bodies stack .operands) y noLookup) e))
+      (pushes a w (one-more a (List·Memᴰ·head refl) refl)
+      (λ receiver selector room. ap (λ (x : Option ℕ). x >>= λ y. pushed (runningAt receiver selector n b top contents bodies stack)
+      (topFrame n b top contents bodies stack) (restFrames n b top contents bodies stack) (h .next) (topFrame n b top contents bodies stack .operands) y noLookup) e))
 
   pub self-room : HereAt n b top contents bodies stack h PushSelf → Answers top stack h 0
   unfolding successors need leaves
@@ -95,7 +98,9 @@ module _ {n b top : ℕ} {contents bodies stack : List ℕ} {h : Here} where
   unfolding execute successors need leaves
   self-says a stack′ q =
       subst (λ (l : List ℕ). Moved n b top contents bodies stack bodies l) (sym q)
-      (pushes a (frameReceiver stack top) (one-more a (List·Memᴰ·head refl) refl) (λ receiver selector room. ap (λ (x : ℕ). pushed (runningAt receiver selector n b top contents bodies stack) (topFrame n b top contents bodies stack) (restFrames n b top contents bodies stack) (h .next) (topFrame n b top contents bodies stack .operands) x noLookup) (receiver-is (a .at .runs))))
+      (pushes a (frameReceiver stack top) (one-more a (List·Memᴰ·head refl) refl)
+      (λ receiver selector room. ap (λ (x : ℕ). pushed (runningAt receiver selector n b top contents bodies stack) (topFrame n b top contents bodies stack)
+      (restFrames n b top contents bodies stack) (h .next) (topFrame n b top contents bodies stack .operands) x noLookup) (receiver-is (a .at .runs))))
 
   pub constant-room : {w : ℕ} → HereAt n b top contents bodies stack h (PushConstant w) → Answers top stack h 0
   unfolding successors need leaves
@@ -119,7 +124,10 @@ module _ {n b top : ℕ} {contents bodies stack : List ℕ} {h : Here} where
   unfolding execute successors need leaves
   duplicate-says a stack′ q =
       subst (λ (l : List ℕ). Moved n b top contents bodies stack bodies l) (sym q)
-      (pushes a (getD stack (h .operands + (h .depth - 1)) 0) (one-more a (List·Memᴰ·head refl) refl) (λ receiver selector room. ap (λ (x : Option ℕ). x >>= λ y. pushed (runningAt receiver selector n b top contents bodies stack) (topFrame n b top contents bodies stack) (restFrames n b top contents bodies stack) (h .next) (topFrame n b top contents bodies stack .operands) y noLookup) (operand-is a 0 (h .operands + (h .depth - 1)) (duplicate-needs a) refl)))
+      (pushes a (getD stack (h .operands + (h .depth - 1)) 0) (one-more a (List·Memᴰ·head refl) refl)
+      (λ receiver selector room. ap (λ (x : Option ℕ). x >>= λ y. pushed (runningAt receiver selector n b top contents bodies stack)
+      (topFrame n b top contents bodies stack) (restFrames n b top contents bodies stack) (h .next) (topFrame n b top contents bodies stack .operands) y
+      noLookup) (operand-is a 0 (h .operands + (h .depth - 1)) (duplicate-needs a) refl)))
 
   -- ---- pops and jumps
 
@@ -127,11 +135,14 @@ module _ {n b top : ℕ} {contents bodies stack : List ℕ} {h : Here} where
   unfolding need
   pop-needs a = needed a
 
-  pub pop-says : (a : HereAt n b top contents bodies stack h Pop) (stack′ : List ℕ) → stack′ ≡ set (set stack (top + 1) (h .next)) (top + 2) (h .depth - 1) → Moved n b top contents bodies stack bodies stack′
+  pub pop-says : (a : HereAt n b top contents bodies stack h Pop) (stack′ : List ℕ) → stack′ ≡ set (set stack (top + 1) (h .next)) (top + 2) (h .depth - 1)
+      → Moved n b top contents bodies stack bodies stack′
   unfolding execute
   pop-says a stack′ q =
       subst (λ (l : List ℕ). Moved n b top contents bodies stack bodies l) (sym q)
-      (goes-popped a (h .next) (λ receiver selector room. ap (λ (x : Option ℕ). x >>= λ y. next (onTop (runningAt receiver selector n b top contents bodies stack) (popped (topFrame n b top contents bodies stack) (h .next) 1) (restFrames n b top contents bodies stack)) noLookup) (operand-is a 0 (h .operands + (h .depth - 1)) (pop-needs a) refl)))
+      (goes-popped a (h .next) (λ receiver selector room. ap
+      (λ (x : Option ℕ). x >>= λ y. next (onTop (runningAt receiver selector n b top contents bodies stack) (popped (topFrame n b top contents bodies stack)
+      (h .next) 1) (restFrames n b top contents bodies stack)) noLookup) (operand-is a 0 (h .operands + (h .depth - 1)) (pop-needs a) refl)))
 
   jump-test : {ahead back : ℕ} → HereAt n b top contents bodies stack h (Jump ahead back) → T (leb back (h .next + ahead))
   unfolding usable
@@ -144,9 +155,11 @@ module _ {n b top : ℕ} {contents bodies stack : List ℕ} {h : Here} where
   unfolding successors need leaves
   jump-small {ahead} {back} a =
       noted-small (a .at .runs) (h .next + ahead - back) (h .depth - 0 + 0)
-      (noted a (h .next + ahead - back) (subst (List·Memᴰ (h .next + ahead - back)) (sym (if-yes ((h .next + ahead - back) ∷ []) [] (T→true (leb back (h .next + ahead)) (jump-test a)))) (List·Memᴰ·head refl)))
+      (noted a (h .next + ahead - back) (subst (List·Memᴰ (h .next + ahead - back))
+      (sym (if-yes ((h .next + ahead - back) ∷ []) [] (T→true (leb back (h .next + ahead)) (jump-test a)))) (List·Memᴰ·head refl)))
 
-  pub jump-says : {ahead back : ℕ} (a : HereAt n b top contents bodies stack h (Jump ahead back)) (stack′ : List ℕ) → stack′ ≡ set (set stack (top + 1) (h .next + ahead - back)) (top + 2) (h .depth) → Moved n b top contents bodies stack bodies stack′
+  pub jump-says : {ahead back : ℕ} (a : HereAt n b top contents bodies stack h (Jump ahead back)) (stack′ : List ℕ)
+      → stack′ ≡ set (set stack (top + 1) (h .next + ahead - back)) (top + 2) (h .depth) → Moved n b top contents bodies stack bodies stack′
   unfolding execute
   jump-says {ahead} {back} a stack′ q =
       subst (λ (l : List ℕ). Moved n b top contents bodies stack bodies l) (sym q)
@@ -175,7 +188,8 @@ module _ {n b top : ℕ} {contents bodies stack : List ℕ} {h : Here} where
     unfolding execute jumps
     chooses receiver selector room = ap (λ (x : Option ℕ). x >>= chosen (runningAt receiver selector n b top contents bodies stack)) (operand-is a 0 (h .operands + (h .depth - 1)) on-needs refl)
 
-    pub on-jumps : (w : ℕ) (stack′ : List ℕ) → w ≡ booleanWord condition → tested ≡ w → stack′ ≡ set (set stack (top + 1) (h .next + ahead)) (top + 2) (h .depth - 1) → Moved n b top contents bodies stack bodies stack′
+    pub on-jumps : (w : ℕ) (stack′ : List ℕ) → w ≡ booleanWord condition → tested ≡ w → stack′ ≡ set (set stack (top + 1) (h .next + ahead)) (top + 2)
+        (h .depth - 1) → Moved n b top contents bodies stack bodies stack′
     on-jumps w stack′ e t q =
         subst (λ (l : List ℕ). Moved n b top contents bodies stack bodies l) (sym q)
         (goes-popped a (h .next + ahead) (λ receiver selector room. chooses receiver selector room ∙ if-yes _ _ (eq-eqb tested (booleanWord condition) (t ∙ e))))
@@ -197,14 +211,25 @@ module _ {n b top : ℕ} {contents bodies stack : List ℕ} {h : Here} where
     pub on-halts : (w : ℕ) → w ≡ booleanWord condition → (tested ≡ w → ⊥) → (tested ≡ trueWord → ⊥) → (tested ≡ falseWord → ⊥)
         → Becomes n b top contents bodies stack bodies stack (λ room receiver selector. halts noBoolean)
     on-halts w e t u v =
-        record { words = refl; frames = refl; steps = λ receiver selector room. done a (λ s room. chosen s tested) chooses receiver selector room ∙ if-no _ _ (ne-eqb tested (booleanWord condition) (λ x. t (x ∙ sym e))) ∙ if-no _ _ (ap₂ _||_ (ne-eqb tested trueWord u) (ne-eqb tested falseWord v)) }
+        record {
+          words = refl;
+          frames = refl;
+          steps = λ receiver selector room. done a (λ s room. chosen s tested) chooses receiver selector room
+              ∙ if-no _ _ (ne-eqb tested (booleanWord condition) (λ x. t (x ∙ sym e))) ∙ if-no _ _ (ap₂ _||_ (ne-eqb tested trueWord u) (ne-eqb tested falseWord v));
+        }
 
   -- ---- returns
 
   pub self-returns : HereAt n b top contents bodies stack h ReturnSelf → Returns n b top contents bodies stack (frameReceiver stack top)
   unfolding execute
   self-returns a =
-      record { words = refl; frames = refl; steps = λ receiver selector room. step-is (a .at) receiver selector room ∙ ap (λ (x : ℕ). returned (runningAt receiver selector n b top contents bodies stack) (topFrame n b top contents bodies stack) (restFrames n b top contents bodies stack) x) (receiver-is (a .at .runs)) }
+      record {
+        words = refl;
+        frames = refl;
+        steps = λ receiver selector room. step-is (a .at) receiver selector room
+            ∙ ap (λ (x : ℕ). returned (runningAt receiver selector n b top contents bodies stack) (topFrame n b top contents bodies stack)
+            (restFrames n b top contents bodies stack) x) (receiver-is (a .at .runs));
+      }
 
   pub constant-returns : {w : ℕ} → HereAt n b top contents bodies stack h (ReturnConstant w) → Returns n b top contents bodies stack w
   unfolding execute
@@ -217,7 +242,13 @@ module _ {n b top : ℕ} {contents bodies stack : List ℕ} {h : Here} where
   pub top-returns : HereAt n b top contents bodies stack h ReturnTop → Returns n b top contents bodies stack (getD stack (h .operands + (h .depth - 1)) 0)
   unfolding execute
   top-returns a =
-      record { words = refl; frames = refl; steps = λ receiver selector room. step-is (a .at) receiver selector room ∙ ap (λ (x : Option ℕ). x >>= λ y. returned (runningAt receiver selector n b top contents bodies stack) (topFrame n b top contents bodies stack) (restFrames n b top contents bodies stack) y) (operand-is a 0 (h .operands + (h .depth - 1)) (top-needs a) refl) }
+      record {
+        words = refl;
+        frames = refl;
+        steps = λ receiver selector room. step-is (a .at) receiver selector room
+            ∙ ap (λ (x : Option ℕ). x >>= λ y. returned (runningAt receiver selector n b top contents bodies stack) (topFrame n b top contents bodies stack)
+            (restFrames n b top contents bodies stack) y) (operand-is a 0 (h .operands + (h .depth - 1)) (top-needs a) refl);
+      }
 
   pub unused-never : HereAt n b top contents bodies stack h Unused → ⊥
   unfolding usable

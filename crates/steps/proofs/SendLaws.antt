@@ -82,7 +82,8 @@ module _ {n b top : ℕ} {contents bodies stack : List ℕ} {h : Here} {i : Inst
       operand-is a count (operandsStart o m top + (frameDepth stack top - suc count)) (let y = a .isDepth in omega arith) (let x = a .isOperands in let y = a .isDepth in omega arith)
 
   becomes-send : (from : ℕ → ℕ) (s count class : ℕ) → suc count ≤ frameDepth stack top → class ≡ from (own count)
-      → ((receiver selector : ℕ) (room : Room) → stepAt room receiver selector n b top contents bodies stack ≡ sends room (runningAt receiver selector n b top contents bodies stack) f rest (h .next) from s count)
+      → ((receiver selector : ℕ) (room : Room) → stepAt room receiver selector n b top contents bodies stack ≡ sends room
+      (runningAt receiver selector n b top contents bodies stack) f rest (h .next) from s count)
       → Becomes n b top contents bodies stack bodies stack (λ room receiver selector. sendStep room receiver selector n b top contents bodies stack s count class (h .next))
   unfolding sends
   becomes-send from s count class l c e =
@@ -90,8 +91,10 @@ module _ {n b top : ℕ} {contents bodies stack : List ℕ} {h : Here} {i : Inst
         words = refl;
         frames = refl;
         steps = λ receiver selector room. e receiver selector room
-            ∙ ap (λ (x : Option ℕ). x >>= λ w. afterLookup room (runningAt receiver selector n b top contents bodies stack) (popped f (h .next) (suc count)) rest s (from w) w (drop (f .depth - count) (f .operands)) (lookup o s (from w))) (receiver-found count l)
-            ∙ ap (λ (x : ℕ). afterLookup room (runningAt receiver selector n b top contents bodies stack) (popped f (h .next) (suc count)) rest s x (own count) (drop (f .depth - count) (f .operands)) (lookup o s x)) (sym c);
+            ∙ ap (λ (x : Option ℕ). x >>= λ w. afterLookup room (runningAt receiver selector n b top contents bodies stack) (popped f (h .next) (suc count))
+            rest s (from w) w (drop (f .depth - count) (f .operands)) (lookup o s (from w))) (receiver-found count l)
+            ∙ ap (λ (x : ℕ). afterLookup room (runningAt receiver selector n b top contents bodies stack) (popped f (h .next) (suc count)) rest s x (own count)
+            (drop (f .depth - count) (f .operands)) (lookup o s x)) (sym c);
       }
 
 -- The receiver's class
@@ -108,8 +111,21 @@ module _ {n b top : ℕ} {contents bodies stack : List ℕ} {h : Here} {s count 
   sent-says at class e c =
       let r = z .here .at .runs .right in
       let v = receiver-valid (z .here) count (z .needs) in
-      let k = class-kind r (own (z .here) count) v in
-      (record { runs = z .here .at .runs; needs = z .needs; noted = z .noted; named = selector-named (objectsAt n b contents bodies) s count (z .fine); starts = or-right (eqb class nilWord) (isKind (objectsAt n b contents bodies) classKind class) (subst (λ (x : ℕ). T (isKind (objectsAt n b contents bodies) classKind x)) (sym same) k); takes = selector-takes (objectsAt n b contents bodies) s count (z .fine); homes = λ t m q. subst (λ (x : ℕ). T (inChain (objectsAt n b contents bodies) (home (objectsAt n b contents bodies) m) x)) same (lookup-facts r s class m q .homes) }, becomes-send (z .here) (classOf (objectsAt n b contents bodies)) s count class (z .needs) same (z .steps))
+      let k = class-kind r (own (z .here) count) v in (
+        record {
+          runs = z .here .at .runs;
+          needs = z .needs;
+          noted = z .noted;
+          named = selector-named (objectsAt n b contents bodies) s count (z .fine);
+          starts = or-right (eqb class nilWord) (isKind (objectsAt n b contents bodies) classKind class)
+              (subst (λ (x : ℕ). T (isKind (objectsAt n b contents bodies) classKind x)) (sym same) k);
+          takes = selector-takes (objectsAt n b contents bodies) s count
+              (z .fine);
+          homes = λ t m q. subst (λ (x : ℕ). T (inChain (objectsAt n b contents bodies) (home (objectsAt n b contents bodies) m) x)) same
+              (lookup-facts r s class m q .homes);
+        },
+        becomes-send (z .here) (classOf (objectsAt n b contents bodies)) s count class (z .needs) same (z .steps),
+      )
     where
       same : class ≡ classOf (objectsAt n b contents bodies) (own (z .here) count)
       same = c ∙ ap (classOf (objectsAt n b contents bodies)) (place-of (z .here) count at (z .needs) e)
@@ -117,7 +133,8 @@ module _ {n b top : ℕ} {contents bodies stack : List ℕ} {h : Here} {s count 
 -- ---- literals
 
 module _ {n b top : ℕ} {contents bodies stack : List ℕ} {h : Here} {l k : ℕ} (a : HereAt n b top contents bodies stack h (Send l k)) where
-  send-allowed : T (ltb l (literalCount (objectsAt n b contents bodies) (frameMethod stack top)) && sendFine (objectsAt n b contents bodies) (literal (objectsAt n b contents bodies) (frameMethod stack top) l) k)
+  send-allowed : T (ltb l (literalCount (objectsAt n b contents bodies) (frameMethod stack top)) && sendFine (objectsAt n b contents bodies)
+      (literal (objectsAt n b contents bodies) (frameMethod stack top) l) k)
   unfolding allowed frameAt
   send-allowed = now-is (a .at) .allowed
 
@@ -140,21 +157,27 @@ module _ {n b top : ℕ} {contents bodies stack : List ℕ} {h : Here} {l k : �
         here = a;
         needs = let x = send-needs in let y = a .isDepth in omega arith;
         noted = send-noted ∙ ap suc (let y = a .isDepth in omega arith);
-        fine = subst (λ (x : ℕ). T (sendFine (objectsAt n b contents bodies) x k)) (sym (e ∙ ap (λ (x : ℕ). literal (objectsAt n b contents bodies) x l) (a .isMethod))) (and-right (ltb l (literalCount (objectsAt n b contents bodies) (frameMethod stack top))) _ send-allowed);
+        fine = subst (λ (x : ℕ). T (sendFine (objectsAt n b contents bodies) x k))
+            (sym (e ∙ ap (λ (x : ℕ). literal (objectsAt n b contents bodies) x l) (a .isMethod)))
+            (and-right (ltb l (literalCount (objectsAt n b contents bodies) (frameMethod stack top))) _ send-allowed);
         steps = λ receiver selector room. step-is (a .at) receiver selector room
-            ∙ ap (λ (x : Option ℕ). x >>= λ w. sends room (runningAt receiver selector n b top contents bodies stack) (topFrame n b top contents bodies stack) (restFrames n b top contents bodies stack) (h .next) (classOf (objectsAt n b contents bodies)) w k)
+            ∙ ap (λ (x : Option ℕ). x >>= λ w. sends room (runningAt receiver selector n b top contents bodies stack) (topFrame n b top contents bodies stack)
+            (restFrames n b top contents bodies stack) (h .next) (classOf (objectsAt n b contents bodies)) w k)
             (literal-at (a .at .runs) l s (h .method) (a .isMethod) send-below e);
       }
 
 -- ---- above the home
 
 module _ {n b top : ℕ} {contents bodies stack : List ℕ} {h : Here} {l k : ℕ} (a : HereAt n b top contents bodies stack h (SuperSend l k)) where
-  super-allowed : T (ltb l (literalCount (objectsAt n b contents bodies) (frameMethod stack top)) && sendFine (objectsAt n b contents bodies) (literal (objectsAt n b contents bodies) (frameMethod stack top) l) k)
+  super-allowed : T (ltb l (literalCount (objectsAt n b contents bodies) (frameMethod stack top)) && sendFine (objectsAt n b contents bodies)
+      (literal (objectsAt n b contents bodies) (frameMethod stack top) l) k)
   unfolding allowed frameAt
   super-allowed = now-is (a .at) .allowed
 
   pub super-below : l < literalCount (objectsAt n b contents bodies) (h .method)
-  super-below = subst (λ (x : ℕ). l < literalCount (objectsAt n b contents bodies) x) (sym (a .isMethod)) (ltb→lt l (literalCount (objectsAt n b contents bodies) (frameMethod stack top)) (and-left (ltb l (literalCount (objectsAt n b contents bodies) (frameMethod stack top))) _ super-allowed))
+  super-below = subst (λ (x : ℕ). l < literalCount (objectsAt n b contents bodies) x) (sym (a .isMethod))
+      (ltb→lt l (literalCount (objectsAt n b contents bodies) (frameMethod stack top))
+      (and-left (ltb l (literalCount (objectsAt n b contents bodies) (frameMethod stack top))) _ super-allowed))
 
   pub super-needs : suc k ≤ h .depth
   unfolding need
@@ -172,10 +195,15 @@ module _ {n b top : ℕ} {contents bodies stack : List ℕ} {h : Here} {l k : �
 
   pub holds-home : (c : ℕ) → c ≡ home (objectsAt n b contents bodies) (h .method) → Holds classKind n b contents bodies c
   holds-home c e =
-      record { right = a .at .runs .right; kinds = subst (λ (x : ℕ). T (isKind (objectsAt n b contents bodies) classKind x)) (sym (e ∙ ap (home (objectsAt n b contents bodies)) (a .isMethod))) home-class }
+      record {
+        right = a .at .runs .right;
+        kinds = subst (λ (x : ℕ). T (isKind (objectsAt n b contents bodies) classKind x))
+            (sym (e ∙ ap (home (objectsAt n b contents bodies)) (a .isMethod))) home-class;
+      }
 
   -- the home of what is found is in the chain of the frame's own receiver
-  own-chain : (s class m : ℕ) → class ≡ superclassWord (objectsAt n b contents bodies) (home (objectsAt n b contents bodies) (frameMethod stack top)) → lookup (objectsAt n b contents bodies) s class ≡ found m
+  own-chain : (s class m : ℕ) → class ≡ superclassWord (objectsAt n b contents bodies) (home (objectsAt n b contents bodies) (frameMethod stack top))
+      → lookup (objectsAt n b contents bodies) s class ≡ found m
       → T (inChain (objectsAt n b contents bodies) (home (objectsAt n b contents bodies) m) (classOf (objectsAt n b contents bodies) (frameReceiver stack top)))
   unfolding frameAt
   own-chain s class m c q =
@@ -191,10 +219,27 @@ module _ {n b top : ℕ} {contents bodies stack : List ℕ} {h : Here} {l k : �
       × Becomes n b top contents bodies stack bodies stack (λ room receiver selector. sendStep room receiver selector n b top contents bodies stack s k class (h .next))
   unfolding execute
   super-says at s c class e p q d = (
-    record { runs = a .at .runs; needs = super-depth; noted = super-noted ∙ ap suc (let y = a .isDepth in omega arith); named = selector-named (objectsAt n b contents bodies) s k fine; starts = subst (λ (x : ℕ). T (isNilOr (objectsAt n b contents bodies) classKind x)) (sym same) (class-facts (a .at .runs .right) (home (objectsAt n b contents bodies) (frameMethod stack top)) home-class .superclass); takes = selector-takes (objectsAt n b contents bodies) s k fine; homes = λ t m u. subst (λ (x : ℕ). T (inChain (objectsAt n b contents bodies) (home (objectsAt n b contents bodies) m) (classOf (objectsAt n b contents bodies) x))) (sym (eqb-true (getD stack at 0) (frameReceiver stack top) t) ∙ place-of a k at super-depth e) (own-chain s class m same u) },
-    becomes-send a (λ x. superclassWord (objectsAt n b contents bodies) (home (objectsAt n b contents bodies) (topFrame n b top contents bodies stack .method))) s k class super-depth (same ∙ ap (λ (x : ℕ). superclassWord (objectsAt n b contents bodies) (home (objectsAt n b contents bodies) x)) (sym (method-is (a .at .runs))))
+    record {
+      runs = a .at .runs;
+      needs = super-depth;
+      noted = super-noted ∙ ap suc (let y = a .isDepth in omega arith);
+      named = selector-named
+          (objectsAt n b contents bodies) s k fine;
+      starts = subst (λ (x : ℕ). T (isNilOr (objectsAt n b contents bodies) classKind x)) (sym same)
+          (class-facts (a .at .runs .right) (home (objectsAt n b contents bodies) (frameMethod stack top)) home-class .superclass);
+      takes = selector-takes
+          (objectsAt n b contents bodies) s k fine;
+      homes = λ t m u. subst
+          (λ (x : ℕ). T (inChain (objectsAt n b contents bodies) (home (objectsAt n b contents bodies) m) (classOf (objectsAt n b contents bodies) x)))
+          (sym (eqb-true (getD stack at 0) (frameReceiver stack top) t) ∙ place-of a k at super-depth e) (own-chain s class m same u);
+    },
+    becomes-send a (λ x. superclassWord (objectsAt n b contents bodies)
+        (home (objectsAt n b contents bodies) (topFrame n b top contents bodies stack .method))) s k class super-depth
+        (same ∙ ap (λ (x : ℕ). superclassWord (objectsAt n b contents bodies) (home (objectsAt n b contents bodies) x)) (sym (method-is (a .at .runs))))
         (λ receiver selector room. step-is (a .at) receiver selector room
-        ∙ ap (λ (x : Option ℕ). x >>= λ w. sends room (runningAt receiver selector n b top contents bodies stack) (topFrame n b top contents bodies stack) (restFrames n b top contents bodies stack) (h .next) (λ x. superclassWord (objectsAt n b contents bodies) (home (objectsAt n b contents bodies) (topFrame n b top contents bodies stack .method))) w k)
+        ∙ ap (λ (x : Option ℕ). x >>= λ w. sends room (runningAt receiver selector n b top contents bodies stack) (topFrame n b top contents bodies stack)
+        (restFrames n b top contents bodies stack) (h .next) (λ x. superclassWord (objectsAt n b contents bodies)
+        (home (objectsAt n b contents bodies) (topFrame n b top contents bodies stack .method))) w k)
         (literal-at (a .at .runs) l s (h .method) (a .isMethod) (subst (λ (x : ℕ). l < literalCount (objectsAt n b contents bodies) x) (a .isMethod) super-below) p)),
   )
     where
@@ -202,4 +247,6 @@ module _ {n b top : ℕ} {contents bodies stack : List ℕ} {h : Here} {l k : �
       same = d ∙ ap (superclassWord (objectsAt n b contents bodies)) (q ∙ ap (home (objectsAt n b contents bodies)) (a .isMethod))
 
       fine : T (sendFine (objectsAt n b contents bodies) s k)
-      fine = subst (λ (x : ℕ). T (sendFine (objectsAt n b contents bodies) x k)) (sym (p ∙ ap (λ (x : ℕ). literal (objectsAt n b contents bodies) x l) (a .isMethod))) (and-right (ltb l (literalCount (objectsAt n b contents bodies) (frameMethod stack top))) _ super-allowed)
+      fine = subst (λ (x : ℕ). T (sendFine (objectsAt n b contents bodies) x k))
+          (sym (p ∙ ap (λ (x : ℕ). literal (objectsAt n b contents bodies) x l) (a .isMethod)))
+          (and-right (ltb l (literalCount (objectsAt n b contents bodies) (frameMethod stack top))) _ super-allowed)

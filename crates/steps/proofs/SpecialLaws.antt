@@ -59,7 +59,8 @@ special-counted k h = sym (if-ge k 16 1 _ h)
 
 pub special-fits : (i : ℕ) → i < 16 → getD {A = ℕ} (1 ∷ 2 ∷ 0 ∷ 0 ∷ 1 ∷ 0 ∷ 1 ∷ 0 ∷ 1 ∷ 0 ∷ 1 ∷ 1 ∷ 0 ∷ 1 ∷ 0 ∷ 0 ∷ []) i 0 < 3
 special-fits i h =
-    ltb→lt (getD {A = ℕ} (1 ∷ 2 ∷ 0 ∷ 0 ∷ 1 ∷ 0 ∷ 1 ∷ 0 ∷ 1 ∷ 0 ∷ 1 ∷ 1 ∷ 0 ∷ 1 ∷ 0 ∷ 0 ∷ []) i 0) 3 (below-at 16 (λ j. ltb (getD {A = ℕ} (1 ∷ 2 ∷ 0 ∷ 0 ∷ 1 ∷ 0 ∷ 1 ∷ 0 ∷ 1 ∷ 0 ∷ 1 ∷ 1 ∷ 0 ∷ 1 ∷ 0 ∷ 0 ∷ []) j 0) 3) tt i h)
+    ltb→lt (getD {A = ℕ} (1 ∷ 2 ∷ 0 ∷ 0 ∷ 1 ∷ 0 ∷ 1 ∷ 0 ∷ 1 ∷ 0 ∷ 1 ∷ 1 ∷ 0 ∷ 1 ∷ 0 ∷ 0 ∷ []) i 0) 3
+    (below-at 16 (λ j. ltb (getD {A = ℕ} (1 ∷ 2 ∷ 0 ∷ 0 ∷ 1 ∷ 0 ∷ 1 ∷ 0 ∷ 1 ∷ 0 ∷ 1 ∷ 1 ∷ 0 ∷ 1 ∷ 0 ∷ 0 ∷ []) j 0) 3) tt i h)
 
 module _ {n b top : ℕ} {contents bodies stack : List ℕ} {h : Here} {k : ℕ} (a : HereAt n b top contents bodies stack h (SpecialSend k)) where
   abbrev o : Objects
@@ -113,7 +114,8 @@ module _ {n b top : ℕ} {contents bodies stack : List ℕ} {h : Here} {k : ℕ}
         here = a;
         needs = let x = special-depth in let y = a .isDepth in omega arith;
         noted = noted-as count (sym c) ∙ ap (λ (x : ℕ). suc (suc (x - suc count))) (a .isDepth);
-        fine = subst (λ (x : ℕ). T (sendFine o x count)) (sym e) (subst (λ (x : ℕ). T (sendFine o (specialSelector o k) x)) (sym c) (neither (isSame k) (isClass k) (sendFine o (specialSelector o k) (specialCount k)) (ne-eqb k 22 p) (ne-eqb k 23 q) rule-of));
+        fine = subst (λ (x : ℕ). T (sendFine o x count)) (sym e) (subst (λ (x : ℕ). T (sendFine o (specialSelector o k) x)) (sym c)
+            (neither (isSame k) (isClass k) (sendFine o (specialSelector o k) (specialCount k)) (ne-eqb k 22 p) (ne-eqb k 23 q) rule-of));
         steps = λ receiver selector room. step-is (a .at) receiver selector room ∙ d receiver selector room
             ∙ ap (λ (x : ℕ). sends room (at receiver selector) f rest (h .next) (classOf o) x (specialCount k)) (sym e)
             ∙ ap (λ (x : ℕ). sends room (at receiver selector) f rest (h .next) (classOf o) s x) (sym c);
@@ -148,8 +150,10 @@ module _ {n b top : ℕ} {contents bodies stack : List ℕ} {h : Here} {k : ℕ}
     unfolding execute specialSends arithmeticSends
     computes t x e d receiver selector room =
         if-lt k 16 _ _ small
-        ∙ both arithmetic-two (λ u v. orSends (arithmetic (triedPrimitive k) u v) (λ w. pushed (at receiver selector) f rest (h .next) (without f 2) w noLookup) (sends room (at receiver selector) f rest (h .next) (classOf o) (specialSelector o k) 1))
-        ∙ ap (λ (y : Computed). orSends y (λ w. pushed (at receiver selector) f rest (h .next) (without f 2) w noLookup) (sends room (at receiver selector) f rest (h .next) (classOf o) (specialSelector o k) 1)) (sym (d ∙ ap (λ (y : ℕ). arithmetic y under last) e))
+        ∙ both arithmetic-two (λ u v. orSends (arithmetic (triedPrimitive k) u v) (λ w. pushed (at receiver selector) f rest (h .next) (without f 2) w
+        noLookup) (sends room (at receiver selector) f rest (h .next) (classOf o) (specialSelector o k) 1))
+        ∙ ap (λ (y : Computed). orSends y (λ w. pushed (at receiver selector) f rest (h .next) (without f 2) w noLookup)
+        (sends room (at receiver selector) f rest (h .next) (classOf o) (specialSelector o k) 1)) (sym (d ∙ ap (λ (y : ℕ). arithmetic y under last) e))
 
     pub arithmetic-says : (t w : ℕ) (x : Computed) (stack′ : List ℕ) → t ≡ triedPrimitive k → x ≡ arithmetic t under last → x ≡ Word w
         → stack′ ≡ answered stack top h 2 w → Moved n b top contents bodies stack bodies stack′
@@ -160,7 +164,8 @@ module _ {n b top : ℕ} {contents bodies stack : List ℕ} {h : Here} {k : ℕ}
     pub arithmetic-sends : (t s : ℕ) (x : Computed) → t ≡ triedPrimitive k → x ≡ arithmetic t under last → x ≡ Failed → s ≡ specialSelector o k → SendsAt n b top contents bodies stack h s 1
     arithmetic-sends t s x e d g q =
         sent-when s 1 q (sym (special-one k small)) (λ y. omega arith) (λ y. omega arith)
-        (λ receiver selector room. computes t Failed e (sym g ∙ d) receiver selector room ∙ ap (λ (c : ℕ). sends room (at receiver selector) f rest (h .next) (classOf o) (specialSelector o k) c) (sym (special-one k small)))
+        (λ receiver selector room. computes t Failed e (sym g ∙ d) receiver selector room ∙ ap (λ (c : ℕ). sends room (at receiver selector) f rest (h .next)
+        (classOf o) (specialSelector o k) c) (sym (special-one k small)))
 
   -- 198
   module _ (same : k ≡ 22) where
@@ -179,7 +184,8 @@ module _ {n b top : ℕ} {contents bodies stack : List ℕ} {h : Here} {k : ℕ}
     same-says w stack′ e q =
         subst (λ (l : List ℕ). Moved n b top contents bodies stack bodies l) (sym q)
         (answers a 2 w same-two same-noted
-        (λ receiver selector room. if-ge k 16 _ _ (omega arith) ∙ if-yes _ _ (eq-eqb k 22 same) ∙ both same-two (λ u v. pushed (at receiver selector) f rest (h .next) (without f 2) (booleanWord (eqb u v)) noLookup) ∙ ap (λ (x : ℕ). pushed (at receiver selector) f rest (h .next) (without f 2) x noLookup) (sym e)))
+        (λ receiver selector room. if-ge k 16 _ _ (omega arith) ∙ if-yes _ _ (eq-eqb k 22 same) ∙ both same-two (λ u v. pushed (at receiver selector) f rest
+        (h .next) (without f 2) (booleanWord (eqb u v)) noLookup) ∙ ap (λ (x : ℕ). pushed (at receiver selector) f rest (h .next) (without f 2) x noLookup) (sym e)))
 
   -- 199
   module _ (class : k ≡ 23) where

@@ -37,14 +37,16 @@ objects-positive e o receiver selector =
     let seven = unless (rule7 e o) 7 then eight in
     let six = unless (rule6 e o) 6 then seven in
     let five = unless (rule5 e o) 5 then six in
-    step (rule4 e o) 4 five (omega arith) (step (rule5 e o) 5 six (omega arith) (step (rule6 e o) 6 seven (omega arith) (step (rule7 e o) 7 eight (omega arith) (last (rule8 o receiver selector []) 8 (omega arith)))))
+    step (rule4 e o) 4 five (omega arith) (step (rule5 e o) 5 six (omega arith)
+    (step (rule6 e o) 6 seven (omega arith) (step (rule7 e o) 7 eight (omega arith) (last (rule8 o receiver selector []) 8 (omega arith)))))
 
 positive : (room : Room) (image : List ℕ) → Positive (loadVerdict room image)
 unfolding loadVerdict objectsVerdict
 positive room image =
     let h = imageHeader image in
     let o = imageObjects image in
-    step (lengthFine image) 1 (unless (headerFine (h .edition) (h .n) (h .b)) 2 then (unless (buffersFine room (h .n) (h .b)) 3 then objectsVerdict (h .edition) o (h .receiver) (h .selector))) (omega arith)
+    step (lengthFine image) 1 (unless (headerFine (h .edition) (h .n) (h .b)) 2 then (unless (buffersFine room (h .n) (h .b)) 3 then objectsVerdict
+    (h .edition) o (h .receiver) (h .selector))) (omega arith)
     (step (headerFine (h .edition) (h .n) (h .b)) 2 (unless (buffersFine room (h .n) (h .b)) 3 then objectsVerdict (h .edition) o (h .receiver) (h .selector)) (omega arith)
     (step (buffersFine room (h .n) (h .b)) 3 (objectsVerdict (h .edition) o (h .receiver) (h .selector)) (omega arith) (objects-positive (h .edition) o (h .receiver) (h .selector))))
 
@@ -68,7 +70,8 @@ module _ (room : Room) (image contents bodies contents′ bodies′ : List ℕ) 
   by-number : k ≡ numberOf (loadVerdict room image)
   by-number = ap (λ (s : Stored). s .number) e ∙ stored-number (loadVerdict room image) image contents bodies
 
-  pub reading-refused : (k ≡ 0 → ⊥) → (Refused k ≡ readingOf (loadVerdict room image) (imageHeader image)) × (stored (readingNumber (Refused k)) contents′ bodies′ ≡ storedBy (loadVerdict room image) image contents bodies)
+  pub reading-refused : (k ≡ 0 → ⊥) → (Refused k ≡ readingOf (loadVerdict room image) (imageHeader image))
+      × (stored (readingNumber (Refused k)) contents′ bodies′ ≡ storedBy (loadVerdict room image) image contents bodies)
   unfolding readingNumber
   reading-refused z = (number-refused (loadVerdict room image) (imageHeader image) k by-number z, e)
 

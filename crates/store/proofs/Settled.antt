@@ -53,7 +53,8 @@ module _ (image : List ℕ) (n b : ℕ) (contents bodies : List ℕ) (passed : P
           → contents″ ≡ replicate (entryWords * n) 0 ++ drop (entryWords * n) contents′ → bodies″ ≡ replicate b 0 ++ drop b bodies′
           → stored k contents″ bodies″ ≡ storedBy (objectsVerdict 1 (imageObjects image) receiver selector) image contents bodies
       settled-no k contents″ bodies″ e nonzero p q =
-          stored-eq refl (p ∙ ap (λ (l : List ℕ). replicate (entryWords * n) 0 ++ l) (ap (drop (entryWords * n)) c ∙ drop-at (imageObjects image .contents) (drop (entryWords * n) contents) (entryWords * n) entries))
+          stored-eq refl (p ∙ ap (λ (l : List ℕ). replicate (entryWords * n) 0 ++ l) (ap (drop (entryWords * n)) c ∙ drop-at (imageObjects image .contents)
+          (drop (entryWords * n) contents) (entryWords * n) entries))
           (q ∙ ap (λ (l : List ℕ). replicate b 0 ++ l) (ap (drop b) d ∙ drop-at (imageObjects image .bodies) (drop b bodies) b words))
           ∙ sym (undone (objectsVerdict 1 (imageObjects image) receiver selector) k image contents bodies (late 1 (imageObjects image) receiver selector) (e ∙ ap numberOf same) nonzero
           ∙ ap₂ (λ (x y : ℕ). inFront k x y (replicate (entryWords * x) 0) (replicate y 0) contents bodies) (passed .objects) (passed .words))

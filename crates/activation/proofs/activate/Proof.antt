@@ -22,7 +22,10 @@ same-length-2 : tie.Need-same-length-2
 same-length-2 c = search needs
 
 returns : tie.Need-returns
-returns c = λ arguments p q room s t. answers-same (c .before .before .before .before .before .before .before .pre) _ _ (by-receiver (c .before .before .before .before .before .before .before .pre) room arguments _ (c .before .flag .ensures ∙ ap flagOf (c .before .before .header .ensures)) (c .if1 .taken))
+returns c =
+    let at-start = c .before .before .before .before .before .before .before in
+    λ arguments p q room s t. answers-same (at-start .pre) _ _ (by-receiver (at-start .pre) room arguments _ (c .before .flag .ensures
+    ∙ ap flagOf (c .before .before .header .ensures)) (c .if1 .taken))
 
 temporary-count-requires : tie.Need-temporary-count-requires
 temporary-count-requires c κs = search needs
@@ -37,10 +40,26 @@ same-length-4 : tie.Need-same-length-4
 same-length-4 c = search needs
 
 returns-2 : tie.Need-returns-2
-returns-2 c = λ arguments p q room s t. record { leads = no-fields (c .before .before .before .before .before .before .before .before .before .before .before .before .pre) room arguments _ (c .before .before .before .before .before .before .flag .ensures ∙ ap flagOf (c .before .before .before .before .before .before .before .header .ensures)) (c .before .before .before .before .if2 .taken) (sym (c .before .is-kind .ensures (c .before .before .before .before .before .before .before .before .before .before .before .before .args .b) (c .before .before .before .before .before .before .before .before .before .before .before .before .args .bodies .now)) ∙ not-true _ (c .if3 .taken)); entries = refl; words = refl }
+returns-2 c =
+    let at-if2 = c .before .before .before .before in
+    let at-flag = at-if2 .before .before in
+    let at-header = at-flag .before in
+    let at-start = at-header .before .before .before .before .before in
+    λ arguments p q room s t. record {
+      leads = no-fields (at-start .pre) room arguments _ (at-flag .flag .ensures ∙ ap flagOf (at-header .header .ensures))
+          (at-if2 .if2 .taken) (sym (c .before .is-kind .ensures (at-start .args .b) (at-start .args .bodies .now)) ∙ not-true _ (c .if3 .taken));
+      entries = refl;
+      words = refl;
+    }
 
 size-of-requires : tie.Need-size-of-requires
-size-of-requires c κs = holds-listed (record { right = (c .before .before .before .before .before .before .before .before .before .before .before .before .before .pre .right); kinds = true→T (sym (c .before .before .is-kind .ensures (c .before .before .before .before .before .before .before .before .before .before .before .before .before .args .b) (c .before .before .before .before .before .before .before .before .before .before .before .before .before .args .bodies .now)) ∙ not-false _ (c .before .if3 .left)) })
+size-of-requires c κs =
+    let at-start = c .before .before .before .before .before .before .before .before .before .before .before .before .before in
+    holds-listed (record {
+      right = (at-start .pre .right);
+      kinds = true→T
+          (sym (c .before .before .is-kind .ensures (at-start .args .b) (at-start .args .bodies .now)) ∙ not-false _ (c .before .if3 .left));
+    })
 
 same-length-5 : tie.Need-same-length-5
 same-length-5 c = search needs
@@ -49,10 +68,33 @@ same-length-6 : tie.Need-same-length-6
 same-length-6 c = search needs
 
 returns-3 : tie.Need-returns-3
-returns-3 c = λ arguments p q room s t. record { leads = no-field (c .before .before .before .before .before .before .before .before .before .before .before .before .before .before .before .pre) room arguments _ (c .before .before .before .before .before .before .before .before .before .flag .ensures ∙ ap flagOf (c .before .before .before .before .before .before .before .before .before .before .header .ensures)) (c .before .before .before .before .before .before .before .if2 .taken) (sym (c .before .before .before .before .is-kind .ensures (c .before .before .before .before .before .before .before .before .before .before .before .before .before .before .before .args .b) (c .before .before .before .before .before .before .before .before .before .before .before .before .before .before .before .args .bodies .now)) ∙ not-false _ (c .before .before .before .if3 .left)) (let i = c .before .before .before .before .before .before .temporary-count .ensures ∙ ap temporariesOf (c .before .before .before .before .before .before .before .before .before .before .header .ensures) in let z = c .before .size-of .ensures in let l = c .if4 .taken in omega arith); entries = refl; words = refl }
+returns-3 c =
+    let at-is-kind = c .before .before .before .before in
+    let at-temporary-count = at-is-kind .before .before in
+    let at-if2 = at-temporary-count .before in
+    let at-flag = at-if2 .before .before in
+    let at-header = at-flag .before in
+    let at-start = at-header .before .before .before .before .before in
+    λ arguments p q room s t. record {
+      leads = no-field (at-start .pre) room arguments _ (at-flag .flag .ensures ∙ ap flagOf (at-header .header .ensures))
+          (at-if2 .if2 .taken) (sym (at-is-kind .is-kind .ensures (at-start .args .b) (at-start .args .bodies .now))
+          ∙ not-false _ (c .before .before .before .if3 .left)) (let i = at-temporary-count .temporary-count .ensures
+          ∙ ap temporariesOf (at-header .header .ensures) in let z = c .before .size-of .ensures in let l = c .if4 .taken in omega arith);
+      entries = refl;
+      words = refl;
+    }
 
 word-of-requires : tie.Need-word-of-requires
-word-of-requires c κs = field-inside _ (let z = c .before .before .before .size-of .ensures in let l = c .before .before .if4 .left in omega arith) (record { right = (c .before .before .before .before .before .before .before .before .before .before .before .before .before .before .before .before .before .pre .right); kinds = true→T (sym (c .before .before .before .before .before .before .is-kind .ensures (c .before .before .before .before .before .before .before .before .before .before .before .before .before .before .before .before .before .args .b) (c .before .before .before .before .before .before .before .before .before .before .before .before .before .before .before .before .before .args .bodies .now)) ∙ not-false _ (c .before .before .before .before .before .if3 .left)) })
+word-of-requires c κs =
+    let at-if3 = c .before .before .before .before .before in
+    let at-is-kind = at-if3 .before in
+    let at-start = at-is-kind .before .before .before .before .before .before .before .before .before .before .before in
+    field-inside _ (let z = c .before .before .before .size-of .ensures in let l = c .before .before .if4 .left in omega arith)
+    (record {
+      right = (at-start .pre .right);
+      kinds = true→T (sym (at-is-kind .is-kind .ensures (at-start .args .b) (at-start .args .bodies .now))
+          ∙ not-false _ (at-if3 .if3 .left));
+    })
 
 same-length-7 : tie.Need-same-length-7
 same-length-7 c = search needs
@@ -61,7 +103,20 @@ same-length-8 : tie.Need-same-length-8
 same-length-8 c = search needs
 
 returns-4 : tie.Need-returns-4
-returns-4 c = λ arguments p q room s t. answers-same (c .before .before .before .before .before .before .before .before .before .before .before .before .before .before .before .before .before .before .pre) _ _ (the-field (c .before .before .before .before .before .before .before .before .before .before .before .before .before .before .before .before .before .before .pre) room arguments _ (c .before .before .before .before .before .before .before .before .before .before .before .before .flag .ensures ∙ ap flagOf (c .before .before .before .before .before .before .before .before .before .before .before .before .before .header .ensures)) (c .before .before .before .before .before .before .before .before .before .before .if2 .taken) (sym (c .before .before .before .before .before .before .before .is-kind .ensures (c .before .before .before .before .before .before .before .before .before .before .before .before .before .before .before .before .before .before .args .b) (c .before .before .before .before .before .before .before .before .before .before .before .before .before .before .before .before .before .before .args .bodies .now)) ∙ not-false _ (c .before .before .before .before .before .before .if3 .left)) _ (c .before .before .before .before .before .before .before .before .before .temporary-count .ensures ∙ ap temporariesOf (c .before .before .before .before .before .before .before .before .before .before .before .before .before .header .ensures)) _ (c .word-of .ensures) (let i = c .before .before .before .before .before .before .before .before .before .temporary-count .ensures ∙ ap temporariesOf (c .before .before .before .before .before .before .before .before .before .before .before .before .before .header .ensures) in let z = c .before .before .before .before .size-of .ensures in let l = c .before .before .before .if4 .left in omega arith))
+returns-4 c =
+    let at-size-of = c .before .before .before .before in
+    let at-if3 = at-size-of .before .before in
+    let at-is-kind = at-if3 .before in
+    let at-temporary-count = at-is-kind .before .before in
+    let at-if2 = at-temporary-count .before in
+    let at-flag = at-if2 .before .before in
+    let at-header = at-flag .before in
+    let at-start = at-header .before .before .before .before .before in
+    λ arguments p q room s t. answers-same (at-start .pre) _ _ (the-field (at-start .pre) room arguments _ (at-flag .flag .ensures
+    ∙ ap flagOf (at-header .header .ensures)) (at-if2 .if2 .taken) (sym (at-is-kind .is-kind .ensures (at-start .args .b) (at-start .args .bodies .now))
+    ∙ not-false _ (at-if3 .if3 .left)) _ (at-temporary-count .temporary-count .ensures ∙ ap temporariesOf (at-header .header .ensures)) _ (c .word-of .ensures)
+    (let i = at-temporary-count .temporary-count .ensures ∙ ap temporariesOf (at-header .header .ensures) in let z = at-size-of .size-of .ensures in let l =
+    c .before .before .before .if4 .left in omega arith))
 
 same-length-9 : tie.Need-same-length-9
 same-length-9 c = search needs
@@ -70,16 +125,31 @@ same-length-10 : tie.Need-same-length-10
 same-length-10 c = search needs
 
 returns-5 : tie.Need-returns-5
-returns-5 c = λ arguments p q room s t. record { leads = by-code (c .before .before .before .before .before .before .before .before .before .pre) room arguments _ (c .before .before .before .flag .ensures ∙ ap flagOf (c .before .before .before .before .header .ensures)) (c .before .before .if1 .left) (c .before .if2 .left) (c .if5 .taken); entries = refl; words = refl }
+returns-5 c =
+    let at-flag = c .before .before .before in
+    let at-header = at-flag .before in
+    let at-start = at-header .before .before .before .before .before in
+    λ arguments p q room s t. record {
+      leads = by-code (at-start .pre) room arguments _ (at-flag .flag .ensures ∙ ap flagOf (at-header .header .ensures))
+          (c .before .before .if1 .left) (c .before .if2 .left) (c .if5 .taken);
+      entries = refl;
+      words = refl;
+    }
 
 primitive-number-requires : tie.Need-primitive-number-requires
-primitive-number-requires c κs = (holds-method (c .before .before .before .before .before .before .before .before .before .before .before .pre), sym (c .before .before .before .before .before .flag .ensures ∙ ap flagOf (c .before .before .before .before .before .before .header .ensures)) ∙ c .before .before .if5 .left)
+primitive-number-requires c κs =
+    let at-flag = c .before .before .before .before .before in
+    let at-header = at-flag .before in
+    let at-start = at-header .before .before .before .before .before in
+    (holds-method (at-start .pre), sym (at-flag .flag .ensures ∙ ap flagOf (at-header .header .ensures)) ∙ c .before .before .if5 .left)
 
 argument-count-requires : tie.Need-argument-count-requires
 argument-count-requires c κs = holds-method (c .before .before .before .before .before .before .before .before .before .before .before .before .before .before .pre)
 
 perform-requires : tie.Need-perform-requires
-perform-requires c κs = record { right = (c .before .before .before .before .before .before .before .before .before .before .before .before .before .before .before .before .before .pre .right); valid = (c .before .before .before .before .before .before .before .before .before .before .before .before .before .before .before .before .before .pre .valid) }
+perform-requires c κs =
+    let at-start = c .before .before .before .before .before .before .before .before .before .before .before .before .before .before .before .before .before in
+    record { right = (at-start .pre .right); valid = (at-start .pre .valid) }
 
 enum-known-answer : tie.Need-enum-known-answer
 enum-known-answer c = search needs
@@ -94,7 +164,19 @@ same-length-12 : tie.Need-same-length-12
 same-length-12 c = search needs
 
 returns-6 : tie.Need-returns-6
-returns-6 c = λ arguments p q room s t. primitive-word (c .before .before .before .before .before .before .before .before .before .before .before .before .before .before .before .before .before .before .before .before .before .before .before .before .before .pre) room arguments _ (c .before .before .before .before .before .before .before .before .before .before .before .before .before .before .before .before .before .before .before .flag .ensures ∙ ap flagOf (c .before .before .before .before .before .before .before .before .before .before .before .before .before .before .before .before .before .before .before .before .header .ensures)) (c .before .before .before .before .before .before .before .before .before .before .before .before .before .before .before .before .before .before .if1 .left) (c .before .before .before .before .before .before .before .before .before .before .before .before .before .before .before .before .before .if2 .left) (c .before .before .before .before .before .before .before .before .before .before .before .before .before .before .before .before .if5 .left) s t _ _ _ (performed (c .before .before .before .before .before .before .before .before .before .before .before .before .before .before .before .before .before .before .before .before .before .before .before .before .before .pre) arguments (c .before .before .before .before .before .before .before .before .before .before .before .before .before .primitive-number .ensures) (c .before .before .before .before .before .before .before .before .before .before .argument-count .ensures) p q (c .before .before .before .before .before .before .before .perform .ensures)) _ (c .before .answer .given .1)
+returns-6 c =
+    let at-perform = c .before .before .before .before .before .before .before in
+    let at-argument-count = at-perform .before .before .before in
+    let at-primitive-number = at-argument-count .before .before .before in
+    let at-if5 = at-primitive-number .before .before .before in
+    let at-if2 = at-if5 .before in
+    let at-if1 = at-if2 .before in
+    let at-flag = at-if1 .before in
+    let at-header = at-flag .before in
+    let at-start = at-header .before .before .before .before .before in
+    λ arguments p q room s t. primitive-word (at-start .pre) room arguments _ (at-flag .flag .ensures ∙ ap flagOf (at-header .header .ensures))
+    (at-if1 .if1 .left) (at-if2 .if2 .left) (at-if5 .if5 .left) s t _ _ _ (performed (at-start .pre) arguments (at-primitive-number .primitive-number .ensures)
+    (at-argument-count .argument-count .ensures) p q (at-perform .perform .ensures)) _ (c .before .answer .given .1)
 
 same-length-13 : tie.Need-same-length-13
 same-length-13 c = search needs
@@ -103,7 +185,19 @@ same-length-14 : tie.Need-same-length-14
 same-length-14 c = search needs
 
 returns-7 : tie.Need-returns-7
-returns-7 c = λ arguments p q room s t. primitive-failed (c .before .before .before .before .before .before .before .before .before .before .before .before .before .before .before .before .before .before .before .before .before .before .before .before .pre) room arguments _ (c .before .before .before .before .before .before .before .before .before .before .before .before .before .before .before .before .before .before .flag .ensures ∙ ap flagOf (c .before .before .before .before .before .before .before .before .before .before .before .before .before .before .before .before .before .before .before .header .ensures)) (c .before .before .before .before .before .before .before .before .before .before .before .before .before .before .before .before .before .if1 .left) (c .before .before .before .before .before .before .before .before .before .before .before .before .before .before .before .before .if2 .left) (c .before .before .before .before .before .before .before .before .before .before .before .before .before .before .before .if5 .left) s t _ _ _ (performed (c .before .before .before .before .before .before .before .before .before .before .before .before .before .before .before .before .before .before .before .before .before .before .before .before .pre) arguments (c .before .before .before .before .before .before .before .before .before .before .before .before .primitive-number .ensures) (c .before .before .before .before .before .before .before .before .before .argument-count .ensures) p q (c .before .before .before .before .before .before .perform .ensures)) (c .enum-told .given .1)
+returns-7 c =
+    let at-perform = c .before .before .before .before .before .before in
+    let at-argument-count = at-perform .before .before .before in
+    let at-primitive-number = at-argument-count .before .before .before in
+    let at-if5 = at-primitive-number .before .before .before in
+    let at-if2 = at-if5 .before in
+    let at-if1 = at-if2 .before in
+    let at-flag = at-if1 .before in
+    let at-header = at-flag .before in
+    let at-start = at-header .before .before .before .before .before in
+    λ arguments p q room s t. primitive-failed (at-start .pre) room arguments _ (at-flag .flag .ensures ∙ ap flagOf (at-header .header .ensures))
+    (at-if1 .if1 .left) (at-if2 .if2 .left) (at-if5 .if5 .left) s t _ _ _ (performed (at-start .pre) arguments (at-primitive-number .primitive-number .ensures)
+    (at-argument-count .argument-count .ensures) p q (at-perform .perform .ensures)) (c .enum-told .given .1)
 
 pub activate-spec : {M : Type 1} → statement M
 activate-spec =

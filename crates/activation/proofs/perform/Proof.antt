@@ -13,7 +13,11 @@ is-arithmetic-requires : tie.Need-is-arithmetic-requires
 is-arithmetic-requires c κs = search needs
 
 primitive-requires : tie.Need-primitive-requires
-primitive-requires c κs = ((c .before .before .before .before .before .before .pre), not-arithmetic _ _ (c .before .before .before .is-arithmetic .ensures) (not-true _ (c .before .before .if1 .taken)))
+primitive-requires c κs = (
+  (c .before .before .before .before .before .before .pre),
+  not-arithmetic _ _ (c .before .before .before .is-arithmetic .ensures)
+      (not-true _ (c .before .before .if1 .taken)),
+)
 
 same-length : tie.Need-same-length
 same-length c = search needs
@@ -25,7 +29,12 @@ returns : tie.Need-returns
 returns c = search needs
 
 returns-2 : tie.Need-returns-2
-returns-2 c = does-none (c .before .before .before .before .before .args .n) (c .before .before .before .before .before .args .b) (c .before .before .before .before .before .args .contents .now) (c .before .before .before .before .before .args .bodies .now) (c .before .before .before .before .before .pre .right) (arithmetic-other (roomOf (c .before .before .before .before .before .args .contents .now) (c .before .before .before .before .before .args .bodies .now)) (objectsAt (c .before .before .before .before .before .args .n) (c .before .before .before .before .before .args .b) (c .before .before .before .before .before .args .contents .now) (c .before .before .before .before .before .args .bodies .now)) (c .before .before .before .before .before .args .k) (c .before .before .before .before .before .args .count) (c .before .before .before .before .before .args .w) (c .before .before .before .before .before .args .x) (c .before .before .before .before .before .args .y) (arithmetic-range _ _ (c .before .before .is-arithmetic .ensures) (not-false _ (c .before .if1 .left))) (c .if2 .taken))
+returns-2 c =
+    let at-start = c .before .before .before .before .before in
+    let args = at-start .args in
+    does-none (args .n) (args .b) (args .contents .now) (args .bodies .now) (at-start .pre .right)
+    (arithmetic-other (roomOf (args .contents .now) (args .bodies .now)) (objectsAt (args .n) (args .b) (args .contents .now) (args .bodies .now)) (args .k)
+    (args .count) (args .w) (args .x) (args .y) (arithmetic-range _ _ (c .before .before .is-arithmetic .ensures) (not-false _ (c .before .if1 .left))) (c .if2 .taken))
 
 cast-compute : tie.Need-cast-compute
 cast-compute c = let r = arithmetic-range (c .before .before .before .before .before .args .k) _ (c .before .before .is-arithmetic .ensures) (not-false _ (c .before .if1 .left)) in omega arith
@@ -34,7 +43,13 @@ compute-requires : tie.Need-compute-requires
 compute-requires c κs = search needs
 
 returns-3 : tie.Need-returns-3
-returns-3 c = does-computed (c .before .before .before .before .before .before .args .n) (c .before .before .before .before .before .before .args .b) (c .before .before .before .before .before .before .args .contents .now) (c .before .before .before .before .before .before .args .bodies .now) (c .compute .result) (c .before .before .before .before .before .before .pre .right) (arithmetic-is (roomOf (c .before .before .before .before .before .before .args .contents .now) (c .before .before .before .before .before .before .args .bodies .now)) (objectsAt (c .before .before .before .before .before .before .args .n) (c .before .before .before .before .before .before .args .b) (c .before .before .before .before .before .before .args .contents .now) (c .before .before .before .before .before .before .args .bodies .now)) (c .before .before .before .before .before .before .args .k) (c .before .before .before .before .before .before .args .count) (c .before .before .before .before .before .before .args .w) (c .before .before .before .before .before .before .args .x) (c .before .before .before .before .before .before .args .y) (c .compute .result) (arithmetic-range _ _ (c .before .before .before .is-arithmetic .ensures) (not-false _ (c .before .before .if1 .left))) (c .before .if2 .left) (c .compute .ensures))
+returns-3 c =
+    let at-start = c .before .before .before .before .before .before in
+    let args = at-start .args in
+    does-computed (args .n) (args .b) (args .contents .now) (args .bodies .now) (c .compute .result) (at-start .pre .right)
+    (arithmetic-is (roomOf (args .contents .now) (args .bodies .now)) (objectsAt (args .n) (args .b) (args .contents .now) (args .bodies .now)) (args .k)
+    (args .count) (args .w) (args .x) (args .y) (c .compute .result) (arithmetic-range _ _ (c .before .before .before .is-arithmetic .ensures)
+    (not-false _ (c .before .before .if1 .left))) (c .before .if2 .left) (c .compute .ensures))
 
 pub perform-spec : {M : Type 1} → statement M
 perform-spec =

@@ -44,7 +44,10 @@ on-integers-requires c κs =
 
 returns-4 : tie.Need-returns-4
 returns-4 c =
-    let t = c .before .before .before .before .before in
+    let at-if3 = c .before .before .before in
+    let at-is-bitwise = at-if3 .before in
+    let at-5 = at-is-bitwise .before in
+    let t = at-5 in
     let s = t .before .before in
     c .on-integers .ensures
     ∙ ap₂ (onIntegers (s .args .k))
@@ -52,7 +55,7 @@ returns-4 c =
     (read-value (s .args .w) (s .fits .w .fits) (c .before .value2 .ensures))
     ∙ sym
     (not-bitwise (s .args .k) (s .args .v) (s .args .w) (t .before .if1 .left) (t .if2 .left)
-    (sym (c .before .before .before .before .is-bitwise .ensures) ∙ c .before .before .before .if3 .left))
+    (sym (at-is-bitwise .is-bitwise .ensures) ∙ at-if3 .if3 .left))
 
 pub compute-spec : {M : Type 1} → statement M
 compute-spec =

@@ -15,7 +15,9 @@ read-quotient c =
     let s = c .before .before in
     reads (c .floor-quotient .ensures ∙ ap₂ floorQuotient (read (s .fits .a)) (read (s .fits .b))) (down-fits (s .args .a) (s .args .b) (s .pre .0) (s .pre .1))
 
-read-multiple : (c : tie.After-floor-quotient) → toZ w32 (ofZ w32 (toZ w32 (ofZ w32 (c .before .before .args .b)) *ℤ toZ w32 (ofZ w32 (c .floor-quotient .result)))) ≡ c .before .before .args .b *ℤ floorQuotient (c .before .before .args .a) (c .before .before .args .b)
+read-multiple : (c : tie.After-floor-quotient) → toZ w32
+    (ofZ w32 (toZ w32 (ofZ w32 (c .before .before .args .b)) *ℤ toZ w32 (ofZ w32 (c .floor-quotient .result)))) ≡ c .before .before .args .b *ℤ floorQuotient
+    (c .before .before .args .a) (c .before .before .args .b)
 read-multiple c =
     let s = c .before .before in
     gives _*ℤ_ (read (s .fits .b)) (read-quotient c) (multiple-fits (s .args .a) (s .args .b) (s .pre .0) (s .pre .1))

@@ -30,19 +30,42 @@ use Rattle.objects.proofs.lookup.Reads as lookup-reads
 use Rattle.objects.proofs.temporary_count.Reads as temporary-count-reads
 
 words-fine-requires : tie.Need-words-fine-requires
-words-fine-requires c κs = contents-room (c .before .before .before .before .before .args .n) (c .before .before .before .before .before .args .b) (c .before .before .before .before .before .args .contents .now) (c .before .before .before .before .before .args .bodies .now) (c .before .before .before .before .before .pre)
+words-fine-requires c κs =
+    let at-start = c .before .before .before .before .before in
+    let args = at-start .args in
+    contents-room (args .n) (args .b) (args .contents .now) (args .bodies .now) (at-start .pre)
 
 same-length : tie.Need-same-length
 same-length c = search needs
 
 returns : tie.Need-returns
-returns c = refused-8 (c .before .before .before .before .before .before .before .args .n) (c .before .before .before .before .before .before .before .args .b) (c .before .before .before .before .before .before .before .args .contents .now) (c .before .before .before .before .before .before .before .args .bodies .now) (c .before .before .before .before .before .before .before .args .stack .now) (c .before .before .before .before .before .before .before .pre) (c .before .before .before .before .before .before .before .args .receiver) (c .before .before .before .before .before .before .before .args .selector) (c .before .before .before .before .before .before .before .args .arguments .now) (sym (c .before .words-fine .ensures (c .before .before .before .before .before .before .before .args .b) (c .before .before .before .before .before .before .before .args .bodies .now)) ∙ not-true _ (c .if1 .taken))
+returns c =
+    let at-start = c .before .before .before .before .before .before .before in
+    let args = at-start .args in
+    refused-8 (args .n) (args .b) (args .contents .now) (args .bodies .now) (args .stack .now) (at-start .pre) (args .receiver) (args .selector)
+    (args .arguments .now) (sym (c .before .words-fine .ensures (args .b) (args .bodies .now)) ∙ not-true _ (c .if1 .taken))
 
 class-of-requires : tie.Need-class-of-requires
-class-of-requires c κs = (receiver-valid (c .before .before .before .before .before .before .before .before .args .n) (c .before .before .before .before .before .before .before .before .args .b) (c .before .before .before .before .before .before .before .before .args .contents .now) (c .before .before .before .before .before .before .before .before .args .bodies .now) (c .before .before .before .before .before .before .before .before .args .stack .now) (c .before .before .before .before .before .before .before .before .pre) (c .before .before .before .before .before .before .before .before .args .receiver) (c .before .before .before .before .before .before .before .before .args .selector) (c .before .before .before .before .before .before .before .before .args .arguments .now) (sym (c .before .before .words-fine .ensures (c .before .before .before .before .before .before .before .before .args .b) (c .before .before .before .before .before .before .before .before .args .bodies .now)) ∙ not-false _ (c .before .if1 .left)), contents-room (c .before .before .before .before .before .before .before .before .args .n) (c .before .before .before .before .before .before .before .before .args .b) (c .before .before .before .before .before .before .before .before .args .contents .now) (c .before .before .before .before .before .before .before .before .args .bodies .now) (c .before .before .before .before .before .before .before .before .pre))
+class-of-requires c κs =
+    let at-start = c .before .before .before .before .before .before .before .before in
+    let args = at-start .args in (
+      receiver-valid (args .n) (args .b) (args .contents .now) (args .bodies .now) (args .stack .now) (at-start .pre) (args .receiver) (args .selector)
+          (args .arguments .now) (sym (c .before .before .words-fine .ensures (args .b) (args .bodies .now)) ∙ not-false _ (c .before .if1 .left)),
+      contents-room
+          (args .n) (args .b) (args .contents .now) (args .bodies .now) (at-start .pre),
+    )
 
 lookup-requires : tie.Need-lookup-requires
-lookup-requires c κs = ((c .before .before .before .before .before .before .before .before .before .before .before .pre), class-starts (c .before .before .before .before .before .before .before .before .before .before .before .args .n) (c .before .before .before .before .before .before .before .before .before .before .before .args .b) (c .before .before .before .before .before .before .before .before .before .before .before .args .contents .now) (c .before .before .before .before .before .before .before .before .before .before .before .args .bodies .now) (c .before .before .before .before .before .before .before .before .before .before .before .args .stack .now) (c .before .before .before .before .before .before .before .before .before .before .before .pre) (c .before .before .before .before .before .before .before .before .before .before .before .args .receiver) (c .before .before .before .before .before .before .before .before .before .before .before .args .selector) (c .before .before .before .before .before .before .before .before .before .before .before .args .arguments .now) (sym (c .before .before .before .before .before .words-fine .ensures (c .before .before .before .before .before .before .before .before .before .before .before .args .b) (c .before .before .before .before .before .before .before .before .before .before .before .args .bodies .now)) ∙ not-false _ (c .before .before .before .before .if1 .left)) _ (c .before .before .class-of .ensures (c .before .before .before .before .before .before .before .before .before .before .before .args .b) (c .before .before .before .before .before .before .before .before .before .before .before .args .bodies .now)))
+lookup-requires c κs =
+    let at-if1 = c .before .before .before .before in
+    let at-words-fine = at-if1 .before in
+    let at-start = at-words-fine .before .before .before .before .before .before in
+    let args = at-start .args in (
+      (at-start .pre),
+      class-starts (args .n) (args .b) (args .contents .now) (args .bodies .now) (args .stack .now) (at-start .pre) (args .receiver)
+          (args .selector) (args .arguments .now) (sym (at-words-fine .words-fine .ensures (args .b) (args .bodies .now)) ∙ not-false _ (at-if1 .if1 .left)) _
+          (c .before .before .class-of .ensures (args .b) (args .bodies .now)),
+    )
 
 enum-known-found : tie.Need-enum-known-found
 enum-known-found c = search needs
@@ -57,10 +80,31 @@ same-length-3 : tie.Need-same-length-3
 same-length-3 c = search needs
 
 returns-2 : tie.Need-returns-2
-returns-2 c = refused-9 (c .before .before .before .before .before .before .before .before .before .before .before .before .before .before .args .n) (c .before .before .before .before .before .before .before .before .before .before .before .before .before .before .args .b) (c .before .before .before .before .before .before .before .before .before .before .before .before .before .before .args .contents .now) (c .before .before .before .before .before .before .before .before .before .before .before .before .before .before .args .bodies .now) (c .before .before .before .before .before .before .before .before .before .before .before .before .before .before .args .stack .now) (c .before .before .before .before .before .before .before .before .before .before .before .before .before .before .pre) (c .before .before .before .before .before .before .before .before .before .before .before .before .before .before .args .receiver) (c .before .before .before .before .before .before .before .before .before .before .before .before .before .before .args .selector) (c .before .before .before .before .before .before .before .before .before .before .before .before .before .before .args .arguments .now) (sym (c .before .before .before .before .before .before .before .before .words-fine .ensures (c .before .before .before .before .before .before .before .before .before .before .before .before .before .before .args .b) (c .before .before .before .before .before .before .before .before .before .before .before .before .before .before .args .bodies .now)) ∙ not-false _ (c .before .before .before .before .before .before .before .if1 .left)) ((ap (lookup (objectsAt (c .before .before .before .before .before .before .before .before .before .before .before .before .before .before .args .n) (c .before .before .before .before .before .before .before .before .before .before .before .before .before .before .args .b) (c .before .before .before .before .before .before .before .before .before .before .before .before .before .before .args .contents .now) (c .before .before .before .before .before .before .before .before .before .before .before .before .before .before .args .bodies .now)) (c .before .before .before .before .before .before .before .before .before .before .before .before .before .before .args .selector)) (sym (c .before .before .before .before .before .class-of .ensures (c .before .before .before .before .before .before .before .before .before .before .before .before .before .before .args .b) (c .before .before .before .before .before .before .before .before .before .before .before .before .before .before .args .bodies .now))) ∙ sym (c .before .before .lookup .ensures)) ∙ c .enum-told .given .1)
+returns-2 c =
+    let at-class-of = c .before .before .before .before .before in
+    let at-if1 = at-class-of .before .before in
+    let at-words-fine = at-if1 .before in
+    let at-start = at-words-fine .before .before .before .before .before .before in
+    let args = at-start .args in
+    refused-9 (args .n) (args .b) (args .contents .now) (args .bodies .now) (args .stack .now) (at-start .pre) (args .receiver) (args .selector)
+    (args .arguments .now) (sym (at-words-fine .words-fine .ensures (args .b) (args .bodies .now)) ∙ not-false _ (at-if1 .if1 .left))
+    ((ap (lookup (objectsAt (args .n) (args .b) (args .contents .now) (args .bodies .now)) (args .selector))
+    (sym (at-class-of .class-of .ensures (args .b) (args .bodies .now))) ∙ sym (c .before .before .lookup .ensures)) ∙ c .enum-told .given .1)
 
 argument-count-requires : tie.Need-argument-count-requires
-argument-count-requires c κs = record { right = (c .before .before .before .before .before .before .before .before .before .before .before .before .before .before .before .before .before .pre); kinds = (lookup-facts (c .before .before .before .before .before .before .before .before .before .before .before .before .before .before .before .before .before .pre) (c .before .before .before .before .before .before .before .before .before .before .before .before .before .before .before .before .before .args .selector) (classOf (objectsAt (c .before .before .before .before .before .before .before .before .before .before .before .before .before .before .before .before .before .args .n) (c .before .before .before .before .before .before .before .before .before .before .before .before .before .before .before .before .before .args .b) (c .before .before .before .before .before .before .before .before .before .before .before .before .before .before .before .before .before .args .contents .now) (c .before .before .before .before .before .before .before .before .before .before .before .before .before .before .before .before .before .args .bodies .now)) (c .before .before .before .before .before .before .before .before .before .before .before .before .before .before .before .before .before .args .receiver)) (c .before .before .before .found .given .0 .0 .0) ((ap (lookup (objectsAt (c .before .before .before .before .before .before .before .before .before .before .before .before .before .before .before .before .before .args .n) (c .before .before .before .before .before .before .before .before .before .before .before .before .before .before .before .before .before .args .b) (c .before .before .before .before .before .before .before .before .before .before .before .before .before .before .before .before .before .args .contents .now) (c .before .before .before .before .before .before .before .before .before .before .before .before .before .before .before .before .before .args .bodies .now)) (c .before .before .before .before .before .before .before .before .before .before .before .before .before .before .before .before .before .args .selector)) (sym (c .before .before .before .before .before .before .before .before .class-of .ensures (c .before .before .before .before .before .before .before .before .before .before .before .before .before .before .before .before .before .args .b) (c .before .before .before .before .before .before .before .before .before .before .before .before .before .before .before .before .before .args .bodies .now))) ∙ sym (c .before .before .before .before .before .lookup .ensures)) ∙ c .before .before .before .found .given .1) .method) }
+argument-count-requires c κs =
+    let at-found = c .before .before .before in
+    let at-lookup = at-found .before .before in
+    let at-class-of = at-lookup .before .before .before in
+    let at-start = at-class-of .before .before .before .before .before .before .before .before .before in
+    let args = at-start .args in
+    record {
+      right = (at-start .pre);
+      kinds = (lookup-facts (at-start .pre) (args .selector)
+          (classOf (objectsAt (args .n) (args .b) (args .contents .now) (args .bodies .now)) (args .receiver)) (at-found .found .given .0 .0 .0)
+          ((ap (lookup (objectsAt (args .n) (args .b) (args .contents .now) (args .bodies .now)) (args .selector))
+          (sym (at-class-of .class-of .ensures (args .b) (args .bodies .now))) ∙ sym (at-lookup .lookup .ensures)) ∙ at-found .found .given .1) .method);
+    }
 
 same-length-4 : tie.Need-same-length-4
 same-length-4 c = search needs
@@ -69,10 +113,34 @@ same-length-5 : tie.Need-same-length-5
 same-length-5 c = search needs
 
 returns-3 : tie.Need-returns-3
-returns-3 c = refused-10 (c .before .before .before .before .before .before .before .before .before .before .before .before .before .before .before .before .before .before .before .args .n) (c .before .before .before .before .before .before .before .before .before .before .before .before .before .before .before .before .before .before .before .args .b) (c .before .before .before .before .before .before .before .before .before .before .before .before .before .before .before .before .before .before .before .args .contents .now) (c .before .before .before .before .before .before .before .before .before .before .before .before .before .before .before .before .before .before .before .args .bodies .now) (c .before .before .before .before .before .before .before .before .before .before .before .before .before .before .before .before .before .before .before .args .stack .now) (c .before .before .before .before .before .before .before .before .before .before .before .before .before .before .before .before .before .before .before .pre) (c .before .before .before .before .before .before .before .before .before .before .before .before .before .before .before .before .before .before .before .args .receiver) (c .before .before .before .before .before .before .before .before .before .before .before .before .before .before .before .before .before .before .before .args .selector) (c .before .before .before .before .before .before .before .before .before .before .before .before .before .before .before .before .before .before .before .args .arguments .now) (sym (c .before .before .before .before .before .before .before .before .before .before .before .before .before .words-fine .ensures (c .before .before .before .before .before .before .before .before .before .before .before .before .before .before .before .before .before .before .before .args .b) (c .before .before .before .before .before .before .before .before .before .before .before .before .before .before .before .before .before .before .before .args .bodies .now)) ∙ not-false _ (c .before .before .before .before .before .before .before .before .before .before .before .before .if1 .left)) _ ((ap (lookup (objectsAt (c .before .before .before .before .before .before .before .before .before .before .before .before .before .before .before .before .before .before .before .args .n) (c .before .before .before .before .before .before .before .before .before .before .before .before .before .before .before .before .before .before .before .args .b) (c .before .before .before .before .before .before .before .before .before .before .before .before .before .before .before .before .before .before .before .args .contents .now) (c .before .before .before .before .before .before .before .before .before .before .before .before .before .before .before .before .before .before .before .args .bodies .now)) (c .before .before .before .before .before .before .before .before .before .before .before .before .before .before .before .before .before .before .before .args .selector)) (sym (c .before .before .before .before .before .before .before .before .before .before .class-of .ensures (c .before .before .before .before .before .before .before .before .before .before .before .before .before .before .before .before .before .before .before .args .b) (c .before .before .before .before .before .before .before .before .before .before .before .before .before .before .before .before .before .before .before .args .bodies .now))) ∙ sym (c .before .before .before .before .before .before .before .lookup .ensures)) ∙ c .before .before .before .before .before .found .given .1) (λ q. c .if2 .taken (c .before .argument-count .ensures ∙ q))
+returns-3 c =
+    let at-found = c .before .before .before .before .before in
+    let at-lookup = at-found .before .before in
+    let at-class-of = at-lookup .before .before .before in
+    let at-if1 = at-class-of .before .before in
+    let at-words-fine = at-if1 .before in
+    let at-start = at-words-fine .before .before .before .before .before .before in
+    let args = at-start .args in
+    refused-10 (args .n) (args .b) (args .contents .now) (args .bodies .now) (args .stack .now) (at-start .pre) (args .receiver) (args .selector)
+    (args .arguments .now) (sym (at-words-fine .words-fine .ensures (args .b) (args .bodies .now)) ∙ not-false _ (at-if1 .if1 .left)) _
+    ((ap (lookup (objectsAt (args .n) (args .b) (args .contents .now) (args .bodies .now)) (args .selector))
+    (sym (at-class-of .class-of .ensures (args .b) (args .bodies .now))) ∙ sym (at-lookup .lookup .ensures)) ∙ at-found .found .given .1)
+    (λ q. c .if2 .taken (c .before .argument-count .ensures ∙ q))
 
 header-requires : tie.Need-header-requires
-header-requires c κs = record { right = (c .before .before .before .before .before .before .before .before .before .before .before .before .before .before .before .before .before .before .before .before .before .pre); kinds = (lookup-facts (c .before .before .before .before .before .before .before .before .before .before .before .before .before .before .before .before .before .before .before .before .before .pre) (c .before .before .before .before .before .before .before .before .before .before .before .before .before .before .before .before .before .before .before .before .before .args .selector) (classOf (objectsAt (c .before .before .before .before .before .before .before .before .before .before .before .before .before .before .before .before .before .before .before .before .before .args .n) (c .before .before .before .before .before .before .before .before .before .before .before .before .before .before .before .before .before .before .before .before .before .args .b) (c .before .before .before .before .before .before .before .before .before .before .before .before .before .before .before .before .before .before .before .before .before .args .contents .now) (c .before .before .before .before .before .before .before .before .before .before .before .before .before .before .before .before .before .before .before .before .before .args .bodies .now)) (c .before .before .before .before .before .before .before .before .before .before .before .before .before .before .before .before .before .before .before .before .before .args .receiver)) (c .before .before .before .before .before .before .before .found .given .0 .0 .0) ((ap (lookup (objectsAt (c .before .before .before .before .before .before .before .before .before .before .before .before .before .before .before .before .before .before .before .before .before .args .n) (c .before .before .before .before .before .before .before .before .before .before .before .before .before .before .before .before .before .before .before .before .before .args .b) (c .before .before .before .before .before .before .before .before .before .before .before .before .before .before .before .before .before .before .before .before .before .args .contents .now) (c .before .before .before .before .before .before .before .before .before .before .before .before .before .before .before .before .before .before .before .before .before .args .bodies .now)) (c .before .before .before .before .before .before .before .before .before .before .before .before .before .before .before .before .before .before .before .before .before .args .selector)) (sym (c .before .before .before .before .before .before .before .before .before .before .before .before .class-of .ensures (c .before .before .before .before .before .before .before .before .before .before .before .before .before .before .before .before .before .before .before .before .before .args .b) (c .before .before .before .before .before .before .before .before .before .before .before .before .before .before .before .before .before .before .before .before .before .args .bodies .now))) ∙ sym (c .before .before .before .before .before .before .before .before .before .lookup .ensures)) ∙ c .before .before .before .before .before .before .before .found .given .1) .method) }
+header-requires c κs =
+    let at-found = c .before .before .before .before .before .before .before in
+    let at-lookup = at-found .before .before in
+    let at-class-of = at-lookup .before .before .before in
+    let at-start = at-class-of .before .before .before .before .before .before .before .before .before in
+    let args = at-start .args in
+    record {
+      right = (at-start .pre);
+      kinds = (lookup-facts (at-start .pre) (args .selector)
+          (classOf (objectsAt (args .n) (args .b) (args .contents .now) (args .bodies .now)) (args .receiver)) (at-found .found .given .0 .0 .0)
+          ((ap (lookup (objectsAt (args .n) (args .b) (args .contents .now) (args .bodies .now)) (args .selector))
+          (sym (at-class-of .class-of .ensures (args .b) (args .bodies .now))) ∙ sym (at-lookup .lookup .ensures)) ∙ at-found .found .given .1) .method);
+    }
 
 argument-requires : tie.Need-argument-requires
 argument-requires c κs = search needs
@@ -81,7 +149,24 @@ argument-requires-2 : tie.Need-argument-requires-2
 argument-requires-2 c κs = search needs
 
 activate-requires : tie.Need-activate-requires
-activate-requires c κs = record { right = (c .before .before .before .before .before .before .before .before .before .before .before .before .before .before .before .before .before .before .before .before .before .before .before .before .before .before .pre); method = (lookup-facts (c .before .before .before .before .before .before .before .before .before .before .before .before .before .before .before .before .before .before .before .before .before .before .before .before .before .before .pre) (c .before .before .before .before .before .before .before .before .before .before .before .before .before .before .before .before .before .before .before .before .before .before .before .before .before .before .args .selector) (classOf (objectsAt (c .before .before .before .before .before .before .before .before .before .before .before .before .before .before .before .before .before .before .before .before .before .before .before .before .before .before .args .n) (c .before .before .before .before .before .before .before .before .before .before .before .before .before .before .before .before .before .before .before .before .before .before .before .before .before .before .args .b) (c .before .before .before .before .before .before .before .before .before .before .before .before .before .before .before .before .before .before .before .before .before .before .before .before .before .before .args .contents .now) (c .before .before .before .before .before .before .before .before .before .before .before .before .before .before .before .before .before .before .before .before .before .before .before .before .before .before .args .bodies .now)) (c .before .before .before .before .before .before .before .before .before .before .before .before .before .before .before .before .before .before .before .before .before .before .before .before .before .before .args .receiver)) (c .before .before .before .before .before .before .before .before .before .before .before .before .found .given .0 .0 .0) ((ap (lookup (objectsAt (c .before .before .before .before .before .before .before .before .before .before .before .before .before .before .before .before .before .before .before .before .before .before .before .before .before .before .args .n) (c .before .before .before .before .before .before .before .before .before .before .before .before .before .before .before .before .before .before .before .before .before .before .before .before .before .before .args .b) (c .before .before .before .before .before .before .before .before .before .before .before .before .before .before .before .before .before .before .before .before .before .before .before .before .before .before .args .contents .now) (c .before .before .before .before .before .before .before .before .before .before .before .before .before .before .before .before .before .before .before .before .before .before .before .before .before .before .args .bodies .now)) (c .before .before .before .before .before .before .before .before .before .before .before .before .before .before .before .before .before .before .before .before .before .before .before .before .before .before .args .selector)) (sym (c .before .before .before .before .before .before .before .before .before .before .before .before .before .before .before .before .before .class-of .ensures (c .before .before .before .before .before .before .before .before .before .before .before .before .before .before .before .before .before .before .before .before .before .before .before .before .before .before .args .b) (c .before .before .before .before .before .before .before .before .before .before .before .before .before .before .before .before .before .before .before .before .before .before .before .before .before .before .args .bodies .now))) ∙ sym (c .before .before .before .before .before .before .before .before .before .before .before .before .before .before .lookup .ensures)) ∙ c .before .before .before .before .before .before .before .before .before .before .before .before .found .given .1) .method); valid = receiver-valid (c .before .before .before .before .before .before .before .before .before .before .before .before .before .before .before .before .before .before .before .before .before .before .before .before .before .before .args .n) (c .before .before .before .before .before .before .before .before .before .before .before .before .before .before .before .before .before .before .before .before .before .before .before .before .before .before .args .b) (c .before .before .before .before .before .before .before .before .before .before .before .before .before .before .before .before .before .before .before .before .before .before .before .before .before .before .args .contents .now) (c .before .before .before .before .before .before .before .before .before .before .before .before .before .before .before .before .before .before .before .before .before .before .before .before .before .before .args .bodies .now) (c .before .before .before .before .before .before .before .before .before .before .before .before .before .before .before .before .before .before .before .before .before .before .before .before .before .before .args .stack .now) (c .before .before .before .before .before .before .before .before .before .before .before .before .before .before .before .before .before .before .before .before .before .before .before .before .before .before .pre) (c .before .before .before .before .before .before .before .before .before .before .before .before .before .before .before .before .before .before .before .before .before .before .before .before .before .before .args .receiver) (c .before .before .before .before .before .before .before .before .before .before .before .before .before .before .before .before .before .before .before .before .before .before .before .before .before .before .args .selector) (c .before .before .before .before .before .before .before .before .before .before .before .before .before .before .before .before .before .before .before .before .before .before .before .before .before .before .args .arguments .now) (sym (c .before .before .before .before .before .before .before .before .before .before .before .before .before .before .before .before .before .before .before .before .words-fine .ensures (c .before .before .before .before .before .before .before .before .before .before .before .before .before .before .before .before .before .before .before .before .before .before .before .before .before .before .args .b) (c .before .before .before .before .before .before .before .before .before .before .before .before .before .before .before .before .before .before .before .before .before .before .before .before .before .before .args .bodies .now)) ∙ not-false _ (c .before .before .before .before .before .before .before .before .before .before .before .before .before .before .before .before .before .before .before .if1 .left)) }
+activate-requires c κs =
+    let at-found = c .before .before .before .before .before .before .before .before .before .before .before .before in
+    let at-lookup = at-found .before .before in
+    let at-class-of = at-lookup .before .before .before in
+    let at-if1 = at-class-of .before .before in
+    let at-words-fine = at-if1 .before in
+    let at-start = at-words-fine .before .before .before .before .before .before in
+    let args = at-start .args in
+    record {
+      right = (at-start .pre);
+      method = (lookup-facts (at-start .pre) (args .selector)
+          (classOf (objectsAt (args .n) (args .b) (args .contents .now) (args .bodies .now)) (args .receiver)) (at-found .found .given .0 .0 .0)
+          ((ap (lookup (objectsAt (args .n) (args .b) (args .contents .now) (args .bodies .now)) (args .selector))
+          (sym (at-class-of .class-of .ensures (args .b) (args .bodies .now))) ∙ sym (at-lookup .lookup .ensures)) ∙ at-found .found .given .1) .method);
+      valid =
+          receiver-valid (args .n) (args .b) (args .contents .now) (args .bodies .now) (args .stack .now) (at-start .pre) (args .receiver) (args .selector)
+          (args .arguments .now) (sym (at-words-fine .words-fine .ensures (args .b) (args .bodies .now)) ∙ not-false _ (at-if1 .if1 .left));
+    }
 
 enum-known-word : tie.Need-enum-known-word
 enum-known-word c = search needs
@@ -105,13 +190,66 @@ same-length-7 : tie.Need-same-length-7
 same-length-7 c = search needs
 
 returns-4 : tie.Need-returns-4
-returns-4 c = begun-full (c .before .before .before .before .before .before .before .before .before .before .before .before .before .before .before .before .before .before .before .before .before .before .before .before .before .before .before .before .before .before .before .before .before .before .before .args .n) (c .before .before .before .before .before .before .before .before .before .before .before .before .before .before .before .before .before .before .before .before .before .before .before .before .before .before .before .before .before .before .before .before .before .before .before .args .b) (c .before .before .before .before .before .before .before .before .before .before .before .before .before .before .before .before .before .before .before .before .before .before .before .before .before .before .before .before .before .before .before .before .before .before .before .args .contents .now) (c .before .before .before .before .before .before .before .before .before .before .before .before .before .before .before .before .before .before .before .before .before .before .before .before .before .before .before .before .before .before .before .before .before .before .before .args .bodies .now) (c .before .before .before .before .before .before .before .before .before .before .before .before .before .before .before .before .before .before .before .before .before .before .before .before .before .before .before .before .before .before .before .before .before .before .before .args .stack .now) (c .before .before .before .before .before .before .before .before .before .before .before .before .before .before .before .before .before .before .before .before .before .before .before .before .before .before .before .before .before .before .before .before .before .before .before .args .receiver) (c .before .before .before .before .before .before .before .before .before .before .before .before .before .before .before .before .before .before .before .before .before .before .before .before .before .before .before .before .before .before .before .before .before .before .before .args .selector) (c .before .before .before .before .before .before .before .before .before .before .before .before .before .before .before .before .before .before .before .before .before .before .before .before .before .before .before .before .before .before .before .before .before .before .before .args .arguments .now) _ (record { right = (c .before .before .before .before .before .before .before .before .before .before .before .before .before .before .before .before .before .before .before .before .before .before .before .before .before .before .before .before .before .before .before .before .before .before .before .pre); words = (sym (c .before .before .before .before .before .before .before .before .before .before .before .before .before .before .before .before .before .before .before .before .before .before .before .before .before .before .before .before .before .words-fine .ensures (c .before .before .before .before .before .before .before .before .before .before .before .before .before .before .before .before .before .before .before .before .before .before .before .before .before .before .before .before .before .before .before .before .before .before .before .args .b) (c .before .before .before .before .before .before .before .before .before .before .before .before .before .before .before .before .before .before .before .before .before .before .before .before .before .before .before .before .before .before .before .before .before .before .before .args .bodies .now)) ∙ not-false _ (c .before .before .before .before .before .before .before .before .before .before .before .before .before .before .before .before .before .before .before .before .before .before .before .before .before .before .before .before .if1 .left)); finds = ((ap (lookup (objectsAt (c .before .before .before .before .before .before .before .before .before .before .before .before .before .before .before .before .before .before .before .before .before .before .before .before .before .before .before .before .before .before .before .before .before .before .before .args .n) (c .before .before .before .before .before .before .before .before .before .before .before .before .before .before .before .before .before .before .before .before .before .before .before .before .before .before .before .before .before .before .before .before .before .before .before .args .b) (c .before .before .before .before .before .before .before .before .before .before .before .before .before .before .before .before .before .before .before .before .before .before .before .before .before .before .before .before .before .before .before .before .before .before .before .args .contents .now) (c .before .before .before .before .before .before .before .before .before .before .before .before .before .before .before .before .before .before .before .before .before .before .before .before .before .before .before .before .before .before .before .before .before .before .before .args .bodies .now)) (c .before .before .before .before .before .before .before .before .before .before .before .before .before .before .before .before .before .before .before .before .before .before .before .before .before .before .before .before .before .before .before .before .before .before .before .args .selector)) (sym (c .before .before .before .before .before .before .before .before .before .before .before .before .before .before .before .before .before .before .before .before .before .before .before .before .before .before .class-of .ensures (c .before .before .before .before .before .before .before .before .before .before .before .before .before .before .before .before .before .before .before .before .before .before .before .before .before .before .before .before .before .before .before .before .before .before .before .args .b) (c .before .before .before .before .before .before .before .before .before .before .before .before .before .before .before .before .before .before .before .before .before .before .before .before .before .before .before .before .before .before .before .before .before .before .before .args .bodies .now))) ∙ sym (c .before .before .before .before .before .before .before .before .before .before .before .before .before .before .before .before .before .before .before .before .before .before .before .lookup .ensures)) ∙ c .before .before .before .before .before .before .before .before .before .before .before .before .before .before .before .before .before .before .before .before .before .found .given .1); count = (sym (c .before .before .before .before .before .before .before .before .before .before .before .before .before .before .before .before .before .argument-count .ensures) ∙ c .before .before .before .before .before .before .before .before .before .before .before .before .before .before .before .before .if2 .left) }) _ _ _ _ _ (c .before .before .before .before .before .before .before .before .activate .ensures) (c .before .before .before .before .before .before .before .before .before .before .before .before .argument .ensures) (c .before .before .before .before .before .before .before .before .before .before .before .argument2 .ensures) (c .before .before .enum-told3 .given .1) (let k = frame-is (objectsAt (c .before .before .before .before .before .before .before .before .before .before .before .before .before .before .before .before .before .before .before .before .before .before .before .before .before .before .before .before .before .before .before .before .before .before .before .args .n) (c .before .before .before .before .before .before .before .before .before .before .before .before .before .before .before .before .before .before .before .before .before .before .before .before .before .before .before .before .before .before .before .before .before .before .before .args .b) (c .before .before .before .before .before .before .before .before .before .before .before .before .before .before .before .before .before .before .before .before .before .before .before .before .before .before .before .before .before .before .before .before .before .before .before .args .contents .now) (c .before .before .before .before .before .before .before .before .before .before .before .before .before .before .before .before .before .before .before .before .before .before .before .before .before .before .before .before .before .before .before .before .before .before .before .args .bodies .now)) (c .before .before .before .before .before .before .before .before .before .before .before .before .before .before .before .before .before .before .before .before .before .found .given .0 .0 .0) _ _ (c .before .before .before .before .before .before .before .before .before .before .before .before .before .header .ensures) (c .before .frame-words .ensures) in let t = c .if3 .taken in omega arith)
+returns-4 c =
+    let at-activate = c .before .before .before .before .before .before .before .before in
+    let at-argument2 = at-activate .before .before .before in
+    let at-argument = at-argument2 .before in
+    let at-header = at-argument .before in
+    let at-if2 = at-header .before .before .before in
+    let at-argument-count = at-if2 .before in
+    let at-found = at-argument-count .before .before .before .before in
+    let at-lookup = at-found .before .before in
+    let at-class-of = at-lookup .before .before .before in
+    let at-if1 = at-class-of .before .before in
+    let at-words-fine = at-if1 .before in
+    let at-start = at-words-fine .before .before .before .before .before .before in
+    let args = at-start .args in
+    begun-full (args .n) (args .b) (args .contents .now) (args .bodies .now) (args .stack .now) (args .receiver) (args .selector) (args .arguments .now) _
+    (record {
+      right = (at-start .pre);
+      words = (sym (at-words-fine .words-fine .ensures (args .b) (args .bodies .now)) ∙ not-false _ (at-if1 .if1 .left));
+      finds = ((ap (lookup (objectsAt (args .n) (args .b) (args .contents .now) (args .bodies .now)) (args .selector))
+          (sym (at-class-of .class-of .ensures (args .b) (args .bodies .now))) ∙ sym (at-lookup .lookup .ensures)) ∙ at-found .found .given .1);
+      count =
+          (sym (at-argument-count .argument-count .ensures) ∙ at-if2 .if2 .left);
+    }) _ _ _ _ _ (at-activate .activate .ensures) (at-argument .argument .ensures)
+    (at-argument2 .argument2 .ensures) (c .before .before .enum-told3 .given .1)
+    (let k = frame-is (objectsAt (args .n) (args .b) (args .contents .now) (args .bodies .now)) (at-found .found .given .0 .0 .0) _ _
+    (at-header .header .ensures) (c .before .frame-words .ensures) in let t = c .if3 .taken in omega arith)
 
 temporary-count-requires : tie.Need-temporary-count-requires
 temporary-count-requires c κs = search needs
 
 write-frame-requires : tie.Need-write-frame-requires
-write-frame-requires c κs = let z = begun-room (c .before .before .before .before .before .before .before .before .before .before .before .before .before .before .before .before .before .before .before .before .before .before .before .before .before .before .before .before .before .before .before .before .before .before .before .before .before .args .n) (c .before .before .before .before .before .before .before .before .before .before .before .before .before .before .before .before .before .before .before .before .before .before .before .before .before .before .before .before .before .before .before .before .before .before .before .before .before .args .b) (c .before .before .before .before .before .before .before .before .before .before .before .before .before .before .before .before .before .before .before .before .before .before .before .before .before .before .before .before .before .before .before .before .before .before .before .before .before .args .contents .now) (c .before .before .before .before .before .before .before .before .before .before .before .before .before .before .before .before .before .before .before .before .before .before .before .before .before .before .before .before .before .before .before .before .before .before .before .before .before .args .bodies .now) (c .before .before .before .before .before .before .before .before .before .before .before .before .before .before .before .before .before .before .before .before .before .before .before .before .before .before .before .before .before .before .before .before .before .before .before .before .before .args .stack .now) (c .before .before .before .before .before .before .before .before .before .before .before .before .before .before .before .before .before .before .before .before .before .before .before .before .before .before .before .before .before .before .before .before .before .before .before .before .before .args .receiver) (c .before .before .before .before .before .before .before .before .before .before .before .before .before .before .before .before .before .before .before .before .before .before .before .before .before .before .before .before .before .before .before .before .before .before .before .before .before .args .selector) (c .before .before .before .before .before .before .before .before .before .before .before .before .before .before .before .before .before .before .before .before .before .before .before .before .before .before .before .before .before .before .before .before .before .before .before .before .before .args .arguments .now) _ (record { right = (c .before .before .before .before .before .before .before .before .before .before .before .before .before .before .before .before .before .before .before .before .before .before .before .before .before .before .before .before .before .before .before .before .before .before .before .before .before .pre); words = (sym (c .before .before .before .before .before .before .before .before .before .before .before .before .before .before .before .before .before .before .before .before .before .before .before .before .before .before .before .before .before .before .before .words-fine .ensures (c .before .before .before .before .before .before .before .before .before .before .before .before .before .before .before .before .before .before .before .before .before .before .before .before .before .before .before .before .before .before .before .before .before .before .before .before .before .args .b) (c .before .before .before .before .before .before .before .before .before .before .before .before .before .before .before .before .before .before .before .before .before .before .before .before .before .before .before .before .before .before .before .before .before .before .before .before .before .args .bodies .now)) ∙ not-false _ (c .before .before .before .before .before .before .before .before .before .before .before .before .before .before .before .before .before .before .before .before .before .before .before .before .before .before .before .before .before .before .if1 .left)); finds = ((ap (lookup (objectsAt (c .before .before .before .before .before .before .before .before .before .before .before .before .before .before .before .before .before .before .before .before .before .before .before .before .before .before .before .before .before .before .before .before .before .before .before .before .before .args .n) (c .before .before .before .before .before .before .before .before .before .before .before .before .before .before .before .before .before .before .before .before .before .before .before .before .before .before .before .before .before .before .before .before .before .before .before .before .before .args .b) (c .before .before .before .before .before .before .before .before .before .before .before .before .before .before .before .before .before .before .before .before .before .before .before .before .before .before .before .before .before .before .before .before .before .before .before .before .before .args .contents .now) (c .before .before .before .before .before .before .before .before .before .before .before .before .before .before .before .before .before .before .before .before .before .before .before .before .before .before .before .before .before .before .before .before .before .before .before .before .before .args .bodies .now)) (c .before .before .before .before .before .before .before .before .before .before .before .before .before .before .before .before .before .before .before .before .before .before .before .before .before .before .before .before .before .before .before .before .before .before .before .before .before .args .selector)) (sym (c .before .before .before .before .before .before .before .before .before .before .before .before .before .before .before .before .before .before .before .before .before .before .before .before .before .before .before .before .class-of .ensures (c .before .before .before .before .before .before .before .before .before .before .before .before .before .before .before .before .before .before .before .before .before .before .before .before .before .before .before .before .before .before .before .before .before .before .before .before .before .args .b) (c .before .before .before .before .before .before .before .before .before .before .before .before .before .before .before .before .before .before .before .before .before .before .before .before .before .before .before .before .before .before .before .before .before .before .before .before .before .args .bodies .now))) ∙ sym (c .before .before .before .before .before .before .before .before .before .before .before .before .before .before .before .before .before .before .before .before .before .before .before .before .before .lookup .ensures)) ∙ c .before .before .before .before .before .before .before .before .before .before .before .before .before .before .before .before .before .before .before .before .before .before .before .found .given .1); count = (sym (c .before .before .before .before .before .before .before .before .before .before .before .before .before .before .before .before .before .before .before .argument-count .ensures) ∙ c .before .before .before .before .before .before .before .before .before .before .before .before .before .before .before .before .before .before .if2 .left) }) _ _ _ _ _ (c .before .before .before .before .before .before .before .before .before .before .activate .ensures) (c .before .before .before .before .before .before .before .before .before .before .before .before .before .before .argument .ensures) (c .before .before .before .before .before .before .before .before .before .before .before .before .before .argument2 .ensures) (c .before .before .before .before .enum-told3 .given .1) in let k = frame-is (objectsAt (c .before .before .before .before .before .before .before .before .before .before .before .before .before .before .before .before .before .before .before .before .before .before .before .before .before .before .before .before .before .before .before .before .before .before .before .before .before .args .n) (c .before .before .before .before .before .before .before .before .before .before .before .before .before .before .before .before .before .before .before .before .before .before .before .before .before .before .before .before .before .before .before .before .before .before .before .before .before .args .b) (c .before .before .before .before .before .before .before .before .before .before .before .before .before .before .before .before .before .before .before .before .before .before .before .before .before .before .before .before .before .before .before .before .before .before .before .before .before .args .contents .now) (c .before .before .before .before .before .before .before .before .before .before .before .before .before .before .before .before .before .before .before .before .before .before .before .before .before .before .before .before .before .before .before .before .before .before .before .before .before .args .bodies .now)) (c .before .before .before .before .before .before .before .before .before .before .before .before .before .before .before .before .before .before .before .before .before .before .before .found .given .0 .0 .0) _ _ (c .before .before .before .before .before .before .before .before .before .before .before .before .before .before .before .header .ensures) (c .before .before .before .frame-words .ensures) in let t = c .before .before .if3 .left in let e = (c .before .temporary-count .ensures ∙ ap (λ (h : ℕ). h / 256 % 32) (c .before .before .before .before .before .before .before .before .before .before .before .before .before .before .before .header .ensures)) in let c = c .before .before .before .before .before .before .before .before .before .before .before .before .before .before .before .before .before .before .if2 .left in (omega arith, omega arith, omega arith, omega arith)
+write-frame-requires c κs =
+    let at-enum-told3 = c .before .before .before .before in
+    let at-activate = at-enum-told3 .before .before .before .before .before .before in
+    let at-argument2 = at-activate .before .before .before in
+    let at-argument = at-argument2 .before in
+    let at-header = at-argument .before in
+    let at-if2 = at-header .before .before .before in
+    let at-argument-count = at-if2 .before in
+    let at-found = at-argument-count .before .before .before .before in
+    let at-lookup = at-found .before .before in
+    let at-class-of = at-lookup .before .before .before in
+    let at-if1 = at-class-of .before .before in
+    let at-words-fine = at-if1 .before in
+    let at-start = at-words-fine .before .before .before .before .before .before in
+    let args = at-start .args in
+    let z = begun-room (args .n) (args .b) (args .contents .now) (args .bodies .now) (args .stack .now) (args .receiver) (args .selector)
+    (args .arguments .now) _ (record {
+      right = (at-start .pre);
+      words = (sym (at-words-fine .words-fine .ensures (args .b) (args .bodies .now))
+          ∙ not-false _ (at-if1 .if1 .left));
+      finds = ((ap (lookup (objectsAt (args .n) (args .b) (args .contents .now) (args .bodies .now)) (args .selector))
+          (sym (at-class-of .class-of .ensures (args .b) (args .bodies .now))) ∙ sym (at-lookup .lookup .ensures)) ∙ at-found .found .given .1);
+      count =
+          (sym (at-argument-count .argument-count .ensures) ∙ at-if2 .if2 .left);
+    }) _ _ _ _ _ (at-activate .activate .ensures) (at-argument .argument .ensures)
+    (at-argument2 .argument2 .ensures) (at-enum-told3 .enum-told3 .given .1) in let k = frame-is (objectsAt (args .n) (args .b) (args .contents .now)
+    (args .bodies .now)) (at-found .found .given .0 .0 .0) _ _ (at-header .header .ensures) (c .before .before .before .frame-words .ensures) in let t =
+    c .before .before .if3 .left in let e = (c .before .temporary-count .ensures ∙ ap (λ (h : ℕ). h / 256 % 32) (at-header .header .ensures)) in let c =
+    at-if2 .if2 .left in (omega arith, omega arith, omega arith, omega arith)
 
 same-length-8 : tie.Need-same-length-8
 same-length-8 c = search needs
@@ -120,7 +258,29 @@ same-length-9 : tie.Need-same-length-9
 same-length-9 c = search needs
 
 returns-5 : tie.Need-returns-5
-returns-5 c = begun-answer (c .before .before .before .before .before .before .before .before .before .before .before .before .before .before .before .before .before .before .before .before .before .before .before .before .before .before .before .before .before .before .before .before .before .before .args .n) (c .before .before .before .before .before .before .before .before .before .before .before .before .before .before .before .before .before .before .before .before .before .before .before .before .before .before .before .before .before .before .before .before .before .before .args .b) (c .before .before .before .before .before .before .before .before .before .before .before .before .before .before .before .before .before .before .before .before .before .before .before .before .before .before .before .before .before .before .before .before .before .before .args .contents .now) (c .before .before .before .before .before .before .before .before .before .before .before .before .before .before .before .before .before .before .before .before .before .before .before .before .before .before .before .before .before .before .before .before .before .before .args .bodies .now) (c .before .before .before .before .before .before .before .before .before .before .before .before .before .before .before .before .before .before .before .before .before .before .before .before .before .before .before .before .before .before .before .before .before .before .args .stack .now) (c .before .before .before .before .before .before .before .before .before .before .before .before .before .before .before .before .before .before .before .before .before .before .before .before .before .before .before .before .before .before .before .before .before .before .args .receiver) (c .before .before .before .before .before .before .before .before .before .before .before .before .before .before .before .before .before .before .before .before .before .before .before .before .before .before .before .before .before .before .before .before .before .before .args .selector) (c .before .before .before .before .before .before .before .before .before .before .before .before .before .before .before .before .before .before .before .before .before .before .before .before .before .before .before .before .before .before .before .before .before .before .args .arguments .now) _ (record { right = (c .before .before .before .before .before .before .before .before .before .before .before .before .before .before .before .before .before .before .before .before .before .before .before .before .before .before .before .before .before .before .before .before .before .before .pre); words = (sym (c .before .before .before .before .before .before .before .before .before .before .before .before .before .before .before .before .before .before .before .before .before .before .before .before .before .before .before .before .words-fine .ensures (c .before .before .before .before .before .before .before .before .before .before .before .before .before .before .before .before .before .before .before .before .before .before .before .before .before .before .before .before .before .before .before .before .before .before .args .b) (c .before .before .before .before .before .before .before .before .before .before .before .before .before .before .before .before .before .before .before .before .before .before .before .before .before .before .before .before .before .before .before .before .before .before .args .bodies .now)) ∙ not-false _ (c .before .before .before .before .before .before .before .before .before .before .before .before .before .before .before .before .before .before .before .before .before .before .before .before .before .before .before .if1 .left)); finds = ((ap (lookup (objectsAt (c .before .before .before .before .before .before .before .before .before .before .before .before .before .before .before .before .before .before .before .before .before .before .before .before .before .before .before .before .before .before .before .before .before .before .args .n) (c .before .before .before .before .before .before .before .before .before .before .before .before .before .before .before .before .before .before .before .before .before .before .before .before .before .before .before .before .before .before .before .before .before .before .args .b) (c .before .before .before .before .before .before .before .before .before .before .before .before .before .before .before .before .before .before .before .before .before .before .before .before .before .before .before .before .before .before .before .before .before .before .args .contents .now) (c .before .before .before .before .before .before .before .before .before .before .before .before .before .before .before .before .before .before .before .before .before .before .before .before .before .before .before .before .before .before .before .before .before .before .args .bodies .now)) (c .before .before .before .before .before .before .before .before .before .before .before .before .before .before .before .before .before .before .before .before .before .before .before .before .before .before .before .before .before .before .before .before .before .before .args .selector)) (sym (c .before .before .before .before .before .before .before .before .before .before .before .before .before .before .before .before .before .before .before .before .before .before .before .before .before .class-of .ensures (c .before .before .before .before .before .before .before .before .before .before .before .before .before .before .before .before .before .before .before .before .before .before .before .before .before .before .before .before .before .before .before .before .before .before .args .b) (c .before .before .before .before .before .before .before .before .before .before .before .before .before .before .before .before .before .before .before .before .before .before .before .before .before .before .before .before .before .before .before .before .before .before .args .bodies .now))) ∙ sym (c .before .before .before .before .before .before .before .before .before .before .before .before .before .before .before .before .before .before .before .before .before .before .lookup .ensures)) ∙ c .before .before .before .before .before .before .before .before .before .before .before .before .before .before .before .before .before .before .before .before .found .given .1); count = (sym (c .before .before .before .before .before .before .before .before .before .before .before .before .before .before .before .before .argument-count .ensures) ∙ c .before .before .before .before .before .before .before .before .before .before .before .before .before .before .before .if2 .left) }) _ _ _ _ _ (c .before .before .before .before .before .before .before .activate .ensures) (c .before .before .before .before .before .before .before .before .before .before .before .argument .ensures) (c .before .before .before .before .before .before .before .before .before .before .argument2 .ensures) _ _ _ (c .before .word .given .1)
+returns-5 c =
+    let at-activate = c .before .before .before .before .before .before .before in
+    let at-argument2 = at-activate .before .before .before in
+    let at-argument = at-argument2 .before in
+    let at-if2 = at-argument .before .before .before .before in
+    let at-argument-count = at-if2 .before in
+    let at-found = at-argument-count .before .before .before .before in
+    let at-lookup = at-found .before .before in
+    let at-class-of = at-lookup .before .before .before in
+    let at-if1 = at-class-of .before .before in
+    let at-words-fine = at-if1 .before in
+    let at-start = at-words-fine .before .before .before .before .before .before in
+    let args = at-start .args in
+    begun-answer (args .n) (args .b) (args .contents .now) (args .bodies .now) (args .stack .now) (args .receiver) (args .selector) (args .arguments .now) _
+    (record {
+      right = (at-start .pre);
+      words = (sym (at-words-fine .words-fine .ensures (args .b) (args .bodies .now)) ∙ not-false _ (at-if1 .if1 .left));
+      finds = ((ap (lookup (objectsAt (args .n) (args .b) (args .contents .now) (args .bodies .now)) (args .selector))
+          (sym (at-class-of .class-of .ensures (args .b) (args .bodies .now))) ∙ sym (at-lookup .lookup .ensures)) ∙ at-found .found .given .1);
+      count =
+          (sym (at-argument-count .argument-count .ensures) ∙ at-if2 .if2 .left);
+    }) _ _ _ _ _ (at-activate .activate .ensures) (at-argument .argument .ensures)
+    (at-argument2 .argument2 .ensures) _ _ _ (c .before .word .given .1)
 
 same-length-10 : tie.Need-same-length-10
 same-length-10 c = search needs
@@ -129,7 +289,29 @@ same-length-11 : tie.Need-same-length-11
 same-length-11 c = search needs
 
 returns-6 : tie.Need-returns-6
-returns-6 c = begun-unfit (c .before .before .before .before .before .before .before .before .before .before .before .before .before .before .before .before .before .before .before .before .before .before .before .before .before .before .before .before .before .before .before .before .before .args .n) (c .before .before .before .before .before .before .before .before .before .before .before .before .before .before .before .before .before .before .before .before .before .before .before .before .before .before .before .before .before .before .before .before .before .args .b) (c .before .before .before .before .before .before .before .before .before .before .before .before .before .before .before .before .before .before .before .before .before .before .before .before .before .before .before .before .before .before .before .before .before .args .contents .now) (c .before .before .before .before .before .before .before .before .before .before .before .before .before .before .before .before .before .before .before .before .before .before .before .before .before .before .before .before .before .before .before .before .before .args .bodies .now) (c .before .before .before .before .before .before .before .before .before .before .before .before .before .before .before .before .before .before .before .before .before .before .before .before .before .before .before .before .before .before .before .before .before .args .stack .now) (c .before .before .before .before .before .before .before .before .before .before .before .before .before .before .before .before .before .before .before .before .before .before .before .before .before .before .before .before .before .before .before .before .before .args .receiver) (c .before .before .before .before .before .before .before .before .before .before .before .before .before .before .before .before .before .before .before .before .before .before .before .before .before .before .before .before .before .before .before .before .before .args .selector) (c .before .before .before .before .before .before .before .before .before .before .before .before .before .before .before .before .before .before .before .before .before .before .before .before .before .before .before .before .before .before .before .before .before .args .arguments .now) _ (record { right = (c .before .before .before .before .before .before .before .before .before .before .before .before .before .before .before .before .before .before .before .before .before .before .before .before .before .before .before .before .before .before .before .before .before .pre); words = (sym (c .before .before .before .before .before .before .before .before .before .before .before .before .before .before .before .before .before .before .before .before .before .before .before .before .before .before .before .words-fine .ensures (c .before .before .before .before .before .before .before .before .before .before .before .before .before .before .before .before .before .before .before .before .before .before .before .before .before .before .before .before .before .before .before .before .before .args .b) (c .before .before .before .before .before .before .before .before .before .before .before .before .before .before .before .before .before .before .before .before .before .before .before .before .before .before .before .before .before .before .before .before .before .args .bodies .now)) ∙ not-false _ (c .before .before .before .before .before .before .before .before .before .before .before .before .before .before .before .before .before .before .before .before .before .before .before .before .before .before .if1 .left)); finds = ((ap (lookup (objectsAt (c .before .before .before .before .before .before .before .before .before .before .before .before .before .before .before .before .before .before .before .before .before .before .before .before .before .before .before .before .before .before .before .before .before .args .n) (c .before .before .before .before .before .before .before .before .before .before .before .before .before .before .before .before .before .before .before .before .before .before .before .before .before .before .before .before .before .before .before .before .before .args .b) (c .before .before .before .before .before .before .before .before .before .before .before .before .before .before .before .before .before .before .before .before .before .before .before .before .before .before .before .before .before .before .before .before .before .args .contents .now) (c .before .before .before .before .before .before .before .before .before .before .before .before .before .before .before .before .before .before .before .before .before .before .before .before .before .before .before .before .before .before .before .before .before .args .bodies .now)) (c .before .before .before .before .before .before .before .before .before .before .before .before .before .before .before .before .before .before .before .before .before .before .before .before .before .before .before .before .before .before .before .before .before .args .selector)) (sym (c .before .before .before .before .before .before .before .before .before .before .before .before .before .before .before .before .before .before .before .before .before .before .before .before .class-of .ensures (c .before .before .before .before .before .before .before .before .before .before .before .before .before .before .before .before .before .before .before .before .before .before .before .before .before .before .before .before .before .before .before .before .before .args .b) (c .before .before .before .before .before .before .before .before .before .before .before .before .before .before .before .before .before .before .before .before .before .before .before .before .before .before .before .before .before .before .before .before .before .args .bodies .now))) ∙ sym (c .before .before .before .before .before .before .before .before .before .before .before .before .before .before .before .before .before .before .before .before .before .lookup .ensures)) ∙ c .before .before .before .before .before .before .before .before .before .before .before .before .before .before .before .before .before .before .before .found .given .1); count = (sym (c .before .before .before .before .before .before .before .before .before .before .before .before .before .before .before .argument-count .ensures) ∙ c .before .before .before .before .before .before .before .before .before .before .before .before .before .before .if2 .left) }) _ _ _ _ _ (c .before .before .before .before .before .before .activate .ensures) (c .before .before .before .before .before .before .before .before .before .before .argument .ensures) (c .before .before .before .before .before .before .before .before .before .argument2 .ensures) (c .enum-told2 .given .1)
+returns-6 c =
+    let at-activate = c .before .before .before .before .before .before in
+    let at-argument2 = at-activate .before .before .before in
+    let at-argument = at-argument2 .before in
+    let at-if2 = at-argument .before .before .before .before in
+    let at-argument-count = at-if2 .before in
+    let at-found = at-argument-count .before .before .before .before in
+    let at-lookup = at-found .before .before in
+    let at-class-of = at-lookup .before .before .before in
+    let at-if1 = at-class-of .before .before in
+    let at-words-fine = at-if1 .before in
+    let at-start = at-words-fine .before .before .before .before .before .before in
+    let args = at-start .args in
+    begun-unfit (args .n) (args .b) (args .contents .now) (args .bodies .now) (args .stack .now) (args .receiver) (args .selector) (args .arguments .now) _
+    (record {
+      right = (at-start .pre);
+      words = (sym (at-words-fine .words-fine .ensures (args .b) (args .bodies .now)) ∙ not-false _ (at-if1 .if1 .left));
+      finds = ((ap (lookup (objectsAt (args .n) (args .b) (args .contents .now) (args .bodies .now)) (args .selector))
+          (sym (at-class-of .class-of .ensures (args .b) (args .bodies .now))) ∙ sym (at-lookup .lookup .ensures)) ∙ at-found .found .given .1);
+      count =
+          (sym (at-argument-count .argument-count .ensures) ∙ at-if2 .if2 .left);
+    }) _ _ _ _ _ (at-activate .activate .ensures) (at-argument .argument .ensures)
+    (at-argument2 .argument2 .ensures) (c .enum-told2 .given .1)
 
 same-length-12 : tie.Need-same-length-12
 same-length-12 c = search needs
@@ -141,7 +323,38 @@ same-length-14 : tie.Need-same-length-14
 same-length-14 c = search needs
 
 returns-7 : tie.Need-returns-7
-returns-7 c = begun-enters (c .before .before .before .before .before .before .before .before .before .before .before .before .before .before .before .before .before .before .before .before .before .before .before .before .before .before .before .before .before .before .before .before .before .before .before .before .before .before .before .before .args .n) (c .before .before .before .before .before .before .before .before .before .before .before .before .before .before .before .before .before .before .before .before .before .before .before .before .before .before .before .before .before .before .before .before .before .before .before .before .before .before .before .before .args .b) (c .before .before .before .before .before .before .before .before .before .before .before .before .before .before .before .before .before .before .before .before .before .before .before .before .before .before .before .before .before .before .before .before .before .before .before .before .before .before .before .before .args .contents .now) (c .before .before .before .before .before .before .before .before .before .before .before .before .before .before .before .before .before .before .before .before .before .before .before .before .before .before .before .before .before .before .before .before .before .before .before .before .before .before .before .before .args .bodies .now) (c .before .before .before .before .before .before .before .before .before .before .before .before .before .before .before .before .before .before .before .before .before .before .before .before .before .before .before .before .before .before .before .before .before .before .before .before .before .before .before .before .args .stack .now) (c .before .before .before .before .before .before .before .before .before .before .before .before .before .before .before .before .before .before .before .before .before .before .before .before .before .before .before .before .before .before .before .before .before .before .before .before .before .before .before .before .args .receiver) (c .before .before .before .before .before .before .before .before .before .before .before .before .before .before .before .before .before .before .before .before .before .before .before .before .before .before .before .before .before .before .before .before .before .before .before .before .before .before .before .before .args .selector) (c .before .before .before .before .before .before .before .before .before .before .before .before .before .before .before .before .before .before .before .before .before .before .before .before .before .before .before .before .before .before .before .before .before .before .before .before .before .before .before .before .args .arguments .now) _ (record { right = (c .before .before .before .before .before .before .before .before .before .before .before .before .before .before .before .before .before .before .before .before .before .before .before .before .before .before .before .before .before .before .before .before .before .before .before .before .before .before .before .before .pre); words = (sym (c .before .before .before .before .before .before .before .before .before .before .before .before .before .before .before .before .before .before .before .before .before .before .before .before .before .before .before .before .before .before .before .before .before .before .words-fine .ensures (c .before .before .before .before .before .before .before .before .before .before .before .before .before .before .before .before .before .before .before .before .before .before .before .before .before .before .before .before .before .before .before .before .before .before .before .before .before .before .before .before .args .b) (c .before .before .before .before .before .before .before .before .before .before .before .before .before .before .before .before .before .before .before .before .before .before .before .before .before .before .before .before .before .before .before .before .before .before .before .before .before .before .before .before .args .bodies .now)) ∙ not-false _ (c .before .before .before .before .before .before .before .before .before .before .before .before .before .before .before .before .before .before .before .before .before .before .before .before .before .before .before .before .before .before .before .before .before .if1 .left)); finds = ((ap (lookup (objectsAt (c .before .before .before .before .before .before .before .before .before .before .before .before .before .before .before .before .before .before .before .before .before .before .before .before .before .before .before .before .before .before .before .before .before .before .before .before .before .before .before .before .args .n) (c .before .before .before .before .before .before .before .before .before .before .before .before .before .before .before .before .before .before .before .before .before .before .before .before .before .before .before .before .before .before .before .before .before .before .before .before .before .before .before .before .args .b) (c .before .before .before .before .before .before .before .before .before .before .before .before .before .before .before .before .before .before .before .before .before .before .before .before .before .before .before .before .before .before .before .before .before .before .before .before .before .before .before .before .args .contents .now) (c .before .before .before .before .before .before .before .before .before .before .before .before .before .before .before .before .before .before .before .before .before .before .before .before .before .before .before .before .before .before .before .before .before .before .before .before .before .before .before .before .args .bodies .now)) (c .before .before .before .before .before .before .before .before .before .before .before .before .before .before .before .before .before .before .before .before .before .before .before .before .before .before .before .before .before .before .before .before .before .before .before .before .before .before .before .before .args .selector)) (sym (c .before .before .before .before .before .before .before .before .before .before .before .before .before .before .before .before .before .before .before .before .before .before .before .before .before .before .before .before .before .before .before .class-of .ensures (c .before .before .before .before .before .before .before .before .before .before .before .before .before .before .before .before .before .before .before .before .before .before .before .before .before .before .before .before .before .before .before .before .before .before .before .before .before .before .before .before .args .b) (c .before .before .before .before .before .before .before .before .before .before .before .before .before .before .before .before .before .before .before .before .before .before .before .before .before .before .before .before .before .before .before .before .before .before .before .before .before .before .before .before .args .bodies .now))) ∙ sym (c .before .before .before .before .before .before .before .before .before .before .before .before .before .before .before .before .before .before .before .before .before .before .before .before .before .before .before .before .lookup .ensures)) ∙ c .before .before .before .before .before .before .before .before .before .before .before .before .before .before .before .before .before .before .before .before .before .before .before .before .before .before .found .given .1); count = (sym (c .before .before .before .before .before .before .before .before .before .before .before .before .before .before .before .before .before .before .before .before .before .before .argument-count .ensures) ∙ c .before .before .before .before .before .before .before .before .before .before .before .before .before .before .before .before .before .before .before .before .before .if2 .left) }) _ _ _ _ _ (c .before .before .before .before .before .before .before .before .before .before .before .before .before .activate .ensures) (c .before .before .before .before .before .before .before .before .before .before .before .before .before .before .before .before .before .argument .ensures) (c .before .before .before .before .before .before .before .before .before .before .before .before .before .before .before .before .argument2 .ensures) (c .before .before .before .before .before .before .before .enum-told3 .given .1) (let k = frame-is (objectsAt (c .before .before .before .before .before .before .before .before .before .before .before .before .before .before .before .before .before .before .before .before .before .before .before .before .before .before .before .before .before .before .before .before .before .before .before .before .before .before .before .before .args .n) (c .before .before .before .before .before .before .before .before .before .before .before .before .before .before .before .before .before .before .before .before .before .before .before .before .before .before .before .before .before .before .before .before .before .before .before .before .before .before .before .before .args .b) (c .before .before .before .before .before .before .before .before .before .before .before .before .before .before .before .before .before .before .before .before .before .before .before .before .before .before .before .before .before .before .before .before .before .before .before .before .before .before .before .before .args .contents .now) (c .before .before .before .before .before .before .before .before .before .before .before .before .before .before .before .before .before .before .before .before .before .before .before .before .before .before .before .before .before .before .before .before .before .before .before .before .before .before .before .before .args .bodies .now)) (c .before .before .before .before .before .before .before .before .before .before .before .before .before .before .before .before .before .before .before .before .before .before .before .before .before .before .found .given .0 .0 .0) _ _ (c .before .before .before .before .before .before .before .before .before .before .before .before .before .before .before .before .before .before .header .ensures) (c .before .before .before .before .before .before .frame-words .ensures) in let t = c .before .before .before .before .before .if3 .left in omega arith) _ (c .before .before .write-frame .ensures ∙ first-words (c .before .before .before .before .before .before .before .before .before .before .before .before .before .before .before .before .before .before .before .before .before .before .before .before .before .before .before .before .before .before .before .before .before .before .before .before .before .before .before .before .args .stack .now) (c .before .before .before .before .before .before .before .before .before .before .before .before .before .before .before .before .before .before .before .before .before .before .before .before .before .before .found .given .0 .0 .0) (c .before .before .before .before .before .before .before .before .before .before .before .before .before .before .before .before .before .before .before .before .before .before .before .before .before .before .before .before .before .before .before .before .before .before .before .before .before .before .before .before .args .receiver) _ _ _ (c .before .before .before .before .before .before .before .before .before .before .before .before .before .before .before .before .before .before .before .before .before .before .before .before .before .before .before .before .before .before .before .before .before .before .before .before .before .before .before .before .args .arguments .now) (c .before .before .before .before .temporary-count .ensures ∙ ap (λ (h : ℕ). h / 256 % 32) (c .before .before .before .before .before .before .before .before .before .before .before .before .before .before .before .before .before .before .header .ensures)) (c .before .before .before .before .before .before .before .before .before .before .before .before .before .before .before .before .before .before .before .before .before .if2 .left))
+returns-7 c =
+    let at-temporary-count = c .before .before .before .before in
+    let at-if3 = at-temporary-count .before in
+    let at-frame-words = at-if3 .before in
+    let at-enum-told3 = at-frame-words .before in
+    let at-activate = at-enum-told3 .before .before .before .before .before .before in
+    let at-argument2 = at-activate .before .before .before in
+    let at-argument = at-argument2 .before in
+    let at-header = at-argument .before in
+    let at-if2 = at-header .before .before .before in
+    let at-argument-count = at-if2 .before in
+    let at-found = at-argument-count .before .before .before .before in
+    let at-lookup = at-found .before .before in
+    let at-class-of = at-lookup .before .before .before in
+    let at-if1 = at-class-of .before .before in
+    let at-words-fine = at-if1 .before in
+    let at-start = at-words-fine .before .before .before .before .before .before in
+    let args = at-start .args in
+    begun-enters (args .n) (args .b) (args .contents .now) (args .bodies .now) (args .stack .now) (args .receiver) (args .selector) (args .arguments .now) _
+    (record {
+      right = (at-start .pre);
+      words = (sym (at-words-fine .words-fine .ensures (args .b) (args .bodies .now)) ∙ not-false _ (at-if1 .if1 .left));
+      finds = ((ap (lookup (objectsAt (args .n) (args .b) (args .contents .now) (args .bodies .now)) (args .selector))
+          (sym (at-class-of .class-of .ensures (args .b) (args .bodies .now))) ∙ sym (at-lookup .lookup .ensures)) ∙ at-found .found .given .1);
+      count =
+          (sym (at-argument-count .argument-count .ensures) ∙ at-if2 .if2 .left);
+    }) _ _ _ _ _ (at-activate .activate .ensures) (at-argument .argument .ensures)
+    (at-argument2 .argument2 .ensures) (at-enum-told3 .enum-told3 .given .1)
+    (let k = frame-is (objectsAt (args .n) (args .b) (args .contents .now) (args .bodies .now)) (at-found .found .given .0 .0 .0) _ _
+    (at-header .header .ensures) (at-frame-words .frame-words .ensures) in let t = at-if3 .if3 .left in omega arith) _ (c .before .before .write-frame .ensures
+    ∙ first-words (args .stack .now) (at-found .found .given .0 .0 .0) (args .receiver) _ _ _ (args .arguments .now)
+    (at-temporary-count .temporary-count .ensures ∙ ap (λ (h : ℕ). h / 256 % 32) (at-header .header .ensures)) (at-if2 .if2 .left))
 
 pub begin-spec : {M : Type 1} → statement M
 begin-spec =

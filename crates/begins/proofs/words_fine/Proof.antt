@@ -15,19 +15,33 @@ is-valid-requires : tie.Need-is-valid-requires
 is-valid-requires c κs = search needs
 
 returns : tie.Need-returns
-returns c = λ b bodies. no-receiver (objectsAt (c .before .before .before .before .args .n) b (c .before .before .before .before .args .contents .now) bodies) (c .before .before .before .before .args .receiver) (c .before .before .before .before .args .selector) (c .before .before .before .before .args .arguments .now) (sym (c .before .is-valid .ensures) ∙ not-true _ (c .if1 .taken))
+returns c =
+    let at-start = c .before .before .before .before in
+    let args = at-start .args in
+    λ b bodies. no-receiver (objectsAt (args .n) b (args .contents .now) bodies) (args .receiver) (args .selector) (args .arguments .now)
+    (sym (c .before .is-valid .ensures) ∙ not-true _ (c .if1 .taken))
 
 is-kind-requires : tie.Need-is-kind-requires
 is-kind-requires c κs = search needs
 
 returns-2 : tie.Need-returns-2
-returns-2 c = λ b bodies. no-selector (objectsAt (c .before .before .before .before .before .before .args .n) b (c .before .before .before .before .before .before .args .contents .now) bodies) (c .before .before .before .before .before .before .args .receiver) (c .before .before .before .before .before .before .args .selector) (c .before .before .before .before .before .before .args .arguments .now) (sym (c .before .before .before .is-valid .ensures) ∙ not-false _ (c .before .before .if1 .left)) (sym (c .before .is-kind .ensures b bodies) ∙ not-true _ (c .if2 .taken))
+returns-2 c =
+    let at-start = c .before .before .before .before .before .before in
+    let args = at-start .args in
+    λ b bodies. no-selector (objectsAt (args .n) b (args .contents .now) bodies) (args .receiver) (args .selector) (args .arguments .now)
+    (sym (c .before .before .before .is-valid .ensures) ∙ not-false _ (c .before .before .if1 .left)) (sym (c .before .is-kind .ensures b bodies) ∙ not-true _ (c .if2 .taken))
 
 valid-words-requires : tie.Need-valid-words-requires
 valid-words-requires c κs = search needs
 
 returns-3 : tie.Need-returns-3
-returns-3 c = λ b bodies. c .valid-words .ensures ∙ arguments-left (objectsAt (c .before .before .before .before .before .before .before .args .n) b (c .before .before .before .before .before .before .before .args .contents .now) bodies) (c .before .before .before .before .before .before .before .args .receiver) (c .before .before .before .before .before .before .before .args .selector) (c .before .before .before .before .before .before .before .args .arguments .now) (sym (c .before .before .before .before .is-valid .ensures) ∙ not-false _ (c .before .before .before .if1 .left)) (sym (c .before .before .is-kind .ensures b bodies) ∙ not-false _ (c .before .if2 .left))
+returns-3 c =
+    let at-is-valid = c .before .before .before .before in
+    let at-start = at-is-valid .before .before .before in
+    let args = at-start .args in
+    λ b bodies. c .valid-words .ensures ∙ arguments-left (objectsAt (args .n) b (args .contents .now) bodies) (args .receiver) (args .selector)
+    (args .arguments .now) (sym (at-is-valid .is-valid .ensures) ∙ not-false _ (c .before .before .before .if1 .left))
+    (sym (c .before .before .is-kind .ensures b bodies) ∙ not-false _ (c .before .if2 .left))
 
 pub words-fine-spec : {M : Type 1} → statement M
 words-fine-spec =

@@ -21,8 +21,9 @@ sub-if2 c = search needs
 
 returns-2 : tie.Need-returns-2
 returns-2 c =
-    let words = c .before .before .before .before .before .args .words .now in
-    let at = c .before .before .before .before .before .args .at in
+    let at-start = c .before .before .before .before .before in
+    let words = at-start .args .words .now in
+    let at = at-start .args .at in
     let e = c .before .length .ensures ∙ ap lengthOf (c .before .before .byte .ensures) in
     sym (decode-short words _ at (omega (arith, next-is words at, e)))
 
@@ -37,11 +38,14 @@ instruction-of-requires c κs = search needs
 
 returns-3 : tie.Need-returns-3
 returns-3 c =
-    let words = c .before .before .before .before .before .before .before .before .args .words .now in
-    let at = c .before .before .before .before .before .before .before .before .args .at in
-    let e = c .before .before .before .before .length .ensures ∙ ap lengthOf (c .before .before .before .before .before .byte .ensures) in
+    let at-length = c .before .before .before .before in
+    let at-byte = at-length .before in
+    let at-start = at-byte .before .before .before in
+    let words = at-start .args .words .now in
+    let at = at-start .args .at in
+    let e = at-length .length .ensures ∙ ap lengthOf (at-byte .byte .ensures) in
     c .instruction-of .ensures
-    ∙ rw (c .before .before .before .before .before .byte .ensures, c .before .before .byte-after .ensures, c .before .byte-after2 .ensures)
+    ∙ rw (at-byte .byte .ensures, c .before .before .byte-after .ensures, c .before .byte-after2 .ensures)
     (sym (decode-whole words _ at (omega (arith, next-is words at, e))))
 
 pub decode-spec : {M : Type 1} → statement M

@@ -48,8 +48,12 @@ entry-fine-requires c κs = (c .before .before .before .before .before .before .
 
 returns : tie.Need-returns Inv-loop μ-loop
 returns c =
-    let a = c .before .before .before .before .before .before .before .before .before .before .args in
-    cache-no (objectsAt (a .n) (a .b) (a .contents .now) (a .bodies .now)) (a .cache .now) (c .before .before .before .before .before .before .loop .i) _ (omega (arith, c .before .before .before .before .before .loop-test .taken)) (c .before .entry-fine .ensures) (c .if1 .taken)
+    let at-loop-test = c .before .before .before .before .before in
+    let at-loop = at-loop-test .before in
+    let at-start = at-loop .before .before .before .before in
+    let a = at-start .args in
+    cache-no (objectsAt (a .n) (a .b) (a .contents .now) (a .bodies .now)) (a .cache .now) (at-loop .loop .i) _ (omega (arith, at-loop-test .loop-test .taken))
+    (c .before .entry-fine .ensures) (c .if1 .taken)
 
 add-i : tie.Need-add-i Inv-loop μ-loop
 add-i c = omega arith
@@ -59,8 +63,10 @@ loop-less c = omega arith
 
 loop-again : tie.Need-loop-again Inv-loop μ-loop
 loop-again c =
-    let a = c .before .before .before .before .before .before .before .before .before .before .args in
-    (omega arith, cache-more (objectsAt (a .n) (a .b) (a .contents .now) (a .bodies .now)) (a .cache .now) (c .before .before .before .before .before .before .loop .i) _ (c .before .before .before .before .before .before .loop .inv .1) (c .before .entry-fine .ensures) (c .if1 .left))
+    let at-loop = c .before .before .before .before .before .before in
+    let at-start = at-loop .before .before .before .before in
+    let a = at-start .args in
+    (omega arith, cache-more (objectsAt (a .n) (a .b) (a .contents .now) (a .bodies .now)) (a .cache .now) (at-loop .loop .i) _ (at-loop .loop .inv .1) (c .before .entry-fine .ensures) (c .if1 .left))
 
 returns-2 : tie.Need-returns-2 Inv-loop μ-loop
 returns-2 c =

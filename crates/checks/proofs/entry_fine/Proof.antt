@@ -27,13 +27,20 @@ is-kind-requires c κs =
 
 returns-2 : tie.Need-returns-2
 returns-2 c =
-    let a = c .before .before .before .before .before .before .args in
-    entry-other (objectsAt (a .n) (a .b) (a .contents .now) (a .bodies .now)) (a .s) (a .class) (a .m) _ (c .before .before .before .is-empty .ensures) _ (c .before .before .if1 .left) (c .before .is-kind .ensures (a .b) (a .bodies .now)) (c .if2 .taken)
+    let at-is-empty = c .before .before .before in
+    let at-start = at-is-empty .before .before .before in
+    let a = at-start .args in
+    entry-other (objectsAt (a .n) (a .b) (a .contents .now) (a .bodies .now)) (a .s) (a .class) (a .m) _ (at-is-empty .is-empty .ensures) _
+    (c .before .before .if1 .left) (c .before .is-kind .ensures (a .b) (a .bodies .now)) (c .if2 .taken)
 
 lookup-requires : tie.Need-lookup-requires
 lookup-requires c κs =
-    let a = c .before .before .before .before .before .before .args in
-    (c .before .before .before .before .before .before .pre, or-right (eqb (a .class) nilWord) (isKind (objectsAt (a .n) (a .b) (a .contents .now) (a .bodies .now)) classKind (a .class)) (true→T (sym (c .before .is-kind .ensures (a .b) (a .bodies .now)) ∙ not-false _ (c .if2 .left))))
+    let at-start = c .before .before .before .before .before .before in
+    let a = at-start .args in (
+      at-start .pre,
+      or-right (eqb (a .class) nilWord) (isKind (objectsAt (a .n) (a .b) (a .contents .now) (a .bodies .now)) classKind (a .class))
+          (true→T (sym (c .before .is-kind .ensures (a .b) (a .bodies .now)) ∙ not-false _ (c .if2 .left))),
+    )
 
 enum-known-k : tie.Need-enum-known-k
 enum-known-k c = search needs
@@ -43,13 +50,22 @@ enum-told c = search needs
 
 returns-3 : tie.Need-returns-3
 returns-3 c =
-    let a = c .before .before .before .before .before .before .before .before .before .before .before .args in
-    entry-found (objectsAt (a .n) (a .b) (a .contents .now) (a .bodies .now)) (a .s) (a .class) (a .m) _ (c .before .before .before .before .before .before .before .before .is-empty .ensures) _ _ (c .before .before .before .before .before .before .before .if1 .left) (c .before .before .before .before .lookup .ensures) (c .before .before .k .given .1)
+    let at-lookup = c .before .before .before .before in
+    let at-if1 = at-lookup .before .before .before in
+    let at-is-empty = at-if1 .before in
+    let at-start = at-is-empty .before .before .before in
+    let a = at-start .args in
+    entry-found (objectsAt (a .n) (a .b) (a .contents .now) (a .bodies .now)) (a .s) (a .class) (a .m) _ (at-is-empty .is-empty .ensures) _ _
+    (at-if1 .if1 .left) (at-lookup .lookup .ensures) (c .before .before .k .given .1)
 
 returns-4 : tie.Need-returns-4
 returns-4 c =
-    let a = c .before .before .before .before .before .before .before .before .before .args in
-    entry-nothing (objectsAt (a .n) (a .b) (a .contents .now) (a .bodies .now)) (a .s) (a .class) (a .m) _ (c .before .before .before .before .before .before .is-empty .ensures) _ (c .before .before .before .before .before .if1 .left) (c .before .before .lookup .ensures) (c .enum-told .given .1)
+    let at-if1 = c .before .before .before .before .before in
+    let at-is-empty = at-if1 .before in
+    let at-start = at-is-empty .before .before .before in
+    let a = at-start .args in
+    entry-nothing (objectsAt (a .n) (a .b) (a .contents .now) (a .bodies .now)) (a .s) (a .class) (a .m) _ (at-is-empty .is-empty .ensures) _
+    (at-if1 .if1 .left) (c .before .before .lookup .ensures) (c .enum-told .given .1)
 
 pub entry-fine-spec : {M : Type 1} → statement M
 entry-fine-spec =

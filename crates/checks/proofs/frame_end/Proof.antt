@@ -34,7 +34,8 @@ shared-slice-read-m c = search needs
 
 is-kind-requires : tie.Need-is-kind-requires
 is-kind-requires c κs =
-    let a = c .before .before .before .before .before .before .args in contents-room (a .n) (a .b) (a .contents .now) (a .bodies .now) (c .before .before .before .before .before .before .pre)
+    let at-start = c .before .before .before .before .before .before in
+    let a = at-start .args in contents-room (a .n) (a .b) (a .contents .now) (a .bodies .now) (at-start .pre)
 
 returns-3 : tie.Need-returns-3
 returns-3 c =
@@ -43,8 +44,9 @@ returns-3 c =
 
 header-requires : tie.Need-header-requires
 header-requires c κs =
-    let a = c .before .before .before .before .before .before .before .before .args in
-    record { right = c .before .before .before .before .before .before .before .before .pre; kinds = true→T (sym (c .before .is-kind .ensures (a .b) (a .bodies .now)) ∙ not-false _ (c .if3 .left)) }
+    let at-start = c .before .before .before .before .before .before .before .before in
+    let a = at-start .args in
+    record { right = at-start .pre; kinds = true→T (sym (c .before .is-kind .ensures (a .b) (a .bodies .now)) ∙ not-false _ (c .if3 .left)) }
 
 frame-words-requires : tie.Need-frame-words-requires
 frame-words-requires c κs = search needs
@@ -61,18 +63,26 @@ add-end-2 c =
 
 returns-4 : tie.Need-returns-4
 returns-4 c =
-    let a = c .before .before .before .before .before .before .before .before .before .before .before .args in
+    let at-start = c .before .before .before .before .before .before .before .before .before .before .before in
+    let a = at-start .args in
     end-outside (objectsAt (a .n) (a .b) (a .contents .now) (a .bodies .now)) (a .stack .now) (a .at .0) _ _ (c .before .before .header .ensures) (c .before .frame-words .ensures) (c .if4 .taken)
 
 returns-5 : tie.Need-returns-5
 returns-5 c =
-    let a = c .before .before .before .before .before .before .before .before .before .before .before .before .args in
-    end-far (objectsAt (a .n) (a .b) (a .contents .now) (a .bodies .now)) (a .stack .now) (a .at .0) _ _ (c .before .before .before .header .ensures) (c .before .before .frame-words .ensures) (c .if5 .taken)
+    let at-header = c .before .before .before in
+    let at-start = at-header .before .before .before .before .before .before .before .before .before in
+    let a = at-start .args in
+    end-far (objectsAt (a .n) (a .b) (a .contents .now) (a .bodies .now)) (a .stack .now) (a .at .0) _ _ (at-header .header .ensures) (c .before .before .frame-words .ensures) (c .if5 .taken)
 
 returns-6 : tie.Need-returns-6
 returns-6 c =
-    let a = c .before .before .before .before .before .before .before .before .before .before .before .before .args in
-    end-here (objectsAt (a .n) (a .b) (a .contents .now) (a .bodies .now)) (a .stack .now) (a .at .0) _ _ (c .before .before .before .header .ensures) (c .before .before .frame-words .ensures) _ (c .before .before .before .before .before .is-kind .ensures (a .b) (a .bodies .now)) (c .before .before .before .before .if3 .left) (c .before .if4 .left) (c .if5 .left)
+    let at-header = c .before .before .before in
+    let at-if3 = at-header .before in
+    let at-is-kind = at-if3 .before in
+    let at-start = at-is-kind .before .before .before .before .before .before .before in
+    let a = at-start .args in
+    end-here (objectsAt (a .n) (a .b) (a .contents .now) (a .bodies .now)) (a .stack .now) (a .at .0) _ _ (at-header .header .ensures)
+    (c .before .before .frame-words .ensures) _ (at-is-kind .is-kind .ensures (a .b) (a .bodies .now)) (at-if3 .if3 .left) (c .before .if4 .left) (c .if5 .left)
 
 pub frame-end-spec : {M : Type 1} → statement M
 frame-end-spec =

@@ -47,13 +47,21 @@ temporary-count-requires c κs = search needs
 
 add-end : tie.Need-add-end
 add-end c =
-    let a = c .before .before .before .before .before .before .before .before .before .before .args in
-    let w = words-end (objectsAt (a .n) (a .b) (a .contents .now) (a .bodies .now)) (a .stack .now) (a .at .0) (a .uppermost) ((c .before .before .before .before .before .before .before .before .before .before .pre) .frame) _ (c .before .before .before .before .before .header-fine .ensures) (c .before .before .before .before .if1 .left) _ _ (c .before .header .ensures) (c .temporary-count .ensures) in omega arith
+    let at-if1 = c .before .before .before .before in
+    let at-header-fine = at-if1 .before in
+    let at-start = at-header-fine .before .before .before .before .before in
+    let a = at-start .args in
+    let w = words-end (objectsAt (a .n) (a .b) (a .contents .now) (a .bodies .now)) (a .stack .now) (a .at .0) (a .uppermost) ((at-start .pre) .frame) _
+    (at-header-fine .header-fine .ensures) (at-if1 .if1 .left) _ _ (c .before .header .ensures) (c .temporary-count .ensures) in omega arith
 
 add-end-2 : tie.Need-add-end-2
 add-end-2 c =
-    let a = c .before .before .before .before .before .before .before .before .before .before .args in
-    let w = words-end (objectsAt (a .n) (a .b) (a .contents .now) (a .bodies .now)) (a .stack .now) (a .at .0) (a .uppermost) ((c .before .before .before .before .before .before .before .before .before .before .pre) .frame) _ (c .before .before .before .before .before .header-fine .ensures) (c .before .before .before .before .if1 .left) _ _ (c .before .header .ensures) (c .temporary-count .ensures) in omega arith
+    let at-if1 = c .before .before .before .before in
+    let at-header-fine = at-if1 .before in
+    let at-start = at-header-fine .before .before .before .before .before in
+    let a = at-start .args in
+    let w = words-end (objectsAt (a .n) (a .b) (a .contents .now) (a .bodies .now)) (a .stack .now) (a .at .0) (a .uppermost) ((at-start .pre) .frame) _
+    (at-header-fine .header-fine .ensures) (at-if1 .if1 .left) _ _ (c .before .header .ensures) (c .temporary-count .ensures) in omega arith
 
 mul-valid-words : tie.Need-mul-valid-words
 mul-valid-words c =
@@ -67,16 +75,25 @@ part-valid-words-start c = search needs
 
 part-valid-words-end : tie.Need-part-valid-words-end
 part-valid-words-end c =
-    let a = c .before .before .before .before .before .before .before .before .before .before .args in
-    let w = words-end (objectsAt (a .n) (a .b) (a .contents .now) (a .bodies .now)) (a .stack .now) (a .at .0) (a .uppermost) ((c .before .before .before .before .before .before .before .before .before .before .pre) .frame) _ (c .before .before .before .before .before .header-fine .ensures) (c .before .before .before .before .if1 .left) _ _ (c .before .header .ensures) (c .temporary-count .ensures) in omega arith
+    let at-if1 = c .before .before .before .before in
+    let at-header-fine = at-if1 .before in
+    let at-start = at-header-fine .before .before .before .before .before in
+    let a = at-start .args in
+    let w = words-end (objectsAt (a .n) (a .b) (a .contents .now) (a .bodies .now)) (a .stack .now) (a .at .0) (a .uppermost) ((at-start .pre) .frame) _
+    (at-header-fine .header-fine .ensures) (at-if1 .if1 .left) _ _ (c .before .header .ensures) (c .temporary-count .ensures) in omega arith
 
 valid-words-requires : tie.Need-valid-words-requires
 valid-words-requires c κs = search needs
 
 returns-2 : tie.Need-returns-2
 returns-2 c =
-    let a = c .before .before .before .before .before .before .before .before .before .before .before .before .args in
-    rules-here (objectsAt (a .n) (a .b) (a .contents .now) (a .bodies .now)) (a .stack .now) (a .at .0) (a .uppermost) ((c .before .before .before .before .before .before .before .before .before .before .before .before .pre) .frame) _ (c .before .before .before .before .before .before .before .header-fine .ensures) (c .before .before .before .before .before .before .if1 .left) _ _ (c .before .before .before .header .ensures) (c .before .before .temporary-count .ensures) _ (c .valid-words .ensures)
+    let at-if1 = c .before .before .before .before .before .before in
+    let at-header-fine = at-if1 .before in
+    let at-start = at-header-fine .before .before .before .before .before in
+    let a = at-start .args in
+    rules-here (objectsAt (a .n) (a .b) (a .contents .now) (a .bodies .now)) (a .stack .now) (a .at .0) (a .uppermost) ((at-start .pre) .frame) _
+    (at-header-fine .header-fine .ensures) (at-if1 .if1 .left) _ _ (c .before .before .before .header .ensures) (c .before .before .temporary-count .ensures) _
+    (c .valid-words .ensures)
 
 pub frame-fine-spec : {M : Type 1} → statement M
 frame-fine-spec =

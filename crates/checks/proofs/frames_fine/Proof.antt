@@ -32,44 +32,71 @@ frame-fine-requires c κs = record { image = c .before .before .before .before .
 
 returns-2 : tie.Need-returns-2 Inv-loop μ-loop
 returns-2 c =
-    let a = c .before .before .before .before .before .before .before .before .before .before .args in
+    let at-start = c .before .before .before .before .before .before .before .before .before .before in
+    let a = at-start .args in
     going-wrong (objectsAt (a .n) (a .b) (a .contents .now) (a .bodies .now)) (a .stack .now) (c .before .before .loop .inv) _ (c .before .frame-fine .ensures) (c .if2 .taken)
 
 mul-sender : tie.Need-mul-sender Inv-loop μ-loop
 mul-sender c =
-    let a = c .before .before .before .before .before .before .before .before .before .before .args in
-    let s = standing (objectsAt (a .n) (a .b) (a .contents .now) (a .bodies .now)) (a .stack .now) (c .before .before .loop .base) (c .before .before .loop .inv .stands) .header in omega arith
+    let at-loop = c .before .before in
+    let at-start = at-loop .before .before .before .before .before .before .before .before in
+    let a = at-start .args in
+    let s = standing (objectsAt (a .n) (a .b) (a .contents .now) (a .bodies .now)) (a .stack .now) (at-loop .loop .base) (at-loop .loop .inv .stands) .header in omega arith
 
 shared-slice-read-sender : tie.Need-shared-slice-read-sender Inv-loop μ-loop
 shared-slice-read-sender c =
-    let a = c .before .before .before .before .before .before .before .before .before .before .before .args in
-    let s = standing (objectsAt (a .n) (a .b) (a .contents .now) (a .bodies .now)) (a .stack .now) (c .before .before .before .loop .base) (c .before .before .before .loop .inv .stands) .header in omega arith
+    let at-loop = c .before .before .before in
+    let at-start = at-loop .before .before .before .before .before .before .before .before in
+    let a = at-start .args in
+    let s = standing (objectsAt (a .n) (a .b) (a .contents .now) (a .bodies .now)) (a .stack .now) (at-loop .loop .base) (at-loop .loop .inv .stands) .header in omega arith
 
 cast-sender : tie.Need-cast-sender Inv-loop μ-loop
 cast-sender c = omega (arith, c .shared-slice-known5 .given (c .before .before .before .loop .base))
 
 returns-3 : tie.Need-returns-3 Inv-loop μ-loop
 returns-3 c =
-    let a = c .before .before .before .before .before .before .before .before .before .before .before .before .args in
-    going-bottom (objectsAt (a .n) (a .b) (a .contents .now) (a .bodies .now)) (a .stack .now) (c .before .before .before .before .loop .inv) _ (c .before .before .before .frame-fine .ensures) (c .before .before .if2 .left) (c .if3 .taken)
+    let at-frame-fine = c .before .before .before in
+    let at-loop = at-frame-fine .before in
+    let at-start = at-loop .before .before .before .before .before .before .before .before in
+    let a = at-start .args in
+    going-bottom (objectsAt (a .n) (a .b) (a .contents .now) (a .bodies .now)) (a .stack .now) (at-loop .loop .inv) _ (at-frame-fine .frame-fine .ensures)
+    (c .before .before .if2 .left) (c .if3 .taken)
 
 frame-end-requires-2 : tie.Need-frame-end-requires-2 Inv-loop μ-loop
 frame-end-requires-2 c κs = (c .before .before .before .before .before .before .before .before .before .before .before .before .pre) .right
 
 returns-4 : tie.Need-returns-4 Inv-loop μ-loop
 returns-4 c =
-    let a = c .before .before .before .before .before .before .before .before .before .before .before .before .before .before .before .args in
-    going-apart (objectsAt (a .n) (a .b) (a .contents .now) (a .bodies .now)) (a .stack .now) (c .before .before .before .before .before .before .before .loop .inv) _ (c .before .before .before .before .before .before .frame-fine .ensures) (c .before .before .before .before .before .if2 .left) (c .before .before .before .if3 .left) _ (c .before .before .frame-end2 .ensures) (c .if4 .taken)
+    let at-if3 = c .before .before .before in
+    let at-if2 = at-if3 .before .before in
+    let at-frame-fine = at-if2 .before in
+    let at-loop = at-frame-fine .before in
+    let at-start = at-loop .before .before .before .before .before .before .before .before in
+    let a = at-start .args in
+    going-apart (objectsAt (a .n) (a .b) (a .contents .now) (a .bodies .now)) (a .stack .now) (at-loop .loop .inv) _ (at-frame-fine .frame-fine .ensures)
+    (at-if2 .if2 .left) (at-if3 .if3 .left) _ (c .before .before .frame-end2 .ensures) (c .if4 .taken)
 
 loop-less : tie.Need-loop-less Inv-loop μ-loop
 loop-less c =
-    let a = c .before .before .before .before .before .before .before .before .before .before .before .before .before .before .before .args in
-    going-lower (objectsAt (a .n) (a .b) (a .contents .now) (a .bodies .now)) (a .stack .now) (c .before .before .before .before .before .before .before .loop .inv) _ (c .before .before .before .before .before .before .frame-fine .ensures) (c .before .before .before .before .before .if2 .left) (c .before .before .before .if3 .left) _ (c .before .before .frame-end2 .ensures) (c .if4 .left)
+    let at-if3 = c .before .before .before in
+    let at-if2 = at-if3 .before .before in
+    let at-frame-fine = at-if2 .before in
+    let at-loop = at-frame-fine .before in
+    let at-start = at-loop .before .before .before .before .before .before .before .before in
+    let a = at-start .args in
+    going-lower (objectsAt (a .n) (a .b) (a .contents .now) (a .bodies .now)) (a .stack .now) (at-loop .loop .inv) _ (at-frame-fine .frame-fine .ensures)
+    (at-if2 .if2 .left) (at-if3 .if3 .left) _ (c .before .before .frame-end2 .ensures) (c .if4 .left)
 
 loop-again : tie.Need-loop-again Inv-loop μ-loop
 loop-again c =
-    let a = c .before .before .before .before .before .before .before .before .before .before .before .before .before .before .before .args in
-    going-down (objectsAt (a .n) (a .b) (a .contents .now) (a .bodies .now)) (a .stack .now) (c .before .before .before .before .before .before .before .loop .inv) _ (c .before .before .before .before .before .before .frame-fine .ensures) (c .before .before .before .before .before .if2 .left) (c .before .before .before .if3 .left) _ (c .before .before .frame-end2 .ensures) (c .if4 .left)
+    let at-if3 = c .before .before .before in
+    let at-if2 = at-if3 .before .before in
+    let at-frame-fine = at-if2 .before in
+    let at-loop = at-frame-fine .before in
+    let at-start = at-loop .before .before .before .before .before .before .before .before in
+    let a = at-start .args in
+    going-down (objectsAt (a .n) (a .b) (a .contents .now) (a .bodies .now)) (a .stack .now) (at-loop .loop .inv) _ (at-frame-fine .frame-fine .ensures)
+    (at-if2 .if2 .left) (at-if3 .if3 .left) _ (c .before .before .frame-end2 .ensures) (c .if4 .left)
 
 pub frames-fine-spec : {M : Type 1} → statement M
 frames-fine-spec =

@@ -36,8 +36,10 @@ is-valid-requires c κs = search needs
 
 returns-2 : tie.Need-returns-2
 returns-2 c =
-    let a = c .before .before .before .before .before .before .before .before .before .args in
-    receiver-no (objectsAt (a .n) (a .b) (a .contents .now) (a .bodies .now)) (a .stack .now) (a .at .0) (a .uppermost) (c .before .before .before .if1 .left) _ (c .before .is-valid .ensures) (c .if2 .taken)
+    let at-if1 = c .before .before .before in
+    let at-start = at-if1 .before .before .before .before .before .before in
+    let a = at-start .args in
+    receiver-no (objectsAt (a .n) (a .b) (a .contents .now) (a .bodies .now)) (a .stack .now) (a .at .0) (a .uppermost) (at-if1 .if1 .left) _ (c .before .is-valid .ensures) (c .if2 .taken)
 
 add-m : tie.Need-add-m
 add-m c = let h = header-inside (c .before .before .before .before .before .before .before .before .before .pre) in omega arith
@@ -53,18 +55,31 @@ home-requires c κs = holds-method (c .before .before .before .before .before .b
 
 class-of-requires : tie.Need-class-of-requires
 class-of-requires c κs =
-    let a = c .before .before .before .before .before .before .before .before .before .before .before .args in
-    (valid-read _ _ _ (c .before .before .before .is-valid .ensures) (c .before .before .if2 .left), contents-room (a .n) (a .b) (a .contents .now) (a .bodies .now) ((c .before .before .before .before .before .before .before .before .before .before .before .pre) .image .right))
+    let at-start = c .before .before .before .before .before .before .before .before .before .before .before in
+    let a = at-start .args in
+    (valid-read _ _ _ (c .before .before .before .is-valid .ensures) (c .before .before .if2 .left), contents-room (a .n) (a .b) (a .contents .now) (a .bodies .now) ((at-start .pre) .image .right))
 
 in-chain-requires : tie.Need-in-chain-requires
 in-chain-requires c κs =
-    let a = c .before .before .before .before .before .before .before .before .before .before .before .before .args in
-    ((c .before .before .before .before .before .before .before .before .before .before .before .before .pre) .image .right, class-named ((c .before .before .before .before .before .before .before .before .before .before .before .before .pre) .image .right) _ _ _ (c .before .before .before .before .is-valid .ensures) (c .before .before .before .if2 .left) (c .class-of .ensures (a .b) (a .bodies .now)))
+    let at-is-valid = c .before .before .before .before in
+    let at-start = at-is-valid .before .before .before .before .before .before .before .before in
+    let a = at-start .args in (
+      (at-start .pre) .image .right,
+      class-named ((at-start .pre) .image .right) _ _ _ (at-is-valid .is-valid .ensures) (c .before .before .before .if2 .left)
+          (c .class-of .ensures (a .b) (a .bodies .now)),
+    )
 
 returns-3 : tie.Need-returns-3
 returns-3 c =
-    let a = c .before .before .before .before .before .before .before .before .before .before .before .before .before .before .args in
-    chain-no (objectsAt (a .n) (a .b) (a .contents .now) (a .bodies .now)) (a .stack .now) (a .at .0) (a .uppermost) (c .before .before .before .before .before .before .before .before .if1 .left) _ (c .before .before .before .before .before .before .is-valid .ensures) (c .before .before .before .before .before .if2 .left) _ _ (c .before .before .before .home .ensures) (c .before .before .class-of .ensures (a .b) (a .bodies .now)) _ (c .before .in-chain .ensures) (c .if3 .taken)
+    let at-home = c .before .before .before in
+    let at-if2 = at-home .before .before in
+    let at-is-valid = at-if2 .before in
+    let at-if1 = at-is-valid .before .before in
+    let at-start = at-if1 .before .before .before .before .before .before in
+    let a = at-start .args in
+    chain-no (objectsAt (a .n) (a .b) (a .contents .now) (a .bodies .now)) (a .stack .now) (a .at .0) (a .uppermost) (at-if1 .if1 .left) _
+    (at-is-valid .is-valid .ensures) (at-if2 .if2 .left) _ _ (at-home .home .ensures) (c .before .before .class-of .ensures (a .b) (a .bodies .now)) _
+    (c .before .in-chain .ensures) (c .if3 .taken)
 
 add-p : tie.Need-add-p
 add-p c = let h = header-inside (c .before .before .before .before .before .before .before .before .before .before .before .before .before .before .pre) in omega arith
@@ -79,7 +94,9 @@ cast-p : tie.Need-cast-p
 cast-p c = omega (arith, c .shared-slice-known8 .given (c .before .before .before .before .before .before .before .before .before .before .before .before .before .before .before .args .at .0 + 1))
 
 note-at-requires : tie.Need-note-at-requires
-note-at-requires c κs = ((c .before .before .before .before .before .before .before .before .before .before .before .before .before .before .before .pre) .image, holds-method (c .before .before .before .before .before .before .before .before .before .before .before .before .before .before .before .pre) .kinds)
+note-at-requires c κs =
+    let at-start = c .before .before .before .before .before .before .before .before .before .before .before .before .before .before .before in
+    ((at-start .pre) .image, holds-method (at-start .pre) .kinds)
 
 add-depth : tie.Need-add-depth
 add-depth c = let h = header-inside (c .before .before .before .before .before .before .before .before .before .before .before .before .before .before .before .before .pre) in omega arith
@@ -91,25 +108,53 @@ shared-slice-read-depth : tie.Need-shared-slice-read-depth
 shared-slice-read-depth c = let h = header-inside (c .before .before .before .before .before .before .before .before .before .before .before .before .before .before .before .before .before .pre) in omega arith
 
 cast-depth : tie.Need-cast-depth
-cast-depth c = omega (arith, c .shared-slice-known9 .given (c .before .before .before .before .before .before .before .before .before .before .before .before .before .before .before .before .before .args .at .0 + 2))
+cast-depth c = omega (
+  arith,
+  c .shared-slice-known9 .given
+      (c .before .before .before .before .before .before .before .before .before .before .before .before .before .before .before .before .before .args .at .0 + 2),
+)
 
 add-result : tie.Need-add-result
-add-result c = omega (arith, c .before .shared-slice-known9 .given (c .before .before .before .before .before .before .before .before .before .before .before .before .before .before .before .before .before .before .args .at .0 + 2))
+add-result c =
+    let at-start = c .before .before .before .before .before .before .before .before .before .before .before .before .before .before .before .before .before .before in
+    omega (arith, c .before .shared-slice-known9 .given (at-start .args .at .0 + 2))
 
 returns-4 : tie.Need-returns-4
 returns-4 c =
-    let a = c .before .before .before .before .before .before .before .before .before .before .before .before .before .before .before .before .before .before .args in
+    let at-if3 = c .before .before .before .before in
+    let at-in-chain = at-if3 .before in
+    let at-class-of = at-in-chain .before in
+    let at-home = at-class-of .before in
+    let at-if2 = at-home .before .before in
+    let at-is-valid = at-if2 .before in
+    let at-if1 = at-is-valid .before .before in
+    let at-start = at-if1 .before .before .before .before .before .before in
+    let a = at-start .args in
     let o = (objectsAt (a .n) (a .b) (a .contents .now) (a .bodies .now)) in
-    header-note o (a .stack .now) (a .at .0) (a .uppermost) (c .before .before .before .before .before .before .before .before .before .before .before .before .if1 .left) _ (c .before .before .before .before .before .before .before .before .before .before .is-valid .ensures) (c .before .before .before .before .before .before .before .before .before .if2 .left) _ _ (c .before .before .before .before .before .before .before .home .ensures) (c .before .before .before .before .before .before .class-of .ensures (a .b) (a .bodies .now)) _ (c .before .before .before .before .before .in-chain .ensures) (c .before .before .before .before .if3 .left) _ _ (c .before .before .note-at .ensures) (note-top o (a .stack .now) (a .at .0) (a .uppermost) (c .if4 .taken))
+    header-note o (a .stack .now) (a .at .0) (a .uppermost) (at-if1 .if1 .left) _ (at-is-valid .is-valid .ensures) (at-if2 .if2 .left) _ _
+    (at-home .home .ensures) (at-class-of .class-of .ensures (a .b) (a .bodies .now)) _ (at-in-chain .in-chain .ensures) (at-if3 .if3 .left) _ _
+    (c .before .before .note-at .ensures) (note-top o (a .stack .now) (a .at .0) (a .uppermost) (c .if4 .taken))
 
 add-result-2 : tie.Need-add-result-2
-add-result-2 c = omega (arith, c .before .shared-slice-known9 .given (c .before .before .before .before .before .before .before .before .before .before .before .before .before .before .before .before .before .before .args .at .0 + 2))
+add-result-2 c =
+    let at-start = c .before .before .before .before .before .before .before .before .before .before .before .before .before .before .before .before .before .before in
+    omega (arith, c .before .shared-slice-known9 .given (at-start .args .at .0 + 2))
 
 returns-5 : tie.Need-returns-5
 returns-5 c =
-    let a = c .before .before .before .before .before .before .before .before .before .before .before .before .before .before .before .before .before .before .args in
+    let at-if3 = c .before .before .before .before in
+    let at-in-chain = at-if3 .before in
+    let at-class-of = at-in-chain .before in
+    let at-home = at-class-of .before in
+    let at-if2 = at-home .before .before in
+    let at-is-valid = at-if2 .before in
+    let at-if1 = at-is-valid .before .before in
+    let at-start = at-if1 .before .before .before .before .before .before in
+    let a = at-start .args in
     let o = (objectsAt (a .n) (a .b) (a .contents .now) (a .bodies .now)) in
-    header-note o (a .stack .now) (a .at .0) (a .uppermost) (c .before .before .before .before .before .before .before .before .before .before .before .before .if1 .left) _ (c .before .before .before .before .before .before .before .before .before .before .is-valid .ensures) (c .before .before .before .before .before .before .before .before .before .if2 .left) _ _ (c .before .before .before .before .before .before .before .home .ensures) (c .before .before .before .before .before .before .class-of .ensures (a .b) (a .bodies .now)) _ (c .before .before .before .before .before .in-chain .ensures) (c .before .before .before .before .if3 .left) _ _ (c .before .before .note-at .ensures) (note-below o (a .stack .now) (a .at .0) (a .uppermost) (c .if4 .left))
+    header-note o (a .stack .now) (a .at .0) (a .uppermost) (at-if1 .if1 .left) _ (at-is-valid .is-valid .ensures) (at-if2 .if2 .left) _ _
+    (at-home .home .ensures) (at-class-of .class-of .ensures (a .b) (a .bodies .now)) _ (at-in-chain .in-chain .ensures) (at-if3 .if3 .left) _ _
+    (c .before .before .note-at .ensures) (note-below o (a .stack .now) (a .at .0) (a .uppermost) (c .if4 .left))
 
 pub header-fine-spec : {M : Type 1} → statement M
 header-fine-spec =

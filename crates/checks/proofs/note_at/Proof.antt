@@ -9,22 +9,35 @@ code-of-requires : tie.Need-code-of-requires
 code-of-requires c κs = search needs
 
 returns : tie.Need-returns
-returns c = note-outside ((c .before .before .before .before .before .before .pre) .0) _ ((c .before .before .before .before .before .before .pre) .1) _ (c .before .before .code-of .ensures) _ (c .if1 .taken)
+returns c =
+    let at-start = c .before .before .before .before .before .before in
+    note-outside ((at-start .pre) .0) _ ((at-start .pre) .1) _ (c .before .before .code-of .ensures) _ (c .if1 .taken)
 
 mul-i : tie.Need-mul-i
 mul-i c = search needs
 
 add-i : tie.Need-add-i
-add-i c = let r = note-room ((c .before .before .before .before .before .before .before .pre) .0) _ ((c .before .before .before .before .before .before .before .pre) .1) _ (c .before .before .before .code-of .ensures) _ (c .before .if1 .left) in omega arith
+add-i c =
+    let at-start = c .before .before .before .before .before .before .before in
+    let r = note-room ((at-start .pre) .0) _ ((at-start .pre) .1) _ (c .before .before .before .code-of .ensures) _ (c .before .if1 .left) in omega arith
 
 shared-slice-read-result : tie.Need-shared-slice-read-result
-shared-slice-read-result c = let r = note-room ((c .before .before .before .before .before .before .before .before .pre) .0) _ ((c .before .before .before .before .before .before .before .before .pre) .1) _ (c .before .before .before .before .code-of .ensures) _ (c .before .before .if1 .left) in omega arith
+shared-slice-read-result c =
+    let at-code-of = c .before .before .before .before in
+    let at-start = at-code-of .before .before .before .before in
+    let r = note-room ((at-start .pre) .0) _ ((at-start .pre) .1) _ (at-code-of .code-of .ensures) _ (c .before .before .if1 .left) in omega arith
 
 cast-result : tie.Need-cast-result
-cast-result c = omega (arith, c .shared-slice-known4 .given (2 * c .before .before .before .before .code-of .result .from + c .before .before .before .before .before .before .before .before .args .at .0))
+cast-result c =
+    let at-code-of = c .before .before .before .before in
+    let at-start = at-code-of .before .before .before .before in
+    omega (arith, c .shared-slice-known4 .given (2 * at-code-of .code-of .result .from + at-start .args .at .0))
 
 returns-2 : tie.Need-returns-2
-returns-2 c = note-read ((c .before .before .before .before .before .before .before .before .pre) .0) _ ((c .before .before .before .before .before .before .before .before .pre) .1) _ (c .before .before .before .before .code-of .ensures) _ (c .before .before .if1 .left)
+returns-2 c =
+    let at-code-of = c .before .before .before .before in
+    let at-start = at-code-of .before .before .before .before in
+    note-read ((at-start .pre) .0) _ ((at-start .pre) .1) _ (at-code-of .code-of .ensures) _ (c .before .before .if1 .left)
 
 pub note-at-spec : {M : Type 1} → statement M
 note-at-spec =

@@ -21,13 +21,20 @@ abbrev μ-loop : tie.MeasureT-loop
 μ-loop table contents bodies n b counts m words notes p₀ p = length notes - p
 
 loop-holds : tie.Need-loop-holds Inv-loop μ-loop
-loop-holds c = (omega arith, before-none (linkedAt (objectsAt (c .before .before .before .before .before .args .n) (c .before .before .before .before .before .args .b) (c .before .before .before .before .before .args .contents .now) (c .before .before .before .before .before .args .bodies .now)) (c .before .before .before .before .before .args .m) (c .before .before .before .before .before .args .notes .now)))
+loop-holds c =
+    let at-start = c .before .before .before .before .before in
+    let args = at-start .args in
+    (omega arith, before-none (linkedAt (objectsAt (args .n) (args .b) (args .contents .now) (args .bodies .now)) (args .m) (args .notes .now)))
 
 position-fine-requires : tie.Need-position-fine-requires Inv-loop μ-loop
-position-fine-requires c κs = ((c .before .before .before .before .before .before .before .pre) .0, (c .before .before .before .before .before .before .before .pre) .1, c .loop-test .taken)
+position-fine-requires c κs =
+    let at-start = c .before .before .before .before .before .before .before in
+    ((at-start .pre) .0, (at-start .pre) .1, c .loop-test .taken)
 
 returns : tie.Need-returns Inv-loop μ-loop
-returns c = linked-stops _ _ _ _ ((c .before .before .before .before .before .before .before .before .before .pre) .1) _ (c .before .before .loop-test .taken) (sym (c .before .position-fine .ensures) ∙ not-true _ (c .if1 .taken))
+returns c =
+    let at-start = c .before .before .before .before .before .before .before .before .before in
+    linked-stops _ _ _ _ ((at-start .pre) .1) _ (c .before .before .loop-test .taken) (sym (c .before .position-fine .ensures) ∙ not-true _ (c .if1 .taken))
 
 add-p : tie.Need-add-p Inv-loop μ-loop
 add-p c = search needs
@@ -36,7 +43,13 @@ loop-less : tie.Need-loop-less Inv-loop μ-loop
 loop-less c = omega arith
 
 loop-again : tie.Need-loop-again Inv-loop μ-loop
-loop-again c = (omega arith, before-more (linkedAt (objectsAt (c .before .before .before .before .before .before .before .before .before .args .n) (c .before .before .before .before .before .before .before .before .before .args .b) (c .before .before .before .before .before .before .before .before .before .args .contents .now) (c .before .before .before .before .before .before .before .before .before .args .bodies .now)) (c .before .before .before .before .before .before .before .before .before .args .m) (c .before .before .before .before .before .before .before .before .before .args .notes .now)) _ (c .before .before .before .loop .inv .1) (sym (c .before .position-fine .ensures) ∙ not-false _ (c .if1 .left)))
+loop-again c =
+    let at-start = c .before .before .before .before .before .before .before .before .before in
+    let args = at-start .args in (
+      omega arith,
+      before-more (linkedAt (objectsAt (args .n) (args .b) (args .contents .now) (args .bodies .now)) (args .m) (args .notes .now)) _
+          (c .before .before .before .loop .inv .1) (sym (c .before .position-fine .ensures) ∙ not-false _ (c .if1 .left)),
+    )
 
 returns-2 : tie.Need-returns-2 Inv-loop μ-loop
 returns-2 c = linked-over _ _ _ _ ((c .before .before .before .before .before .before .before .pre) .1) _ (c .loop-test .left) (c .before .loop .inv .1)

@@ -25,7 +25,9 @@ body-word-requires : tie.Need-body-word-requires
 body-word-requires c κs = (method-named ((c .before .before .before .before .before .before .before .pre) .0), omega arith)
 
 field-count-requires : tie.Need-field-count-requires
-field-count-requires c κs = (laid-here ((c .before .before .before .before .before .before .before .before .pre) .0), is-class ((c .before .before .before .before .before .before .before .before .pre) .0) _ (c .body-word .ensures))
+field-count-requires c κs =
+    let at-start = c .before .before .before .before .before .before .before .before in
+    (laid-here ((at-start .pre) .0), is-class ((at-start .pre) .0) _ (c .body-word .ensures))
 
 cast-fields : tie.Need-cast-fields
 cast-fields c = let q = few-fields ((c .before .before .before .before .before .before .before .before .before .pre) .0) _ _ (c .before .body-word .ensures) (c .field-count .ensures) in omega arith
@@ -49,10 +51,22 @@ same-length-2 : tie.Need-same-length-2
 same-length-2 c = search needs
 
 returns : tie.Need-returns
-returns c = notes-none _ _ _ (table-here _ _ _ _ _ _ _ _ _ ((c .before .before .before .before .before .before .before .before .before .before .before .before .before .before .before .before .before .before .pre) .1) (c .before .before .before .before .before .before .before .before .before .field-count .ensures) (c .before .before .before .before .before .before .before .before .before .before .body-word .ensures) (ap (λ (h : ℕ). h / 256 % 32) (c .before .before .before .before .before .before .before .before .before .before .before .header-of .ensures)) (ap (λ (h : ℕ). h / 2 % 64) (c .before .before .before .before .before .before .before .before .before .before .before .header-of .ensures)) (c .before .before .before .before .before .before .before .before .frame-limit .ensures .0 _ _ (c .before .before .before .before .before .before .before .before .before .before .before .header-of .ensures))) _ _ _ (c .before .before .before .before .before .walk .ensures) (not-true _ (c .if1 .taken))
+returns c =
+    let at-walk = c .before .before .before .before .before in
+    let at-frame-limit = at-walk .before .before .before in
+    let at-field-count = at-frame-limit .before in
+    let at-body-word = at-field-count .before in
+    let at-header-of = at-body-word .before in
+    let at-start = at-header-of .before .before .before .before .before .before .before in
+    notes-none _ _ _ (table-here _ _ _ _ _ _ _ _ _ ((at-start .pre) .1) (at-field-count .field-count .ensures) (at-body-word .body-word .ensures)
+    (ap (λ (h : ℕ). h / 256 % 32) (at-header-of .header-of .ensures)) (ap (λ (h : ℕ). h / 2 % 64) (at-header-of .header-of .ensures))
+    (at-frame-limit .frame-limit .ensures .0 _ _ (at-header-of .header-of .ensures))) _ _ _ (at-walk .walk .ensures) (not-true _ (c .if1 .taken))
 
 all-fine-requires : tie.Need-all-fine-requires
-all-fine-requires c κs = ((c .before .before .before .before .before .before .before .before .before .before .before .before .before .before .before .before .before .before .before .pre) .0, code-lent-by _ _ _ _ _ (c .before .before .before .before .before .before .walk .kept .1 .1 .1 .1 .1 .1 .0) ((c .before .before .before .before .before .before .before .before .before .before .before .before .before .before .before .before .before .before .before .pre) .1))
+all-fine-requires c κs =
+    let at-walk = c .before .before .before .before .before .before in
+    let at-start = at-walk .before .before .before .before .before .before .before .before .before .before .before .before .before in
+    ((at-start .pre) .0, code-lent-by _ _ _ _ _ (at-walk .walk .kept .1 .1 .1 .1 .1 .1 .0) ((at-start .pre) .1))
 
 same-length-3 : tie.Need-same-length-3
 same-length-3 c = search needs
@@ -61,7 +75,17 @@ same-length-4 : tie.Need-same-length-4
 same-length-4 c = search needs
 
 returns-2 : tie.Need-returns-2
-returns-2 c = notes-some _ _ _ (table-here _ _ _ _ _ _ _ _ _ ((c .before .before .before .before .before .before .before .before .before .before .before .before .before .before .before .before .before .before .before .before .before .pre) .1) (c .before .before .before .before .before .before .before .before .before .before .before .before .field-count .ensures) (c .before .before .before .before .before .before .before .before .before .before .before .before .before .body-word .ensures) (ap (λ (h : ℕ). h / 256 % 32) (c .before .before .before .before .before .before .before .before .before .before .before .before .before .before .header-of .ensures)) (ap (λ (h : ℕ). h / 2 % 64) (c .before .before .before .before .before .before .before .before .before .before .before .before .before .before .header-of .ensures)) (c .before .before .before .before .before .before .before .before .before .before .before .frame-limit .ensures .0 _ _ (c .before .before .before .before .before .before .before .before .before .before .before .before .before .before .header-of .ensures))) _ _ _ (c .before .before .before .before .before .before .before .before .walk .ensures) (not-false _ (c .before .before .before .if1 .left)) (sym (c .before .all-fine .ensures) ∙ c .if2 .taken)
+returns-2 c =
+    let at-walk = c .before .before .before .before .before .before .before .before in
+    let at-frame-limit = at-walk .before .before .before in
+    let at-field-count = at-frame-limit .before in
+    let at-body-word = at-field-count .before in
+    let at-header-of = at-body-word .before in
+    let at-start = at-header-of .before .before .before .before .before .before .before in
+    notes-some _ _ _ (table-here _ _ _ _ _ _ _ _ _ ((at-start .pre) .1) (at-field-count .field-count .ensures) (at-body-word .body-word .ensures)
+    (ap (λ (h : ℕ). h / 256 % 32) (at-header-of .header-of .ensures)) (ap (λ (h : ℕ). h / 2 % 64) (at-header-of .header-of .ensures))
+    (at-frame-limit .frame-limit .ensures .0 _ _ (at-header-of .header-of .ensures))) _ _ _ (at-walk .walk .ensures)
+    (not-false _ (c .before .before .before .if1 .left)) (sym (c .before .all-fine .ensures) ∙ c .if2 .taken)
 
 clear-requires : tie.Need-clear-requires
 clear-requires c κs = search needs
@@ -73,7 +97,20 @@ same-length-6 : tie.Need-same-length-6
 same-length-6 c = search needs
 
 returns-3 : tie.Need-returns-3
-returns-3 c = notes-fail _ _ _ (table-here _ _ _ _ _ _ _ _ _ ((c .before .before .before .before .before .before .before .before .before .before .before .before .before .before .before .before .before .before .before .before .before .before .before .before .before .pre) .1) (c .before .before .before .before .before .before .before .before .before .before .before .before .before .before .before .before .field-count .ensures) (c .before .before .before .before .before .before .before .before .before .before .before .before .before .before .before .before .before .body-word .ensures) (ap (λ (h : ℕ). h / 256 % 32) (c .before .before .before .before .before .before .before .before .before .before .before .before .before .before .before .before .before .before .header-of .ensures)) (ap (λ (h : ℕ). h / 2 % 64) (c .before .before .before .before .before .before .before .before .before .before .before .before .before .before .before .before .before .before .header-of .ensures)) (c .before .before .before .before .before .before .before .before .before .before .before .before .before .before .before .frame-limit .ensures .0 _ _ (c .before .before .before .before .before .before .before .before .before .before .before .before .before .before .before .before .before .before .header-of .ensures))) _ _ _ (c .before .before .before .before .before .before .before .before .before .before .before .before .walk .ensures) _ (not-false _ (c .before .before .before .before .before .before .before .if1 .left)) (sym (c .before .before .before .before .before .all-fine .ensures) ∙ c .before .before .before .before .if2 .left) (c .before .before .clear .ensures ∙ ap (λ (k : ℕ). replicate k 0) (c .before .before .before .before .before .before .before .before .before .before .before .before .walk .kept .1 .1 .1 .1 .1 .1 .0))
+returns-3 c =
+    let at-if2 = c .before .before .before .before in
+    let at-all-fine = at-if2 .before in
+    let at-if1 = at-all-fine .before .before in
+    let at-walk = at-if1 .before .before .before .before .before in
+    let at-frame-limit = at-walk .before .before .before in
+    let at-field-count = at-frame-limit .before in
+    let at-body-word = at-field-count .before in
+    let at-header-of = at-body-word .before in
+    let at-start = at-header-of .before .before .before .before .before .before .before in
+    notes-fail _ _ _ (table-here _ _ _ _ _ _ _ _ _ ((at-start .pre) .1) (at-field-count .field-count .ensures) (at-body-word .body-word .ensures)
+    (ap (λ (h : ℕ). h / 256 % 32) (at-header-of .header-of .ensures)) (ap (λ (h : ℕ). h / 2 % 64) (at-header-of .header-of .ensures))
+    (at-frame-limit .frame-limit .ensures .0 _ _ (at-header-of .header-of .ensures))) _ _ _ (at-walk .walk .ensures) _ (not-false _ (at-if1 .if1 .left))
+    (sym (at-all-fine .all-fine .ensures) ∙ at-if2 .if2 .left) (c .before .before .clear .ensures ∙ ap (λ (k : ℕ). replicate k 0) (at-walk .walk .kept .1 .1 .1 .1 .1 .1 .0))
 
 pub code-notes-spec : {M : Type 1} → statement M
 code-notes-spec =

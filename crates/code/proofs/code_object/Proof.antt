@@ -25,7 +25,13 @@ cast-m : tie.Need-cast-m
 cast-m c = search needs
 
 method-notes-requires : tie.Need-method-notes-requires
-method-notes-requires c κs = (asked-at ((c .before .before .before .before .before .before .before .before .before .pre) .0) (c .before .before .before .before .before .before .before .before .before .args .k) ((c .before .before .before .before .before .before .before .before .before .pre) .1) ((c .before .before .before .before .before .before .before .before .before .pre) .2) (sym (c .before .before .before .kind .ensures) ∙ c .before .before .if1 .left), (c .before .before .before .before .before .before .before .before .before .pre) .0 .room, (c .before .before .before .before .before .before .before .before .before .pre) .0 .long)
+method-notes-requires c κs =
+    let at-start = c .before .before .before .before .before .before .before .before .before in (
+      asked-at ((at-start .pre) .0) (at-start .args .k) ((at-start .pre) .1) ((at-start .pre) .2) (sym (c .before .before .before .kind .ensures)
+          ∙ c .before .before .if1 .left),
+      (at-start .pre) .0 .room,
+      (at-start .pre) .0 .long,
+    )
 
 same-length : tie.Need-same-length
 same-length c = search needs
@@ -34,7 +40,13 @@ same-length-2 : tie.Need-same-length-2
 same-length-2 c = search needs
 
 returns-2 : tie.Need-returns-2
-returns-2 c = object-sound ((c .before .before .before .before .before .before .before .before .before .before .before .before .before .before .before .pre) .0) (c .before .before .before .before .before .before .before .before .before .before .before .before .before .before .before .args .k) _ _ _ ((c .before .before .before .before .before .before .before .before .before .before .before .before .before .before .before .pre) .1) ((c .before .before .before .before .before .before .before .before .before .before .before .before .before .before .before .pre) .2) (sym (c .before .before .before .before .before .before .before .before .before .kind .ensures) ∙ c .before .before .before .before .before .before .before .before .if1 .left) (c .before .before .before .before .before .method-notes .ensures) (c .if2 .taken)
+returns-2 c =
+    let at-method-notes = c .before .before .before .before .before in
+    let at-if1 = at-method-notes .before .before .before in
+    let at-kind = at-if1 .before in
+    let at-start = at-kind .before .before .before .before .before .before in
+    object-sound ((at-start .pre) .0) (at-start .args .k) _ _ _ ((at-start .pre) .1) ((at-start .pre) .2) (sym (at-kind .kind .ensures) ∙ at-if1 .if1 .left)
+    (at-method-notes .method-notes .ensures) (c .if2 .taken)
 
 header-of-requires : tie.Need-header-of-requires
 header-of-requires c κs = search needs
@@ -49,7 +61,15 @@ same-length-4 : tie.Need-same-length-4
 same-length-4 c = search needs
 
 returns-3 : tie.Need-returns-3
-returns-3 c = object-unsound ((c .before .before .before .before .before .before .before .before .before .before .before .before .before .before .before .before .before .pre) .0) (c .before .before .before .before .before .before .before .before .before .before .before .before .before .before .before .before .before .args .k) _ _ _ ((c .before .before .before .before .before .before .before .before .before .before .before .before .before .before .before .before .before .pre) .1) ((c .before .before .before .before .before .before .before .before .before .before .before .before .before .before .before .before .before .pre) .2) (sym (c .before .before .before .before .before .before .before .before .before .before .before .kind .ensures) ∙ c .before .before .before .before .before .before .before .before .before .before .if1 .left) (c .before .before .before .before .before .before .before .method-notes .ensures) (c .runs .result) (c .before .before .if2 .left) (c .runs .ensures (objectsAt (c .before .before .before .before .before .before .before .before .before .before .before .before .before .before .before .before .before .args .n) (c .before .before .before .before .before .before .before .before .before .before .before .before .before .before .before .before .before .args .b) (c .before .before .before .before .before .before .before .before .before .before .before .before .before .before .before .before .before .args .contents .now) (c .before .before .before .before .before .before .before .before .before .before .before .before .before .before .before .before .before .args .bodies .now)) (2 * c .before .before .before .before .before .before .before .before .before .before .before .before .before .before .before .before .before .args .k) (c .before .header-of .ensures))
+returns-3 c =
+    let at-method-notes = c .before .before .before .before .before .before .before in
+    let at-if1 = at-method-notes .before .before .before in
+    let at-kind = at-if1 .before in
+    let at-start = at-kind .before .before .before .before .before .before in
+    let args = at-start .args in
+    object-unsound ((at-start .pre) .0) (args .k) _ _ _ ((at-start .pre) .1) ((at-start .pre) .2) (sym (at-kind .kind .ensures) ∙ at-if1 .if1 .left)
+    (at-method-notes .method-notes .ensures) (c .runs .result) (c .before .before .if2 .left)
+    (c .runs .ensures (objectsAt (args .n) (args .b) (args .contents .now) (args .bodies .now)) (2 * args .k) (c .before .header-of .ensures))
 
 pub code-object-spec : {M : Type 1} → statement M
 code-object-spec =

@@ -22,25 +22,49 @@ loop-holds : tie.Need-loop-holds Inv-loop μ-loop
 loop-holds c = (going-first _ _, refl, refl)
 
 code-object-requires : tie.Need-code-object-requires Inv-loop μ-loop
-code-object-requires c κs = (lent-again (c .before .before .before .loop .inv .1) (c .before .before .before .loop .inv .2) (c .before .before .before .before .before .before .before .before .before .pre), c .before .before .before .loop .inv .0 .least, c .before .before .loop-test .taken)
+code-object-requires c κs =
+    let at-loop = c .before .before .before in
+    let at-start = at-loop .before .before .before .before .before .before in
+    (lent-again (at-loop .loop .inv .1) (at-loop .loop .inv .2) (at-start .pre), at-loop .loop .inv .0 .least, c .before .before .loop-test .taken)
 
 same-length : tie.Need-same-length Inv-loop μ-loop
-same-length c = c .before .before .before .before .before .code-object .kept .1 .1 .1 .1 .1 .1 .1 .0 ∙ c .before .before .before .before .before .before .before .before .before .loop .inv .1
+same-length c =
+    let at-code-object = c .before .before .before .before .before in
+    let at-loop = at-code-object .before .before .before .before in
+    at-code-object .code-object .kept .1 .1 .1 .1 .1 .1 .1 .0 ∙ at-loop .loop .inv .1
 
 same-length-2 : tie.Need-same-length-2 Inv-loop μ-loop
-same-length-2 c = c .before .before .before .before .before .code-object .kept .1 .1 .1 .1 .1 .1 .1 .1 .0 ∙ c .before .before .before .before .before .before .before .before .before .loop .inv .2
+same-length-2 c =
+    let at-code-object = c .before .before .before .before .before in
+    let at-loop = at-code-object .before .before .before .before in
+    at-code-object .code-object .kept .1 .1 .1 .1 .1 .1 .1 .1 .0 ∙ at-loop .loop .inv .2
 
 returns : tie.Need-returns Inv-loop μ-loop
-returns c = codes-stop _ (c .before .before .before .before .before .before .before .before .before .loop .k) _ _ _ (c .before .before .before .before .before .before .before .before .before .loop .inv .0 .least) (c .before .before .before .before .before .before .before .before .loop-test .taken) (c .before .before .before .before .before .code-object .ensures) (not-true _ (c .if1 .taken))
+returns c =
+    let at-code-object = c .before .before .before .before .before in
+    let at-loop-test = at-code-object .before .before .before in
+    let at-loop = at-loop-test .before in
+    codes-stop _ (at-loop .loop .k) _ _ _ (at-loop .loop .inv .0 .least) (at-loop-test .loop-test .taken) (at-code-object .code-object .ensures) (not-true _ (c .if1 .taken))
 
 add-k : tie.Need-add-k Inv-loop μ-loop
-add-k c = let q = (c .before .before .before .before .before .before .before .before .before .before .before .before .before .before .before .pre) .ready .lent .most in let l = c .before .before .before .before .before .before .before .before .loop-test .taken in omega arith
+add-k c =
+    let at-loop-test = c .before .before .before .before .before .before .before .before in
+    let at-start = at-loop-test .before .before .before .before .before .before .before in
+    let q = (at-start .pre) .ready .lent .most in let l = at-loop-test .loop-test .taken in omega arith
 
 loop-less : tie.Need-loop-less Inv-loop μ-loop
 loop-less c = let l = c .before .before .before .before .before .before .before .before .loop-test .taken in omega arith
 
 loop-again : tie.Need-loop-again Inv-loop μ-loop
-loop-again c = (going-on _ (c .before .before .before .before .before .before .before .before .before .loop .k) _ _ _ (c .before .before .before .before .before .before .before .before .before .loop .inv .0) (c .before .before .before .before .before .before .before .before .loop-test .taken) (c .before .before .before .before .before .code-object .ensures) (not-false _ (c .if1 .left)), c .before .before .before .before .before .code-object .kept .1 .1 .1 .1 .1 .1 .1 .0 ∙ c .before .before .before .before .before .before .before .before .before .loop .inv .1, c .before .before .before .before .before .code-object .kept .1 .1 .1 .1 .1 .1 .1 .1 .0 ∙ c .before .before .before .before .before .before .before .before .before .loop .inv .2)
+loop-again c =
+    let at-code-object = c .before .before .before .before .before in
+    let at-loop-test = at-code-object .before .before .before in
+    let at-loop = at-loop-test .before in (
+      going-on _ (at-loop .loop .k) _ _ _ (at-loop .loop .inv .0) (at-loop-test .loop-test .taken) (at-code-object .code-object .ensures)
+          (not-false _ (c .if1 .left)),
+      at-code-object .code-object .kept .1 .1 .1 .1 .1 .1 .1 .0 ∙ at-loop .loop .inv .1,
+      at-code-object .code-object .kept .1 .1 .1 .1 .1 .1 .1 .1 .0 ∙ at-loop .loop .inv .2,
+    )
 
 same-length-3 : tie.Need-same-length-3 Inv-loop μ-loop
 same-length-3 c = c .before .loop .inv .1

@@ -51,7 +51,10 @@ mul-last : tie.Need-mul-last
 mul-last c = search needs
 
 sub-last : tie.Need-sub-last
-sub-last c = let h = c .before .before .before .header-of .ensures in let z = c .size .ensures in let k = code-starts ((c .before .before .before .before .before .before .before .before .before .pre) .0) in omega arith
+sub-last c =
+    let at-header-of = c .before .before .before in
+    let at-start = at-header-of .before .before .before .before .before .before in
+    let h = at-header-of .header-of .ensures in let z = c .size .ensures in let k = code-starts ((at-start .pre) .0) in omega arith
 
 add-last : tie.Need-add-last
 add-last c = search needs
@@ -60,13 +63,21 @@ mul-code-notes : tie.Need-mul-code-notes
 mul-code-notes c = search needs
 
 sub-code-notes : tie.Need-sub-code-notes
-sub-code-notes c = let h = c .before .before .before .header-of .ensures in let s = c .before .before .start .ensures in let e = c .before .body-end .ensures (c .before .before .before .before .before .before .before .before .before .args .b) (c .before .before .before .before .before .before .before .before .before .args .bodies .now) in let k = code-starts ((c .before .before .before .before .before .before .before .before .before .pre) .0) in let q = body-size ((c .before .before .before .before .before .before .before .before .before .pre) .0) in omega arith
+sub-code-notes c =
+    let at-start = c .before .before .before .before .before .before .before .before .before in
+    let h = c .before .before .before .header-of .ensures in let s = c .before .before .start .ensures in let e = c .before .body-end .ensures
+    (at-start .args .b) (at-start .args .bodies .now) in let k = code-starts ((at-start .pre) .0) in let q = body-size ((at-start .pre) .0) in omega arith
 
 part-code-notes-start : tie.Need-part-code-notes-start
-part-code-notes-start c = let h = c .before .before .before .header-of .ensures in let s = c .before .before .start .ensures in let e = c .before .body-end .ensures (c .before .before .before .before .before .before .before .before .before .args .b) (c .before .before .before .before .before .before .before .before .before .args .bodies .now) in let k = code-starts ((c .before .before .before .before .before .before .before .before .before .pre) .0) in let q = body-size ((c .before .before .before .before .before .before .before .before .before .pre) .0) in omega arith
+part-code-notes-start c =
+    let at-start = c .before .before .before .before .before .before .before .before .before in
+    let h = c .before .before .before .header-of .ensures in let s = c .before .before .start .ensures in let e = c .before .body-end .ensures
+    (at-start .args .b) (at-start .args .bodies .now) in let k = code-starts ((at-start .pre) .0) in let q = body-size ((at-start .pre) .0) in omega arith
 
 part-code-notes-end : tie.Need-part-code-notes-end
-part-code-notes-end c = let e = c .before .body-end .ensures (c .before .before .before .before .before .before .before .before .before .args .b) (c .before .before .before .before .before .before .before .before .before .args .bodies .now) in let i = body-inside ((c .before .before .before .before .before .before .before .before .before .pre) .0) in let l = (c .before .before .before .before .before .before .before .before .before .pre) .0 .ready .lent .words in omega arith
+part-code-notes-end c =
+    let at-start = c .before .before .before .before .before .before .before .before .before in
+    let e = c .before .body-end .ensures (at-start .args .b) (at-start .args .bodies .now) in let i = body-inside ((at-start .pre) .0) in let l = (at-start .pre) .0 .ready .lent .words in omega arith
 
 sub-code-notes-2 : tie.Need-sub-code-notes-2
 sub-code-notes-2 c = search needs
@@ -75,10 +86,29 @@ part-code-notes-start-2 : tie.Need-part-code-notes-start-2
 part-code-notes-start-2 c = search needs
 
 part-code-notes-end-2 : tie.Need-part-code-notes-end-2
-part-code-notes-end-2 c = let h = c .before .before .before .before .header-of .ensures in let s = c .before .before .before .start .ensures in let z = c .before .size .ensures in let k = code-starts ((c .before .before .before .before .before .before .before .before .before .before .pre) .0) in let q = body-size ((c .before .before .before .before .before .before .before .before .before .before .pre) .0) in let i = body-inside ((c .before .before .before .before .before .before .before .before .before .before .pre) .0) in let l = (c .before .before .before .before .before .before .before .before .before .before .pre) .1 in omega arith
+part-code-notes-end-2 c =
+    let at-header-of = c .before .before .before .before in
+    let at-start = at-header-of .before .before .before .before .before .before in
+    let h = at-header-of .header-of .ensures in let s = c .before .before .before .start .ensures in let z = c .before .size .ensures in let k = code-starts
+    ((at-start .pre) .0) in let q = body-size ((at-start .pre) .0) in let i = body-inside ((at-start .pre) .0) in let l = (at-start .pre) .1 in omega arith
 
 code-notes-requires : tie.Need-code-notes-requires
-code-notes-requires c κs = let k = code-lent ((c .before .before .before .before .before .before .before .before .before .before .before .before .pre) .0) (c .before .before .before .before .before .before .header-of .result) (c .before .before .before .before .before .start .result) (c .before .before .before .before .body-end .result) (c .before .before .before .size .result) (c .before .before .before .before .before .before .before .before .before .before .before .before .args .notes .now) (c .before .before .before .before .before .before .header-of .ensures) (c .before .before .before .before .before .start .ensures) (c .before .before .before .before .body-end .ensures (c .before .before .before .before .before .before .before .before .before .before .before .before .args .b) (c .before .before .before .before .before .before .before .before .before .before .before .before .args .bodies .now)) (c .before .before .before .size .ensures) ((c .before .before .before .before .before .before .before .before .before .before .before .before .pre) .1) in ((c .before .before .before .before .before .before .before .before .before .before .before .before .pre) .0, k, let s = code-short ((c .before .before .before .before .before .before .before .before .before .before .before .before .pre) .0) (c .before .before .before .before .before .before .header-of .result) (c .before .before .before .before .before .start .result) (c .before .before .before .before .body-end .result) (c .before .before .before .size .result) (c .before .before .before .before .before .before .before .before .before .before .before .before .args .notes .now) (c .before .before .before .before .before .before .header-of .ensures) (c .before .before .before .before .before .start .ensures) (c .before .before .before .before .body-end .ensures (c .before .before .before .before .before .before .before .before .before .before .before .before .args .b) (c .before .before .before .before .before .before .before .before .before .before .before .before .args .bodies .now)) (c .before .before .before .size .ensures) ((c .before .before .before .before .before .before .before .before .before .before .before .before .pre) .1) in let t = (c .before .before .before .before .before .before .before .before .before .before .before .before .pre) .2 in omega arith)
+code-notes-requires c κs =
+    let at-size = c .before .before .before in
+    let at-body-end = at-size .before in
+    let at-start = at-body-end .before in
+    let at-header-of = at-start .before in
+    let at-start′ = at-header-of .before .before .before .before .before .before in
+    let k = code-lent ((at-start′ .pre) .0) (at-header-of .header-of .result) (at-start .start .result) (at-body-end .body-end .result) (at-size .size .result)
+    (at-start′ .args .notes .now) (at-header-of .header-of .ensures) (at-start .start .ensures) (at-body-end .body-end .ensures (at-start′ .args .b)
+    (at-start′ .args .bodies .now)) (at-size .size .ensures) ((at-start′ .pre) .1) in (
+      (at-start′ .pre) .0,
+      k,
+      let s = code-short ((at-start′ .pre) .0)
+          (at-header-of .header-of .result) (at-start .start .result) (at-body-end .body-end .result) (at-size .size .result) (at-start′ .args .notes .now)
+          (at-header-of .header-of .ensures) (at-start .start .ensures) (at-body-end .body-end .ensures (at-start′ .args .b) (at-start′ .args .bodies .now))
+          (at-size .size .ensures) ((at-start′ .pre) .1) in let t = (at-start′ .pre) .2 in omega arith,
+    )
 
 same-length : tie.Need-same-length
 same-length c = search needs
@@ -87,7 +117,17 @@ same-length-2 : tie.Need-same-length-2
 same-length-2 c = search needs
 
 returns : tie.Need-returns
-returns c = walked-put ((c .before .before .before .before .before .before .before .before .before .before .before .before .before .before .before .before .before .pre) .0) (c .before .before .before .before .before .before .before .before .before .before .before .header-of .result) (c .before .before .before .before .before .before .before .before .before .before .start .result) (c .before .before .before .before .before .before .before .before .before .body-end .result) (c .before .before .before .before .before .before .before .before .size .result) (c .before .before .before .before .before .before .before .before .before .before .before .before .before .before .before .before .before .args .notes .now) (c .before .before .before .before .before .before .before .before .before .before .before .header-of .ensures) (c .before .before .before .before .before .before .before .before .before .before .start .ensures) (c .before .before .before .before .before .before .before .before .before .body-end .ensures (c .before .before .before .before .before .before .before .before .before .before .before .before .before .before .before .before .before .args .b) (c .before .before .before .before .before .before .before .before .before .before .before .before .before .before .before .before .before .args .bodies .now)) (c .before .before .before .before .before .before .before .before .size .ensures) ((c .before .before .before .before .before .before .before .before .before .before .before .before .before .before .before .before .before .pre) .1) _ (c .before .before .before .before .code-notes .kept .1 .1 .1 .1 .1 .1 .1 .1 .0) _ (c .before .before .before .before .code-notes .ensures)
+returns c =
+    let at-code-notes = c .before .before .before .before in
+    let at-size = at-code-notes .before .before .before .before in
+    let at-body-end = at-size .before in
+    let at-start = at-body-end .before in
+    let at-header-of = at-start .before in
+    let at-start′ = at-header-of .before .before .before .before .before .before in
+    walked-put ((at-start′ .pre) .0) (at-header-of .header-of .result) (at-start .start .result) (at-body-end .body-end .result) (at-size .size .result)
+    (at-start′ .args .notes .now) (at-header-of .header-of .ensures) (at-start .start .ensures) (at-body-end .body-end .ensures (at-start′ .args .b)
+    (at-start′ .args .bodies .now)) (at-size .size .ensures) ((at-start′ .pre) .1) _ (at-code-notes .code-notes .kept .1 .1 .1 .1 .1 .1 .1 .1 .0) _
+    (at-code-notes .code-notes .ensures)
 
 pub method-notes-spec : {M : Type 1} → statement M
 method-notes-spec =

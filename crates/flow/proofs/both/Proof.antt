@@ -11,7 +11,11 @@ enum-known-k : tie.Need-enum-known-k
 enum-known-k c = search needs
 
 visit-requires-2 : tie.Need-visit-requires-2
-visit-requires-2 c κs = asks-again _ _ _ _ _ _ _ _ _ (c .before .before .before .before .before .before .before .before .before .before .before .before .before .before .pre) (visited-on _ _ _ _ _ _ _ _ _ _ (c .before .before .before .k .given .1) (c .before .before .before .before .before .before .before .before .before .visit .ensures))
+visit-requires-2 c κs =
+    let at-k = c .before .before .before in
+    let at-visit = at-k .before .before .before .before .before .before in
+    let at-start = at-visit .before .before .before .before .before in
+    asks-again _ _ _ _ _ _ _ _ _ (at-start .pre) (visited-on _ _ _ _ _ _ _ _ _ _ (at-k .k .given .1) (at-visit .visit .ensures))
 
 enum-told : tie.Need-enum-told
 enum-told c = search needs
@@ -23,7 +27,11 @@ same-length-2 : tie.Need-same-length-2
 same-length-2 c = search needs
 
 returns : tie.Need-returns
-returns c = visits-more _ _ _ _ _ _ _ _ _ _ _ _ _ _ (c .before .before .before .before .before .before .before .before .k .given .1) (c .before .before .before .before .before .before .before .before .before .before .before .before .before .before .visit .ensures) (visits-one _ _ _ _ _ _ _ _ _ (c .before .before .before .before .visit2 .ensures))
+returns c =
+    let at-visit2 = c .before .before .before .before in
+    let at-k = at-visit2 .before .before .before .before in
+    let at-visit = at-k .before .before .before .before .before .before in
+    visits-more _ _ _ _ _ _ _ _ _ _ _ _ _ _ (at-k .k .given .1) (at-visit .visit .ensures) (visits-one _ _ _ _ _ _ _ _ _ (at-visit2 .visit2 .ensures))
 
 same-length-3 : tie.Need-same-length-3
 same-length-3 c = search needs

@@ -11,7 +11,8 @@ use Rattle.flow.proofs.drain.Statement.{statement}
 use Rattle.flow.proofs.drain.Tie as tie
 
 abbrev Inv-loop : tie.InvT-loop
-Inv-loop table limits words room notes₀ pending₀ n₀ notes pending n = Static table limits words room notes pending × WalkingAt limits words (length notes) room notes pending n × (length notes ≡ length notes₀) × (length pending ≡ length pending₀)
+Inv-loop table limits words room notes₀ pending₀ n₀ notes pending n = Static table limits words room notes pending × WalkingAt limits words (length notes) room
+    notes pending n × (length notes ≡ length notes₀) × (length pending ≡ length pending₀)
 
 abbrev μ-loop : tie.MeasureT-loop
 μ-loop table limits words room notes₀ pending₀ n₀ notes pending n = n + zeros notes
@@ -29,8 +30,11 @@ loop-less : tie.Need-loop-less Inv-loop μ-loop
 loop-less c = turn-on _ _ _ _ _ _ _ _ _ _ _ (c .before .k .given .1) (c .before .before .before .before .before .before .before .turn .ensures) .1
 
 loop-again : tie.Need-loop-again Inv-loop μ-loop
-loop-again c = let T = c .before .before .before .before .before .before .before .turn in
-    let I = c .before .before .before .before .before .before .before .before .before .before .before .loop .inv in
+loop-again c =
+    let at-turn = c .before .before .before .before .before .before .before in
+    let at-loop = at-turn .before .before .before .before in
+    let T = at-turn .turn in
+    let I = at-loop .loop .inv in
     let kt = T .kept .1 .1 .1 .1 .0 in
     let ks = T .kept .1 .1 .1 .1 .1 .0 in
     (static-again _ _ _ _ _ _ _ _ kt ks (I .0), rw kt (turn-on _ _ _ _ _ _ _ _ _ _ _ (c .before .k .given .1) (T .ensures) .0), kt ∙ I .2, ks ∙ I .3)
@@ -39,14 +43,23 @@ enum-told : tie.Need-enum-told Inv-loop μ-loop
 enum-told c = search needs
 
 same-length : tie.Need-same-length Inv-loop μ-loop
-same-length c = c .before .before .before .before .before .before .turn .kept .1 .1 .1 .1 .0 ∙ c .before .before .before .before .before .before .before .before .before .before .loop .inv .2
+same-length c =
+    let at-turn = c .before .before .before .before .before .before in
+    let at-loop = at-turn .before .before .before .before in
+    at-turn .turn .kept .1 .1 .1 .1 .0 ∙ at-loop .loop .inv .2
 
 same-length-2 : tie.Need-same-length-2 Inv-loop μ-loop
-same-length-2 c = c .before .before .before .before .before .before .turn .kept .1 .1 .1 .1 .1 .0 ∙ c .before .before .before .before .before .before .before .before .before .before .loop .inv .3
+same-length-2 c =
+    let at-turn = c .before .before .before .before .before .before in
+    let at-loop = at-turn .before .before .before .before in
+    at-turn .turn .kept .1 .1 .1 .1 .1 .0 ∙ at-loop .loop .inv .3
 
 returns : tie.Need-returns Inv-loop μ-loop
 unfolding Answer
-returns c = rw (sym (c .before .before .before .before .before .before .before .before .before .before .loop .inv .2)) (turn-stuck _ _ _ _ _ _ _ _ _ _ (c .enum-told .given .1) (c .before .before .before .before .before .before .turn .ensures))
+returns c =
+    let at-turn = c .before .before .before .before .before .before in
+    let at-loop = at-turn .before .before .before .before in
+    rw (sym (at-loop .loop .inv .2)) (turn-stuck _ _ _ _ _ _ _ _ _ _ (c .enum-told .given .1) (at-turn .turn .ensures))
 
 same-length-3 : tie.Need-same-length-3 Inv-loop μ-loop
 same-length-3 c = c .before .loop .inv .2

@@ -17,13 +17,19 @@ same-length-2 : tie.Need-same-length-2
 same-length-2 c = search needs
 
 returns : tie.Need-returns
-returns c = expand-plain _ _ _ _ _ _ _ _ (omega arith) (c .before .before .before .before .before .before .before .before .before .before .before .pre .1) _ _ _ _ _ _ (c .before .before .before .before .before .before .before .if1 .taken) (c .before .before .before .before .plain .ensures)
+returns c =
+    let at-plain = c .before .before .before .before in
+    let at-if1 = at-plain .before .before .before in
+    let at-start = at-if1 .before .before .before .before in
+    expand-plain _ _ _ _ _ _ _ _ (omega arith) (at-start .pre .1) _ _ _ _ _ _ (at-if1 .if1 .taken) (at-plain .plain .ensures)
 
 returns-2 : tie.Need-returns-2
-returns-2 c = expand-return _ _ _ _ _ _ _ _ (omega arith) (c .before .before .before .before .before .before .pre .1) _ _ _ _ _ _ (c .before .if2 .taken) (step-no _ _ _ _ _ _ _ _ _ (lt-leb _ _ (c .if3 .taken)))
+returns-2 c = expand-return _ _ _ _ _ _ _ _ (omega arith) (c .before .before .before .before .before .before .pre .1) _ _ _ _ _ _ (c .before .if2 .taken)
+    (step-no _ _ _ _ _ _ _ _ _ (lt-leb _ _ (c .if3 .taken)))
 
 returns-3 : tie.Need-returns-3
-returns-3 c = expand-return _ _ _ _ _ _ _ _ (omega arith) (c .before .before .before .before .before .before .pre .1) _ _ _ _ _ _ (c .before .if2 .taken) (step-none _ _ _ _ _ _ (le-leb _ _ (c .if3 .left)))
+returns-3 c = expand-return _ _ _ _ _ _ _ _ (omega arith) (c .before .before .before .before .before .before .pre .1) _ _ _ _ _ _ (c .before .if2 .taken)
+    (step-none _ _ _ _ _ _ (le-leb _ _ (c .if3 .left)))
 
 returns-4 : tie.Need-returns-4
 returns-4 c = expand-unused _ _ _ _ _ _ _ _ (omega arith) (c .before .before .before .before .before .before .pre .1) _ _ _ _ _ (c .if4 .taken)

@@ -25,7 +25,11 @@ extended-fits-requires : tie.Need-extended-fits-requires
 extended-fits-requires c κs = search needs
 
 returns : tie.Need-returns
-returns c = expand-extended _ _ _ _ _ _ _ _ (omega arith) (c .before .before .before .before .before .before .before .pre .1 .0) _ _ _ _ _ _ (c .before .before .before .before .before .before .before .pre .1 .1 .0) (c .before .before .before .before .before .before .before .pre .1 .1 .1) (c .before .before .before .before .before .before .before .pre .1 .1 .2) (step-no _ _ _ _ _ _ _ _ _ (and-no _ _ (sym (rw (c .before .before .before .byte .ensures, c .before .before .byte2 .ensures) at (c .before .extended-fits .ensures)) ∙ not-true _ (c .if1 .taken))))
+returns c =
+    let at-start = c .before .before .before .before .before .before .before in
+    expand-extended _ _ _ _ _ _ _ _ (omega arith) (at-start .pre .1 .0) _ _ _ _ _ _ (at-start .pre .1 .1 .0) (at-start .pre .1 .1 .1) (at-start .pre .1 .1 .2)
+    (step-no _ _ _ _ _ _ _ _ _ (and-no _ _ (sym (rw (c .before .before .before .byte .ensures, c .before .before .byte2 .ensures) at
+    (c .before .extended-fits .ensures)) ∙ not-true _ (c .if1 .taken))))
 
 add-onward : tie.Need-add-onward
 add-onward c = search needs
@@ -34,7 +38,10 @@ extra-requires : tie.Need-extra-requires
 extra-requires c κs = search needs
 
 add-onward-2 : tie.Need-add-onward-2
-add-onward-2 c = omega (arith, c .extra .ensures, extra-small (c .before .before .before .before .before .before .before .before .before .before .args .b) (c .before .before .before .before .before .before .byte .result))
+add-onward-2 c =
+    let at-byte = c .before .before .before .before .before .before in
+    let at-start = at-byte .before .before .before .before in
+    omega (arith, c .extra .ensures, extra-small (at-start .args .b) (at-byte .byte .result))
 
 onward-requires : tie.Need-onward-requires
 onward-requires c κs = search needs
@@ -46,7 +53,17 @@ same-length-2 : tie.Need-same-length-2
 same-length-2 c = search needs
 
 returns-2 : tie.Need-returns-2
-returns-2 c = expand-extended _ _ _ _ _ _ _ _ (omega arith) (c .before .before .before .before .before .before .before .before .before .before .before .before .before .before .before .pre .1 .0) _ _ _ _ _ _ (c .before .before .before .before .before .before .before .before .before .before .before .before .before .before .before .pre .1 .1 .0) (c .before .before .before .before .before .before .before .before .before .before .before .before .before .before .before .pre .1 .1 .1) (c .before .before .before .before .before .before .before .before .before .before .before .before .before .before .before .pre .1 .1 .2) (step-and _ _ _ _ _ _ _ _ _ _ _ (sym (rw (c .before .before .before .before .before .before .before .before .before .before .before .byte .ensures, c .before .before .before .before .before .before .before .before .before .before .byte2 .ensures) at (c .before .before .before .before .before .before .before .before .before .extended-fits .ensures)) ∙ not-false _ (c .before .before .before .before .before .before .before .before .if1 .left)) (rw (c .before .before .before .before .before .extra .ensures, c .before .before .before .before .before .before .before .before .before .before .before .byte .ensures) at (c .before .before .before .before .onward .ensures)))
+returns-2 c =
+    let at-onward = c .before .before .before .before in
+    let at-extra = at-onward .before in
+    let at-if1 = at-extra .before .before .before in
+    let at-extended-fits = at-if1 .before in
+    let at-byte2 = at-extended-fits .before in
+    let at-byte = at-byte2 .before in
+    let at-start = at-byte .before .before .before .before in
+    expand-extended _ _ _ _ _ _ _ _ (omega arith) (at-start .pre .1 .0) _ _ _ _ _ _ (at-start .pre .1 .1 .0) (at-start .pre .1 .1 .1) (at-start .pre .1 .1 .2)
+    (step-and _ _ _ _ _ _ _ _ _ _ _ (sym (rw (at-byte .byte .ensures, at-byte2 .byte2 .ensures) at (at-extended-fits .extended-fits .ensures))
+    ∙ not-false _ (at-if1 .if1 .left)) (rw (at-extra .extra .ensures, at-byte .byte .ensures) at (at-onward .onward .ensures)))
 
 pub extended-spec : {M : Type 1} → statement M
 extended-spec =

@@ -19,13 +19,22 @@ store-fits-requires-2 : tie.Need-store-fits-requires-2
 store-fits-requires-2 c κs = search needs
 
 returns : tie.Need-returns
-returns c = c .push-fits .ensures ∙ sym (extended-128 (c .before .before .before .args .limits .now) (c .before .before .before .args .b) (c .before .before .before .args .x) (c .before .before .before .args .y) (c .before .match .keys1))
+returns c =
+    let at-start = c .before .before .before in
+    let args = at-start .args in
+    c .push-fits .ensures ∙ sym (extended-128 (args .limits .now) (args .b) (args .x) (args .y) (c .before .match .keys1))
 
 returns-2 : tie.Need-returns-2
-returns-2 c = c .store-fits .ensures ∙ sym (extended-129 (c .before .before .before .args .limits .now) (c .before .before .before .args .b) (c .before .before .before .args .x) (c .before .before .before .args .y) (c .before .match .keys2))
+returns-2 c =
+    let at-start = c .before .before .before in
+    let args = at-start .args in
+    c .store-fits .ensures ∙ sym (extended-129 (args .limits .now) (args .b) (args .x) (args .y) (c .before .match .keys2))
 
 returns-3 : tie.Need-returns-3
-returns-3 c = c .store-fits2 .ensures ∙ sym (extended-130 (c .before .before .before .args .limits .now) (c .before .before .before .args .b) (c .before .before .before .args .x) (c .before .before .before .args .y) (c .before .match .keys3))
+returns-3 c =
+    let at-start = c .before .before .before in
+    let args = at-start .args in
+    c .store-fits2 .ensures ∙ sym (extended-130 (args .limits .now) (args .b) (args .x) (args .y) (c .before .match .keys3))
 
 returns-4 : tie.Need-returns-4
 returns-4 c = sym (extended-131 (c .before .before .args .limits .now) (c .before .before .args .b) (c .before .before .args .x) (c .before .before .args .y) (c .match .keys4))

@@ -14,7 +14,12 @@ returns : tie.Need-returns
 returns c = expand-short _ _ _ _ _ _ _ _ (omega arith) (c .before .before .before .before .pre .1 .0) _ _ _ _ _ (c .if1 .taken)
 
 extended-requires : tie.Need-extended-requires
-extended-requires c κs = let x = far-low _ (omega arith) (sym (c .before .before .before .before .before .before .before .pre .1 .0 .entry .group) ∙ c .before .before .before .before .before .before .before .pre .1 .1) (c .before .before .if2 .taken) in (c .before .before .before .before .before .before .before .pre .0, (c .before .before .before .before .before .before .before .pre .1 .0, (x .0, x .1, c .before .before .before .if1 .left)))
+extended-requires c κs =
+    let at-start = c .before .before .before .before .before .before .before in
+    let x = far-low _ (omega arith) (sym (at-start .pre .1 .0 .entry .group) ∙ at-start .pre .1 .1) (c .before .before .if2 .taken) in (
+      at-start .pre .0,
+      (at-start .pre .1 .0, (x .0, x .1, c .before .before .before .if1 .left)),
+    )
 
 same-length : tie.Need-same-length
 same-length c = search needs
@@ -26,7 +31,20 @@ returns-2 : tie.Need-returns-2
 returns-2 c = search needs
 
 jump-requires : tie.Need-jump-requires
-jump-requires c κs = (c .before .before .before .before .before .before .before .pre .0, (c .before .before .before .before .before .before .before .pre .1 .0, (c .before .before .if2 .left, far-high _ (omega arith) (sym (c .before .before .before .before .before .before .before .pre .1 .0 .entry .group) ∙ c .before .before .before .before .before .before .before .pre .1 .1) (c .before .before .if2 .left), c .before .before .before .if1 .left)))
+jump-requires c κs =
+    let at-if2 = c .before .before in
+    let at-start = at-if2 .before .before .before .before .before in (
+      at-start .pre .0,
+      (
+        at-start .pre .1 .0,
+        (
+          at-if2 .if2 .left,
+          far-high _ (omega arith) (sym (at-start .pre .1 .0 .entry .group) ∙ at-start .pre .1 .1)
+              (at-if2 .if2 .left),
+          at-if2 .before .if1 .left,
+        ),
+      ),
+    )
 
 same-length-3 : tie.Need-same-length-3
 same-length-3 c = search needs

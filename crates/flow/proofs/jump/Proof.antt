@@ -27,7 +27,12 @@ same-length-2 : tie.Need-same-length-2
 same-length-2 c = search needs
 
 returns : tie.Need-returns
-returns c = expand-jump _ _ _ _ _ _ _ _ (omega arith) (c .before .before .before .before .before .before .before .before .before .before .before .pre .1 .0) _ _ _ _ _ _ (c .before .before .before .before .before .before .before .before .before .before .before .pre .1 .1 .2) (c .before .before .before .before .before .before .before .before .before .before .before .pre .1 .1 .0) (c .before .before .before .before .before .before .before .if1 .taken) (step-yes _ _ _ _ _ _ _ _ _ _ refl (visits-one _ _ _ _ _ _ _ _ _ (c .before .before .before .before .visit .ensures)))
+returns c =
+    let at-visit = c .before .before .before .before in
+    let at-if1 = at-visit .before .before .before in
+    let at-start = at-if1 .before .before .before .before in
+    expand-jump _ _ _ _ _ _ _ _ (omega arith) (at-start .pre .1 .0) _ _ _ _ _ _ (at-start .pre .1 .1 .2) (at-start .pre .1 .1 .0) (at-if1 .if1 .taken)
+    (step-yes _ _ _ _ _ _ _ _ _ _ refl (visits-one _ _ _ _ _ _ _ _ _ (at-visit .visit .ensures)))
 
 add-fork : tie.Need-add-fork
 add-fork c = search needs
@@ -51,13 +56,20 @@ same-length-4 : tie.Need-same-length-4
 same-length-4 c = search needs
 
 returns-2 : tie.Need-returns-2
-returns-2 c = expand-fork _ _ _ _ _ _ _ _ (omega arith) (c .before .before .before .before .before .before .before .before .before .before .before .before .pre .1 .0) _ _ _ _ _ _ (c .before .before .before .before .before .before .before .before .before .before .before .before .pre .1 .1 .2) (c .before .before .before .before .before .before .before .before .if1 .left) (c .before .before .before .before .before .before .before .if2 .taken) (c .before .before .before .before .fork .ensures)
+returns-2 c =
+    let at-fork = c .before .before .before .before in
+    let at-if2 = at-fork .before .before .before in
+    let at-if1 = at-if2 .before in
+    let at-start = at-if1 .before .before .before .before in
+    expand-fork _ _ _ _ _ _ _ _ (omega arith) (at-start .pre .1 .0) _ _ _ _ _ _ (at-start .pre .1 .1 .2) (at-if1 .if1 .left) (at-if2 .if2 .taken) (at-fork .fork .ensures)
 
 add-fetch : tie.Need-add-fetch
 add-fetch c = search needs
 
 fetch-requires : tie.Need-fetch-requires
-fetch-requires c κs = second-inside _ _ _ _ _ _ _ _ (omega arith) (c .before .before .before .before .before .pre .1 .0) (c .if2 .left) (c .before .before .before .before .before .pre .1 .1 .1) (c .before .before .before .before .before .pre .1 .1 .2)
+fetch-requires c κs =
+    let at-start = c .before .before .before .before .before in
+    second-inside _ _ _ _ _ _ _ _ (omega arith) (at-start .pre .1 .0) (c .if2 .left) (at-start .pre .1 .1 .1) (at-start .pre .1 .1 .2)
 
 cast-x : tie.Need-cast-x
 cast-x c = search needs
@@ -78,7 +90,10 @@ add-to-3 : tie.Need-add-to-3
 add-to-3 c = search needs
 
 returns-3 : tie.Need-returns-3
-returns-3 c = expand-before _ _ _ _ _ _ _ _ (omega arith) (c .before .before .before .before .before .before .before .before .pre .1 .0) _ _ _ _ _ (c .before .before .before .before .before .before .before .before .pre .1 .1 .2) (c .before .before .before .if2 .left) (c .before .if3 .taken) (omega (arith, c .before .before .fetch .ensures, c .if4 .taken))
+returns-3 c =
+    let at-start = c .before .before .before .before .before .before .before .before in
+    expand-before _ _ _ _ _ _ _ _ (omega arith) (at-start .pre .1 .0) _ _ _ _ _ (at-start .pre .1 .1 .2) (c .before .before .before .if2 .left)
+    (c .before .if3 .taken) (omega (arith, c .before .before .fetch .ensures, c .if4 .taken))
 
 visit-requires-2 : tie.Need-visit-requires-2
 visit-requires-2 c κs = search needs
@@ -90,7 +105,15 @@ same-length-6 : tie.Need-same-length-6
 same-length-6 c = search needs
 
 returns-4 : tie.Need-returns-4
-returns-4 c = expand-long _ _ _ _ _ _ _ _ (omega arith) (c .before .before .before .before .before .before .before .before .before .before .before .before .before .before .before .pre .1 .0) _ _ _ _ _ _ (c .before .before .before .before .before .before .before .before .before .before .before .before .before .before .before .pre .1 .1 .2) (c .before .before .before .before .before .before .before .before .before .before .if2 .left) (c .before .before .before .before .before .before .before .before .if3 .taken) _ (omega (arith, c .before .before .before .before .before .before .before .before .before .fetch .ensures, c .before .before .before .before .before .before .before .if4 .left)) (step-yes _ _ _ _ _ _ _ _ _ _ refl (visits-one _ _ _ _ _ _ _ _ _ (c .before .before .before .before .visit2 .ensures)))
+returns-4 c =
+    let at-visit2 = c .before .before .before .before in
+    let at-if4 = at-visit2 .before .before .before in
+    let at-if3 = at-if4 .before in
+    let at-fetch = at-if3 .before in
+    let at-if2 = at-fetch .before in
+    let at-start = at-if2 .before .before .before .before .before in
+    expand-long _ _ _ _ _ _ _ _ (omega arith) (at-start .pre .1 .0) _ _ _ _ _ _ (at-start .pre .1 .1 .2) (at-if2 .if2 .left) (at-if3 .if3 .taken) _
+    (omega (arith, at-fetch .fetch .ensures, at-if4 .if4 .left)) (step-yes _ _ _ _ _ _ _ _ _ _ refl (visits-one _ _ _ _ _ _ _ _ _ (at-visit2 .visit2 .ensures)))
 
 add-fork-4 : tie.Need-add-fork-4
 add-fork-4 c = search needs
@@ -120,7 +143,13 @@ same-length-8 : tie.Need-same-length-8
 same-length-8 c = search needs
 
 returns-5 : tie.Need-returns-5
-returns-5 c = expand-fork-long _ _ _ _ _ _ _ _ (omega arith) (c .before .before .before .before .before .before .before .before .before .before .before .before .before .before .pre .1 .0) _ _ _ _ _ _ (c .before .before .before .before .before .before .before .before .before .before .before .before .before .before .pre .1 .1 .2) (c .before .before .before .before .before .before .before .if3 .left) (c .before .before .before .before .before .before .before .before .before .before .before .before .before .before .pre .1 .1 .1) (rw (c .before .before .before .before .before .before .before .before .fetch .ensures) at (c .before .before .before .before .fork2 .ensures))
+returns-5 c =
+    let at-fork2 = c .before .before .before .before in
+    let at-if3 = at-fork2 .before .before .before in
+    let at-fetch = at-if3 .before in
+    let at-start = at-fetch .before .before .before .before .before .before in
+    expand-fork-long _ _ _ _ _ _ _ _ (omega arith) (at-start .pre .1 .0) _ _ _ _ _ _ (at-start .pre .1 .1 .2) (at-if3 .if3 .left) (at-start .pre .1 .1 .1)
+    (rw (at-fetch .fetch .ensures) at (at-fork2 .fork2 .ensures))
 
 pub jump-spec : {M : Type 1} → statement M
 jump-spec =

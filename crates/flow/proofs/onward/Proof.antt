@@ -22,7 +22,8 @@ same-length-2 : tie.Need-same-length-2
 same-length-2 c = search needs
 
 returns-2 : tie.Need-returns-2
-returns-2 c = step-yes _ _ _ _ _ _ _ _ _ _ (le-leb _ _ (c .before .before .before .before .before .before .before .if1 .left)) (visits-one _ _ _ _ _ _ _ _ _ (c .before .before .before .before .visit .ensures))
+returns-2 c = step-yes _ _ _ _ _ _ _ _ _ _ (le-leb _ _ (c .before .before .before .before .before .before .before .if1 .left))
+    (visits-one _ _ _ _ _ _ _ _ _ (c .before .before .before .before .visit .ensures))
 
 pub onward-spec : {M : Type 1} → statement M
 onward-spec =

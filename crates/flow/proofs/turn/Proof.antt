@@ -14,28 +14,41 @@ mul-at : tie.Need-mul-at
 mul-at c = let k = top _ _ _ _ _ _ _ (c .before .before .before .pre .0) (c .before .before .before .pre .1 .0) (c .before .before .before .pre .1 .1) in omega arith
 
 slice-read-at : tie.Need-slice-read-at
-slice-read-at c = let k = top _ _ _ _ _ _ _ (c .before .before .before .before .pre .0) (c .before .before .before .before .pre .1 .0) (c .before .before .before .before .pre .1 .1) in omega arith
+slice-read-at c =
+    let at-start = c .before .before .before .before in
+    let k = top _ _ _ _ _ _ _ (at-start .pre .0) (at-start .pre .1 .0) (at-start .pre .1 .1) in omega arith
 
 cast-at : tie.Need-cast-at
 cast-at c = omega (arith, c .slice-known3 .given (c .before .before .before .before .args .n - 1))
 
 slice-read-depth : tie.Need-slice-read-depth
-slice-read-depth c = top _ _ _ _ _ _ _ (c .before .before .before .before .before .pre .0) (c .before .before .before .before .before .pre .1 .0) (c .before .before .before .before .before .pre .1 .1) .inside
+slice-read-depth c =
+    let at-start = c .before .before .before .before .before in
+    top _ _ _ _ _ _ _ (at-start .pre .0) (at-start .pre .1 .0) (at-start .pre .1 .1) .inside
 
 cast-depth : tie.Need-cast-depth
 cast-depth c = omega (arith, c .slice-known4 .given (getD (c .before .before .before .before .before .args .pending .now) (c .before .before .before .before .before .args .n - 1) 0))
 
 sub-depth : tie.Need-sub-depth
-sub-depth c = top _ _ _ _ _ _ _ (c .before .before .before .before .before .pre .0) (c .before .before .before .before .before .pre .1 .0) (c .before .before .before .before .before .pre .1 .1) .noted
+sub-depth c =
+    let at-start = c .before .before .before .before .before in
+    top _ _ _ _ _ _ _ (at-start .pre .0) (at-start .pre .1 .0) (at-start .pre .1 .1) .noted
 
 fetch-requires : tie.Need-fetch-requires
-fetch-requires c κs = top-fetch _ _ _ _ _ _ _ (c .before .before .before .before .before .pre .0) (c .before .before .before .before .before .pre .1 .0) (c .before .before .before .before .before .pre .1 .1)
+fetch-requires c κs =
+    let at-start = c .before .before .before .before .before in
+    top-fetch _ _ _ _ _ _ _ (at-start .pre .0) (at-start .pre .1 .0) (at-start .pre .1 .1)
 
 entry-requires : tie.Need-entry-requires
 entry-requires c κs = search needs
 
 expand-requires : tie.Need-expand-requires
-expand-requires c κs = (top-asks _ _ _ _ _ _ _ (c .before .before .before .before .before .before .before .before .before .pre .0) (c .before .before .before .before .before .before .before .before .before .pre .1 .0) (c .before .before .before .before .before .before .before .before .before .pre .1 .1), top-here _ _ _ _ _ _ _ (c .before .before .before .before .before .before .before .before .before .pre .0) (c .before .before .before .before .before .before .before .before .before .pre .1 .0) (c .before .before .before .before .before .before .before .before .before .pre .1 .1) _ _ (c .before .before .before .fetch .ensures) (c .before .before .entry .ensures))
+expand-requires c κs =
+    let at-start = c .before .before .before .before .before .before .before .before .before in (
+      top-asks _ _ _ _ _ _ _ (at-start .pre .0) (at-start .pre .1 .0) (at-start .pre .1 .1),
+      top-here _ _ _ _ _ _ _ (at-start .pre .0) (at-start .pre .1 .0)
+          (at-start .pre .1 .1) _ _ (c .before .before .before .fetch .ensures) (c .before .before .entry .ensures),
+    )
 
 same-length : tie.Need-same-length
 same-length c = search needs
@@ -44,7 +57,10 @@ same-length-2 : tie.Need-same-length-2
 same-length-2 c = search needs
 
 returns : tie.Need-returns
-returns c = top-turn _ _ _ _ _ _ _ (c .before .before .before .before .before .before .before .before .before .before .before .before .before .before .pre .0) (c .before .before .before .before .before .before .before .before .before .before .before .before .before .before .pre .1 .0) (c .before .before .before .before .before .before .before .before .before .before .before .before .before .before .pre .1 .1) _ _ _ (c .before .before .before .before .expand .ensures)
+returns c =
+    let at-expand = c .before .before .before .before in
+    let at-start = at-expand .before .before .before .before .before .before .before .before .before .before in
+    top-turn _ _ _ _ _ _ _ (at-start .pre .0) (at-start .pre .1 .0) (at-start .pre .1 .1) _ _ _ (at-expand .expand .ensures)
 
 pub turn-spec : {M : Type 1} → statement M
 turn-spec =

@@ -59,11 +59,18 @@ add-if4 c = search needs
 
 returns-4 : tie.Need-returns-4
 unfolding Visit
-returns-4 c = visited-same _ _ _ _ _ _ (c .before .before .before .before .before .pre) (c .before .before .before .before .if1 .left) (c .before .before .before .if2 .left) (c .if4 .taken)
+returns-4 c =
+    let at-if2 = c .before .before .before in
+    let at-if1 = at-if2 .before in
+    let at-start = at-if1 .before in
+    visited-same _ _ _ _ _ _ (at-start .pre) (at-if1 .if1 .left) (at-if2 .if2 .left) (c .if4 .taken)
 
 returns-5 : tie.Need-returns-5
 unfolding Visit
-returns-5 c = clash (c .before .before .before .before .before .args .room) (c .before .before .before .before .before .args .notes .now) (c .before .before .before .before .before .args .at) (c .before .before .before .before .before .args .depth) (c .before .if3 .left) (c .if4 .left)
+returns-5 c =
+    let at-start = c .before .before .before .before .before in
+    let args = at-start .args in
+    clash (args .room) (args .notes .now) (args .at) (args .depth) (c .before .if3 .left) (c .if4 .left)
 
 pub visit-spec : {M : Type 1} → statement M
 visit-spec =

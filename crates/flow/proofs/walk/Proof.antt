@@ -29,28 +29,53 @@ slice-write-pending : tie.Need-slice-write-pending
 slice-write-pending c = search needs
 
 drain-requires : tie.Need-drain-requires
-drain-requires c κs = (static-start _ _ _ _ _ _ _ _ (c .before .before .before .before .before .before .before .clear .last .0) (c .before .before .before .before .before .before .before .before .before .before .before .before .pre) (c .before .before .before .before .before .before .before .clear .kept .0), starts _ _ _ (c .before .before .before .before .before .before .before .clear .last .0) (c .before .before .before .before .before .before .before .before .before .before .before .before .args .pending .now) _ (c .before .before .before .before .before .before .before .clear .ensures) (omega (arith, c .before .before .before .before .before .before .before .clear .kept .0, c .before .before .before .before .if1 .left)) (c .before .before .before .before .before .before .before .before .before .before .before .before .pre .long) (c .before .before .before .before .before .before .before .before .before .before .before .before .pre .small) (omega (arith, c .before .before .before .before .before .before .before .before .before .before .before .before .pre .shallow)))
+drain-requires c κs =
+    let at-if1 = c .before .before .before .before in
+    let at-clear = at-if1 .before .before .before in
+    let at-start = at-clear .before .before .before .before .before in (
+      static-start _ _ _ _ _ _ _ _ (at-clear .clear .last .0) (at-start .pre) (at-clear .clear .kept .0),
+      starts _ _ _ (at-clear .clear .last .0)
+          (at-start .args .pending .now) _ (at-clear .clear .ensures) (omega (arith, at-clear .clear .kept .0, at-if1 .if1 .left)) (at-start .pre .long)
+          (at-start .pre .small) (omega (arith, at-start .pre .shallow)),
+    )
 
 same-length-3 : tie.Need-same-length-3
-same-length-3 c = c .before .before .before .before .before .drain .kept .1 .1 .1 .1 .0 ∙ simp length-set (c .before .before .before .before .before .before .before .before .before .before .before .before .before .clear .kept .0)
+same-length-3 c =
+    let at-drain = c .before .before .before .before .before in
+    let at-clear = at-drain .before .before .before .before .before .before .before .before in
+    at-drain .drain .kept .1 .1 .1 .1 .0 ∙ simp length-set (at-clear .clear .kept .0)
 
 same-length-4 : tie.Need-same-length-4
 same-length-4 c = c .before .before .before .before .before .drain .kept .1 .1 .1 .1 .1 .0 ∙ simp length-set
 
 returns-3 : tie.Need-returns-3
-returns-3 c = walked-some _ _ _ (table-as _ _ _ _ _ _ (c .before .before .before .before .before .before .before .before .before .before .before .before .before .clear .last .0) (c .before .before .before .before .before .before .before .before .before .if2 .left) (c .before .before .before .before .before .before .before .before .before .before .before .before .before .clear .kept .0) ∙ answered-some _ _ _ (c .if3 .taken) (c .before .before .before .before .before .drain .ensures))
+returns-3 c =
+    let at-drain = c .before .before .before .before .before in
+    let at-if2 = at-drain .before .before .before .before in
+    let at-clear = at-if2 .before .before .before .before in
+    walked-some _ _ _ (table-as _ _ _ _ _ _ (at-clear .clear .last .0) (at-if2 .if2 .left) (at-clear .clear .kept .0) ∙ answered-some _ _ _ (c .if3 .taken) (at-drain .drain .ensures))
 
 clear-requires-2 : tie.Need-clear-requires-2
 clear-requires-2 c κs = search needs
 
 same-length-5 : tie.Need-same-length-5
-same-length-5 c = c .before .before .clear2 .kept .0 ∙ c .before .before .before .before .before .before .before .before .before .drain .kept .1 .1 .1 .1 .0 ∙ simp length-set (c .before .before .before .before .before .before .before .before .before .before .before .before .before .before .before .before .before .clear .kept .0)
+same-length-5 c =
+    let at-drain = c .before .before .before .before .before .before .before .before .before in
+    let at-clear = at-drain .before .before .before .before .before .before .before .before in
+    c .before .before .clear2 .kept .0 ∙ at-drain .drain .kept .1 .1 .1 .1 .0 ∙ simp length-set (at-clear .clear .kept .0)
 
 same-length-6 : tie.Need-same-length-6
 same-length-6 c = c .before .before .before .before .before .before .before .before .before .drain .kept .1 .1 .1 .1 .1 .0 ∙ simp length-set
 
 returns-4 : tie.Need-returns-4
-returns-4 c = walked-none _ _ _ (table-as _ _ _ _ _ _ (c .before .before .before .before .before .before .before .before .before .before .before .before .before .before .before .before .before .clear .last .0) (c .before .before .before .before .before .before .before .before .before .before .before .before .before .if2 .left) (c .before .before .before .before .before .before .before .before .before .before .before .before .before .before .before .before .before .clear .kept .0) ∙ answered-none _ _ _ (c .before .before .before .before .if3 .left) (c .before .before .before .before .before .before .before .before .before .drain .ensures)) (cleared-as (c .before .before .before .before .before .before .before .before .before .before .before .before .before .before .before .before .before .clear .last .0) (c .before .before .before .before .before .before .before .before .before .drain .last .1 .1 .1 .1 .0) _ _ (c .before .before .before .before .before .before .before .before .before .before .before .before .before .before .before .before .before .clear .kept .0) (c .before .before .before .before .before .before .before .before .before .drain .kept .1 .1 .1 .1 .0) (c .before .before .clear2 .ensures))
+returns-4 c =
+    let at-if3 = c .before .before .before .before in
+    let at-drain = at-if3 .before .before .before .before .before in
+    let at-if2 = at-drain .before .before .before .before in
+    let at-clear = at-if2 .before .before .before .before in
+    walked-none _ _ _ (table-as _ _ _ _ _ _ (at-clear .clear .last .0) (at-if2 .if2 .left) (at-clear .clear .kept .0) ∙ answered-none _ _ _ (at-if3 .if3 .left)
+    (at-drain .drain .ensures)) (cleared-as (at-clear .clear .last .0) (at-drain .drain .last .1 .1 .1 .1 .0) _ _ (at-clear .clear .kept .0)
+    (at-drain .drain .kept .1 .1 .1 .1 .0) (c .before .before .clear2 .ensures))
 
 pub walk-spec : {M : Type 1} → statement M
 walk-spec =

@@ -39,7 +39,10 @@ same-length : tie.Need-same-length Inv-loop μ-loop
 same-length c = search needs
 
 returns-2 : tie.Need-returns-2 Inv-loop μ-loop
-returns-2 c = first (c .before .before .before .args .words .now) (c .before .before .before .args .arguments .now) (omega arith) ∙ ap (λ (k : ℕ). sets (c .before .before .before .args .words .now) 6 (take k (c .before .before .before .args .arguments .now))) (sym (c .if2 .taken))
+returns-2 c =
+    let at-start = c .before .before .before in
+    let args = at-start .args in
+    first (args .words .now) (args .arguments .now) (omega arith) ∙ ap (λ (k : ℕ). sets (args .words .now) 6 (take k (args .arguments .now))) (sym (c .if2 .taken))
 
 shared-slice-read-words-2 : tie.Need-shared-slice-read-words-2 Inv-loop μ-loop
 shared-slice-read-words-2 c = omega arith
@@ -63,7 +66,9 @@ mul-words-2 : tie.Need-mul-words-2 Inv-loop μ-loop
 mul-words-2 c = search needs
 
 slice-write-words-3 : tie.Need-slice-write-words-3 Inv-loop μ-loop
-slice-write-words-3 c = let l = before-loop (c .before .before .before .before .before .before .before .args .words .now) (c .before .before .before .before .before .before .before .args .arguments .now) ∙ sym (c .before .before .loop .inv .1) in omega arith
+slice-write-words-3 c =
+    let at-start = c .before .before .before .before .before .before .before in
+    let l = before-loop (at-start .args .words .now) (at-start .args .arguments .now) ∙ sym (c .before .before .loop .inv .1) in omega arith
 
 add-i : tie.Need-add-i Inv-loop μ-loop
 add-i c = search needs
@@ -72,13 +77,27 @@ loop-less : tie.Need-loop-less Inv-loop μ-loop
 loop-less c = omega arith
 
 loop-again : tie.Need-loop-again Inv-loop μ-loop
-loop-again c = (omega arith, length-set (c .before .before .loop .words) (6 + c .before .before .loop .i) _ ∙ c .before .before .loop .inv .1, λ l e. ap (λ (x : List ℕ). set x (6 + c .before .before .loop .i) (getD (c .before .before .before .before .before .before .before .args .arguments .now) (c .before .before .loop .i) 0)) (c .before .before .loop .inv .2 l e) ∙ sym (sets-more l (c .before .before .before .before .before .before .before .args .arguments .now) 6 (c .before .before .loop .i) (omega arith)))
+loop-again c =
+    let at-loop = c .before .before in
+    let at-start = at-loop .before .before .before .before .before in (
+      omega arith,
+      length-set (at-loop .loop .words) (6 + at-loop .loop .i) _ ∙ at-loop .loop .inv .1,
+      λ l e. ap (λ (x : List ℕ). set x (6 + at-loop .loop .i)
+          (getD (at-start .args .arguments .now) (at-loop .loop .i) 0)) (at-loop .loop .inv .2 l e)
+          ∙ sym (sets-more l (at-start .args .arguments .now) 6 (at-loop .loop .i) (omega arith)),
+    )
 
 same-length-2 : tie.Need-same-length-2 Inv-loop μ-loop
-same-length-2 c = c .before .loop .inv .1 ∙ sym (before-loop (c .before .before .before .before .before .before .args .words .now) (c .before .before .before .before .before .before .args .arguments .now))
+same-length-2 c =
+    let at-start = c .before .before .before .before .before .before in
+    c .before .loop .inv .1 ∙ sym (before-loop (at-start .args .words .now) (at-start .args .arguments .now))
 
 returns-3 : tie.Need-returns-3 Inv-loop μ-loop
-returns-3 c = let e : c .before .loop .i ≡ c .before .before .before .before .before .before .args .count = omega arith in c .before .loop .inv .2 (c .before .before .before .before .before .before .args .words .now) (second (c .before .before .before .before .before .before .args .words .now) (c .before .before .before .before .before .before .args .arguments .now) (omega arith)) ∙ ap (λ (k : ℕ). sets (c .before .before .before .before .before .before .args .words .now) 6 (take k (c .before .before .before .before .before .before .args .arguments .now))) e
+returns-3 c =
+    let at-start = c .before .before .before .before .before .before in
+    let args = at-start .args in
+    let e : c .before .loop .i ≡ args .count = omega arith in c .before .loop .inv .2 (args .words .now) (second (args .words .now) (args .arguments .now)
+    (omega arith)) ∙ ap (λ (k : ℕ). sets (args .words .now) 6 (take k (args .arguments .now))) e
 
 pub copy-arguments-spec : {M : Type 1} → statement M
 copy-arguments-spec =

@@ -37,10 +37,19 @@ add-words : tie.Need-add-words Inv-loop μ-loop
 add-words c = search needs
 
 mul-words : tie.Need-mul-words Inv-loop μ-loop
-mul-words c = omega (arith, c .before .loop .inv, ap length (c .before .loop .inv .2) ∙ length-sets (c .before .before .args .words .now) (6 + c .before .before .args .from) (replicate {A = ℕ} (c .before .loop .i - c .before .before .args .from) 2))
+mul-words c = omega (
+  arith,
+  c .before .loop .inv,
+  ap length (c .before .loop .inv .2) ∙ length-sets (c .before .before .args .words .now)
+      (6 + c .before .before .args .from) (replicate {A = ℕ} (c .before .loop .i - c .before .before .args .from) 2),
+)
 
 slice-write-words : tie.Need-slice-write-words Inv-loop μ-loop
-slice-write-words c = omega (arith, ap length (c .before .loop .inv .2) ∙ length-sets (c .before .before .args .words .now) (6 + c .before .before .args .from) (replicate {A = ℕ} (c .before .loop .i - c .before .before .args .from) 2))
+slice-write-words c = omega (
+  arith,
+  ap length (c .before .loop .inv .2) ∙ length-sets (c .before .before .args .words .now) (6 + c .before .before .args .from)
+      (replicate {A = ℕ} (c .before .loop .i - c .before .before .args .from) 2),
+)
 
 add-i : tie.Need-add-i Inv-loop μ-loop
 add-i c = search needs
@@ -56,7 +65,8 @@ loop-again c = (
 )
 
 same-length : tie.Need-same-length Inv-loop μ-loop
-same-length c = ap length (c .before .loop .inv .2) ∙ length-sets (c .before .before .args .words .now) (6 + c .before .before .args .from) (replicate {A = ℕ} (c .before .loop .i - c .before .before .args .from) 2)
+same-length c = ap length (c .before .loop .inv .2) ∙ length-sets (c .before .before .args .words .now) (6 + c .before .before .args .from)
+    (replicate {A = ℕ} (c .before .loop .i - c .before .before .args .from) 2)
 
 returns : tie.Need-returns Inv-loop μ-loop
 returns c = c .before .loop .inv .2 ∙ ap (λ k. sets (c .before .before .args .words .now) (6 + c .before .before .args .from) (replicate {A = ℕ} (k - c .before .before .args .from) 2)) (omega arith)

@@ -48,21 +48,36 @@ copy-arguments-requires : tie.Need-copy-arguments-requires
 copy-arguments-requires c κs = (simp length-set (omega arith), omega arith)
 
 fill-nil-requires : tie.Need-fill-nil-requires
-fill-nil-requires c κs = (
-  omega arith,
-  omega (arith, long (c .before .before .before .before .before .before .before .args .words .now) (c .before .before .before .copy-arguments .last .0) (c .before .before .before .before .before .before .before .args .sender .0) (c .before .before .before .before .before .before .before .args .method .0) (c .before .before .before .before .before .before .before .args .receiver) (take (c .before .before .before .before .before .before .before .args .count) (c .before .before .before .before .before .before .before .args .arguments .now)) (c .before .before .before .copy-arguments .ensures)),
-)
+fill-nil-requires c κs =
+    let at-copy-arguments = c .before .before .before in
+    let at-start = at-copy-arguments .before .before .before .before in
+    let args = at-start .args in (
+      omega arith,
+      omega (
+        arith,
+        long (args .words .now) (at-copy-arguments .copy-arguments .last .0) (args .sender .0) (args .method .0) (args .receiver)
+            (take (args .count) (args .arguments .now)) (at-copy-arguments .copy-arguments .ensures),
+      ),
+    )
 
 same-length : tie.Need-same-length
 same-length c =
-    ap length (c .before .before .fill-nil .ensures) ∙ length-sets (c .before .before .before .before .before .before .copy-arguments .last .0) (6 + c .before .before .before .before .before .before .before .before .before .before .args .count) (replicate {A = ℕ} (c .before .before .before .before .before .before .before .before .before .before .args .temporaries - c .before .before .before .before .before .before .before .before .before .before .args .count) 2)
-    ∙ long (c .before .before .before .before .before .before .before .before .before .before .args .words .now) (c .before .before .before .before .before .before .copy-arguments .last .0) (c .before .before .before .before .before .before .before .before .before .before .args .sender .0) (c .before .before .before .before .before .before .before .before .before .before .args .method .0) (c .before .before .before .before .before .before .before .before .before .before .args .receiver) (take (c .before .before .before .before .before .before .before .before .before .before .args .count) (c .before .before .before .before .before .before .before .before .before .before .args .arguments .now)) (c .before .before .before .before .before .before .copy-arguments .ensures)
+    let at-copy-arguments = c .before .before .before .before .before .before in
+    let at-start = at-copy-arguments .before .before .before .before in
+    let args = at-start .args in
+    ap length (c .before .before .fill-nil .ensures) ∙ length-sets (at-copy-arguments .copy-arguments .last .0) (6 + args .count) (replicate {A = ℕ} (args .temporaries - args .count) 2)
+    ∙ long (args .words .now) (at-copy-arguments .copy-arguments .last .0) (args .sender .0) (args .method .0) (args .receiver)
+    (take (args .count) (args .arguments .now)) (at-copy-arguments .copy-arguments .ensures)
 
 returns : tie.Need-returns
 returns c =
+    let at-copy-arguments = c .before .before .before .before .before .before in
+    let at-start = at-copy-arguments .before .before .before .before in
+    let args = at-start .args in
     c .before .before .fill-nil .ensures
-    ∙ ap (λ (l : List ℕ). sets l (6 + c .before .before .before .before .before .before .before .before .before .before .args .count) (replicate {A = ℕ} (c .before .before .before .before .before .before .before .before .before .before .args .temporaries - c .before .before .before .before .before .before .before .before .before .before .args .count) 2)) (c .before .before .before .before .before .before .copy-arguments .ensures)
-    ∙ sym (finish (set (set (set (set (set (set (c .before .before .before .before .before .before .before .before .before .before .args .words .now) 0 (c .before .before .before .before .before .before .before .before .before .before .args .sender .0)) 1 0) 2 0) 3 (c .before .before .before .before .before .before .before .before .before .before .args .method .0)) 4 0) 5 (c .before .before .before .before .before .before .before .before .before .before .args .receiver)) (c .before .before .before .before .before .before .before .before .before .before .args .arguments .now) (c .before .before .before .before .before .before .before .before .before .before .args .count) (c .before .before .before .before .before .before .before .before .before .before .args .temporaries) (omega arith))
+    ∙ ap (λ (l : List ℕ). sets l (6 + args .count) (replicate {A = ℕ} (args .temporaries - args .count) 2)) (at-copy-arguments .copy-arguments .ensures)
+    ∙ sym (finish (set (set (set (set (set (set (args .words .now) 0 (args .sender .0)) 1 0) 2 0) 3 (args .method .0)) 4 0) 5 (args .receiver))
+    (args .arguments .now) (args .count) (args .temporaries) (omega arith))
 
 pub write-frame-spec : {M : Type 1} → statement M
 write-frame-spec =

@@ -22,7 +22,8 @@ header-word-requires-5 c κs = search needs
 
 returns : tie.Need-returns
 unfolding imageHeader headerOf
-returns c = header-eq (c .before .before .before .before .header-word .ensures) (c .before .before .before .header-word2 .ensures) (c .before .before .header-word3 .ensures) (c .before .header-word4 .ensures) (c .header-word5 .ensures)
+returns c = header-eq (c .before .before .before .before .header-word .ensures) (c .before .before .before .header-word2 .ensures)
+    (c .before .before .header-word3 .ensures) (c .before .header-word4 .ensures) (c .header-word5 .ensures)
 
 pub header-of-spec : {M : Type 1} → statement M
 header-of-spec =

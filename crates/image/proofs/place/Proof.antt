@@ -10,7 +10,9 @@ mul-copy : tie.Need-mul-copy
 mul-copy c = search needs
 
 copy-requires : tie.Need-copy-requires
-copy-requires c κs = let e = exact _ (c .before .before .before .before .pre .0) in let p = c .before .before .before .before .pre .1 in let q = c .before .before .before .before .pre .2 in (omega arith, omega arith)
+copy-requires c κs =
+    let at-start = c .before .before .before .before in
+    let e = exact _ (at-start .pre .0) in let p = at-start .pre .1 in let q = at-start .pre .2 in (omega arith, omega arith)
 
 mul-copy-2 : tie.Need-mul-copy-2
 mul-copy-2 c = search needs
@@ -19,7 +21,9 @@ add-copy : tie.Need-add-copy
 add-copy c = search needs
 
 copy-requires-2 : tie.Need-copy-requires-2
-copy-requires-2 c κs = let e = exact _ (c .before .before .before .before .before .before .before .before .pre .0) in let p = c .before .before .before .before .before .before .before .before .pre .1 in let q = c .before .before .before .before .before .before .before .before .pre .2 in (omega arith, omega arith)
+copy-requires-2 c κs =
+    let at-start = c .before .before .before .before .before .before .before .before in
+    let e = exact _ (at-start .pre .0) in let p = at-start .pre .1 in let q = at-start .pre .2 in (omega arith, omega arith)
 
 same-length : tie.Need-same-length
 same-length c = search needs
@@ -29,7 +33,10 @@ same-length-2 c = search needs
 
 returns : tie.Need-returns
 unfolding imageObjects objectsIn
-returns c = rw (c .before .before .before .before .before .before .before .before .before .before .before .pre .1, c .before .before .before .before .before .before .before .before .before .before .before .pre .2) (c .before .before .before .before .before .before .copy .ensures, c .before .before .copy2 .ensures)
+returns c =
+    let at-copy = c .before .before .before .before .before .before in
+    let at-start = at-copy .before .before .before .before .before in
+    rw (at-start .pre .1, at-start .pre .2) (at-copy .copy .ensures, c .before .before .copy2 .ensures)
 
 pub place-spec : {M : Type 1} → statement M
 place-spec =

@@ -38,7 +38,16 @@ loop-less : tie.Need-loop-less Inv-loop μ-loop
 loop-less c = omega arith
 
 loop-again : tie.Need-loop-again Inv-loop μ-loop
-loop-again c = (omega arith, put-more (c .before .before .before .before .before .before .before .before .before .args .output .now) (c .before .before .before .before .before .before .loop .output) _ (c .before .before .before .before .before .before .before .before .before .args .at) (c .before .before .before .before .before .before .loop .i) (c .before .before .before .before .before .before .before .before .before .args .words .now) (omega arith) (c .before .before .before .before .before .before .loop .inv .1) (c .before .before .put .ensures), c .before .before .put .kept .0 ∙ c .before .before .before .before .before .before .loop .inv .2)
+loop-again c =
+    let at-put = c .before .before in
+    let at-loop = at-put .before .before .before .before in
+    let at-start = at-loop .before .before .before in
+    let args = at-start .args in (
+      omega arith,
+      put-more (args .output .now) (at-loop .loop .output) _ (args .at) (at-loop .loop .i) (args .words .now) (omega arith) (at-loop .loop .inv .1)
+          (at-put .put .ensures),
+      at-put .put .kept .0 ∙ at-loop .loop .inv .2,
+    )
 
 same-length : tie.Need-same-length Inv-loop μ-loop
 same-length c = c .before .loop .inv .2

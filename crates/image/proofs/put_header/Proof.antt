@@ -23,7 +23,12 @@ same-length : tie.Need-same-length
 same-length c = search needs
 
 returns : tie.Need-returns
-returns c = put-five _ _ _ _ _ _ _ _ _ _ _ (c .before .before .before .before .before .before .before .before .before .before .before .before .before .before .before .before .before .before .put .ensures) (c .before .before .before .before .before .before .before .before .before .before .before .before .before .before .put2 .ensures) (c .before .before .before .before .before .before .before .before .before .before .put3 .ensures) (c .before .before .before .before .before .before .put4 .ensures) (c .before .before .put5 .ensures)
+returns c =
+    let at-put4 = c .before .before .before .before .before .before in
+    let at-put3 = at-put4 .before .before .before .before in
+    let at-put2 = at-put3 .before .before .before .before in
+    let at-put = at-put2 .before .before .before .before in
+    put-five _ _ _ _ _ _ _ _ _ _ _ (at-put .put .ensures) (at-put2 .put2 .ensures) (at-put3 .put3 .ensures) (at-put4 .put4 .ensures) (c .before .before .put5 .ensures)
 
 pub put-header-spec : {M : Type 1} → statement M
 put-header-spec =

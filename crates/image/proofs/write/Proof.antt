@@ -35,7 +35,15 @@ same-length : tie.Need-same-length
 same-length c = search needs
 
 returns : tie.Need-returns
-returns c = (c .before .before .before .before .before .before .before .before .before .before .before .before .before .before .length-of .ensures, put-image _ _ _ _ _ _ _ (c .before .before .before .before .before .before .before .before .before .before .before .before .before .before .before .before .before .before .pre .0) (c .before .before .before .before .before .before .before .before .before .before .before .before .before .before .before .before .before .before .pre .1) (c .before .before .before .before .before .before .before .before .before .before .before .before .before .before .before .before .before .before .pre .2) (c .before .before .before .before .before .before .before .before .before .before .put-header .ensures) (c .before .before .before .before .before .before .put-all .ensures) (c .before .before .put-all2 .ensures))
+returns c =
+    let at-put-all = c .before .before .before .before .before .before in
+    let at-put-header = at-put-all .before .before .before .before in
+    let at-length-of = at-put-header .before .before .before .before in
+    let at-start = at-length-of .before .before .before .before in (
+      at-length-of .length-of .ensures,
+      put-image _ _ _ _ _ _ _ (at-start .pre .0) (at-start .pre .1) (at-start .pre .2) (at-put-header .put-header .ensures)
+          (at-put-all .put-all .ensures) (c .before .before .put-all2 .ensures),
+    )
 
 pub write-spec : {M : Type 1} → statement M
 write-spec =

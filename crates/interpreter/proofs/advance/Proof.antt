@@ -15,10 +15,19 @@ enum-known-selector : tie.Need-enum-known-selector
 enum-known-selector c = search needs
 
 leave-requires : tie.Need-leave-requires
-leave-requires c κs = leaves-send ((c .before .before .before .before .before .before .before .before .before .before .before .before .before .before .before .before .before .pre) .0) (c .before .before .before .before .before .before .before .before .step .last .1 .0) (c .before .before .before .before .before .before .before .before .step .last .1 .1 .0) (c .before .before .before .before .before .before .before .before .step .result) (c .before .before .before .before .before .before .before .before .step .ensures) _ _ _ _ _ (c .before .before .selector .given .1)
+leave-requires c κs =
+    let at-step = c .before .before .before .before .before .before .before .before in
+    let at-start = at-step .before .before .before .before .before .before .before .before .before in
+    leaves-send ((at-start .pre) .0) (at-step .step .last .1 .0) (at-step .step .last .1 .1 .0) (at-step .step .result) (at-step .step .ensures) _ _ _ _ _ (c .before .before .selector .given .1)
 
 send-requires : tie.Need-send-requires
-send-requires c κs = can-send ((c .before .before .before .before .before .before .before .before .before .before .before .before .before .before .before .before .before .before .before .before .before .before .before .before .pre) .0) (c .before .before .before .before .before .before .before .before .before .before .before .before .before .before .before .step .last .1 .0) (c .before .before .before .before .before .before .before .before .before .before .before .before .before .before .before .step .last .1 .1 .0) (c .before .before .before .before .before .before .before .before .before .before .before .before .before .before .before .step .result) (c .before .before .before .before .before .before .before .before .before .before .before .before .before .before .before .step .ensures) _ (c .before .before .before .before .before .before .leave .ensures) _ _ _ _ _ (c .before .before .before .before .before .before .before .before .before .selector .given .1) _ ((c .before .before .before .before .before .before .before .before .before .before .before .before .before .before .before .before .before .before .before .before .before .before .before .before .pre) .1)
+send-requires c κs =
+    let at-leave = c .before .before .before .before .before .before in
+    let at-selector = at-leave .before .before .before in
+    let at-step = at-selector .before .before .before .before .before .before in
+    let at-start = at-step .before .before .before .before .before .before .before .before .before in
+    can-send ((at-start .pre) .0) (at-step .step .last .1 .0) (at-step .step .last .1 .1 .0) (at-step .step .result) (at-step .step .ensures) _
+    (at-leave .leave .ensures) _ _ _ _ _ (at-selector .selector .given .1) _ ((at-start .pre) .1)
 
 enum-known-objects : tie.Need-enum-known-objects
 enum-known-objects c = search needs
@@ -36,7 +45,10 @@ enum-known-w : tie.Need-enum-known-w
 enum-known-w c = search needs
 
 leave-requires-2 : tie.Need-leave-requires-2
-leave-requires-2 c κs = leaves-return ((c .before .before .before .before .before .before .before .before .before .before .before .before .before .before .before .before .before .pre) .0) (c .before .before .before .before .before .before .before .before .step .last .1 .0) (c .before .before .before .before .before .before .before .before .step .last .1 .1 .0) (c .before .before .before .before .before .before .before .before .step .result) (c .before .before .before .before .before .before .before .before .step .ensures) _ (c .before .before .w .given .1)
+leave-requires-2 c κs =
+    let at-step = c .before .before .before .before .before .before .before .before in
+    let at-start = at-step .before .before .before .before .before .before .before .before .before in
+    leaves-return ((at-start .pre) .0) (at-step .step .last .1 .0) (at-step .step .last .1 .1 .0) (at-step .step .result) (at-step .step .ensures) _ (c .before .before .w .given .1)
 
 same-length : tie.Need-same-length
 same-length c = search needs
@@ -48,16 +60,32 @@ same-length-3 : tie.Need-same-length-3
 same-length-3 c = search needs
 
 returns : tie.Need-returns
-returns c = finishes ((c .before .before .before .before .before .before .before .before .before .before .before .before .before .before .before .before .before .before .before .before .before .pre) .0) (c .before .before .before .before .before .before .before .before .before .before .before .before .step .last .1 .0) (c .before .before .before .before .before .before .before .before .before .before .before .before .step .last .1 .1 .0) (c .before .before .before .before .before .before .before .before .before .before .before .before .step .result) (c .before .before .before .before .before .before .before .before .before .before .before .before .step .ensures) _ (c .before .before .before .leave2 .ensures) _ (c .before .before .before .before .before .before .w .given .1) _ (c .if1 .taken)
+returns c =
+    let at-w = c .before .before .before .before .before .before in
+    let at-step = at-w .before .before .before .before .before .before in
+    let at-start = at-step .before .before .before .before .before .before .before .before .before in
+    finishes ((at-start .pre) .0) (at-step .step .last .1 .0) (at-step .step .last .1 .1 .0) (at-step .step .result) (at-step .step .ensures) _
+    (c .before .before .before .leave2 .ensures) _ (at-w .w .given .1) _ (c .if1 .taken)
 
 return-to-requires : tie.Need-return-to-requires
-return-to-requires c κs = (return-runs ((c .before .before .before .before .before .before .before .before .before .before .before .before .before .before .before .before .before .before .before .before .before .before .before .before .pre) .0) (c .before .before .before .before .before .before .before .before .before .before .before .before .before .before .before .step .last .1 .0) (c .before .before .before .before .before .before .before .before .before .before .before .before .before .before .before .step .last .1 .1 .0) (c .before .before .before .before .before .before .before .before .before .before .before .before .before .before .before .step .result) (c .before .before .before .before .before .before .before .before .before .before .before .before .before .before .before .step .ensures) _ (c .before .before .before .before .before .before .leave2 .ensures) _ (c .before .before .before .before .before .before .before .before .before .w .given .1), let h = c .before .before .before .if1 .left in omega arith)
+return-to-requires c κs =
+    let at-leave2 = c .before .before .before .before .before .before in
+    let at-w = at-leave2 .before .before .before in
+    let at-step = at-w .before .before .before .before .before .before in
+    let at-start = at-step .before .before .before .before .before .before .before .before .before in (
+      return-runs ((at-start .pre) .0) (at-step .step .last .1 .0) (at-step .step .last .1 .1 .0) (at-step .step .result) (at-step .step .ensures) _
+          (at-leave2 .leave2 .ensures) _ (at-w .w .given .1),
+      let h = c .before .before .before .if1 .left in omega arith,
+    )
 
 enum-told-3 : tie.Need-enum-told-3
 enum-told-3 c = search needs
 
 leave-requires-3 : tie.Need-leave-requires-3
-leave-requires-3 c κs = leaves-halt ((c .before .before .before .before .before .before .before .before .before .before .before .before .before .before .before .before .pre) .0) (c .before .before .before .before .before .before .before .step .last .1 .0) (c .before .before .before .before .before .before .before .step .last .1 .1 .0) (c .before .before .before .before .before .before .before .step .result) (c .before .before .before .before .before .before .before .step .ensures) (c .before .enum-told3 .given .1)
+leave-requires-3 c κs =
+    let at-step = c .before .before .before .before .before .before .before in
+    let at-start = at-step .before .before .before .before .before .before .before .before .before in
+    leaves-halt ((at-start .pre) .0) (at-step .step .last .1 .0) (at-step .step .last .1 .1 .0) (at-step .step .result) (at-step .step .ensures) (c .before .enum-told3 .given .1)
 
 same-length-4 : tie.Need-same-length-4
 same-length-4 c = search needs
@@ -69,7 +97,10 @@ same-length-6 : tie.Need-same-length-6
 same-length-6 c = search needs
 
 returns-2 : tie.Need-returns-2
-returns-2 c = went-on ((c .before .before .before .before .before .before .before .before .before .before .before .before .before .before .before .before .pre) .0) (c .before .before .before .before .before .before .before .step .last .1 .0) (c .before .before .before .before .before .before .before .step .last .1 .1 .0) (c .before .before .before .before .before .before .before .step .result) (c .before .before .before .before .before .before .before .step .ensures) _ _ _ (c .before .position .given .1)
+returns-2 c =
+    let at-step = c .before .before .before .before .before .before .before in
+    let at-start = at-step .before .before .before .before .before .before .before .before .before in
+    went-on ((at-start .pre) .0) (at-step .step .last .1 .0) (at-step .step .last .1 .1 .0) (at-step .step .result) (at-step .step .ensures) _ _ _ (c .before .position .given .1)
 
 same-length-7 : tie.Need-same-length-7
 same-length-7 c = search needs
@@ -84,7 +115,15 @@ same-length-10 : tie.Need-same-length-10
 same-length-10 c = search needs
 
 returns-3 : tie.Need-returns-3
-returns-3 c = answers ((c .before .before .before .before .before .before .before .before .before .before .before .before .before .before .before .before .before .before .before .before .before .before .before .before .before .before .before .before .before .before .before .before .before .before .before .before .pre) .0) (c .before .before .before .before .before .before .before .before .before .before .before .before .before .before .before .before .before .before .before .before .before .before .before .before .before .before .before .step .last .1 .0) (c .before .before .before .before .before .before .before .before .before .before .before .before .before .before .before .before .before .before .before .before .before .before .before .before .before .before .before .step .last .1 .1 .0) (c .before .before .before .before .before .before .before .before .before .before .before .before .before .before .before .before .before .before .before .before .before .before .before .before .before .before .before .step .result) (c .before .before .before .before .before .before .before .before .before .before .before .before .before .before .before .before .before .before .before .before .before .before .before .before .before .before .before .step .ensures) _ (c .before .before .before .before .before .before .before .before .before .before .before .before .before .before .before .before .before .before .leave .ensures) _ _ _ _ _ (c .before .before .before .before .before .before .before .before .before .before .before .before .before .before .before .before .before .before .before .before .before .selector .given .1) _ (c .before .before .before .before .before .before .before .before .before .before .before .send .last .0) (c .before .before .before .before .before .before .before .before .before .before .before .send .last .1 .0) (c .before .before .before .before .before .before .before .before .before .before .before .send .last .1 .1 .0) (c .before .before .before .before .before .before .before .before .before .before .before .send .last .1 .1 .1 .0) (c .before .before .before .before .before .before .before .before .before .before .before .send .result) (c .before .before .before .before .before .before .before .before .before .before .before .send .ensures) _ _ (c .before .objects .given .1)
+returns-3 c =
+    let at-send = c .before .before .before .before .before .before .before .before .before .before .before in
+    let at-leave = at-send .before .before .before .before .before .before .before in
+    let at-selector = at-leave .before .before .before in
+    let at-step = at-selector .before .before .before .before .before .before in
+    let at-start = at-step .before .before .before .before .before .before .before .before .before in
+    answers ((at-start .pre) .0) (at-step .step .last .1 .0) (at-step .step .last .1 .1 .0) (at-step .step .result) (at-step .step .ensures) _
+    (at-leave .leave .ensures) _ _ _ _ _ (at-selector .selector .given .1) _ (at-send .send .last .0) (at-send .send .last .1 .0)
+    (at-send .send .last .1 .1 .0) (at-send .send .last .1 .1 .1 .0) (at-send .send .result) (at-send .send .ensures) _ _ (c .before .objects .given .1)
 
 same-length-11 : tie.Need-same-length-11
 same-length-11 c = search needs
@@ -99,7 +138,15 @@ same-length-14 : tie.Need-same-length-14
 same-length-14 c = search needs
 
 returns-4 : tie.Need-returns-4
-returns-4 c = enters ((c .before .before .before .before .before .before .before .before .before .before .before .before .before .before .before .before .before .before .before .before .before .before .before .before .before .before .before .before .before .before .before .before .before .before .before .before .pre) .0) (c .before .before .before .before .before .before .before .before .before .before .before .before .before .before .before .before .before .before .before .before .before .before .before .before .before .before .before .step .last .1 .0) (c .before .before .before .before .before .before .before .before .before .before .before .before .before .before .before .before .before .before .before .before .before .before .before .before .before .before .before .step .last .1 .1 .0) (c .before .before .before .before .before .before .before .before .before .before .before .before .before .before .before .before .before .before .before .before .before .before .before .before .before .before .before .step .result) (c .before .before .before .before .before .before .before .before .before .before .before .before .before .before .before .before .before .before .before .before .before .before .before .before .before .before .before .step .ensures) _ (c .before .before .before .before .before .before .before .before .before .before .before .before .before .before .before .before .before .before .leave .ensures) _ _ _ _ _ (c .before .before .before .before .before .before .before .before .before .before .before .before .before .before .before .before .before .before .before .before .before .selector .given .1) _ (c .before .before .before .before .before .before .before .before .before .before .before .send .last .0) (c .before .before .before .before .before .before .before .before .before .before .before .send .last .1 .0) (c .before .before .before .before .before .before .before .before .before .before .before .send .last .1 .1 .0) (c .before .before .before .before .before .before .before .before .before .before .before .send .last .1 .1 .1 .0) (c .before .before .before .before .before .before .before .before .before .before .before .send .result) (c .before .before .before .before .before .before .before .before .before .before .before .send .ensures) _ (c .before .base .given .1)
+returns-4 c =
+    let at-send = c .before .before .before .before .before .before .before .before .before .before .before in
+    let at-leave = at-send .before .before .before .before .before .before .before in
+    let at-selector = at-leave .before .before .before in
+    let at-step = at-selector .before .before .before .before .before .before in
+    let at-start = at-step .before .before .before .before .before .before .before .before .before in
+    enters ((at-start .pre) .0) (at-step .step .last .1 .0) (at-step .step .last .1 .1 .0) (at-step .step .result) (at-step .step .ensures) _
+    (at-leave .leave .ensures) _ _ _ _ _ (at-selector .selector .given .1) _ (at-send .send .last .0) (at-send .send .last .1 .0)
+    (at-send .send .last .1 .1 .0) (at-send .send .last .1 .1 .1 .0) (at-send .send .result) (at-send .send .ensures) _ (c .before .base .given .1)
 
 same-length-15 : tie.Need-same-length-15
 same-length-15 c = search needs
@@ -114,7 +161,15 @@ same-length-18 : tie.Need-same-length-18
 same-length-18 c = search needs
 
 returns-5 : tie.Need-returns-5
-returns-5 c = none-understood ((c .before .before .before .before .before .before .before .before .before .before .before .before .before .before .before .before .before .before .before .before .before .before .before .before .before .before .before .before .before .before .before .before .before .before .before .pre) .0) (c .before .before .before .before .before .before .before .before .before .before .before .before .before .before .before .before .before .before .before .before .before .before .before .before .before .before .step .last .1 .0) (c .before .before .before .before .before .before .before .before .before .before .before .before .before .before .before .before .before .before .before .before .before .before .before .before .before .before .step .last .1 .1 .0) (c .before .before .before .before .before .before .before .before .before .before .before .before .before .before .before .before .before .before .before .before .before .before .before .before .before .before .step .result) (c .before .before .before .before .before .before .before .before .before .before .before .before .before .before .before .before .before .before .before .before .before .before .before .before .before .before .step .ensures) _ (c .before .before .before .before .before .before .before .before .before .before .before .before .before .before .before .before .before .leave .ensures) _ _ _ _ _ (c .before .before .before .before .before .before .before .before .before .before .before .before .before .before .before .before .before .before .before .before .selector .given .1) _ (c .before .before .before .before .before .before .before .before .before .before .send .last .0) (c .before .before .before .before .before .before .before .before .before .before .send .last .1 .0) (c .before .before .before .before .before .before .before .before .before .before .send .last .1 .1 .0) (c .before .before .before .before .before .before .before .before .before .before .send .last .1 .1 .1 .0) (c .before .before .before .before .before .before .before .before .before .before .send .result) (c .before .before .before .before .before .before .before .before .before .before .send .ensures) (c .enum-told .given .1)
+returns-5 c =
+    let at-send = c .before .before .before .before .before .before .before .before .before .before in
+    let at-leave = at-send .before .before .before .before .before .before .before in
+    let at-selector = at-leave .before .before .before in
+    let at-step = at-selector .before .before .before .before .before .before in
+    let at-start = at-step .before .before .before .before .before .before .before .before .before in
+    none-understood ((at-start .pre) .0) (at-step .step .last .1 .0) (at-step .step .last .1 .1 .0) (at-step .step .result) (at-step .step .ensures) _
+    (at-leave .leave .ensures) _ _ _ _ _ (at-selector .selector .given .1) _ (at-send .send .last .0) (at-send .send .last .1 .0)
+    (at-send .send .last .1 .1 .0) (at-send .send .last .1 .1 .1 .0) (at-send .send .result) (at-send .send .ensures) (c .enum-told .given .1)
 
 same-length-19 : tie.Need-same-length-19
 same-length-19 c = search needs
@@ -129,7 +184,15 @@ same-length-22 : tie.Need-same-length-22
 same-length-22 c = search needs
 
 returns-6 : tie.Need-returns-6
-returns-6 c = none-fits ((c .before .before .before .before .before .before .before .before .before .before .before .before .before .before .before .before .before .before .before .before .before .before .before .before .before .before .before .before .before .before .before .before .before .before .before .pre) .0) (c .before .before .before .before .before .before .before .before .before .before .before .before .before .before .before .before .before .before .before .before .before .before .before .before .before .before .step .last .1 .0) (c .before .before .before .before .before .before .before .before .before .before .before .before .before .before .before .before .before .before .before .before .before .before .before .before .before .before .step .last .1 .1 .0) (c .before .before .before .before .before .before .before .before .before .before .before .before .before .before .before .before .before .before .before .before .before .before .before .before .before .before .step .result) (c .before .before .before .before .before .before .before .before .before .before .before .before .before .before .before .before .before .before .before .before .before .before .before .before .before .before .step .ensures) _ (c .before .before .before .before .before .before .before .before .before .before .before .before .before .before .before .before .before .leave .ensures) _ _ _ _ _ (c .before .before .before .before .before .before .before .before .before .before .before .before .before .before .before .before .before .before .before .before .selector .given .1) _ (c .before .before .before .before .before .before .before .before .before .before .send .last .0) (c .before .before .before .before .before .before .before .before .before .before .send .last .1 .0) (c .before .before .before .before .before .before .before .before .before .before .send .last .1 .1 .0) (c .before .before .before .before .before .before .before .before .before .before .send .last .1 .1 .1 .0) (c .before .before .before .before .before .before .before .before .before .before .send .result) (c .before .before .before .before .before .before .before .before .before .before .send .ensures) (c .enum-told2 .given .1)
+returns-6 c =
+    let at-send = c .before .before .before .before .before .before .before .before .before .before in
+    let at-leave = at-send .before .before .before .before .before .before .before in
+    let at-selector = at-leave .before .before .before in
+    let at-step = at-selector .before .before .before .before .before .before in
+    let at-start = at-step .before .before .before .before .before .before .before .before .before in
+    none-fits ((at-start .pre) .0) (at-step .step .last .1 .0) (at-step .step .last .1 .1 .0) (at-step .step .result) (at-step .step .ensures) _
+    (at-leave .leave .ensures) _ _ _ _ _ (at-selector .selector .given .1) _ (at-send .send .last .0) (at-send .send .last .1 .0)
+    (at-send .send .last .1 .1 .0) (at-send .send .last .1 .1 .1 .0) (at-send .send .result) (at-send .send .ensures) (c .enum-told2 .given .1)
 
 same-length-23 : tie.Need-same-length-23
 same-length-23 c = search needs
@@ -141,7 +204,15 @@ same-length-25 : tie.Need-same-length-25
 same-length-25 c = search needs
 
 returns-7 : tie.Need-returns-7
-returns-7 c = returned-below ((c .before .before .before .before .before .before .before .before .before .before .before .before .before .before .before .before .before .before .before .before .before .before .before .before .before .before .before .pre) .0) (c .before .before .before .before .before .before .before .before .before .before .before .before .before .before .before .before .before .before .step .last .1 .0) (c .before .before .before .before .before .before .before .before .before .before .before .before .before .before .before .before .before .before .step .last .1 .1 .0) (c .before .before .before .before .before .before .before .before .before .before .before .before .before .before .before .before .before .before .step .result) (c .before .before .before .before .before .before .before .before .before .before .before .before .before .before .before .before .before .before .step .ensures) _ (c .before .before .before .before .before .before .before .before .before .leave2 .ensures) _ (c .before .before .before .before .before .before .before .before .before .before .before .before .w .given .1) _ _ _ (let h = c .before .before .before .before .before .before .if1 .left in omega arith) (c .before .before .return-to .ensures .0) (c .before .before .return-to .ensures .1)
+returns-7 c =
+    let at-return-to = c .before .before in
+    let at-if1 = at-return-to .before .before .before .before in
+    let at-leave2 = at-if1 .before .before .before in
+    let at-w = at-leave2 .before .before .before in
+    let at-step = at-w .before .before .before .before .before .before in
+    let at-start = at-step .before .before .before .before .before .before .before .before .before in
+    returned-below ((at-start .pre) .0) (at-step .step .last .1 .0) (at-step .step .last .1 .1 .0) (at-step .step .result) (at-step .step .ensures) _
+    (at-leave2 .leave2 .ensures) _ (at-w .w .given .1) _ _ _ (let h = at-if1 .if1 .left in omega arith) (at-return-to .return-to .ensures .0) (at-return-to .return-to .ensures .1)
 
 same-length-26 : tie.Need-same-length-26
 same-length-26 c = search needs
@@ -153,7 +224,12 @@ same-length-28 : tie.Need-same-length-28
 same-length-28 c = search needs
 
 returns-8 : tie.Need-returns-8
-returns-8 c = no-boolean ((c .before .before .before .before .before .before .before .before .before .before .before .before .before .before .before .before .before .before .before .pre) .0) (c .before .before .before .before .before .before .before .before .before .before .step .last .1 .0) (c .before .before .before .before .before .before .before .before .before .before .step .last .1 .1 .0) (c .before .before .before .before .before .before .before .before .before .before .step .result) (c .before .before .before .before .before .before .before .before .before .before .step .ensures) _ (c .before .before .leave3 .ensures) _ (c .before .before .before .before .enum-told3 .given .1)
+returns-8 c =
+    let at-enum-told3 = c .before .before .before .before in
+    let at-step = at-enum-told3 .before .before .before .before .before .before in
+    let at-start = at-step .before .before .before .before .before .before .before .before .before in
+    no-boolean ((at-start .pre) .0) (at-step .step .last .1 .0) (at-step .step .last .1 .1 .0) (at-step .step .result) (at-step .step .ensures) _
+    (c .before .before .leave3 .ensures) _ (at-enum-told3 .enum-told3 .given .1)
 
 pub advance-spec : {M : Type 1} → statement M
 advance-spec =

@@ -29,58 +29,90 @@ slice-read-depth : tie.Need-slice-read-depth
 slice-read-depth c = let k = sender-bounds ((c .before .before .before .before .before .pre) .0) ((c .before .before .before .before .before .pre) .1) in omega arith
 
 header-requires : tie.Need-header-requires
-header-requires c κs = record { right = (c .before .before .before .before .before .pre) .0 .right; kinds = sender-bounds ((c .before .before .before .before .before .pre) .0) ((c .before .before .before .before .before .pre) .1) .isMethod }
+header-requires c κs =
+    let at-start = c .before .before .before .before .before in
+    record { right = (at-start .pre) .0 .right; kinds = sender-bounds ((at-start .pre) .0) ((at-start .pre) .1) .isMethod }
 
 temporary-count-requires : tie.Need-temporary-count-requires
 temporary-count-requires c κs = search needs
 
 add-depth-2 : tie.Need-add-depth-2
-add-depth-2 c = let k = sender-bounds ((c .before .before .before .before .before .before .before .pre) .0) ((c .before .before .before .before .before .before .before .pre) .1) in omega arith
+add-depth-2 c =
+    let at-start = c .before .before .before .before .before .before .before in
+    let k = sender-bounds ((at-start .pre) .0) ((at-start .pre) .1) in omega arith
 
 mul-depth-2 : tie.Need-mul-depth-2
-mul-depth-2 c = let k = sender-bounds ((c .before .before .before .before .before .before .before .pre) .0) ((c .before .before .before .before .before .before .before .pre) .1) in omega arith
+mul-depth-2 c =
+    let at-start = c .before .before .before .before .before .before .before in
+    let k = sender-bounds ((at-start .pre) .0) ((at-start .pre) .1) in omega arith
 
 slice-read-depth-2 : tie.Need-slice-read-depth-2
-slice-read-depth-2 c = let k = sender-bounds ((c .before .before .before .before .before .before .before .before .pre) .0) ((c .before .before .before .before .before .before .before .before .pre) .1) in omega arith
+slice-read-depth-2 c =
+    let at-start = c .before .before .before .before .before .before .before .before in
+    let k = sender-bounds ((at-start .pre) .0) ((at-start .pre) .1) in omega arith
 
 cast-depth : tie.Need-cast-depth
-cast-depth c = let k = sender-bounds ((c .before .before .before .before .before .before .before .before .pre) .0) ((c .before .before .before .before .before .before .before .before .pre) .1) in omega arith
+cast-depth c =
+    let at-start = c .before .before .before .before .before .before .before .before in
+    let k = sender-bounds ((at-start .pre) .0) ((at-start .pre) .1) in omega arith
 
 add-place : tie.Need-add-place
-add-place c = let k = sender-bounds ((c .before .before .before .before .before .before .before .before .pre) .0) ((c .before .before .before .before .before .before .before .before .pre) .1) in let e = c .before .temporary-count .ensures in omega arith
+add-place c =
+    let at-start = c .before .before .before .before .before .before .before .before in
+    let k = sender-bounds ((at-start .pre) .0) ((at-start .pre) .1) in let e = c .before .temporary-count .ensures in omega arith
 
 add-place-2 : tie.Need-add-place-2
-add-place-2 c = let k = sender-bounds ((c .before .before .before .before .before .before .before .before .pre) .0) ((c .before .before .before .before .before .before .before .before .pre) .1) in let e = c .before .temporary-count .ensures in omega arith
+add-place-2 c =
+    let at-start = c .before .before .before .before .before .before .before .before in
+    let k = sender-bounds ((at-start .pre) .0) ((at-start .pre) .1) in let e = c .before .temporary-count .ensures in omega arith
 
 add-place-3 : tie.Need-add-place-3
-add-place-3 c = let k = sender-bounds ((c .before .before .before .before .before .before .before .before .pre) .0) ((c .before .before .before .before .before .before .before .before .pre) .1) in let e = c .before .temporary-count .ensures in omega arith
+add-place-3 c =
+    let at-start = c .before .before .before .before .before .before .before .before in
+    let k = sender-bounds ((at-start .pre) .0) ((at-start .pre) .1) in let e = c .before .temporary-count .ensures in omega arith
 
 mul-stack : tie.Need-mul-stack
-mul-stack c = let k = sender-bounds ((c .before .before .before .before .before .before .before .before .pre) .0) ((c .before .before .before .before .before .before .before .before .pre) .1) in let e = c .before .temporary-count .ensures ∙ ap (λ (h : ℕ). h / 256 % 32) (c .before .before .header .ensures) in omega arith
+mul-stack c =
+    let at-start = c .before .before .before .before .before .before .before .before in
+    let k = sender-bounds ((at-start .pre) .0) ((at-start .pre) .1) in let e = c .before .temporary-count .ensures ∙ ap (λ (h : ℕ). h / 256 % 32) (c .before .before .header .ensures) in omega arith
 
 slice-write-stack : tie.Need-slice-write-stack
-slice-write-stack c = let k = sender-bounds ((c .before .before .before .before .before .before .before .before .pre) .0) ((c .before .before .before .before .before .before .before .before .pre) .1) in let e = c .before .temporary-count .ensures ∙ ap (λ (h : ℕ). h / 256 % 32) (c .before .before .header .ensures) in omega arith
+slice-write-stack c =
+    let at-start = c .before .before .before .before .before .before .before .before in
+    let k = sender-bounds ((at-start .pre) .0) ((at-start .pre) .1) in let e = c .before .temporary-count .ensures ∙ ap (λ (h : ℕ). h / 256 % 32) (c .before .before .header .ensures) in omega arith
 
 add-stack : tie.Need-add-stack
-add-stack c = let k = sender-bounds ((c .before .before .before .before .before .before .before .before .pre) .0) ((c .before .before .before .before .before .before .before .before .pre) .1) in omega arith
+add-stack c =
+    let at-start = c .before .before .before .before .before .before .before .before in
+    let k = sender-bounds ((at-start .pre) .0) ((at-start .pre) .1) in omega arith
 
 cast-stack : tie.Need-cast-stack
-cast-stack c = let k = sender-bounds ((c .before .before .before .before .before .before .before .before .pre) .0) ((c .before .before .before .before .before .before .before .before .pre) .1) in omega arith
+cast-stack c =
+    let at-start = c .before .before .before .before .before .before .before .before in
+    let k = sender-bounds ((at-start .pre) .0) ((at-start .pre) .1) in omega arith
 
 add-stack-2 : tie.Need-add-stack-2
-add-stack-2 c = let k = sender-bounds ((c .before .before .before .before .before .before .before .before .pre) .0) ((c .before .before .before .before .before .before .before .before .pre) .1) in omega arith
+add-stack-2 c =
+    let at-start = c .before .before .before .before .before .before .before .before in
+    let k = sender-bounds ((at-start .pre) .0) ((at-start .pre) .1) in omega arith
 
 mul-stack-2 : tie.Need-mul-stack-2
-mul-stack-2 c = let k = sender-bounds ((c .before .before .before .before .before .before .before .before .pre) .0) ((c .before .before .before .before .before .before .before .before .pre) .1) in omega arith
+mul-stack-2 c =
+    let at-start = c .before .before .before .before .before .before .before .before in
+    let k = sender-bounds ((at-start .pre) .0) ((at-start .pre) .1) in omega arith
 
 slice-write-stack-2 : tie.Need-slice-write-stack-2
-slice-write-stack-2 c = let k = sender-bounds ((c .before .before .before .before .before .before .before .before .pre) .0) ((c .before .before .before .before .before .before .before .before .pre) .1) in simp length-set (omega arith)
+slice-write-stack-2 c =
+    let at-start = c .before .before .before .before .before .before .before .before in
+    let k = sender-bounds ((at-start .pre) .0) ((at-start .pre) .1) in simp length-set (omega arith)
 
 same-length : tie.Need-same-length
 same-length c = search needs
 
 returns : tie.Need-returns
-returns c = (refl, two-words (c .before .before .before .before .before .before .before .before .args .stack .now) _ _ _ _ (c .before .before .before .before .before .before .before .before .args .w) (c .before .temporary-count .ensures ∙ ap (λ (h : ℕ). h / 256 % 32) (c .before .before .header .ensures)))
+returns c =
+    let at-start = c .before .before .before .before .before .before .before .before in
+    (refl, two-words (at-start .args .stack .now) _ _ _ _ (at-start .args .w) (c .before .temporary-count .ensures ∙ ap (λ (h : ℕ). h / 256 % 32) (c .before .before .header .ensures)))
 
 pub return-to-spec : {M : Type 1} → statement M
 return-to-spec =

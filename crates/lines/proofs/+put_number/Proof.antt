@@ -71,7 +71,11 @@ put-number-put-number-requires : (t : ℕ) → put-number-lts.Need-put-number-re
   put-number-below t,
   put-number.Post,
 ) (put-number-at t) put-number.Post
-put-number-put-number-requires t c κs = (let m = c .before .before .before .pre .0 in omega arith, let e = length-more (c .before .before .before .args .n) (c .before .if1 .left) in omega (arith, c .before .before .before .pre .1))
+put-number-put-number-requires t c κs = (
+  let m = c .before .before .before .pre .0 in omega arith,
+  let e = length-more (c .before .before .before .args .n)
+      (c .before .if1 .left) in omega (arith, c .before .before .before .pre .1),
+)
 
 put-number-cast-out-2 : (t : ℕ) → put-number-lts.Need-cast-out-2 (
   put-number-below t,
@@ -89,13 +93,17 @@ put-number-slice-write-out-2 : (t : ℕ) → put-number-lts.Need-slice-write-out
   put-number-below t,
   put-number.Post,
 ) (put-number-at t) put-number.Post
-put-number-slice-write-out-2 t c = let e = length-more (c .before .before .before .before .before .before .args .n) (c .before .before .before .before .if1 .left) in let r = c .before .before .put-number .ensures .0 in let k = c .before .before .put-number .kept .0 in omega (arith, c .before .before .before .before .before .before .pre .1)
+put-number-slice-write-out-2 t c = let e = length-more (c .before .before .before .before .before .before .args .n)
+    (c .before .before .before .before .if1 .left) in let r = c .before .before .put-number .ensures .0 in let k =
+    c .before .before .put-number .kept .0 in omega (arith, c .before .before .before .before .before .before .pre .1)
 
 put-number-add-result-2 : (t : ℕ) → put-number-lts.Need-add-result-2 (
   put-number-below t,
   put-number.Post,
 ) (put-number-at t) put-number.Post
-put-number-add-result-2 t c = let e = length-more (c .before .before .before .before .before .before .args .n) (c .before .before .before .before .if1 .left) in let r = c .before .before .put-number .ensures .0 in let k = c .before .before .put-number .kept .0 in omega (arith, c .before .before .before .before .before .before .pre .1)
+put-number-add-result-2 t c = let e = length-more (c .before .before .before .before .before .before .args .n)
+    (c .before .before .before .before .if1 .left) in let r = c .before .before .put-number .ensures .0 in let k =
+    c .before .before .put-number .kept .0 in omega (arith, c .before .before .before .before .before .before .pre .1)
 
 put-number-same-length-2 : (t : ℕ) → put-number-lts.Need-same-length-2 (
   put-number-below t,

@@ -42,7 +42,11 @@ same-length : tie.Need-same-length Inv-loop μ-loop
 same-length c = c .before .loop .inv .2
 
 returns : tie.Need-returns Inv-loop μ-loop
-returns c = (omega arith, c .before .loop .inv .1 ∙ ap (sets (c .before .before .args .out .now) (c .before .before .args .at)) (take-all (c .before .loop .i) (c .before .before .args .text .now) (omega arith)))
+returns c = (
+  omega arith,
+  c .before .loop .inv .1 ∙ ap (sets (c .before .before .args .out .now) (c .before .before .args .at))
+      (take-all (c .before .loop .i) (c .before .before .args .text .now) (omega arith)),
+)
 
 pub put-text-spec : {M : Type 1} → statement M
 put-text-spec =

@@ -13,19 +13,31 @@ put-text-requires : tie.Need-put-text-requires
 put-text-requires c κs = search needs
 
 put-number-requires : tie.Need-put-number-requires
-put-number-requires c κs = let d0 = count-digits _ (c .before .before .before .before .before .before .before .fits .number .fits) in let e0 = c .before .before .before .put-text .ensures .0 in let k0 = c .before .before .before .put-text .kept .0 in omega (arith, c .before .before .before .before .before .before .before .pre)
+put-number-requires c κs =
+    let at-put-text = c .before .before .before in
+    let at-start = at-put-text .before .before .before .before in
+    let d0 = count-digits _ (at-start .fits .number .fits) in let e0 = at-put-text .put-text .ensures .0 in let k0 = at-put-text .put-text .kept .0 in omega (arith, at-start .pre)
 
 slice-aggregate-put-text-2 : tie.Need-slice-aggregate-put-text-2
 slice-aggregate-put-text-2 c = search needs
 
 put-text-requires-2 : tie.Need-put-text-requires-2
-put-text-requires-2 c κs = let d0 = count-digits _ (c .before .before .before .before .before .before .before .before .before .before .before .before .fits .number .fits) in let e0 = c .before .before .before .before .before .before .before .before .put-text .ensures .0 in let k0 = c .before .before .before .before .before .before .before .before .put-text .kept .0 in let e1 = c .before .before .before .before .put-number .ensures .0 in let k1 = c .before .before .before .before .put-number .kept .0 in omega (arith, c .before .before .before .before .before .before .before .before .before .before .before .before .pre)
+put-text-requires-2 c κs =
+    let at-put-number = c .before .before .before .before in
+    let at-put-text = at-put-number .before .before .before .before in
+    let at-start = at-put-text .before .before .before .before in
+    let d0 = count-digits _ (at-start .fits .number .fits) in let e0 = at-put-text .put-text .ensures .0 in let k0 = at-put-text .put-text .kept .0 in let e1 =
+    at-put-number .put-number .ensures .0 in let k1 = at-put-number .put-number .kept .0 in omega (arith, at-start .pre)
 
 same-length : tie.Need-same-length
 same-length c = search needs
 
 returns : tie.Need-returns
-returns c = refusal-put _ _ _ _ _ _ _ _ (c .before .before .before .before .before .before .before .before .before .before .before .before .before .before .before .pre) (c .before .before .before .before .before .before .before .before .before .before .before .before .before .before .before .fits .number .fits) (c .before .before .before .before .before .before .before .before .before .before .before .put-text .ensures) (c .before .before .before .before .before .before .before .put-number .ensures) (c .before .before .put-text2 .ensures)
+returns c =
+    let at-put-number = c .before .before .before .before .before .before .before in
+    let at-put-text = at-put-number .before .before .before .before in
+    let at-start = at-put-text .before .before .before .before in
+    refusal-put _ _ _ _ _ _ _ _ (at-start .pre) (at-start .fits .number .fits) (at-put-text .put-text .ensures) (at-put-number .put-number .ensures) (c .before .before .put-text2 .ensures)
 
 pub write-refusal-spec : {M : Type 1} → statement M
 write-refusal-spec =

@@ -16,7 +16,9 @@ header-of-requires c κs = search needs
 
 returns : tie.Need-returns
 returns c =
-    (count-flag (objectsAt (c .before .before .before .before .args .n) (c .before .before .before .before .args .b) (c .before .before .before .before .args .contents .now) (c .before .before .before .before .args .bodies .now)) (c .before .before .before .before .args .m) (c .before .header-of .result) (c .before .header-of .ensures) (c .if1 .taken), omega arith)
+    let at-start = c .before .before .before .before in
+    let args = at-start .args in
+    (count-flag (objectsAt (args .n) (args .b) (args .contents .now) (args .bodies .now)) (args .m) (c .before .header-of .result) (c .before .header-of .ensures) (c .if1 .taken), omega arith)
 
 cast-literals : tie.Need-cast-literals
 cast-literals c = search needs
@@ -26,11 +28,23 @@ extension-of-requires c κs = search needs
 
 returns-2 : tie.Need-returns-2
 returns-2 c =
-    (ap (λ (x : ℕ). x / 512 % 32) (c .extension-of .ensures) ∙ count-extension (objectsAt (c .before .before .before .before .before .before .args .n) (c .before .before .before .before .before .before .args .b) (c .before .before .before .before .before .before .args .contents .now) (c .before .before .before .before .before .before .args .bodies .now)) (c .before .before .before .before .before .before .args .m) (c .before .before .before .header-of .result) (c .before .before .before .header-of .ensures) (c .before .before .if1 .left) (c .before .if2 .taken), omega arith)
+    let at-header-of = c .before .before .before in
+    let at-start = at-header-of .before .before .before in
+    let args = at-start .args in (
+      ap (λ (x : ℕ). x / 512 % 32) (c .extension-of .ensures) ∙ count-extension (objectsAt (args .n) (args .b) (args .contents .now) (args .bodies .now))
+          (args .m) (at-header-of .header-of .result) (at-header-of .header-of .ensures) (c .before .before .if1 .left) (c .before .if2 .taken),
+      omega arith,
+    )
 
 returns-3 : tie.Need-returns-3
 returns-3 c =
-    (count-none (objectsAt (c .before .before .before .before .before .args .n) (c .before .before .before .before .before .args .b) (c .before .before .before .before .before .args .contents .now) (c .before .before .before .before .before .args .bodies .now)) (c .before .before .before .before .before .args .m) (c .before .before .header-of .result) (c .before .before .header-of .ensures) (c .before .if1 .left) (c .if2 .left), omega arith)
+    let at-header-of = c .before .before in
+    let at-start = at-header-of .before .before .before in
+    let args = at-start .args in (
+      count-none (objectsAt (args .n) (args .b) (args .contents .now) (args .bodies .now)) (args .m) (at-header-of .header-of .result)
+          (at-header-of .header-of .ensures) (c .before .if1 .left) (c .if2 .left),
+      omega arith,
+    )
 
 pub argument-count-spec : {M : Type 1} → statement M
 argument-count-spec =

@@ -25,7 +25,10 @@ word-at-requires : tie.Need-word-at-requires
 word-at-requires c κs = search needs
 
 returns : tie.Need-returns
-returns c = c .word-at .ensures ∙ ap (λ (x : ℕ). getD (take (c .before .before .before .before .args .b) (c .before .before .before .before .args .bodies .now)) (x + c .before .before .before .before .args .i) 0) (c .before .start .ensures)
+returns c =
+    let at-start = c .before .before .before .before in
+    let args = at-start .args in
+    c .word-at .ensures ∙ ap (λ (x : ℕ). getD (take (args .b) (args .bodies .now)) (x + args .i) 0) (c .before .start .ensures)
 
 pub body-word-spec : {M : Type 1} → statement M
 body-word-spec = tie.close (tie.spec cast-k start-requires cast-at add-at word-at-requires returns)

@@ -31,7 +31,10 @@ cast-size : tie.Need-cast-size Inv-loop μ-loop
 cast-size c = search needs
 
 size-requires : tie.Need-size-requires Inv-loop μ-loop
-size-requires c κs = let h = dictionary-named _ _ _ _ (c .before .before .before .before .pre .ready) (c .before .before .before .before .args .class) (c .before .before .before .before .pre .isClass) (c .body-word .result) (c .body-word .ensures) in record { entries = c .before .before .before .before .pre .ready .lent .entries; least = h .least; most = h .most }
+size-requires c κs =
+    let at-start = c .before .before .before .before in
+    let h = dictionary-named _ _ _ _ (at-start .pre .ready) (at-start .args .class) (at-start .pre .isClass) (c .body-word .result)
+    (c .body-word .ensures) in record { entries = at-start .pre .ready .lent .entries; least = h .least; most = h .most }
 
 cast-pairs : tie.Need-cast-pairs Inv-loop μ-loop
 cast-pairs c = search needs
@@ -40,7 +43,14 @@ loop-holds : tie.Need-loop-holds Inv-loop μ-loop
 loop-holds c = (omega arith, refl, c .before .before .before .before .before .pre .so-far)
 
 count-pair-requires : tie.Need-count-pair-requires Inv-loop μ-loop
-count-pair-requires c κs = pair-asked _ _ _ _ (c .before .before .before .before .before .before .before .before .args .class) (c .before .before .before .before .before .before .before .before .args .counts .now) (c .before .before .before .before .before .before .before .before .pre) (c .before .before .before .before .body-word .result) (c .before .before .before .size .result) (c .before .before .before .before .body-word .ensures) (c .before .before .before .size .ensures) (search needs) (c .before .before .loop .counts) (c .before .before .loop .i) (c .before .before .loop .inv .1) (c .before .before .loop .inv .2) (c .before .loop-test .taken)
+count-pair-requires c κs =
+    let at-loop = c .before .before in
+    let at-size = at-loop .before in
+    let at-body-word = at-size .before in
+    let at-start = at-body-word .before .before .before .before in
+    pair-asked _ _ _ _ (at-start .args .class) (at-start .args .counts .now) (at-start .pre) (at-body-word .body-word .result) (at-size .size .result)
+    (at-body-word .body-word .ensures) (at-size .size .ensures) (search needs) (at-loop .loop .counts) (at-loop .loop .i) (at-loop .loop .inv .1)
+    (at-loop .loop .inv .2) (c .before .loop-test .taken)
 
 same-length : tie.Need-same-length Inv-loop μ-loop
 same-length c = c .before .before .before .count-pair .kept .1 .1 .1 .1 .1 .1 .0 ∙ c .before .before .before .before .before .before .loop .inv .1
@@ -55,13 +65,21 @@ loop-less : tie.Need-loop-less Inv-loop μ-loop
 loop-less c = omega arith
 
 loop-again : tie.Need-loop-again Inv-loop μ-loop
-loop-again c = (omega arith, c .before .before .before .count-pair .kept .1 .1 .1 .1 .1 .1 .0 ∙ c .before .before .before .before .before .before .loop .inv .1, turned-on _ _ _ _ _ (not-false _ (c .if1 .left)) (c .before .before .before .count-pair .ensures))
+loop-again c =
+    let at-count-pair = c .before .before .before in
+    let at-loop = at-count-pair .before .before .before in
+    (omega arith, at-count-pair .count-pair .kept .1 .1 .1 .1 .1 .1 .0 ∙ at-loop .loop .inv .1, turned-on _ _ _ _ _ (not-false _ (c .if1 .left)) (at-count-pair .count-pair .ensures))
 
 same-length-2 : tie.Need-same-length-2 Inv-loop μ-loop
 same-length-2 c = c .before .loop .inv .1
 
 returns-2 : tie.Need-returns-2 Inv-loop μ-loop
-returns-2 c = class-done _ _ _ _ (c .before .before .before .before .before .before .before .args .class) (c .before .before .before .before .before .before .before .args .counts .now) (c .before .before .before .before .before .before .before .pre) (c .before .before .before .body-word .result) (c .before .before .size .result) (c .before .before .before .body-word .ensures) (c .before .before .size .ensures) (c .before .loop .counts) (c .before .loop .i) (c .before .loop .inv .2) (c .loop-test .left)
+returns-2 c =
+    let at-size = c .before .before in
+    let at-body-word = at-size .before in
+    let at-start = at-body-word .before .before .before .before in
+    class-done _ _ _ _ (at-start .args .class) (at-start .args .counts .now) (at-start .pre) (at-body-word .body-word .result) (at-size .size .result)
+    (at-body-word .body-word .ensures) (at-size .size .ensures) (c .before .loop .counts) (c .before .loop .i) (c .before .loop .inv .2) (c .loop-test .left)
 
 pub count-class-spec : {M : Type 1} → statement M
 count-class-spec =

@@ -24,7 +24,17 @@ loop-holds : tie.Need-loop-holds Inv-loop μ-loop
 loop-holds c = (omega arith, omega (arith, c .before .before .before .pre .0 .lent .least), refl, none-counted _ _ (c .before .before .before .pre .2))
 
 count-object-requires : tie.Need-count-object-requires Inv-loop μ-loop
-count-object-requires c κs = record { ready = c .before .before .before .before .before .before .pre .0; least = c .before .before .loop .inv .0; most = c .before .loop-test .taken; long = let h = c .before .before .loop .inv .2 in omega (arith, c .before .before .before .before .before .before .pre .1); so-far = c .before .before .loop .inv .3 }
+count-object-requires c κs =
+    let at-loop = c .before .before in
+    let at-start = at-loop .before .before .before .before in
+    record {
+      ready = at-start .pre .0;
+      least = at-loop .loop .inv .0;
+      most = c .before .loop-test .taken;
+      long = let h = at-loop .loop .inv .2 in omega
+          (arith, at-start .pre .1);
+      so-far = at-loop .loop .inv .3;
+    }
 
 same-length : tie.Need-same-length Inv-loop μ-loop
 same-length c = c .before .before .before .count-object .kept .1 .1 .1 .1 .1 .0 ∙ c .before .before .before .before .before .before .loop .inv .2
@@ -39,7 +49,10 @@ loop-less : tie.Need-loop-less Inv-loop μ-loop
 loop-less c = omega arith
 
 loop-again : tie.Need-loop-again Inv-loop μ-loop
-loop-again c = (omega arith, omega arith, c .before .before .before .count-object .kept .1 .1 .1 .1 .1 .0 ∙ c .before .before .before .before .before .before .loop .inv .2, turned-on _ _ _ _ _ (not-false _ (c .if1 .left)) (c .before .before .before .count-object .ensures))
+loop-again c =
+    let at-count-object = c .before .before .before in
+    let at-loop = at-count-object .before .before .before in
+    (omega arith, omega arith, at-count-object .count-object .kept .1 .1 .1 .1 .1 .0 ∙ at-loop .loop .inv .2, turned-on _ _ _ _ _ (not-false _ (c .if1 .left)) (at-count-object .count-object .ensures))
 
 same-length-2 : tie.Need-same-length-2 Inv-loop μ-loop
 same-length-2 c = c .before .loop .inv .2

@@ -17,12 +17,20 @@ extension-of-requires : tie.Need-extension-of-requires
 extension-of-requires c κs = search needs
 
 returns-2 : tie.Need-returns-2
-returns-2 c = simp (ap (leb 2) (sym (c .before .before .before .before .before .pre .1)) ∙ le-leb _ _ (c .before .before .if1 .left), ap (λ (x : ℕ). eqb (x % 2) 1) (sym (c .before .extension-of .ensures)) ∙ ne-eqb _ _ (c .if2 .taken))
+returns-2 c = simp (
+  ap (leb 2) (sym (c .before .before .before .before .before .pre .1)) ∙ le-leb _ _ (c .before .before .if1 .left),
+  ap
+      (λ (x : ℕ). eqb (x % 2) 1) (sym (c .before .extension-of .ensures)) ∙ ne-eqb _ _ (c .if2 .taken),
+)
 
 returns-3 : tie.Need-returns-3
 returns-3 c =
     ap (λ (x : ℕ). ltb x 16384) (c .before .extension-of .ensures)
-    ∙ sym (simp (ap (leb 2) (sym (c .before .before .before .before .before .pre .1)) ∙ le-leb _ _ (c .before .before .if1 .left), ap (λ (x : ℕ). eqb (x % 2) 1) (sym (c .before .extension-of .ensures)) ∙ eq-eqb _ _ (c .if2 .left)))
+    ∙ sym (simp (
+      ap (leb 2) (sym (c .before .before .before .before .before .pre .1)) ∙ le-leb _ _ (c .before .before .if1 .left),
+      ap
+          (λ (x : ℕ). eqb (x % 2) 1) (sym (c .before .extension-of .ensures)) ∙ eq-eqb _ _ (c .if2 .left),
+    ))
 
 pub extension-fine-spec : {M : Type 1} → statement M
 extension-fine-spec = tie.close (tie.spec returns extension-of-requires returns-2 returns-3)

@@ -15,18 +15,22 @@ body-word-requires c κs = search needs
 
 returns : tie.Need-returns
 returns c =
-    let o = objectsAt (c .before .before .before .before .args .n) (c .before .before .before .before .args .b) (c .before .before .before .before .args .contents .now) (c .before .before .before .before .args .bodies .now) in
-    let e : _≡_ {A = ℕ} 2 (2 + (literalCount o (c .before .before .before .before .args .m) - 2)) = omega (arith, c .before .before .before .before .pre .1) in
-    c .body-word .ensures ∙ ap (bodyWord o (c .before .before .before .before .args .m / 2)) e
+    let at-start = c .before .before .before .before in
+    let args = at-start .args in
+    let o = objectsAt (args .n) (args .b) (args .contents .now) (args .bodies .now) in
+    let e : _≡_ {A = ℕ} 2 (2 + (literalCount o (args .m) - 2)) = omega (arith, at-start .pre .1) in
+    c .body-word .ensures ∙ ap (bodyWord o (args .m / 2)) e
 
 body-word-requires-2 : tie.Need-body-word-requires-2
 body-word-requires-2 c κs = search needs
 
 returns-2 : tie.Need-returns-2
 returns-2 c =
-    let o = objectsAt (c .before .before .before .before .args .n) (c .before .before .before .before .args .b) (c .before .before .before .before .args .contents .now) (c .before .before .before .before .args .bodies .now) in
-    let e : c .before .before .before .before .args .literals ≡ 2 + (literalCount o (c .before .before .before .before .args .m) - 2) = omega (arith, c .before .before .before .before .pre .1) in
-    c .body-word2 .ensures ∙ ap (bodyWord o (c .before .before .before .before .args .m / 2)) e
+    let at-start = c .before .before .before .before in
+    let args = at-start .args in
+    let o = objectsAt (args .n) (args .b) (args .contents .now) (args .bodies .now) in
+    let e : args .literals ≡ 2 + (literalCount o (args .m) - 2) = omega (arith, at-start .pre .1) in
+    c .body-word2 .ensures ∙ ap (bodyWord o (args .m / 2)) e
 
 pub extension-of-spec : {M : Type 1} → statement M
 extension-of-spec = tie.close (tie.spec body-word-requires returns body-word-requires-2 returns-2)

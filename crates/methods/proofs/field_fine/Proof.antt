@@ -16,7 +16,10 @@ body-word-requires : tie.Need-body-word-requires
 body-word-requires c κs = (home-named _ _ _ _ _ _ _ (c .before .before .before .pre), omega arith)
 
 returns-2 : tie.Need-returns-2
-returns-2 c = field-flag _ (c .before .before .before .before .args .m) (c .before .before .before .before .args .h) (c .before .before .before .before .pre .header) (c .before .before .before .before .args .home) (c .body-word .result) (c .before .if1 .left) (c .body-word .ensures) (c .before .before .before .before .pre .home)
+returns-2 c =
+    let at-start = c .before .before .before .before in
+    let args = at-start .args in
+    field-flag _ (args .m) (args .h) (at-start .pre .header) (args .home) (c .body-word .result) (c .before .if1 .left) (c .body-word .ensures) (at-start .pre .home)
 
 pub field-fine-spec : {M : Type 1} → statement M
 field-fine-spec = tie.close (tie.spec returns body-word-requires returns-2)

@@ -32,8 +32,11 @@ argument-count-requires c κs = search needs
 returns-3 : tie.Need-returns-3
 unfolding flagRules
 returns-3 c =
-    ap₂ (λ (x y : ℕ). leb x (y / 256 % 32)) (c .argument-count .ensures .0) (c .before .before .before .before .before .before .before .pre .header)
-    ∙ sym (simp (sym (c .before .before .before .before .field-fine .ensures) ∙ not-false _ (c .before .before .before .if1 .left), sym (c .before .before .primitive-fine .ensures) ∙ not-false _ (c .before .if2 .left)))
+    let at-if1 = c .before .before .before in
+    let at-field-fine = at-if1 .before in
+    let at-start = at-field-fine .before .before .before in
+    ap₂ (λ (x y : ℕ). leb x (y / 256 % 32)) (c .argument-count .ensures .0) (at-start .pre .header)
+    ∙ sym (simp (sym (at-field-fine .field-fine .ensures) ∙ not-false _ (at-if1 .if1 .left), sym (c .before .before .primitive-fine .ensures) ∙ not-false _ (c .before .if2 .left)))
 
 pub flag-fine-spec : {M : Type 1} → statement M
 flag-fine-spec =

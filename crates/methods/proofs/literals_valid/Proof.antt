@@ -21,7 +21,10 @@ abbrev μ-loop : tie.MeasureT-loop
 μ-loop contents bodies n b m literals i₀ i = literals - i
 
 loop-holds : tie.Need-loop-holds Inv-loop μ-loop
-loop-holds c = (omega arith, before-none (λ j. isValid (c .before .before .args .n) (literal (objectsAt (c .before .before .args .n) (c .before .before .args .b) (c .before .before .args .contents .now) (c .before .before .args .bodies .now)) (c .before .before .args .m) j)))
+loop-holds c =
+    let at-start = c .before .before in
+    let args = at-start .args in
+    (omega arith, before-none (λ j. isValid (args .n) (literal (objectsAt (args .n) (args .b) (args .contents .now) (args .bodies .now)) (args .m) j)))
 
 add-body-word : tie.Need-add-body-word Inv-loop μ-loop
 add-body-word c = search needs
@@ -33,7 +36,13 @@ is-valid-requires : tie.Need-is-valid-requires Inv-loop μ-loop
 is-valid-requires c κs = search needs
 
 returns : tie.Need-returns Inv-loop μ-loop
-returns c = sym (below-no (c .before .before .before .before .before .before .before .args .literals) (λ j. isValid (c .before .before .before .before .before .before .before .args .n) (literal (objectsAt (c .before .before .before .before .before .before .before .args .n) (c .before .before .before .before .before .before .before .args .b) (c .before .before .before .before .before .before .before .args .contents .now) (c .before .before .before .before .before .before .before .args .bodies .now)) (c .before .before .before .before .before .before .before .args .m) j)) (c .before .before .before .before .loop .i) (c .before .before .before .loop-test .taken) (ap (isValid (c .before .before .before .before .before .before .before .args .n)) (sym (c .before .before .body-word .ensures)) ∙ sym (c .before .is-valid .ensures) ∙ not-true _ (c .if1 .taken)))
+returns c =
+    let at-loop = c .before .before .before .before in
+    let at-start = at-loop .before .before .before in
+    let args = at-start .args in
+    sym (below-no (args .literals) (λ j. isValid (args .n) (literal (objectsAt (args .n) (args .b) (args .contents .now) (args .bodies .now)) (args .m) j))
+    (at-loop .loop .i) (c .before .before .before .loop-test .taken) (ap (isValid (args .n)) (sym (c .before .before .body-word .ensures))
+    ∙ sym (c .before .is-valid .ensures) ∙ not-true _ (c .if1 .taken)))
 
 add-i : tie.Need-add-i Inv-loop μ-loop
 add-i c = search needs
@@ -42,10 +51,22 @@ loop-less : tie.Need-loop-less Inv-loop μ-loop
 loop-less c = omega arith
 
 loop-again : tie.Need-loop-again Inv-loop μ-loop
-loop-again c = (omega arith, before-more (λ j. isValid (c .before .before .before .before .before .before .before .args .n) (literal (objectsAt (c .before .before .before .before .before .before .before .args .n) (c .before .before .before .before .before .before .before .args .b) (c .before .before .before .before .before .before .before .args .contents .now) (c .before .before .before .before .before .before .before .args .bodies .now)) (c .before .before .before .before .before .before .before .args .m) j)) (c .before .before .before .before .loop .i) (c .before .before .before .before .loop .inv .1) (ap (isValid (c .before .before .before .before .before .before .before .args .n)) (sym (c .before .before .body-word .ensures)) ∙ sym (c .before .is-valid .ensures) ∙ not-false _ (c .if1 .left)))
+loop-again c =
+    let at-loop = c .before .before .before .before in
+    let at-start = at-loop .before .before .before in
+    let args = at-start .args in (
+      omega arith,
+      before-more (λ j. isValid (args .n) (literal (objectsAt (args .n) (args .b) (args .contents .now) (args .bodies .now)) (args .m) j))
+          (at-loop .loop .i) (at-loop .loop .inv .1) (ap (isValid (args .n)) (sym (c .before .before .body-word .ensures)) ∙ sym (c .before .is-valid .ensures)
+          ∙ not-false _ (c .if1 .left)),
+    )
 
 returns-2 : tie.Need-returns-2 Inv-loop μ-loop
-returns-2 c = sym (below-all (c .before .before .before .before .args .literals) (c .before .loop .i) (λ j. isValid (c .before .before .before .before .args .n) (literal (objectsAt (c .before .before .before .before .args .n) (c .before .before .before .before .args .b) (c .before .before .before .before .args .contents .now) (c .before .before .before .before .args .bodies .now)) (c .before .before .before .before .args .m) j)) (c .loop-test .left) (c .before .loop .inv .1))
+returns-2 c =
+    let at-start = c .before .before .before .before in
+    let args = at-start .args in
+    sym (below-all (args .literals) (c .before .loop .i)
+    (λ j. isValid (args .n) (literal (objectsAt (args .n) (args .b) (args .contents .now) (args .bodies .now)) (args .m) j)) (c .loop-test .left) (c .before .loop .inv .1))
 
 pub literals-valid-spec : {M : Type 1} → statement M
 literals-valid-spec =

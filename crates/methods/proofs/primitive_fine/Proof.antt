@@ -18,7 +18,9 @@ extension-fine-requires : tie.Need-extension-fine-requires
 extension-fine-requires c κs = (c .before .before .before .pre .method, ap (λ (x : ℕ). x / 2 % 64) (c .before .before .before .pre .header))
 
 returns-2 : tie.Need-returns-2
-returns-2 c = primitive-flag _ (c .before .before .before .before .args .m) (c .before .before .before .before .args .h) (c .before .before .before .before .pre .header) (c .extension-fine .result) (c .before .if1 .left) (c .extension-fine .ensures)
+returns-2 c =
+    let at-start = c .before .before .before .before in
+    primitive-flag _ (at-start .args .m) (at-start .args .h) (at-start .pre .header) (c .extension-fine .result) (c .before .if1 .left) (c .extension-fine .ensures)
 
 pub primitive-fine-spec : {M : Type 1} → statement M
 primitive-fine-spec =

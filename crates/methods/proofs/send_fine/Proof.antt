@@ -14,16 +14,28 @@ is-nil-or-requires : tie.Need-is-nil-or-requires
 is-nil-or-requires c κs = search needs
 
 returns : tie.Need-returns
-returns c = no-selector (c .before .before .before .before .before .args .n) (c .before .before .before .before .before .args .b) (c .before .before .before .before .before .args .contents .now) (c .before .before .before .before .before .args .bodies .now) (c .before .before .before .before .before .args .counts .now) (c .before .before .before .before .before .pre) (c .before .before .before .before .before .args .selector) (c .before .before .before .before .before .args .arguments) (sym (c .before .is-nil-or .ensures (c .before .before .before .before .before .args .b) (c .before .before .before .before .before .args .bodies .now)) ∙ not-true _ (c .if1 .taken))
+returns c =
+    let at-start = c .before .before .before .before .before in
+    let args = at-start .args in
+    no-selector (args .n) (args .b) (args .contents .now) (args .bodies .now) (args .counts .now) (at-start .pre) (args .selector) (args .arguments)
+    (sym (c .before .is-nil-or .ensures (args .b) (args .bodies .now)) ∙ not-true _ (c .if1 .taken))
 
 cast-j : tie.Need-cast-j
 cast-j c = search needs
 
 shared-slice-read-note : tie.Need-shared-slice-read-note
-shared-slice-read-note c = selector-inside (c .before .before .before .before .before .before .args .n) (c .before .before .before .before .before .before .args .b) (c .before .before .before .before .before .before .args .contents .now) (c .before .before .before .before .before .before .args .bodies .now) (c .before .before .before .before .before .before .args .counts .now) (c .before .before .before .before .before .before .pre) (c .before .before .before .before .before .before .args .selector) (sym (c .before .before .is-nil-or .ensures (c .before .before .before .before .before .before .args .b) (c .before .before .before .before .before .before .args .bodies .now)) ∙ not-false _ (c .before .if1 .left))
+shared-slice-read-note c =
+    let at-start = c .before .before .before .before .before .before in
+    let args = at-start .args in
+    selector-inside (args .n) (args .b) (args .contents .now) (args .bodies .now) (args .counts .now) (at-start .pre) (args .selector)
+    (sym (c .before .before .is-nil-or .ensures (args .b) (args .bodies .now)) ∙ not-false _ (c .before .if1 .left))
 
 returns-2 : tie.Need-returns-2
-returns-2 c = none-under (c .before .before .before .before .before .before .before .args .n) (c .before .before .before .before .before .before .before .args .b) (c .before .before .before .before .before .before .before .args .contents .now) (c .before .before .before .before .before .before .before .args .bodies .now) (c .before .before .before .before .before .before .before .args .counts .now) (c .before .before .before .before .before .before .before .pre) (c .before .before .before .before .before .before .before .args .selector) (c .before .before .before .before .before .before .before .args .arguments) (sym (c .before .before .before .is-nil-or .ensures (c .before .before .before .before .before .before .before .args .b) (c .before .before .before .before .before .before .before .args .bodies .now)) ∙ not-false _ (c .before .before .if1 .left)) (c .if2 .taken)
+returns-2 c =
+    let at-start = c .before .before .before .before .before .before .before in
+    let args = at-start .args in
+    none-under (args .n) (args .b) (args .contents .now) (args .bodies .now) (args .counts .now) (at-start .pre) (args .selector) (args .arguments)
+    (sym (c .before .before .before .is-nil-or .ensures (args .b) (args .bodies .now)) ∙ not-false _ (c .before .before .if1 .left)) (c .if2 .taken)
 
 cast-result : tie.Need-cast-result
 cast-result c = omega (arith, c .before .shared-slice-known4 .given (c .before .before .before .before .before .before .before .args .selector / 2))
@@ -32,7 +44,11 @@ add-result : tie.Need-add-result
 add-result c = search needs
 
 returns-3 : tie.Need-returns-3
-returns-3 c = count-under (c .before .before .before .before .before .before .before .args .n) (c .before .before .before .before .before .before .before .args .b) (c .before .before .before .before .before .before .before .args .contents .now) (c .before .before .before .before .before .before .before .args .bodies .now) (c .before .before .before .before .before .before .before .args .counts .now) (c .before .before .before .before .before .before .before .pre) (c .before .before .before .before .before .before .before .args .selector) (c .before .before .before .before .before .before .before .args .arguments) (sym (c .before .before .before .is-nil-or .ensures (c .before .before .before .before .before .before .before .args .b) (c .before .before .before .before .before .before .before .args .bodies .now)) ∙ not-false _ (c .before .before .if1 .left)) (c .if2 .left)
+returns-3 c =
+    let at-start = c .before .before .before .before .before .before .before in
+    let args = at-start .args in
+    count-under (args .n) (args .b) (args .contents .now) (args .bodies .now) (args .counts .now) (at-start .pre) (args .selector) (args .arguments)
+    (sym (c .before .before .before .is-nil-or .ensures (args .b) (args .bodies .now)) ∙ not-false _ (c .before .before .if1 .left)) (c .if2 .left)
 
 pub send-fine-spec : {M : Type 1} → statement M
 send-fine-spec =

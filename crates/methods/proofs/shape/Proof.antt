@@ -29,13 +29,24 @@ cast-size-2 : tie.Need-cast-size-2
 cast-size-2 c = search needs
 
 returns : tie.Need-returns
-returns c = sym (shape-is (objectsAt (c .before .before .before .before .args .n) (c .before .before .before .before .args .b) (c .before .before .before .before .args .contents .now) (c .before .before .before .before .args .bodies .now)) (c .before .before .before .before .args .m) (header (objectsAt (c .before .before .before .before .args .n) (c .before .before .before .before .args .b) (c .before .before .before .before .args .contents .now) (c .before .before .before .before .args .bodies .now)) (c .before .before .before .before .args .m)) refl (c .before .size .result) (home (objectsAt (c .before .before .before .before .args .n) (c .before .before .before .before .args .b) (c .before .before .before .before .args .contents .now) (c .before .before .before .before .args .bodies .now)) (c .before .before .before .before .args .m)) (c .before .size .ensures) refl ∙ simp (lt-leb _ _ (c .if1 .taken)))
+returns c =
+    let at-start = c .before .before .before .before in
+    let args = at-start .args in
+    sym (shape-is (objectsAt (args .n) (args .b) (args .contents .now) (args .bodies .now)) (args .m)
+    (header (objectsAt (args .n) (args .b) (args .contents .now) (args .bodies .now)) (args .m)) refl (c .before .size .result)
+    (home (objectsAt (args .n) (args .b) (args .contents .now) (args .bodies .now)) (args .m)) (c .before .size .ensures) refl ∙ simp (lt-leb _ _ (c .if1 .taken)))
 
 header-of-requires : tie.Need-header-of-requires
 header-of-requires c κs = search needs
 
 returns-2 : tie.Need-returns-2
-returns-2 c = sym (shape-is (objectsAt (c .before .before .before .before .before .before .args .n) (c .before .before .before .before .before .before .args .b) (c .before .before .before .before .before .before .args .contents .now) (c .before .before .before .before .before .before .args .bodies .now)) (c .before .before .before .before .before .before .args .m) (c .before .header-of .result) (c .before .header-of .ensures) (c .before .before .before .size .result) (home (objectsAt (c .before .before .before .before .before .before .args .n) (c .before .before .before .before .before .before .args .b) (c .before .before .before .before .before .before .args .contents .now) (c .before .before .before .before .before .before .args .bodies .now)) (c .before .before .before .before .before .before .args .m)) (c .before .before .before .size .ensures) refl ∙ simp (le-leb _ _ (c .before .before .if1 .left), ne-eqb _ _ (c .if2 .taken)))
+returns-2 c =
+    let at-size = c .before .before .before in
+    let at-start = at-size .before .before .before in
+    let args = at-start .args in
+    sym (shape-is (objectsAt (args .n) (args .b) (args .contents .now) (args .bodies .now)) (args .m) (c .before .header-of .result)
+    (c .before .header-of .ensures) (at-size .size .result) (home (objectsAt (args .n) (args .b) (args .contents .now) (args .bodies .now)) (args .m))
+    (at-size .size .ensures) refl ∙ simp (le-leb _ _ (c .before .before .if1 .left), ne-eqb _ _ (c .if2 .taken)))
 
 cast-literals : tie.Need-cast-literals
 cast-literals c = search needs
@@ -47,7 +58,14 @@ add-if3 : tie.Need-add-if3
 add-if3 c = search needs
 
 returns-3 : tie.Need-returns-3
-returns-3 c = sym (shape-is (objectsAt (c .before .before .before .before .before .before .before .args .n) (c .before .before .before .before .before .before .before .args .b) (c .before .before .before .before .before .before .before .args .contents .now) (c .before .before .before .before .before .before .before .args .bodies .now)) (c .before .before .before .before .before .before .before .args .m) (c .before .before .header-of .result) (c .before .before .header-of .ensures) (c .before .before .before .before .size .result) (home (objectsAt (c .before .before .before .before .before .before .before .args .n) (c .before .before .before .before .before .before .before .args .b) (c .before .before .before .before .before .before .before .args .contents .now) (c .before .before .before .before .before .before .before .args .bodies .now)) (c .before .before .before .before .before .before .before .args .m)) (c .before .before .before .before .size .ensures) refl ∙ simp (le-leb _ _ (c .before .before .before .if1 .left), eq-eqb _ _ (c .before .if2 .left), lt-leb _ _ (c .if3 .taken)))
+returns-3 c =
+    let at-header-of = c .before .before in
+    let at-size = at-header-of .before .before in
+    let at-start = at-size .before .before .before in
+    let args = at-start .args in
+    sym (shape-is (objectsAt (args .n) (args .b) (args .contents .now) (args .bodies .now)) (args .m) (at-header-of .header-of .result)
+    (at-header-of .header-of .ensures) (at-size .size .result) (home (objectsAt (args .n) (args .b) (args .contents .now) (args .bodies .now)) (args .m))
+    (at-size .size .ensures) refl ∙ simp (le-leb _ _ (at-header-of .before .if1 .left), eq-eqb _ _ (c .before .if2 .left), lt-leb _ _ (c .if3 .taken)))
 
 body-word-requires : tie.Need-body-word-requires
 body-word-requires c κs = search needs
@@ -56,19 +74,77 @@ is-kind-requires : tie.Need-is-kind-requires
 is-kind-requires c κs = search needs
 
 returns-4 : tie.Need-returns-4
-returns-4 c = sym (shape-is (objectsAt (c .before .before .before .before .before .before .before .before .before .before .args .n) (c .before .before .before .before .before .before .before .before .before .before .args .b) (c .before .before .before .before .before .before .before .before .before .before .args .contents .now) (c .before .before .before .before .before .before .before .before .before .before .args .bodies .now)) (c .before .before .before .before .before .before .before .before .before .before .args .m) (c .before .before .before .before .before .header-of .result) (c .before .before .before .before .before .header-of .ensures) (c .before .before .before .before .before .before .before .size .result) (c .before .before .body-word .result) (c .before .before .before .before .before .before .before .size .ensures) (c .before .before .body-word .ensures) ∙ simp (le-leb _ _ (c .before .before .before .before .before .before .if1 .left), eq-eqb _ _ (c .before .before .before .before .if2 .left), le-leb _ _ (c .before .before .before .if3 .left), sym (c .before .is-kind .ensures (c .before .before .before .before .before .before .before .before .before .before .args .b) (c .before .before .before .before .before .before .before .before .before .before .args .bodies .now)) ∙ not-true _ (c .if4 .taken)))
+returns-4 c =
+    let at-body-word = c .before .before in
+    let at-if2 = at-body-word .before .before in
+    let at-header-of = at-if2 .before in
+    let at-if1 = at-header-of .before in
+    let at-size = at-if1 .before in
+    let at-start = at-size .before .before .before in
+    let args = at-start .args in
+    sym (shape-is (objectsAt (args .n) (args .b) (args .contents .now) (args .bodies .now)) (args .m) (at-header-of .header-of .result)
+    (at-header-of .header-of .ensures) (at-size .size .result) (at-body-word .body-word .result) (at-size .size .ensures) (at-body-word .body-word .ensures)
+    ∙ simp (
+      le-leb _ _ (at-if1 .if1 .left),
+      eq-eqb _ _ (at-if2 .if2 .left),
+      le-leb _ _ (at-body-word .before .if3 .left),
+      sym
+          (c .before .is-kind .ensures (args .b) (args .bodies .now)) ∙ not-true _ (c .if4 .taken),
+    ))
 
 literals-valid-requires : tie.Need-literals-valid-requires
 literals-valid-requires c κs = search needs
 
 returns-5 : tie.Need-returns-5
-returns-5 c = sym (shape-is (objectsAt (c .before .before .before .before .before .before .before .before .before .before .before .before .args .n) (c .before .before .before .before .before .before .before .before .before .before .before .before .args .b) (c .before .before .before .before .before .before .before .before .before .before .before .before .args .contents .now) (c .before .before .before .before .before .before .before .before .before .before .before .before .args .bodies .now)) (c .before .before .before .before .before .before .before .before .before .before .before .before .args .m) (c .before .before .before .before .before .before .before .header-of .result) (c .before .before .before .before .before .before .before .header-of .ensures) (c .before .before .before .before .before .before .before .before .before .size .result) (c .before .before .before .before .body-word .result) (c .before .before .before .before .before .before .before .before .before .size .ensures) (c .before .before .before .before .body-word .ensures) ∙ simp (le-leb _ _ (c .before .before .before .before .before .before .before .before .if1 .left), eq-eqb _ _ (c .before .before .before .before .before .before .if2 .left), le-leb _ _ (c .before .before .before .before .before .if3 .left), sym (c .before .before .before .is-kind .ensures (c .before .before .before .before .before .before .before .before .before .before .before .before .args .b) (c .before .before .before .before .before .before .before .before .before .before .before .before .args .bodies .now)) ∙ not-false _ (c .before .before .if4 .left), sym (c .before .literals-valid .ensures) ∙ not-true _ (c .if5 .taken)))
+returns-5 c =
+    let at-body-word = c .before .before .before .before in
+    let at-if3 = at-body-word .before in
+    let at-if2 = at-if3 .before in
+    let at-header-of = at-if2 .before in
+    let at-if1 = at-header-of .before in
+    let at-size = at-if1 .before in
+    let at-start = at-size .before .before .before in
+    let args = at-start .args in
+    sym (shape-is (objectsAt (args .n) (args .b) (args .contents .now) (args .bodies .now)) (args .m) (at-header-of .header-of .result)
+    (at-header-of .header-of .ensures) (at-size .size .result) (at-body-word .body-word .result) (at-size .size .ensures) (at-body-word .body-word .ensures)
+    ∙ simp (
+      le-leb _ _ (at-if1 .if1 .left),
+      eq-eqb _ _ (at-if2 .if2 .left),
+      le-leb _ _ (at-if3 .if3 .left),
+      sym (c .before .before .before .is-kind .ensures
+          (args .b) (args .bodies .now)) ∙ not-false _ (c .before .before .if4 .left),
+      sym (c .before .literals-valid .ensures) ∙ not-true _ (c .if5 .taken),
+    ))
 
 flag-fine-requires : tie.Need-flag-fine-requires
-flag-fine-requires c κs = record { method = c .before .before .before .before .before .before .before .before .before .before .before .before .pre; header = c .before .before .before .before .before .before .before .header-of .ensures; home = c .before .before .before .before .body-word .ensures; isClass = true→T (sym (c .before .before .before .is-kind .ensures (c .before .before .before .before .before .before .before .before .before .before .before .before .args .b) (c .before .before .before .before .before .before .before .before .before .before .before .before .args .bodies .now)) ∙ not-false _ (c .before .before .if4 .left)) }
+flag-fine-requires c κs =
+    let at-body-word = c .before .before .before .before in
+    let at-header-of = at-body-word .before .before .before in
+    let at-start = at-header-of .before .before .before .before .before in
+    record {
+      method = at-start .pre;
+      header = at-header-of .header-of .ensures;
+      home = at-body-word .body-word .ensures;
+      isClass = true→T
+          (sym (c .before .before .before .is-kind .ensures (at-start .args .b) (at-start .args .bodies .now)) ∙ not-false _ (c .before .before .if4 .left));
+    }
 
 returns-6 : tie.Need-returns-6
-returns-6 c = c .flag-fine .ensures ∙ sym (shape-is (objectsAt (c .before .before .before .before .before .before .before .before .before .before .before .before .before .args .n) (c .before .before .before .before .before .before .before .before .before .before .before .before .before .args .b) (c .before .before .before .before .before .before .before .before .before .before .before .before .before .args .contents .now) (c .before .before .before .before .before .before .before .before .before .before .before .before .before .args .bodies .now)) (c .before .before .before .before .before .before .before .before .before .before .before .before .before .args .m) (c .before .before .before .before .before .before .before .before .header-of .result) (c .before .before .before .before .before .before .before .before .header-of .ensures) (c .before .before .before .before .before .before .before .before .before .before .size .result) (c .before .before .before .before .before .body-word .result) (c .before .before .before .before .before .before .before .before .before .before .size .ensures) (c .before .before .before .before .before .body-word .ensures) ∙ passed-five _ _ _ _ _ _ (le-leb _ _ (c .before .before .before .before .before .before .before .before .before .if1 .left)) (eq-eqb _ _ (c .before .before .before .before .before .before .before .if2 .left)) (le-leb _ _ (c .before .before .before .before .before .before .if3 .left)) (sym (c .before .before .before .before .is-kind .ensures (c .before .before .before .before .before .before .before .before .before .before .before .before .before .args .b) (c .before .before .before .before .before .before .before .before .before .before .before .before .before .args .bodies .now)) ∙ not-false _ (c .before .before .before .if4 .left)) (sym (c .before .before .literals-valid .ensures) ∙ not-false _ (c .before .if5 .left)))
+returns-6 c =
+    let at-is-kind = c .before .before .before .before in
+    let at-body-word = at-is-kind .before in
+    let at-if3 = at-body-word .before in
+    let at-if2 = at-if3 .before in
+    let at-header-of = at-if2 .before in
+    let at-if1 = at-header-of .before in
+    let at-size = at-if1 .before in
+    let at-start = at-size .before .before .before in
+    let args = at-start .args in
+    c .flag-fine .ensures ∙ sym (shape-is (objectsAt (args .n) (args .b) (args .contents .now) (args .bodies .now)) (args .m) (at-header-of .header-of .result)
+    (at-header-of .header-of .ensures) (at-size .size .result) (at-body-word .body-word .result) (at-size .size .ensures) (at-body-word .body-word .ensures)
+    ∙ passed-five _ _ _ _ _ _ (le-leb _ _ (at-if1 .if1 .left)) (eq-eqb _ _ (at-if2 .if2 .left)) (le-leb _ _ (at-if3 .if3 .left))
+    (sym (at-is-kind .is-kind .ensures (args .b) (args .bodies .now)) ∙ not-false _ (c .before .before .before .if4 .left))
+    (sym (c .before .before .literals-valid .ensures) ∙ not-false _ (c .before .if5 .left)))
 
 pub shape-spec : {M : Type 1} → statement M
 shape-spec =

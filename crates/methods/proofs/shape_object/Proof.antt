@@ -23,7 +23,9 @@ cast-shape : tie.Need-cast-shape
 cast-shape c = omega (arith, c .before .before .before .before .pre .2, c .before .before .before .before .pre .0 .most)
 
 shape-requires : tie.Need-shape-requires
-shape-requires c κs = record { lent = c .before .before .before .before .pre .0; least = omega (arith, c .before .before .before .before .pre .1); most = omega (arith, c .before .before .before .before .pre .2) }
+shape-requires c κs =
+    let at-start = c .before .before .before .before in
+    record { lent = at-start .pre .0; least = omega (arith, at-start .pre .1); most = omega (arith, at-start .pre .2) }
 
 returns-2 : tie.Need-returns-2
 returns-2 c = method-here _ (c .before .before .before .before .before .args .k) (c .shape .result) (sym (c .before .before .kind .ensures) ∙ c .before .if1 .left) (c .shape .ensures)

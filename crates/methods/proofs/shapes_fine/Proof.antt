@@ -19,14 +19,24 @@ abbrev μ-loop : tie.MeasureT-loop
 μ-loop contents bodies n b k₀ k = n + 1 - k
 
 loop-holds : tie.Need-loop-holds Inv-loop μ-loop
-loop-holds c = (omega arith, omega (arith, c .before .before .pre .least), up-none (shapeFine (objectsAt (c .before .before .args .n) (c .before .before .args .b) (c .before .before .args .contents .now) (c .before .before .args .bodies .now))))
+loop-holds c = (
+  omega arith,
+  omega (arith, c .before .before .pre .least),
+  up-none
+      (shapeFine (objectsAt (c .before .before .args .n) (c .before .before .args .b) (c .before .before .args .contents .now) (c .before .before .args .bodies .now))),
+)
 
 shape-object-requires : tie.Need-shape-object-requires Inv-loop μ-loop
 shape-object-requires c κs = (c .before .before .before .before .pre, c .before .loop .inv .0, c .loop-test .taken)
 
 returns : tie.Need-returns Inv-loop μ-loop
 unfolding shapes
-returns c = sym (up-no (c .before .before .before .before .before .before .args .n) (shapeFine (objectsAt (c .before .before .before .before .before .before .args .n) (c .before .before .before .before .before .before .args .b) (c .before .before .before .before .before .before .args .contents .now) (c .before .before .before .before .before .before .args .bodies .now))) (c .before .before .before .loop .k) (c .before .before .before .loop .inv .0) (c .before .before .loop-test .taken) (sym (c .before .shape-object .ensures) ∙ not-true _ (c .if1 .taken)))
+returns c =
+    let at-loop = c .before .before .before in
+    let at-start = at-loop .before .before .before in
+    let args = at-start .args in
+    sym (up-no (args .n) (shapeFine (objectsAt (args .n) (args .b) (args .contents .now) (args .bodies .now))) (at-loop .loop .k) (at-loop .loop .inv .0)
+    (c .before .before .loop-test .taken) (sym (c .before .shape-object .ensures) ∙ not-true _ (c .if1 .taken)))
 
 add-k : tie.Need-add-k Inv-loop μ-loop
 add-k c = omega (arith, c .before .before .before .before .before .before .pre .most)
@@ -35,11 +45,22 @@ loop-less : tie.Need-loop-less Inv-loop μ-loop
 loop-less c = omega arith
 
 loop-again : tie.Need-loop-again Inv-loop μ-loop
-loop-again c = (omega arith, omega arith, up-more (shapeFine (objectsAt (c .before .before .before .before .before .before .args .n) (c .before .before .before .before .before .before .args .b) (c .before .before .before .before .before .before .args .contents .now) (c .before .before .before .before .before .before .args .bodies .now))) (c .before .before .before .loop .k) (c .before .before .before .loop .inv .2) (sym (c .before .shape-object .ensures) ∙ not-false _ (c .if1 .left)))
+loop-again c =
+    let at-loop = c .before .before .before in
+    let at-start = at-loop .before .before .before in
+    let args = at-start .args in (
+      omega arith,
+      omega arith,
+      up-more (shapeFine (objectsAt (args .n) (args .b) (args .contents .now) (args .bodies .now))) (at-loop .loop .k)
+          (at-loop .loop .inv .2) (sym (c .before .shape-object .ensures) ∙ not-false _ (c .if1 .left)),
+    )
 
 returns-2 : tie.Need-returns-2 Inv-loop μ-loop
 unfolding shapes
-returns-2 c = sym (up-all (c .before .before .before .before .args .n) (c .before .loop .k) (shapeFine (objectsAt (c .before .before .before .before .args .n) (c .before .before .before .before .args .b) (c .before .before .before .before .args .contents .now) (c .before .before .before .before .args .bodies .now))) (omega arith) (c .before .loop .inv .2))
+returns-2 c =
+    let at-start = c .before .before .before .before in
+    let args = at-start .args in
+    sym (up-all (args .n) (c .before .loop .k) (shapeFine (objectsAt (args .n) (args .b) (args .contents .now) (args .bodies .now))) (omega arith) (c .before .loop .inv .2))
 
 pub shapes-fine-spec : {M : Type 1} → statement M
 shapes-fine-spec =

@@ -20,7 +20,8 @@ extension-requires : tie.Need-extension-requires
 extension-requires c κs = (c .before .before .before .before .before .before .pre, sym (c .before .before .flag .ensures ∙ ap flagOf (c .before .before .before .header .ensures)) ∙ c .if2 .taken)
 
 returns-2 : tie.Need-returns-2
-returns-2 c = count-by-extension _ _ _ _ (c .before .before .before .flag .ensures ∙ ap flagOf (c .before .before .before .before .header .ensures)) (c .before .before .if1 .left) (c .before .if2 .taken) (c .extension .ensures)
+returns-2 c = count-by-extension _ _ _ _ (c .before .before .before .flag .ensures ∙ ap flagOf (c .before .before .before .before .header .ensures))
+    (c .before .before .if1 .left) (c .before .if2 .taken) (c .extension .ensures)
 
 returns-3 : tie.Need-returns-3
 returns-3 c = count-none _ _ _ (c .before .before .flag .ensures ∙ ap flagOf (c .before .before .before .header .ensures)) (c .before .if1 .left) (c .if2 .left)

@@ -22,28 +22,52 @@ size-of-requires : tie.Need-size-of-requires
 size-of-requires c κs = holds-listed (c .before .before .before .before .before .pre)
 
 add-t9 : tie.Need-add-t9
-add-t9 c = let f = code-fits (c .before .before .before .before .before .before .pre) _ _ _ (c .before .before .literal-count .ensures ∙ ap literalsOf (c .before .before .before .header .ensures)) (c .before .start-of .ensures) (c .size-of .ensures) in omega arith
+add-t9 c =
+    let at-header = c .before .before .before in
+    let at-start = at-header .before .before .before in
+    let f = code-fits (at-start .pre) _ _ _ (c .before .before .literal-count .ensures ∙ ap literalsOf (at-header .header .ensures)) (c .before .start-of .ensures) (c .size-of .ensures) in omega arith
 
 add-t10 : tie.Need-add-t10
-add-t10 c = let f = code-fits (c .before .before .before .before .before .before .pre) _ _ _ (c .before .before .literal-count .ensures ∙ ap literalsOf (c .before .before .before .header .ensures)) (c .before .start-of .ensures) (c .size-of .ensures) in omega arith
+add-t10 c =
+    let at-header = c .before .before .before in
+    let at-start = at-header .before .before .before in
+    let f = code-fits (at-start .pre) _ _ _ (c .before .before .literal-count .ensures ∙ ap literalsOf (at-header .header .ensures)) (c .before .start-of .ensures) (c .size-of .ensures) in omega arith
 
 add-t11 : tie.Need-add-t11
-add-t11 c = let f = code-fits (c .before .before .before .before .before .before .pre) _ _ _ (c .before .before .literal-count .ensures ∙ ap literalsOf (c .before .before .before .header .ensures)) (c .before .start-of .ensures) (c .size-of .ensures) in omega arith
+add-t11 c =
+    let at-header = c .before .before .before in
+    let at-start = at-header .before .before .before in
+    let f = code-fits (at-start .pre) _ _ _ (c .before .before .literal-count .ensures ∙ ap literalsOf (at-header .header .ensures)) (c .before .start-of .ensures) (c .size-of .ensures) in omega arith
 
 add-t13 : tie.Need-add-t13
-add-t13 c = let f = code-fits (c .before .before .before .before .before .before .pre) _ _ _ (c .before .before .literal-count .ensures ∙ ap literalsOf (c .before .before .before .header .ensures)) (c .before .start-of .ensures) (c .size-of .ensures) in omega arith
+add-t13 c =
+    let at-header = c .before .before .before in
+    let at-start = at-header .before .before .before in
+    let f = code-fits (at-start .pre) _ _ _ (c .before .before .literal-count .ensures ∙ ap literalsOf (at-header .header .ensures)) (c .before .start-of .ensures) (c .size-of .ensures) in omega arith
 
 sub-t14 : tie.Need-sub-t14
-sub-t14 c = let f = code-fits (c .before .before .before .before .before .before .pre) _ _ _ (c .before .before .literal-count .ensures ∙ ap literalsOf (c .before .before .before .header .ensures)) (c .before .start-of .ensures) (c .size-of .ensures) in omega arith
+sub-t14 c =
+    let at-header = c .before .before .before in
+    let at-start = at-header .before .before .before in
+    let f = code-fits (at-start .pre) _ _ _ (c .before .before .literal-count .ensures ∙ ap literalsOf (at-header .header .ensures)) (c .before .start-of .ensures) (c .size-of .ensures) in omega arith
 
 mul-t15 : tie.Need-mul-t15
-mul-t15 c = let f = code-fits (c .before .before .before .before .before .before .pre) _ _ _ (c .before .before .literal-count .ensures ∙ ap literalsOf (c .before .before .before .header .ensures)) (c .before .start-of .ensures) (c .size-of .ensures) in omega arith
+mul-t15 c =
+    let at-header = c .before .before .before in
+    let at-start = at-header .before .before .before in
+    let f = code-fits (at-start .pre) _ _ _ (c .before .before .literal-count .ensures ∙ ap literalsOf (at-header .header .ensures)) (c .before .start-of .ensures) (c .size-of .ensures) in omega arith
 
 sub-t16 : tie.Need-sub-t16
-sub-t16 c = let f = code-fits (c .before .before .before .before .before .before .pre) _ _ _ (c .before .before .literal-count .ensures ∙ ap literalsOf (c .before .before .before .header .ensures)) (c .before .start-of .ensures) (c .size-of .ensures) in omega arith
+sub-t16 c =
+    let at-header = c .before .before .before in
+    let at-start = at-header .before .before .before in
+    let f = code-fits (at-start .pre) _ _ _ (c .before .before .literal-count .ensures ∙ ap literalsOf (at-header .header .ensures)) (c .before .start-of .ensures) (c .size-of .ensures) in omega arith
 
 returns : tie.Need-returns
-returns c = code-at (c .before .before .before .before .before .before .pre) _ _ _ (c .before .before .literal-count .ensures ∙ ap literalsOf (c .before .before .before .header .ensures)) (c .before .start-of .ensures) (c .size-of .ensures)
+returns c =
+    let at-header = c .before .before .before in
+    let at-start = at-header .before .before .before in
+    code-at (at-start .pre) _ _ _ (c .before .before .literal-count .ensures ∙ ap literalsOf (at-header .header .ensures)) (c .before .start-of .ensures) (c .size-of .ensures)
 
 pub code-of-spec : {M : Type 1} → statement M
 code-of-spec =

@@ -17,16 +17,23 @@ literal-count-requires : tie.Need-literal-count-requires
 literal-count-requires c κs = search needs
 
 sub-literal : tie.Need-sub-literal
-sub-literal c = let t = two-literals (c .before .before .before .before .pre .0) (c .before .before .before .before .pre .1) in let k = (c .literal-count .ensures ∙ ap literalsOf (c .before .header .ensures)) in omega arith
+sub-literal c = let t = two-literals (c .before .before .before .before .pre .0) (c .before .before .before .before .pre .1) in let k =
+    (c .literal-count .ensures ∙ ap literalsOf (c .before .header .ensures)) in omega arith
 
 literal-requires : tie.Need-literal-requires
-literal-requires c κs = let t = two-literals (c .before .before .before .before .pre .0) (c .before .before .before .before .pre .1) in let k = (c .literal-count .ensures ∙ ap literalsOf (c .before .header .ensures)) in (c .before .before .before .before .pre .0, omega arith)
+literal-requires c κs =
+    let at-start = c .before .before .before .before in
+    let t = two-literals (at-start .pre .0) (at-start .pre .1) in let k = (c .literal-count .ensures ∙ ap literalsOf (c .before .header .ensures)) in (at-start .pre .0, omega arith)
 
 cast-result : tie.Need-cast-result
 cast-result c = search needs
 
 returns : tie.Need-returns
-returns c = c .literal .ensures ∙ ap (λ (k : ℕ). literal (objectsAt (c .before .before .before .before .before .args .n) (c .before .before .before .before .before .args .b) (c .before .before .before .before .before .args .contents .now) (c .before .before .before .before .before .args .bodies .now)) (c .before .before .before .before .before .args .m .0) (k - 2)) (c .before .literal-count .ensures ∙ ap literalsOf (c .before .before .header .ensures))
+returns c =
+    let at-start = c .before .before .before .before .before in
+    let args = at-start .args in
+    c .literal .ensures ∙ ap (λ (k : ℕ). literal (objectsAt (args .n) (args .b) (args .contents .now) (args .bodies .now)) (args .m .0) (k - 2))
+    (c .before .literal-count .ensures ∙ ap literalsOf (c .before .before .header .ensures))
 
 pub extension-spec : {M : Type 1} → statement M
 extension-spec =

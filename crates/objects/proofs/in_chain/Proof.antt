@@ -10,7 +10,8 @@ use Rattle.objects.proofs.in_chain.Statement.{statement}
 use Rattle.objects.proofs.in_chain.Tie as tie
 
 abbrev Inv-loop : tie.InvT-loop
-Inv-loop contents bodies n b a c₀ left₀ c left = T (isNilOr (objectsAt n b contents bodies) classKind (c .0)) × (inChainWithin left (objectsAt n b contents bodies) (a .0) (c .0) ≡ inChain (objectsAt n b contents bodies) (a .0) (c₀ .0))
+Inv-loop contents bodies n b a c₀ left₀ c left = T (isNilOr (objectsAt n b contents bodies) classKind (c .0))
+    × (inChainWithin left (objectsAt n b contents bodies) (a .0) (c .0) ≡ inChain (objectsAt n b contents bodies) (a .0) (c₀ .0))
 
 abbrev μ-loop : tie.MeasureT-loop
 μ-loop contents bodies n b a c₀ left₀ c left = left
@@ -22,10 +23,18 @@ returns : tie.Need-returns Inv-loop μ-loop
 returns c = chain-nil (c .before .before .before .before .before .before .pre .0) _ _ _ (c .if1 .taken) ∙ c .before .before .before .loop .inv .1
 
 returns-2 : tie.Need-returns-2 Inv-loop μ-loop
-returns-2 c = chain-here (c .before .before .before .before .before .before .before .before .before .pre .0) _ _ _ (c .before .before .before .before .before .loop-test .taken) (class-here (c .before .before .before .before .before .before .before .before .before .pre .0) _ (c .before .before .before .before .before .before .loop .inv .0) (c .before .before .before .if1 .left)) (c .if2 .taken) ∙ c .before .before .before .before .before .before .loop .inv .1
+returns-2 c =
+    let at-loop-test = c .before .before .before .before .before in
+    let at-loop = at-loop-test .before in
+    let at-start = at-loop .before .before .before in
+    chain-here (at-start .pre .0) _ _ _ (at-loop-test .loop-test .taken) (class-here (at-start .pre .0) _ (at-loop .loop .inv .0)
+    (c .before .before .before .if1 .left)) (c .if2 .taken) ∙ at-loop .loop .inv .1
 
 superclass-requires : tie.Need-superclass-requires Inv-loop μ-loop
-superclass-requires c κs = record { right = c .before .before .before .before .before .before .before .before .before .pre .0; kinds = class-here (c .before .before .before .before .before .before .before .before .before .pre .0) _ (c .before .before .before .before .before .before .loop .inv .0) (c .before .before .before .if1 .left) }
+superclass-requires c κs =
+    let at-loop = c .before .before .before .before .before .before in
+    let at-start = at-loop .before .before .before in
+    record { right = at-start .pre .0; kinds = class-here (at-start .pre .0) _ (at-loop .loop .inv .0) (c .before .before .before .if1 .left) }
 
 sub-left : tie.Need-sub-left Inv-loop μ-loop
 sub-left c = omega arith
@@ -34,7 +43,16 @@ loop-less : tie.Need-loop-less Inv-loop μ-loop
 loop-less c = omega arith
 
 loop-again : tie.Need-loop-again Inv-loop μ-loop
-loop-again c = (class-above (c .before .before .before .before .before .before .before .before .before .before .pre .0) _ _ (c .superclass .ensures) (class-here (c .before .before .before .before .before .before .before .before .before .before .pre .0) _ (c .before .before .before .before .before .before .before .loop .inv .0) (c .before .before .before .before .if1 .left)), chain-up (c .before .before .before .before .before .before .before .before .before .before .pre .0) _ _ _ _ (c .before .before .before .before .before .before .loop-test .taken) (class-here (c .before .before .before .before .before .before .before .before .before .before .pre .0) _ (c .before .before .before .before .before .before .before .loop .inv .0) (c .before .before .before .before .if1 .left)) (c .before .if2 .left) (c .superclass .ensures) ∙ c .before .before .before .before .before .before .before .loop .inv .1)
+loop-again c =
+    let at-if1 = c .before .before .before .before in
+    let at-loop-test = at-if1 .before .before in
+    let at-loop = at-loop-test .before in
+    let at-start = at-loop .before .before .before in (
+      class-above (at-start .pre .0) _ _ (c .superclass .ensures) (class-here (at-start .pre .0) _ (at-loop .loop .inv .0) (at-if1 .if1 .left)),
+      chain-up
+          (at-start .pre .0) _ _ _ _ (at-loop-test .loop-test .taken) (class-here (at-start .pre .0) _ (at-loop .loop .inv .0) (at-if1 .if1 .left))
+          (c .before .if2 .left) (c .superclass .ensures) ∙ at-loop .loop .inv .1,
+    )
 
 returns-3 : tie.Need-returns-3 Inv-loop μ-loop
 returns-3 c = chain-over _ _ _ _ (c .loop-test .left) ∙ c .before .loop .inv .1

@@ -19,7 +19,8 @@ kind-of-requires : tie.Need-kind-of-requires
 kind-of-requires c κs = pointer-listed _ _ _ (sym (not-false _ (c .if1 .left)) ∙ c .before .is-pointer .ensures) (c .before .before .before .pre)
 
 returns-2 : tie.Need-returns-2
-returns-2 c = λ b bodies. ap (λ (x : ℕ). eqb x (c .before .before .before .before .args .k)) (c .kind-of .ensures) ∙ kind-yes _ b _ bodies _ _ (sym (not-false _ (c .before .if1 .left)) ∙ c .before .before .is-pointer .ensures)
+returns-2 c = λ b bodies. ap (λ (x : ℕ). eqb x (c .before .before .before .before .args .k)) (c .kind-of .ensures) ∙ kind-yes _ b _ bodies _ _
+    (sym (not-false _ (c .before .if1 .left)) ∙ c .before .before .is-pointer .ensures)
 
 pub is-kind-spec : {M : Type 1} → statement M
 is-kind-spec = tie.close (tie.spec is-pointer-requires returns kind-of-requires returns-2)

@@ -32,13 +32,21 @@ same-length : tie.Need-same-length
 same-length c = search needs
 
 returns : tie.Need-returns
-returns c = c .before .before .store-word .ensures ∙ ap (λ (o : Objects). front (o .bodies) (c .before .before .before .before .before .before .before .before .before .args .bodies .now)) (byte-high _ _ _ _ _ (c .before .before .before .before .if1 .taken) (c .before .before .before .before .before .word-of .ensures))
+returns c =
+    let at-if1 = c .before .before .before .before in
+    let at-word-of = at-if1 .before in
+    let at-start = at-word-of .before .before .before .before in
+    c .before .before .store-word .ensures ∙ ap (λ (o : Objects). front (o .bodies) (at-start .args .bodies .now)) (byte-high _ _ _ _ _ (at-if1 .if1 .taken) (at-word-of .word-of .ensures))
 
 same-length-2 : tie.Need-same-length-2
 same-length-2 c = search needs
 
 returns-2 : tie.Need-returns-2
-returns-2 c = c .before .before .store-word2 .ensures ∙ ap (λ (o : Objects). front (o .bodies) (c .before .before .before .before .before .before .before .before .before .args .bodies .now)) (byte-low _ _ _ _ _ (c .before .before .before .before .if1 .left) (c .before .before .before .before .before .word-of .ensures))
+returns-2 c =
+    let at-if1 = c .before .before .before .before in
+    let at-word-of = at-if1 .before in
+    let at-start = at-word-of .before .before .before .before in
+    c .before .before .store-word2 .ensures ∙ ap (λ (o : Objects). front (o .bodies) (at-start .args .bodies .now)) (byte-low _ _ _ _ _ (at-if1 .if1 .left) (at-word-of .word-of .ensures))
 
 pub store-byte-spec : {M : Type 1} → statement M
 store-byte-spec =

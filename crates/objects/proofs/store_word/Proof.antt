@@ -24,7 +24,11 @@ same-length : tie.Need-same-length
 same-length c = search needs
 
 returns : tie.Need-returns
-returns c = let h = room (c .before .before .before .pre) in stored (c .before .before .before .args .n) (c .before .before .before .args .b) (c .before .before .before .args .contents .now) (c .before .before .before .args .bodies .now) _ _ _ (c .start-of .result + c .before .before .before .args .i) (h .words) (ap (λ (x : ℕ). x + c .before .before .before .args .i) (c .start-of .ensures)) (omega (arith, c .start-of .ensures))
+returns c =
+    let at-start = c .before .before .before in
+    let args = at-start .args in
+    let h = room (at-start .pre) in stored (args .n) (args .b) (args .contents .now) (args .bodies .now) _ _ _ (c .start-of .result + args .i) (h .words)
+    (ap (λ (x : ℕ). x + args .i) (c .start-of .ensures)) (omega (arith, c .start-of .ensures))
 
 pub store-word-spec : {M : Type 1} → statement M
 store-word-spec =

@@ -20,7 +20,11 @@ shared-slice-read-result : tie.Need-shared-slice-read-result
 shared-slice-read-result c = let h = room (c .before .before .before .before .pre) in omega (arith, c .before .start-of .ensures)
 
 returns : tie.Need-returns
-returns c = let h = room (c .before .before .before .before .pre) in word-at (c .before .before .before .before .args .n) (c .before .before .before .before .args .b) (c .before .before .before .before .args .contents .now) (c .before .before .before .before .args .bodies .now) _ _ (c .before .start-of .result + c .before .before .before .before .args .i) (ap (λ (x : ℕ). x + c .before .before .before .before .args .i) (c .before .start-of .ensures)) (omega (arith, c .before .start-of .ensures))
+returns c =
+    let at-start = c .before .before .before .before in
+    let args = at-start .args in
+    let h = room (at-start .pre) in word-at (args .n) (args .b) (args .contents .now) (args .bodies .now) _ _ (c .before .start-of .result + args .i)
+    (ap (λ (x : ℕ). x + args .i) (c .before .start-of .ensures)) (omega (arith, c .before .start-of .ensures))
 
 pub word-of-spec : {M : Type 1} → statement M
 word-of-spec =

@@ -18,13 +18,25 @@ index-requires : tie.Need-index-requires
 index-requires c κs = search needs
 
 returns-2 : tie.Need-returns-2
-returns-2 c = at-no-index _ _ _ _ (taken _ _ _ (c .before .before .before .before .elements .ensures) (c .before .before .before .if1 .left)) (not-indexed (objectsAt (c .before .before .before .before .before .before .before .args .n) (c .before .before .before .before .before .before .before .args .b) (c .before .before .before .before .before .before .before .args .contents .now) (c .before .before .before .before .before .before .before .args .bodies .now)) (c .before .before .before .before .before .before .before .args .w) _ _ _ (c .before .before .size-of .ensures) (c .before .index .ensures) (c .if2 .taken))
+returns-2 c =
+    let at-elements = c .before .before .before .before in
+    let at-start = at-elements .before .before .before in
+    let args = at-start .args in
+    at-no-index _ _ _ _ (taken _ _ _ (at-elements .elements .ensures) (c .before .before .before .if1 .left))
+    (not-indexed (objectsAt (args .n) (args .b) (args .contents .now) (args .bodies .now)) (args .w) _ _ _ (c .before .before .size-of .ensures)
+    (c .before .index .ensures) (c .if2 .taken))
 
 sub-byte-of : tie.Need-sub-byte-of
 sub-byte-of c = search needs
 
 byte-of-requires : tie.Need-byte-of-requires
-byte-of-requires c κs = byte-inside (c .before .before .before .before .before .before .before .before .pre) _ _ _ (taken _ _ _ (c .before .before .before .before .before .elements .ensures) (c .before .before .before .before .if1 .left)) (indexed-by _ _ _ _ _ (c .before .before .before .size-of .ensures) (c .before .before .index .ensures) (c .before .if2 .left)) (c .if3 .taken)
+byte-of-requires c κs =
+    let at-size-of = c .before .before .before in
+    let at-if1 = at-size-of .before in
+    let at-elements = at-if1 .before in
+    let at-start = at-elements .before .before .before in
+    byte-inside (at-start .pre) _ _ _ (taken _ _ _ (at-elements .elements .ensures) (at-if1 .if1 .left)) (indexed-by _ _ _ _ _ (at-size-of .size-of .ensures)
+    (c .before .before .index .ensures) (c .before .if2 .left)) (c .if3 .taken)
 
 cast-t15 : tie.Need-cast-t15
 cast-t15 c = search needs
@@ -36,16 +48,34 @@ add-t17 : tie.Need-add-t17
 add-t17 c = search needs
 
 returns-3 : tie.Need-returns-3
-returns-3 c = at-byte _ _ _ _ (taken _ _ _ (c .before .before .before .before .before .before .elements .ensures) (c .before .before .before .before .before .if1 .left)) _ (indexed-by _ _ _ _ _ (c .before .before .before .before .size-of .ensures) (c .before .before .before .index .ensures) (c .before .before .if2 .left)) _ (c .before .if3 .taken) (c .byte-of .ensures)
+returns-3 c =
+    let at-index = c .before .before .before in
+    let at-size-of = at-index .before in
+    let at-if1 = at-size-of .before in
+    let at-elements = at-if1 .before in
+    at-byte _ _ _ _ (taken _ _ _ (at-elements .elements .ensures) (at-if1 .if1 .left)) _ (indexed-by _ _ _ _ _ (at-size-of .size-of .ensures)
+    (at-index .index .ensures) (c .before .before .if2 .left)) _ (c .before .if3 .taken) (c .byte-of .ensures)
 
 sub-word-of : tie.Need-sub-word-of
 sub-word-of c = search needs
 
 word-of-requires : tie.Need-word-of-requires
-word-of-requires c κs = word-inside (c .before .before .before .before .before .before .before .before .pre) _ _ _ (taken _ _ _ (c .before .before .before .before .before .elements .ensures) (c .before .before .before .before .if1 .left)) (indexed-by _ _ _ _ _ (c .before .before .before .size-of .ensures) (c .before .before .index .ensures) (c .before .if2 .left)) (c .if3 .left)
+word-of-requires c κs =
+    let at-size-of = c .before .before .before in
+    let at-if1 = at-size-of .before in
+    let at-elements = at-if1 .before in
+    let at-start = at-elements .before .before .before in
+    word-inside (at-start .pre) _ _ _ (taken _ _ _ (at-elements .elements .ensures) (at-if1 .if1 .left)) (indexed-by _ _ _ _ _ (at-size-of .size-of .ensures)
+    (c .before .before .index .ensures) (c .before .if2 .left)) (c .if3 .left)
 
 returns-4 : tie.Need-returns-4
-returns-4 c = at-word _ _ _ _ (taken _ _ _ (c .before .before .before .before .before .before .elements .ensures) (c .before .before .before .before .before .if1 .left)) _ (indexed-by _ _ _ _ _ (c .before .before .before .before .size-of .ensures) (c .before .before .before .index .ensures) (c .before .before .if2 .left)) _ (c .before .if3 .left) (c .word-of .ensures)
+returns-4 c =
+    let at-index = c .before .before .before in
+    let at-size-of = at-index .before in
+    let at-if1 = at-size-of .before in
+    let at-elements = at-if1 .before in
+    at-word _ _ _ _ (taken _ _ _ (at-elements .elements .ensures) (at-if1 .if1 .left)) _ (indexed-by _ _ _ _ _ (at-size-of .size-of .ensures)
+    (at-index .index .ensures) (c .before .before .if2 .left)) _ (c .before .if3 .left) (c .word-of .ensures)
 
 pub at-spec : {M : Type 1} → statement M
 at-spec =

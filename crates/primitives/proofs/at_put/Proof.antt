@@ -24,19 +24,40 @@ same-length-2 : tie.Need-same-length-2
 same-length-2 c = search needs
 
 returns-2 : tie.Need-returns-2
-returns-2 c = puts-none (c .before .before .before .before .before .before .before .before .pre) (put-no-index _ _ _ _ (taken _ _ _ (c .before .before .before .before .elements .ensures) (c .before .before .before .if1 .left)) _ (not-indexed (objectsAt (c .before .before .before .before .before .before .before .before .args .n) (c .before .before .before .before .before .before .before .before .args .b) (c .before .before .before .before .before .before .before .before .args .contents .now) (c .before .before .before .before .before .before .before .before .args .bodies .now)) (c .before .before .before .before .before .before .before .before .args .w) _ _ _ (c .before .before .size-of .ensures) (c .before .index .ensures) (c .if2 .taken)))
+returns-2 c =
+    let at-elements = c .before .before .before .before in
+    let at-start = at-elements .before .before .before .before in
+    let args = at-start .args in
+    puts-none (at-start .pre) (put-no-index _ _ _ _ (taken _ _ _ (at-elements .elements .ensures) (c .before .before .before .if1 .left)) _
+    (not-indexed (objectsAt (args .n) (args .b) (args .contents .now) (args .bodies .now)) (args .w) _ _ _ (c .before .before .size-of .ensures)
+    (c .before .index .ensures) (c .if2 .taken)))
 
 same-length-3 : tie.Need-same-length-3
 same-length-3 c = search needs
 
 returns-3 : tie.Need-returns-3
-returns-3 c = puts-none (c .before .before .before .before .before .before .before .before .before .before .pre) (put-even _ _ _ _ (taken _ _ _ (c .before .before .before .before .before .before .elements .ensures) (c .before .before .before .before .before .if1 .left)) _ (indexed-by _ _ _ _ _ (c .before .before .before .before .size-of .ensures) (c .before .before .before .index .ensures) (c .before .before .if2 .left)) _ (c .before .if3 .taken) (c .if4 .taken))
+returns-3 c =
+    let at-index = c .before .before .before in
+    let at-size-of = at-index .before in
+    let at-if1 = at-size-of .before in
+    let at-elements = at-if1 .before in
+    let at-start = at-elements .before .before .before .before in
+    puts-none (at-start .pre) (put-even _ _ _ _ (taken _ _ _ (at-elements .elements .ensures) (at-if1 .if1 .left)) _
+    (indexed-by _ _ _ _ _ (at-size-of .size-of .ensures) (at-index .index .ensures) (c .before .before .if2 .left)) _ (c .before .if3 .taken) (c .if4 .taken))
 
 same-length-4 : tie.Need-same-length-4
 same-length-4 c = search needs
 
 returns-4 : tie.Need-returns-4
-returns-4 c = puts-none (c .before .before .before .before .before .before .before .before .before .before .before .pre) (put-large _ _ _ _ (taken _ _ _ (c .before .before .before .before .before .before .before .elements .ensures) (c .before .before .before .before .before .before .if1 .left)) _ (indexed-by _ _ _ _ _ (c .before .before .before .before .before .size-of .ensures) (c .before .before .before .before .index .ensures) (c .before .before .before .if2 .left)) _ (c .before .before .if3 .taken) (c .before .if4 .left) (c .if5 .taken))
+returns-4 c =
+    let at-if2 = c .before .before .before in
+    let at-index = at-if2 .before in
+    let at-size-of = at-index .before in
+    let at-if1 = at-size-of .before in
+    let at-elements = at-if1 .before in
+    let at-start = at-elements .before .before .before .before in
+    puts-none (at-start .pre) (put-large _ _ _ _ (taken _ _ _ (at-elements .elements .ensures) (at-if1 .if1 .left)) _
+    (indexed-by _ _ _ _ _ (at-size-of .size-of .ensures) (at-index .index .ensures) (at-if2 .if2 .left)) _ (c .before .before .if3 .taken) (c .before .if4 .left) (c .if5 .taken))
 
 sub-store-byte : tie.Need-sub-store-byte
 sub-store-byte c = search needs
@@ -45,25 +66,59 @@ cast-store-byte : tie.Need-cast-store-byte
 cast-store-byte c = search needs
 
 store-byte-requires : tie.Need-store-byte-requires
-store-byte-requires c κs = byte-inside (c .before .before .before .before .before .before .before .before .before .before .before .before .pre) _ _ _ (taken _ _ _ (c .before .before .before .before .before .before .before .before .elements .ensures) (c .before .before .before .before .before .before .before .if1 .left)) (indexed-by _ _ _ _ _ (c .before .before .before .before .before .before .size-of .ensures) (c .before .before .before .before .before .index .ensures) (c .before .before .before .before .if2 .left)) (c .before .before .before .if3 .taken)
+store-byte-requires c κs =
+    let at-if3 = c .before .before .before in
+    let at-if2 = at-if3 .before in
+    let at-index = at-if2 .before in
+    let at-size-of = at-index .before in
+    let at-if1 = at-size-of .before in
+    let at-elements = at-if1 .before in
+    let at-start = at-elements .before .before .before .before in
+    byte-inside (at-start .pre) _ _ _ (taken _ _ _ (at-elements .elements .ensures) (at-if1 .if1 .left)) (indexed-by _ _ _ _ _ (at-size-of .size-of .ensures)
+    (at-index .index .ensures) (at-if2 .if2 .left)) (at-if3 .if3 .taken)
 
 same-length-5 : tie.Need-same-length-5
 same-length-5 c = search needs
 
 returns-5 : tie.Need-returns-5
-returns-5 c = puts-some (c .before .before .store-byte .ensures) (put-byte _ _ _ _ (taken _ _ _ (c .before .before .before .before .before .before .before .before .before .before .before .elements .ensures) (c .before .before .before .before .before .before .before .before .before .before .if1 .left)) _ (indexed-by _ _ _ _ _ (c .before .before .before .before .before .before .before .before .before .size-of .ensures) (c .before .before .before .before .before .before .before .before .index .ensures) (c .before .before .before .before .before .before .before .if2 .left)) _ (c .before .before .before .before .before .before .if3 .taken) (c .before .before .before .before .before .if4 .left) (c .before .before .before .before .if5 .left))
+returns-5 c =
+    let at-if5 = c .before .before .before .before in
+    let at-if4 = at-if5 .before in
+    let at-if3 = at-if4 .before in
+    let at-if2 = at-if3 .before in
+    let at-index = at-if2 .before in
+    let at-size-of = at-index .before in
+    let at-if1 = at-size-of .before in
+    let at-elements = at-if1 .before in
+    puts-some (c .before .before .store-byte .ensures) (put-byte _ _ _ _ (taken _ _ _ (at-elements .elements .ensures) (at-if1 .if1 .left)) _
+    (indexed-by _ _ _ _ _ (at-size-of .size-of .ensures) (at-index .index .ensures) (at-if2 .if2 .left)) _ (at-if3 .if3 .taken) (at-if4 .if4 .left) (at-if5 .if5 .left))
 
 sub-store-word : tie.Need-sub-store-word
 sub-store-word c = search needs
 
 store-word-requires : tie.Need-store-word-requires
-store-word-requires c κs = word-inside (c .before .before .before .before .before .before .before .before .before .before .pre) _ _ _ (taken _ _ _ (c .before .before .before .before .before .before .elements .ensures) (c .before .before .before .before .before .if1 .left)) (indexed-by _ _ _ _ _ (c .before .before .before .before .size-of .ensures) (c .before .before .before .index .ensures) (c .before .before .if2 .left)) (c .before .if3 .left)
+store-word-requires c κs =
+    let at-index = c .before .before .before in
+    let at-size-of = at-index .before in
+    let at-if1 = at-size-of .before in
+    let at-elements = at-if1 .before in
+    let at-start = at-elements .before .before .before .before in
+    word-inside (at-start .pre) _ _ _ (taken _ _ _ (at-elements .elements .ensures) (at-if1 .if1 .left)) (indexed-by _ _ _ _ _ (at-size-of .size-of .ensures)
+    (at-index .index .ensures) (c .before .before .if2 .left)) (c .before .if3 .left)
 
 same-length-6 : tie.Need-same-length-6
 same-length-6 c = search needs
 
 returns-6 : tie.Need-returns-6
-returns-6 c = puts-some (c .before .before .store-word .ensures) (put-word _ _ _ _ (taken _ _ _ (c .before .before .before .before .before .before .before .before .before .elements .ensures) (c .before .before .before .before .before .before .before .before .if1 .left)) _ (indexed-by _ _ _ _ _ (c .before .before .before .before .before .before .before .size-of .ensures) (c .before .before .before .before .before .before .index .ensures) (c .before .before .before .before .before .if2 .left)) _ (c .before .before .before .before .if3 .left))
+returns-6 c =
+    let at-if3 = c .before .before .before .before in
+    let at-if2 = at-if3 .before in
+    let at-index = at-if2 .before in
+    let at-size-of = at-index .before in
+    let at-if1 = at-size-of .before in
+    let at-elements = at-if1 .before in
+    puts-some (c .before .before .store-word .ensures) (put-word _ _ _ _ (taken _ _ _ (at-elements .elements .ensures) (at-if1 .if1 .left)) _
+    (indexed-by _ _ _ _ _ (at-size-of .size-of .ensures) (at-index .index .ensures) (at-if2 .if2 .left)) _ (at-if3 .if3 .left))
 
 pub at-put-spec : {M : Type 1} → statement M
 at-put-spec =

@@ -17,19 +17,41 @@ returns-2 : tie.Need-returns-2
 returns-2 c = elements-large _ _ _ (c .before .size-of .ensures) (c .if2 .taken)
 
 class-of-requires : tie.Need-class-of-requires
-class-of-requires c κs = (c .before .before .before .before .before .pre .valid, contents-room (c .before .before .before .before .before .args .n) (c .before .before .before .before .before .args .b) (c .before .before .before .before .before .args .contents .now) (c .before .before .before .before .before .args .bodies .now) (c .before .before .before .before .before .pre .right))
+class-of-requires c κs =
+    let at-start = c .before .before .before .before .before in
+    let args = at-start .args in
+    (at-start .pre .valid, contents-room (args .n) (args .b) (args .contents .now) (args .bodies .now) (at-start .pre .right))
 
 form-of-requires : tie.Need-form-of-requires
 form-of-requires c κs = receiver-class (c .before .before .before .before .before .before .pre) _ (c .before .before .before .if1 .left) (c .class-of .ensures _ _)
 
 returns-3 : tie.Need-returns-3
-returns-3 c = sym (c .if3 .taken) ∙ elements-form _ _ _ _ (c .before .before .before .before .before .if1 .left) (c .before .before .before .before .size-of .ensures) (c .before .before .before .if2 .left) (c .before .form-of .ensures ∙ ap (form (objectsAt (c .before .before .before .before .before .before .before .before .args .n) (c .before .before .before .before .before .before .before .before .args .b) (c .before .before .before .before .before .before .before .before .args .contents .now) (c .before .before .before .before .before .before .before .before .args .bodies .now))) (c .before .before .class-of .ensures (c .before .before .before .before .before .before .before .before .args .b) (c .before .before .before .before .before .before .before .before .args .bodies .now))) (inl (c .if3 .taken))
+returns-3 c =
+    let at-size-of = c .before .before .before .before in
+    let at-if1 = at-size-of .before in
+    let at-start = at-if1 .before .before .before in
+    let args = at-start .args in
+    sym (c .if3 .taken) ∙ elements-form _ _ _ _ (at-if1 .if1 .left) (at-size-of .size-of .ensures) (c .before .before .before .if2 .left)
+    (c .before .form-of .ensures ∙ ap (form (objectsAt (args .n) (args .b) (args .contents .now) (args .bodies .now)))
+    (c .before .before .class-of .ensures (args .b) (args .bodies .now))) (inl (c .if3 .taken))
 
 returns-4 : tie.Need-returns-4
-returns-4 c = sym (c .if4 .taken) ∙ elements-form _ _ _ _ (c .before .before .before .before .before .before .if1 .left) (c .before .before .before .before .before .size-of .ensures) (c .before .before .before .before .if2 .left) (c .before .before .form-of .ensures ∙ ap (form (objectsAt (c .before .before .before .before .before .before .before .before .before .args .n) (c .before .before .before .before .before .before .before .before .before .args .b) (c .before .before .before .before .before .before .before .before .before .args .contents .now) (c .before .before .before .before .before .before .before .before .before .args .bodies .now))) (c .before .before .before .class-of .ensures (c .before .before .before .before .before .before .before .before .before .args .b) (c .before .before .before .before .before .before .before .before .before .args .bodies .now))) (inr (c .if4 .taken))
+returns-4 c =
+    let at-if2 = c .before .before .before .before in
+    let at-size-of = at-if2 .before in
+    let at-if1 = at-size-of .before in
+    let at-start = at-if1 .before .before .before in
+    let args = at-start .args in
+    sym (c .if4 .taken) ∙ elements-form _ _ _ _ (at-if1 .if1 .left) (at-size-of .size-of .ensures) (at-if2 .if2 .left) (c .before .before .form-of .ensures
+    ∙ ap (form (objectsAt (args .n) (args .b) (args .contents .now) (args .bodies .now))) (c .before .before .before .class-of .ensures (args .b)
+    (args .bodies .now))) (inr (c .if4 .taken))
 
 returns-5 : tie.Need-returns-5
-returns-5 c = elements-other _ _ _ (c .before .before .form-of .ensures ∙ ap (form (objectsAt (c .before .before .before .before .before .before .before .before .before .args .n) (c .before .before .before .before .before .before .before .before .before .args .b) (c .before .before .before .before .before .before .before .before .before .args .contents .now) (c .before .before .before .before .before .before .before .before .before .args .bodies .now))) (c .before .before .before .class-of .ensures (c .before .before .before .before .before .before .before .before .before .args .b) (c .before .before .before .before .before .before .before .before .before .args .bodies .now))) (c .before .if3 .left) (c .if4 .left)
+returns-5 c =
+    let at-start = c .before .before .before .before .before .before .before .before .before in
+    let args = at-start .args in
+    elements-other _ _ _ (c .before .before .form-of .ensures ∙ ap (form (objectsAt (args .n) (args .b) (args .contents .now) (args .bodies .now)))
+    (c .before .before .before .class-of .ensures (args .b) (args .bodies .now))) (c .before .if3 .left) (c .if4 .left)
 
 pub elements-spec : {M : Type 1} → statement M
 elements-spec =

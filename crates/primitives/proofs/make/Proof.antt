@@ -7,13 +7,19 @@ use Rattle.primitives.proofs.make.Statement.{statement}
 use Rattle.primitives.proofs.make.Tie as tie
 
 returns : tie.Need-returns
-returns c = does-none (c .before .before .before .args .n) (c .before .before .before .args .b) (c .before .before .before .args .contents .now) (c .before .before .before .args .bodies .now) (c .before .before .before .pre .0) (no-room _ _ _ _ _ _ _ (λ h. (let q = h .objects in omega (arith, c .if1 .taken))))
+returns c =
+    let at-start = c .before .before .before in
+    let args = at-start .args in
+    does-none (args .n) (args .b) (args .contents .now) (args .bodies .now) (at-start .pre .0) (no-room _ _ _ _ _ _ _ (λ h. (let q = h .objects in omega (arith, c .if1 .taken))))
 
 add-if2 : tie.Need-add-if2
 add-if2 c = let m = most-words (c .before .before .before .pre .0) in omega arith
 
 returns-2 : tie.Need-returns-2
-returns-2 c = does-none (c .before .before .before .before .args .n) (c .before .before .before .before .args .b) (c .before .before .before .before .args .contents .now) (c .before .before .before .before .args .bodies .now) (c .before .before .before .before .pre .0) (no-room _ _ _ _ _ _ _ (λ h. (let q = h .words in omega (arith, c .if2 .taken))))
+returns-2 c =
+    let at-start = c .before .before .before .before in
+    let args = at-start .args in
+    does-none (args .n) (args .b) (args .contents .now) (args .bodies .now) (at-start .pre .0) (no-room _ _ _ _ _ _ _ (λ h. (let q = h .words in omega (arith, c .if2 .taken))))
 
 add-if3 : tie.Need-add-if3
 add-if3 c = search needs
@@ -22,13 +28,19 @@ mul-if3 : tie.Need-mul-if3
 mul-if3 c = search needs
 
 returns-3 : tie.Need-returns-3
-returns-3 c = does-none (c .before .before .before .before .before .args .n) (c .before .before .before .before .before .args .b) (c .before .before .before .before .before .args .contents .now) (c .before .before .before .before .before .args .bodies .now) (c .before .before .before .before .before .pre .0) (no-room _ _ _ _ _ _ _ (λ h. (let q = h .contents in omega (arith, c .if3 .taken))))
+returns-3 c =
+    let at-start = c .before .before .before .before .before in
+    let args = at-start .args in
+    does-none (args .n) (args .b) (args .contents .now) (args .bodies .now) (at-start .pre .0) (no-room _ _ _ _ _ _ _ (λ h. (let q = h .contents in omega (arith, c .if3 .taken))))
 
 add-if4 : tie.Need-add-if4
 add-if4 c = search needs
 
 returns-4 : tie.Need-returns-4
-returns-4 c = does-none (c .before .before .before .before .before .before .args .n) (c .before .before .before .before .before .before .args .b) (c .before .before .before .before .before .before .args .contents .now) (c .before .before .before .before .before .before .args .bodies .now) (c .before .before .before .before .before .before .pre .0) (no-room _ _ _ _ _ _ _ (λ h. (let q = h .bodies in omega (arith, c .if4 .taken))))
+returns-4 c =
+    let at-start = c .before .before .before .before .before .before in
+    let args = at-start .args in
+    does-none (args .n) (args .b) (args .contents .now) (args .bodies .now) (at-start .pre .0) (no-room _ _ _ _ _ _ _ (λ h. (let q = h .bodies in omega (arith, c .if4 .taken))))
 
 cast-enter : tie.Need-cast-enter
 cast-enter c = search needs
@@ -61,7 +73,19 @@ same-length-2 : tie.Need-same-length-2
 same-length-2 c = search needs
 
 returns-5 : tie.Need-returns-5
-returns-5 c = does-make _ _ _ _ _ _ _ _ _ _ _ (record { objects = c .before .before .before .before .before .before .before .before .before .before .before .if1 .left; words = c .before .before .before .before .before .before .before .before .before .before .if2 .left; contents = c .before .before .before .before .before .before .before .before .before .if3 .left; bodies = c .before .before .before .before .before .before .before .before .if4 .left }) (c .before .before .before .before .before .before .enter .ensures) (c .before .before .fill .ensures)
+returns-5 c =
+    let at-enter = c .before .before .before .before .before .before in
+    let at-if4 = at-enter .before .before in
+    let at-if3 = at-if4 .before in
+    let at-if2 = at-if3 .before in
+    let at-if1 = at-if2 .before in
+    does-make _ _ _ _ _ _ _ _ _ _ _ (record {
+      objects = at-if1 .if1 .left;
+      words = at-if2 .if2 .left;
+      contents = at-if3 .if3 .left;
+      bodies =
+          at-if4 .if4 .left;
+    }) (at-enter .enter .ensures) (c .before .before .fill .ensures)
 
 pub make-spec : {M : Type 1} → statement M
 make-spec =

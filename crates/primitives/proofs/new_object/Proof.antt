@@ -11,16 +11,25 @@ use Rattle.primitives.proofs.new_object.Statement.{statement}
 use Rattle.primitives.proofs.new_object.Tie as tie
 
 is-kind-requires : tie.Need-is-kind-requires
-is-kind-requires c κs = contents-room (c .before .before .before .args .n) (c .before .before .before .args .b) (c .before .before .before .args .contents .now) (c .before .before .before .args .bodies .now) (c .before .before .before .pre)
+is-kind-requires c κs =
+    let at-start = c .before .before .before in
+    let args = at-start .args in
+    contents-room (args .n) (args .b) (args .contents .now) (args .bodies .now) (at-start .pre)
 
 same-length : tie.Need-same-length
 same-length c = search needs
 
 returns : tie.Need-returns
-returns c = does-none (c .before .before .before .before .before .args .n) (c .before .before .before .before .before .args .b) (c .before .before .before .before .before .args .contents .now) (c .before .before .before .before .before .args .bodies .now) (c .before .before .before .before .before .pre) (new-no-class _ _ _ (sym (c .before .is-kind .ensures (c .before .before .before .before .before .args .b) (c .before .before .before .before .before .args .bodies .now)) ∙ not-true _ (c .if1 .taken)))
+returns c =
+    let at-start = c .before .before .before .before .before in
+    let args = at-start .args in
+    does-none (args .n) (args .b) (args .contents .now) (args .bodies .now) (at-start .pre)
+    (new-no-class _ _ _ (sym (c .before .is-kind .ensures (args .b) (args .bodies .now)) ∙ not-true _ (c .if1 .taken)))
 
 form-of-requires : tie.Need-form-of-requires
-form-of-requires c κs = record { right = c .before .before .before .before .before .before .before .pre; kinds = true→T (sym (c .before .before .before .is-kind .ensures (c .before .before .before .before .before .before .before .args .b) (c .before .before .before .before .before .before .before .args .bodies .now)) ∙ not-false _ (c .before .before .if1 .left)) }
+form-of-requires c κs =
+    let at-start = c .before .before .before .before .before .before .before in
+    record { right = at-start .pre; kinds = true→T (sym (c .before .before .before .is-kind .ensures (at-start .args .b) (at-start .args .bodies .now)) ∙ not-false _ (c .before .before .if1 .left)) }
 
 same-length-2 : tie.Need-same-length-2
 same-length-2 c = search needs
@@ -29,16 +38,38 @@ same-length-3 : tie.Need-same-length-3
 same-length-3 c = search needs
 
 returns-2 : tie.Need-returns-2
-returns-2 c = does-none (c .before .before .before .before .before .before .before .before .before .args .n) (c .before .before .before .before .before .before .before .before .before .args .b) (c .before .before .before .before .before .before .before .before .before .args .contents .now) (c .before .before .before .before .before .before .before .before .before .args .bodies .now) (c .before .before .before .before .before .before .before .before .before .pre) (new-other _ _ _ (sym (c .before .before .before .before .before .is-kind .ensures (c .before .before .before .before .before .before .before .before .before .args .b) (c .before .before .before .before .before .before .before .before .before .args .bodies .now)) ∙ not-false _ (c .before .before .before .before .if1 .left)) _ (c .before .form-of .ensures) (c .if2 .taken))
+returns-2 c =
+    let at-if1 = c .before .before .before .before in
+    let at-is-kind = at-if1 .before in
+    let at-start = at-is-kind .before .before .before .before in
+    let args = at-start .args in
+    does-none (args .n) (args .b) (args .contents .now) (args .bodies .now) (at-start .pre)
+    (new-other _ _ _ (sym (at-is-kind .is-kind .ensures (args .b) (args .bodies .now)) ∙ not-false _ (at-if1 .if1 .left)) _ (c .before .form-of .ensures) (c .if2 .taken))
 
 field-count-requires : tie.Need-field-count-requires
-field-count-requires c κs = record { right = c .before .before .before .before .before .before .before .before .before .before .before .pre; kinds = true→T (sym (c .before .before .before .before .before .before .before .is-kind .ensures (c .before .before .before .before .before .before .before .before .before .before .before .args .b) (c .before .before .before .before .before .before .before .before .before .before .before .args .bodies .now)) ∙ not-false _ (c .before .before .before .before .before .before .if1 .left)) }
+field-count-requires c κs =
+    let at-if1 = c .before .before .before .before .before .before in
+    let at-is-kind = at-if1 .before in
+    let at-start = at-is-kind .before .before .before .before in
+    record { right = at-start .pre; kinds = true→T (sym (at-is-kind .is-kind .ensures (at-start .args .b) (at-start .args .bodies .now)) ∙ not-false _ (at-if1 .if1 .left)) }
 
 cast-make : tie.Need-cast-make
-cast-make c = let f = class-facts (c .before .before .before .before .before .before .before .before .before .before .before .before .before .before .pre) (c .before .before .before .before .before .before .before .before .before .before .before .before .before .before .args .w) (true→T (sym (c .before .before .before .before .before .before .before .before .before .before .is-kind .ensures (c .before .before .before .before .before .before .before .before .before .before .before .before .before .before .args .b) (c .before .before .before .before .before .before .before .before .before .before .before .before .before .before .args .bodies .now)) ∙ not-false _ (c .before .before .before .before .before .before .before .before .before .if1 .left))) .fields in let e = c .before .before .field-count .ensures in omega arith
+cast-make c =
+    let at-if1 = c .before .before .before .before .before .before .before .before .before in
+    let at-is-kind = at-if1 .before in
+    let at-start = at-is-kind .before .before .before .before in
+    let args = at-start .args in
+    let f = class-facts (at-start .pre) (args .w) (true→T (sym (at-is-kind .is-kind .ensures (args .b) (args .bodies .now))
+    ∙ not-false _ (at-if1 .if1 .left))) .fields in let e = c .before .before .field-count .ensures in omega arith
 
 make-requires : tie.Need-make-requires
-make-requires c κs = let f = class-facts (c .before .before .before .before .before .before .before .before .before .before .before .before .before .before .pre) (c .before .before .before .before .before .before .before .before .before .before .before .before .before .before .args .w) (true→T (sym (c .before .before .before .before .before .before .before .before .before .before .is-kind .ensures (c .before .before .before .before .before .before .before .before .before .before .before .before .before .before .args .b) (c .before .before .before .before .before .before .before .before .before .before .before .before .before .before .args .bodies .now)) ∙ not-false _ (c .before .before .before .before .before .before .before .before .before .if1 .left))) .fields in let e = c .before .before .field-count .ensures in (c .before .before .before .before .before .before .before .before .before .before .before .before .before .before .pre, omega arith)
+make-requires c κs =
+    let at-if1 = c .before .before .before .before .before .before .before .before .before in
+    let at-is-kind = at-if1 .before in
+    let at-start = at-is-kind .before .before .before .before in
+    let args = at-start .args in
+    let f = class-facts (at-start .pre) (args .w) (true→T (sym (at-is-kind .is-kind .ensures (args .b) (args .bodies .now))
+    ∙ not-false _ (at-if1 .if1 .left))) .fields in let e = c .before .before .field-count .ensures in (at-start .pre, omega arith)
 
 same-length-4 : tie.Need-same-length-4
 same-length-4 c = search needs
@@ -47,7 +78,16 @@ same-length-5 : tie.Need-same-length-5
 same-length-5 c = search needs
 
 returns-3 : tie.Need-returns-3
-returns-3 c = does-same (new-is _ _ _ (sym (c .before .before .before .before .before .before .before .before .before .before .before .before .before .before .before .is-kind .ensures (c .before .before .before .before .before .before .before .before .before .before .before .before .before .before .before .before .before .before .before .args .b) (c .before .before .before .before .before .before .before .before .before .before .before .before .before .before .before .before .before .before .before .args .bodies .now)) ∙ not-false _ (c .before .before .before .before .before .before .before .before .before .before .before .before .before .before .if1 .left)) _ _ (c .before .before .before .before .before .before .before .before .before .before .before .form-of .ensures) (c .before .before .before .before .before .before .before .before .before .before .if2 .left) (c .before .before .before .before .before .before .before .field-count .ensures)) (c .before .before .before .before .make .ensures)
+returns-3 c =
+    let at-make = c .before .before .before .before in
+    let at-field-count = at-make .before .before .before in
+    let at-if2 = at-field-count .before .before .before in
+    let at-form-of = at-if2 .before in
+    let at-if1 = at-form-of .before .before .before in
+    let at-is-kind = at-if1 .before in
+    let at-start = at-is-kind .before .before .before .before in
+    does-same (new-is _ _ _ (sym (at-is-kind .is-kind .ensures (at-start .args .b) (at-start .args .bodies .now)) ∙ not-false _ (at-if1 .if1 .left)) _ _
+    (at-form-of .form-of .ensures) (at-if2 .if2 .left) (at-field-count .field-count .ensures)) (at-make .make .ensures)
 
 pub new-object-spec : {M : Type 1} → statement M
 new-object-spec =

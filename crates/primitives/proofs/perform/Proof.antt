@@ -22,7 +22,12 @@ same-length-2 : tie.Need-same-length-2
 same-length-2 c = search needs
 
 returns : tie.Need-returns
-returns c = does-computed (c .before .before .before .before .before .before .args .n) (c .before .before .before .before .before .before .args .b) (c .before .before .before .before .before .before .args .contents .now) (c .before .before .before .before .before .before .args .bodies .now) _ (c .before .before .before .before .before .before .pre .0 .right) (c .at .ensures ∙ is-60 (roomOf (c .before .before .before .before .before .before .args .contents .now) (c .before .before .before .before .before .before .args .bodies .now)) (objectsAt (c .before .before .before .before .before .before .args .n) (c .before .before .before .before .before .before .args .b) (c .before .before .before .before .before .before .args .contents .now) (c .before .before .before .before .before .before .args .bodies .now)) (c .before .before .before .before .before .before .args .k) (c .before .before .before .before .before .before .args .w) (c .before .before .before .before .before .before .args .x) (c .before .before .before .before .before .before .args .y) (c .before .before .before .if1 .taken))
+returns c =
+    let at-start = c .before .before .before .before .before .before in
+    let args = at-start .args in
+    does-computed (args .n) (args .b) (args .contents .now) (args .bodies .now) _ (at-start .pre .0 .right)
+    (c .at .ensures ∙ is-60 (roomOf (args .contents .now) (args .bodies .now)) (objectsAt (args .n) (args .b) (args .contents .now) (args .bodies .now))
+    (args .k) (args .w) (args .x) (args .y) (c .before .before .before .if1 .taken))
 
 at-put-requires : tie.Need-at-put-requires
 at-put-requires c κs = search needs
@@ -34,7 +39,13 @@ same-length-4 : tie.Need-same-length-4
 same-length-4 c = search needs
 
 returns-2 : tie.Need-returns-2
-returns-2 c = does-put (c .before .before .before .before .before .before .before .before .before .args .n) (c .before .before .before .before .before .before .before .before .before .args .b) (c .before .before .before .before .before .before .before .before .before .args .contents .now) (c .before .before .before .before .before .before .before .before .before .args .bodies .now) _ _ _ _ _ (c .before .before .before .before .before .before .before .before .before .pre .0 .right) (is-61 (roomOf (c .before .before .before .before .before .before .before .before .before .args .contents .now) (c .before .before .before .before .before .before .before .before .before .args .bodies .now)) (objectsAt (c .before .before .before .before .before .before .before .before .before .args .n) (c .before .before .before .before .before .before .before .before .before .args .b) (c .before .before .before .before .before .before .before .before .before .args .contents .now) (c .before .before .before .before .before .before .before .before .before .args .bodies .now)) (c .before .before .before .before .before .before .before .before .before .args .k) (c .before .before .before .before .before .before .before .before .before .args .w) (c .before .before .before .before .before .before .before .before .before .args .x) (c .before .before .before .before .before .before .before .before .before .args .y) (c .before .before .before .before .before .if2 .taken)) (c .before .before .at-put .ensures)
+returns-2 c =
+    let at-if2 = c .before .before .before .before .before in
+    let at-start = at-if2 .before .before .before .before in
+    let args = at-start .args in
+    does-put (args .n) (args .b) (args .contents .now) (args .bodies .now) _ _ _ _ _ (at-start .pre .0 .right)
+    (is-61 (roomOf (args .contents .now) (args .bodies .now)) (objectsAt (args .n) (args .b) (args .contents .now) (args .bodies .now)) (args .k) (args .w)
+    (args .x) (args .y) (at-if2 .if2 .taken)) (c .before .before .at-put .ensures)
 
 size-answer-requires : tie.Need-size-answer-requires
 size-answer-requires c κs = search needs
@@ -46,7 +57,12 @@ same-length-6 : tie.Need-same-length-6
 same-length-6 c = search needs
 
 returns-3 : tie.Need-returns-3
-returns-3 c = does-computed (c .before .before .before .before .before .before .before .before .args .n) (c .before .before .before .before .before .before .before .before .args .b) (c .before .before .before .before .before .before .before .before .args .contents .now) (c .before .before .before .before .before .before .before .before .args .bodies .now) _ (c .before .before .before .before .before .before .before .before .pre .0 .right) (c .size-answer .ensures ∙ is-62 (roomOf (c .before .before .before .before .before .before .before .before .args .contents .now) (c .before .before .before .before .before .before .before .before .args .bodies .now)) (objectsAt (c .before .before .before .before .before .before .before .before .args .n) (c .before .before .before .before .before .before .before .before .args .b) (c .before .before .before .before .before .before .before .before .args .contents .now) (c .before .before .before .before .before .before .before .before .args .bodies .now)) (c .before .before .before .before .before .before .before .before .args .k) (c .before .before .before .before .before .before .before .before .args .w) (c .before .before .before .before .before .before .before .before .args .x) (c .before .before .before .before .before .before .before .before .args .y) (c .before .before .before .if3 .taken))
+returns-3 c =
+    let at-start = c .before .before .before .before .before .before .before .before in
+    let args = at-start .args in
+    does-computed (args .n) (args .b) (args .contents .now) (args .bodies .now) _ (at-start .pre .0 .right) (c .size-answer .ensures
+    ∙ is-62 (roomOf (args .contents .now) (args .bodies .now)) (objectsAt (args .n) (args .b) (args .contents .now) (args .bodies .now)) (args .k) (args .w)
+    (args .x) (args .y) (c .before .before .before .if3 .taken))
 
 new-object-requires : tie.Need-new-object-requires
 new-object-requires c κs = search needs
@@ -58,7 +74,13 @@ same-length-8 : tie.Need-same-length-8
 same-length-8 c = search needs
 
 returns-4 : tie.Need-returns-4
-returns-4 c = does-same (is-70 (roomOf (c .before .before .before .before .before .before .before .before .before .before .before .before .before .args .contents .now) (c .before .before .before .before .before .before .before .before .before .before .before .before .before .args .bodies .now)) (objectsAt (c .before .before .before .before .before .before .before .before .before .before .before .before .before .args .n) (c .before .before .before .before .before .before .before .before .before .before .before .before .before .args .b) (c .before .before .before .before .before .before .before .before .before .before .before .before .before .args .contents .now) (c .before .before .before .before .before .before .before .before .before .before .before .before .before .args .bodies .now)) (c .before .before .before .before .before .before .before .before .before .before .before .before .before .args .k) (c .before .before .before .before .before .before .before .before .before .before .before .before .before .args .w) (c .before .before .before .before .before .before .before .before .before .before .before .before .before .args .x) (c .before .before .before .before .before .before .before .before .before .before .before .before .before .args .y) (c .before .before .before .before .before .before .before .if4 .taken)) (c .before .before .before .before .new-object .ensures)
+returns-4 c =
+    let at-new-object = c .before .before .before .before in
+    let at-if4 = at-new-object .before .before .before in
+    let at-start = at-if4 .before .before .before .before .before .before in
+    let args = at-start .args in
+    does-same (is-70 (roomOf (args .contents .now) (args .bodies .now)) (objectsAt (args .n) (args .b) (args .contents .now) (args .bodies .now)) (args .k)
+    (args .w) (args .x) (args .y) (at-if4 .if4 .taken)) (at-new-object .new-object .ensures)
 
 new-with-requires : tie.Need-new-with-requires
 new-with-requires c κs = search needs
@@ -70,25 +92,55 @@ same-length-10 : tie.Need-same-length-10
 same-length-10 c = search needs
 
 returns-5 : tie.Need-returns-5
-returns-5 c = does-same (is-71 (roomOf (c .before .before .before .before .before .before .before .before .before .before .before .before .before .before .args .contents .now) (c .before .before .before .before .before .before .before .before .before .before .before .before .before .before .args .bodies .now)) (objectsAt (c .before .before .before .before .before .before .before .before .before .before .before .before .before .before .args .n) (c .before .before .before .before .before .before .before .before .before .before .before .before .before .before .args .b) (c .before .before .before .before .before .before .before .before .before .before .before .before .before .before .args .contents .now) (c .before .before .before .before .before .before .before .before .before .before .before .before .before .before .args .bodies .now)) (c .before .before .before .before .before .before .before .before .before .before .before .before .before .before .args .k) (c .before .before .before .before .before .before .before .before .before .before .before .before .before .before .args .w) (c .before .before .before .before .before .before .before .before .before .before .before .before .before .before .args .x) (c .before .before .before .before .before .before .before .before .before .before .before .before .before .before .args .y) (c .before .before .before .before .before .before .before .if5 .taken)) (c .before .before .before .before .new-with .ensures)
+returns-5 c =
+    let at-new-with = c .before .before .before .before in
+    let at-if5 = at-new-with .before .before .before in
+    let at-start = at-if5 .before .before .before .before .before .before .before in
+    let args = at-start .args in
+    does-same (is-71 (roomOf (args .contents .now) (args .bodies .now)) (objectsAt (args .n) (args .b) (args .contents .now) (args .bodies .now)) (args .k)
+    (args .w) (args .x) (args .y) (at-if5 .if5 .taken)) (at-new-with .new-with .ensures)
 
 same-requires : tie.Need-same-requires
 same-requires c κs = search needs
 
 returns-6 : tie.Need-returns-6
-returns-6 c = does-computed (c .before .before .before .before .before .before .before .before .before .args .n) (c .before .before .before .before .before .before .before .before .before .args .b) (c .before .before .before .before .before .before .before .before .before .args .contents .now) (c .before .before .before .before .before .before .before .before .before .args .bodies .now) (Word (c .same .result)) (c .before .before .before .before .before .before .before .before .before .pre .0 .right) (ap (λ (v : ℕ). answers v (objectsAt (c .before .before .before .before .before .before .before .before .before .args .n) (c .before .before .before .before .before .before .before .before .before .args .b) (c .before .before .before .before .before .before .before .before .before .args .contents .now) (c .before .before .before .before .before .before .before .before .before .args .bodies .now))) (c .same .ensures) ∙ is-110 (roomOf (c .before .before .before .before .before .before .before .before .before .args .contents .now) (c .before .before .before .before .before .before .before .before .before .args .bodies .now)) (objectsAt (c .before .before .before .before .before .before .before .before .before .args .n) (c .before .before .before .before .before .before .before .before .before .args .b) (c .before .before .before .before .before .before .before .before .before .args .contents .now) (c .before .before .before .before .before .before .before .before .before .args .bodies .now)) (c .before .before .before .before .before .before .before .before .before .args .k) (c .before .before .before .before .before .before .before .before .before .args .w) (c .before .before .before .before .before .before .before .before .before .args .x) (c .before .before .before .before .before .before .before .before .before .args .y) (c .before .if6 .taken))
+returns-6 c =
+    let at-start = c .before .before .before .before .before .before .before .before .before in
+    let args = at-start .args in
+    does-computed (args .n) (args .b) (args .contents .now) (args .bodies .now) (Word (c .same .result)) (at-start .pre .0 .right)
+    (ap (λ (v : ℕ). answers v (objectsAt (args .n) (args .b) (args .contents .now) (args .bodies .now))) (c .same .ensures)
+    ∙ is-110 (roomOf (args .contents .now) (args .bodies .now)) (objectsAt (args .n) (args .b) (args .contents .now) (args .bodies .now)) (args .k) (args .w)
+    (args .x) (args .y) (c .before .if6 .taken))
 
 class-of-requires : tie.Need-class-of-requires
-class-of-requires c κs = (c .before .before .before .before .before .before .before .before .before .before .pre .0 .valid, contents-room (c .before .before .before .before .before .before .before .before .before .before .args .n) (c .before .before .before .before .before .before .before .before .before .before .args .b) (c .before .before .before .before .before .before .before .before .before .before .args .contents .now) (c .before .before .before .before .before .before .before .before .before .before .args .bodies .now) (c .before .before .before .before .before .before .before .before .before .before .pre .0 .right))
+class-of-requires c κs =
+    let at-start = c .before .before .before .before .before .before .before .before .before .before in
+    let args = at-start .args in
+    (at-start .pre .0 .valid, contents-room (args .n) (args .b) (args .contents .now) (args .bodies .now) (at-start .pre .0 .right))
 
 same-length-11 : tie.Need-same-length-11
 same-length-11 c = search needs
 
 returns-7 : tie.Need-returns-7
-returns-7 c = does-computed (c .before .before .before .before .before .before .before .before .before .before .before .args .n) (c .before .before .before .before .before .before .before .before .before .before .before .args .b) (c .before .before .before .before .before .before .before .before .before .before .before .args .contents .now) (c .before .before .before .before .before .before .before .before .before .before .before .args .bodies .now) (Word (c .class-of .result .0)) (c .before .before .before .before .before .before .before .before .before .before .before .pre .0 .right) (ap (λ (v : ℕ). answers v (objectsAt (c .before .before .before .before .before .before .before .before .before .before .before .args .n) (c .before .before .before .before .before .before .before .before .before .before .before .args .b) (c .before .before .before .before .before .before .before .before .before .before .before .args .contents .now) (c .before .before .before .before .before .before .before .before .before .before .before .args .bodies .now))) (c .class-of .ensures (c .before .before .before .before .before .before .before .before .before .before .before .args .b) (c .before .before .before .before .before .before .before .before .before .before .before .args .bodies .now)) ∙ is-111 (roomOf (c .before .before .before .before .before .before .before .before .before .before .before .args .contents .now) (c .before .before .before .before .before .before .before .before .before .before .before .args .bodies .now)) (objectsAt (c .before .before .before .before .before .before .before .before .before .before .before .args .n) (c .before .before .before .before .before .before .before .before .before .before .before .args .b) (c .before .before .before .before .before .before .before .before .before .before .before .args .contents .now) (c .before .before .before .before .before .before .before .before .before .before .before .args .bodies .now)) (c .before .before .before .before .before .before .before .before .before .before .before .args .k) (c .before .before .before .before .before .before .before .before .before .before .before .args .w) (c .before .before .before .before .before .before .before .before .before .before .before .args .x) (c .before .before .before .before .before .before .before .before .before .before .before .args .y) (c .before .before .if7 .taken))
+returns-7 c =
+    let at-start = c .before .before .before .before .before .before .before .before .before .before .before in
+    let args = at-start .args in
+    does-computed (args .n) (args .b) (args .contents .now) (args .bodies .now) (Word (c .class-of .result .0)) (at-start .pre .0 .right)
+    (ap (λ (v : ℕ). answers v (objectsAt (args .n) (args .b) (args .contents .now) (args .bodies .now))) (c .class-of .ensures (args .b) (args .bodies .now))
+    ∙ is-111 (roomOf (args .contents .now) (args .bodies .now)) (objectsAt (args .n) (args .b) (args .contents .now) (args .bodies .now)) (args .k) (args .w)
+    (args .x) (args .y) (c .before .before .if7 .taken))
 
 returns-8 : tie.Need-returns-8
-returns-8 c = does-none (c .before .before .before .before .before .before .before .before .before .args .n) (c .before .before .before .before .before .before .before .before .before .args .b) (c .before .before .before .before .before .before .before .before .before .args .contents .now) (c .before .before .before .before .before .before .before .before .before .args .bodies .now) (c .before .before .before .before .before .before .before .before .before .pre .0 .right) (is-none (roomOf (c .before .before .before .before .before .before .before .before .before .args .contents .now) (c .before .before .before .before .before .before .before .before .before .args .bodies .now)) (objectsAt (c .before .before .before .before .before .before .before .before .before .args .n) (c .before .before .before .before .before .before .before .before .before .args .b) (c .before .before .before .before .before .before .before .before .before .args .contents .now) (c .before .before .before .before .before .before .before .before .before .args .bodies .now)) (c .before .before .before .before .before .before .before .before .before .args .k) (c .before .before .before .before .before .before .before .before .before .args .w) (c .before .before .before .before .before .before .before .before .before .args .x) (c .before .before .before .before .before .before .before .before .before .args .y) (c .before .before .before .before .before .before .before .before .before .pre .1) (c .before .before .before .before .before .before .if1 .left) (c .before .before .before .before .before .if2 .left) (c .before .before .before .before .if3 .left) (c .before .before .before .if4 .left) (c .before .before .if5 .left) (c .before .if6 .left) (c .if7 .left))
+returns-8 c =
+    let at-if3 = c .before .before .before .before in
+    let at-if2 = at-if3 .before in
+    let at-if1 = at-if2 .before in
+    let at-start = at-if1 .before .before .before in
+    let args = at-start .args in
+    does-none (args .n) (args .b) (args .contents .now) (args .bodies .now) (at-start .pre .0 .right)
+    (is-none (roomOf (args .contents .now) (args .bodies .now)) (objectsAt (args .n) (args .b) (args .contents .now) (args .bodies .now)) (args .k) (args .w)
+    (args .x) (args .y) (at-start .pre .1) (at-if1 .if1 .left) (at-if2 .if2 .left) (at-if3 .if3 .left) (c .before .before .before .if4 .left)
+    (c .before .before .if5 .left) (c .before .if6 .left) (c .if7 .left))
 
 pub perform-spec : {M : Type 1} → statement M
 perform-spec =

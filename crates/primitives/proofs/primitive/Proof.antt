@@ -12,7 +12,12 @@ primitive-count-requires : tie.Need-primitive-count-requires
 primitive-count-requires c κs = search needs
 
 returns : tie.Need-returns
-returns c = does-none (c .before .before .before .before .args .n) (c .before .before .before .before .args .b) (c .before .before .before .before .args .contents .now) (c .before .before .before .before .args .bodies .now) (c .before .before .before .before .pre .0 .right) (other-count (roomOf (c .before .before .before .before .args .contents .now) (c .before .before .before .before .args .bodies .now)) (objectsAt (c .before .before .before .before .args .n) (c .before .before .before .before .args .b) (c .before .before .before .before .args .contents .now) (c .before .before .before .before .args .bodies .now)) (c .before .before .before .before .args .k) (c .before .before .before .before .args .w) (c .before .before .before .before .args .x) (c .before .before .before .before .args .y) (c .before .before .before .before .args .count) (λ q. (c .if1 .taken) (q ∙ sym (c .before .primitive-count .ensures))))
+returns c =
+    let at-start = c .before .before .before .before in
+    let args = at-start .args in
+    does-none (args .n) (args .b) (args .contents .now) (args .bodies .now) (at-start .pre .0 .right)
+    (other-count (roomOf (args .contents .now) (args .bodies .now)) (objectsAt (args .n) (args .b) (args .contents .now) (args .bodies .now)) (args .k)
+    (args .w) (args .x) (args .y) (args .count) (λ q. (c .if1 .taken) (q ∙ sym (c .before .primitive-count .ensures))))
 
 perform-requires : tie.Need-perform-requires
 perform-requires c κs = search needs
@@ -24,7 +29,14 @@ same-length-2 : tie.Need-same-length-2
 same-length-2 c = search needs
 
 returns-2 : tie.Need-returns-2
-returns-2 c = does-same (own-count (roomOf (c .before .before .before .before .before .before .before .before .before .before .before .args .contents .now) (c .before .before .before .before .before .before .before .before .before .before .before .args .bodies .now)) (objectsAt (c .before .before .before .before .before .before .before .before .before .before .before .args .n) (c .before .before .before .before .before .before .before .before .before .before .before .args .b) (c .before .before .before .before .before .before .before .before .before .before .before .args .contents .now) (c .before .before .before .before .before .before .before .before .before .before .before .args .bodies .now)) (c .before .before .before .before .before .before .before .before .before .before .before .args .k) (c .before .before .before .before .before .before .before .before .before .before .before .args .w) (c .before .before .before .before .before .before .before .before .before .before .before .args .x) (c .before .before .before .before .before .before .before .before .before .before .before .args .y) (c .before .before .before .before .before .before .before .before .before .before .before .args .count) (c .before .before .before .before .before .before .before .if1 .left ∙ c .before .before .before .before .before .before .before .before .primitive-count .ensures)) (c .before .before .before .before .perform .ensures)
+returns-2 c =
+    let at-perform = c .before .before .before .before in
+    let at-if1 = at-perform .before .before .before in
+    let at-primitive-count = at-if1 .before in
+    let at-start = at-primitive-count .before .before .before in
+    let args = at-start .args in
+    does-same (own-count (roomOf (args .contents .now) (args .bodies .now)) (objectsAt (args .n) (args .b) (args .contents .now) (args .bodies .now)) (args .k)
+    (args .w) (args .x) (args .y) (args .count) (at-if1 .if1 .left ∙ at-primitive-count .primitive-count .ensures)) (at-perform .perform .ensures)
 
 pub primitive-spec : {M : Type 1} → statement M
 primitive-spec =

@@ -13,19 +13,43 @@ returns : tie.Need-returns
 returns c = size-none _ _ 0 (not-taken _ _ _ (c .before .elements .ensures) (c .if1 .taken))
 
 size-of-requires : tie.Need-size-of-requires
-size-of-requires c κs = receiver-listed (c .before .before .before .before .pre) ((taken (objectsAt (c .before .before .before .before .args .n) (c .before .before .before .before .args .b) (c .before .before .before .before .args .contents .now) (c .before .before .before .before .args .bodies .now)) (c .before .before .before .before .args .w) (c .before .elements .result) (c .before .elements .ensures) (c .if1 .left)) .even)
+size-of-requires c κs =
+    let at-start = c .before .before .before .before in
+    let args = at-start .args in
+    receiver-listed (at-start .pre) ((taken (objectsAt (args .n) (args .b) (args .contents .now) (args .bodies .now)) (args .w) (c .before .elements .result)
+    (c .before .elements .ensures) (c .if1 .left)) .even)
 
 mul-t10 : tie.Need-mul-t10
-mul-t10 c = let t = (taken (objectsAt (c .before .before .before .before .before .args .n) (c .before .before .before .before .before .args .b) (c .before .before .before .before .before .args .contents .now) (c .before .before .before .before .before .args .bodies .now)) (c .before .before .before .before .before .args .w) (c .before .before .elements .result) (c .before .before .elements .ensures) (c .before .if1 .left)) in let s = t .small in let e = c .size-of .ensures in omega arith
+mul-t10 c =
+    let at-elements = c .before .before in
+    let at-start = at-elements .before .before .before in
+    let args = at-start .args in
+    let t = (taken (objectsAt (args .n) (args .b) (args .contents .now) (args .bodies .now)) (args .w) (at-elements .elements .result)
+    (at-elements .elements .ensures) (c .before .if1 .left)) in let s = t .small in let e = c .size-of .ensures in omega arith
 
 add-t11 : tie.Need-add-t11
-add-t11 c = let t = (taken (objectsAt (c .before .before .before .before .before .args .n) (c .before .before .before .before .before .args .b) (c .before .before .before .before .before .args .contents .now) (c .before .before .before .before .before .args .bodies .now)) (c .before .before .before .before .before .args .w) (c .before .before .elements .result) (c .before .before .elements .ensures) (c .before .if1 .left)) in let s = t .small in let e = c .size-of .ensures in omega arith
+add-t11 c =
+    let at-elements = c .before .before in
+    let at-start = at-elements .before .before .before in
+    let args = at-start .args in
+    let t = (taken (objectsAt (args .n) (args .b) (args .contents .now) (args .bodies .now)) (args .w) (at-elements .elements .result)
+    (at-elements .elements .ensures) (c .before .if1 .left)) in let s = t .small in let e = c .size-of .ensures in omega arith
 
 cast-t12 : tie.Need-cast-t12
-cast-t12 c = let t = (taken (objectsAt (c .before .before .before .before .before .args .n) (c .before .before .before .before .before .args .b) (c .before .before .before .before .before .args .contents .now) (c .before .before .before .before .before .args .bodies .now)) (c .before .before .before .before .before .args .w) (c .before .before .elements .result) (c .before .before .elements .ensures) (c .before .if1 .left)) in let s = t .small in let e = c .size-of .ensures in omega arith
+cast-t12 c =
+    let at-elements = c .before .before in
+    let at-start = at-elements .before .before .before in
+    let args = at-start .args in
+    let t = (taken (objectsAt (args .n) (args .b) (args .contents .now) (args .bodies .now)) (args .w) (at-elements .elements .result)
+    (at-elements .elements .ensures) (c .before .if1 .left)) in let s = t .small in let e = c .size-of .ensures in omega arith
 
 returns-2 : tie.Need-returns-2
-returns-2 c = size-some _ _ 0 _ (taken (objectsAt (c .before .before .before .before .before .args .n) (c .before .before .before .before .before .args .b) (c .before .before .before .before .before .args .contents .now) (c .before .before .before .before .before .args .bodies .now)) (c .before .before .before .before .before .args .w) (c .before .before .elements .result) (c .before .before .elements .ensures) (c .before .if1 .left)) _ (c .size-of .ensures)
+returns-2 c =
+    let at-elements = c .before .before in
+    let at-start = at-elements .before .before .before in
+    let args = at-start .args in
+    size-some _ _ 0 _ (taken (objectsAt (args .n) (args .b) (args .contents .now) (args .bodies .now)) (args .w) (at-elements .elements .result)
+    (at-elements .elements .ensures) (c .before .if1 .left)) _ (c .size-of .ensures)
 
 pub size-answer-spec : {M : Type 1} → statement M
 size-answer-spec =

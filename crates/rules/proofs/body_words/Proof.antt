@@ -19,10 +19,13 @@ add-result : tie.Need-add-result
 add-result c = search needs
 
 returns : tie.Need-returns
-returns c = λ b bodies. let a = c .before .before .before .before .before .args in body-bytes (objectsAt (a .n) b (a .contents .now) bodies) (a .k) _ (c .before .before .before .size .ensures) (ap sizedInBytes (sym (c .before .before .kind .ensures)) ∙ sym (c .before .in-bytes .ensures) ∙ c .if1 .taken)
+returns c = λ b bodies. let a = c .before .before .before .before .before .args in body-bytes (objectsAt (a .n) b (a .contents .now) bodies) (a .k) _
+    (c .before .before .before .size .ensures) (ap sizedInBytes (sym (c .before .before .kind .ensures)) ∙ sym (c .before .in-bytes .ensures) ∙ c .if1 .taken)
 
 returns-2 : tie.Need-returns-2
-returns-2 c = λ b bodies. let a = c .before .before .before .before .before .args in c .before .before .before .size .ensures ∙ sym (body-plain (objectsAt (a .n) b (a .contents .now) bodies) (a .k) (ap sizedInBytes (sym (c .before .before .kind .ensures)) ∙ sym (c .before .in-bytes .ensures) ∙ c .if1 .left))
+returns-2 c = λ b bodies. let a = c .before .before .before .before .before .args in c .before .before .before .size .ensures
+    ∙ sym (body-plain (objectsAt (a .n) b (a .contents .now) bodies) (a .k) (ap sizedInBytes (sym (c .before .before .kind .ensures))
+    ∙ sym (c .before .in-bytes .ensures) ∙ c .if1 .left))
 
 pub body-words-spec : {M : Type 1} → statement M
 body-words-spec =

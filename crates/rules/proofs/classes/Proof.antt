@@ -21,9 +21,11 @@ shapes-requires c κs = search needs
 
 returns-2 : tie.Need-returns-2
 returns-2 c =
-    let a = c .before .before .before .before .before .before .args in
+    let at-known-fine = c .before .before .before in
+    let at-start = at-known-fine .before .before .before in
+    let a = at-start .args in
     let o = objectsAt (a .n) (a .b) (a .contents .now) (a .bodies .now) in
-    sym (no-shape o (sym (c .before .before .before .known-fine .ensures) ∙ not-false _ (c .before .before .if1 .left)) (sym (c .before .shapes .ensures) ∙ not-true _ (c .if2 .taken)))
+    sym (no-shape o (sym (at-known-fine .known-fine .ensures) ∙ not-false _ (c .before .before .if1 .left)) (sym (c .before .shapes .ensures) ∙ not-true _ (c .if2 .taken)))
 
 chains-requires : tie.Need-chains-requires
 chains-requires c κs =
@@ -32,9 +34,12 @@ chains-requires c κs =
 
 returns-3 : tie.Need-returns-3
 returns-3 c =
-    let a = c .before .before .before .before .before .before .before .args in
+    let at-if1 = c .before .before .before in
+    let at-known-fine = at-if1 .before in
+    let at-start = at-known-fine .before .before .before in
+    let a = at-start .args in
     let o = objectsAt (a .n) (a .b) (a .contents .now) (a .bodies .now) in
-    c .chains .ensures ∙ sym (by-chains o (sym (c .before .before .before .before .known-fine .ensures) ∙ not-false _ (c .before .before .before .if1 .left)) (sym (c .before .before .shapes .ensures) ∙ not-false _ (c .before .if2 .left)))
+    c .chains .ensures ∙ sym (by-chains o (sym (at-known-fine .known-fine .ensures) ∙ not-false _ (at-if1 .if1 .left)) (sym (c .before .before .shapes .ensures) ∙ not-false _ (c .before .if2 .left)))
 
 pub classes-spec : {M : Type 1} → statement M
 classes-spec =

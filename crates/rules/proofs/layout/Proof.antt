@@ -38,10 +38,12 @@ object-layout-requires c κs =
 
 returns : tie.Need-returns Inv-loop μ-loop
 returns c =
-    let a = c .before .before .before .before .before .before .args in
+    let at-loop = c .before .before .before in
+    let at-start = at-loop .before .before .before in
+    let a = at-start .args in
     let o = objectsAt (a .n) (a .b) (a .contents .now) (a .bodies .now) in
-    let i = c .before .before .before .loop .inv in
-    sym (laid-no o (c .before .before .before .loop .k) (i .least) (c .before .before .loop-test .taken) (sym (c .before .object-layout .ensures) ∙ not-true _ (c .if1 .taken)))
+    let i = at-loop .loop .inv in
+    sym (laid-no o (at-loop .loop .k) (i .least) (c .before .before .loop-test .taken) (sym (c .before .object-layout .ensures) ∙ not-true _ (c .if1 .taken)))
 
 body-end-requires : tie.Need-body-end-requires Inv-loop μ-loop
 body-end-requires c κs =
@@ -63,11 +65,18 @@ loop-less c =
 
 loop-again : tie.Need-loop-again Inv-loop μ-loop
 loop-again c =
-    let a = c .before .before .before .before .before .before .before .args in
+    let at-loop = c .before .before .before .before in
+    let at-start = at-loop .before .before .before in
+    let a = at-start .args in
     let o = objectsAt (a .n) (a .b) (a .contents .now) (a .bodies .now) in
-    let i = c .before .before .before .before .loop .inv in
+    let i = at-loop .loop .inv in
     let t = c .before .before .before .loop-test in
-    record { least = omega arith; most = omega arith; starts = c .body-end .ensures (a .b) (a .bodies .now) ∙ sym (start-next o (c .before .before .before .before .loop .k) (i .least)); passed = up-more (λ j. allOf (layoutRules 1 o j)) (c .before .before .before .before .loop .k) (i .passed) (sym (c .before .before .object-layout .ensures) ∙ not-false _ (c .before .if1 .left)) }
+    record {
+      least = omega arith;
+      most = omega arith;
+      starts = c .body-end .ensures (a .b) (a .bodies .now) ∙ sym (start-next o (at-loop .loop .k) (i .least));
+      passed = up-more (λ j. allOf (layoutRules 1 o j)) (at-loop .loop .k) (i .passed) (sym (c .before .before .object-layout .ensures) ∙ not-false _ (c .before .if1 .left));
+    }
 
 returns-2 : tie.Need-returns-2 Inv-loop μ-loop
 returns-2 c =

@@ -28,9 +28,14 @@ cast-if2 c = search needs
 returns-2 : tie.Need-returns-2
 unfolding layoutRules
 returns-2 c =
-    let a = c .before .before .before .before .before .before .args in
+    let at-start = c .before .before .before .before .before .before in
+    let a = at-start .args in
     let o = objectsAt (a .n) (a .b) (a .contents .now) (a .bodies .now) in
-    simp (ap (λ (x : ℕ). leb x 4) (sym (c .before .before .before .kind .ensures)) ∙ le-leb _ _ (c .before .before .if1 .left), start-no o (a .k) (λ e. c .if2 .taken (c .before .start .ensures ∙ e ∙ sym (c .before .before .before .before .before .before .pre .1 .1))))
+    simp (
+      ap (λ (x : ℕ). leb x 4) (sym (c .before .before .before .kind .ensures)) ∙ le-leb _ _ (c .before .before .if1 .left),
+      start-no o (a .k)
+          (λ e. c .if2 .taken (c .before .start .ensures ∙ e ∙ sym (at-start .pre .1 .1))),
+    )
 
 size-requires : tie.Need-size-requires
 size-requires c κs = search needs
@@ -41,9 +46,19 @@ class-size-requires c κs = search needs
 returns-3 : tie.Need-returns-3
 unfolding layoutRules
 returns-3 c =
-    let a = c .before .before .before .before .before .before .before .before .before .args in
+    let at-start = c .before .before .before .before in
+    let at-if1 = at-start .before in
+    let at-kind = at-if1 .before in
+    let at-start′ = at-kind .before .before .before in
+    let a = at-start′ .args in
     let o = objectsAt (a .n) (a .b) (a .contents .now) (a .bodies .now) in
-    simp (ap (λ (x : ℕ). leb x 4) (sym (c .before .before .before .before .before .before .kind .ensures)) ∙ le-leb _ _ (c .before .before .before .before .before .if1 .left), start-yes o (a .k) (sym (c .before .before .before .before .start .ensures) ∙ c .before .before .before .if2 .left ∙ c .before .before .before .before .before .before .before .before .before .pre .1 .1), ap₂ (λ (x y : ℕ). implies (eqb x 2) (eqb y 4)) (sym (c .before .before .before .before .before .before .kind .ensures)) (sym (c .before .before .size .ensures)) ∙ sym (c .before .class-size .ensures) ∙ not-true _ (c .if3 .taken))
+    simp (
+      ap (λ (x : ℕ). leb x 4) (sym (at-kind .kind .ensures)) ∙ le-leb _ _ (at-if1 .if1 .left),
+      start-yes o (a .k) (sym (at-start .start .ensures)
+          ∙ c .before .before .before .if2 .left ∙ at-start′ .pre .1 .1),
+      ap₂ (λ (x y : ℕ). implies (eqb x 2) (eqb y 4)) (sym (at-kind .kind .ensures))
+          (sym (c .before .before .size .ensures)) ∙ sym (c .before .class-size .ensures) ∙ not-true _ (c .if3 .taken),
+    )
 
 padding-requires : tie.Need-padding-requires
 padding-requires c κs = search needs
@@ -51,9 +66,21 @@ padding-requires c κs = search needs
 returns-4 : tie.Need-returns-4
 unfolding layoutRules
 returns-4 c =
-    let a = c .before .before .before .before .before .before .before .before .before .before .args in
+    let at-if2 = c .before .before .before .before in
+    let at-start = at-if2 .before in
+    let at-if1 = at-start .before in
+    let at-kind = at-if1 .before in
+    let at-start′ = at-kind .before .before .before in
+    let a = at-start′ .args in
     let o = objectsAt (a .n) (a .b) (a .contents .now) (a .bodies .now) in
-    simp (ap (λ (x : ℕ). leb x 4) (sym (c .before .before .before .before .before .before .before .kind .ensures)) ∙ le-leb _ _ (c .before .before .before .before .before .before .if1 .left), start-yes o (a .k) (sym (c .before .before .before .before .before .start .ensures) ∙ c .before .before .before .before .if2 .left ∙ c .before .before .before .before .before .before .before .before .before .before .pre .1 .1), ap₂ (λ (x y : ℕ). implies (eqb x 2) (eqb y 4)) (sym (c .before .before .before .before .before .before .before .kind .ensures)) (sym (c .before .before .before .size .ensures)) ∙ sym (c .before .before .class-size .ensures) ∙ not-false _ (c .before .if3 .left), and-true) (c .padding .ensures)
+    simp (
+      ap (λ (x : ℕ). leb x 4) (sym (at-kind .kind .ensures)) ∙ le-leb _ _ (at-if1 .if1 .left),
+      start-yes o (a .k) (sym (at-start .start .ensures)
+          ∙ at-if2 .if2 .left ∙ at-start′ .pre .1 .1),
+      ap₂ (λ (x y : ℕ). implies (eqb x 2) (eqb y 4)) (sym (at-kind .kind .ensures))
+          (sym (c .before .before .before .size .ensures)) ∙ sym (c .before .before .class-size .ensures) ∙ not-false _ (c .before .if3 .left),
+      and-true,
+    ) (c .padding .ensures)
 
 pub object-layout-spec : {M : Type 1} → statement M
 object-layout-spec =

@@ -20,7 +20,8 @@ is-valid-requires c κs = search needs
 returns : tie.Need-returns
 returns c =
     let a = c .before .before .before .before .before .args in
-    words-no (objectsAt (a .n) (a .b) (a .contents .now) (a .bodies .now)) (a .k) (ap (isValid (a .n)) (sym (c .before .before .class-word .ensures)) ∙ sym (c .before .is-valid .ensures) ∙ not-true _ (c .if1 .taken))
+    words-no (objectsAt (a .n) (a .b) (a .contents .now) (a .bodies .now)) (a .k) (ap (isValid (a .n)) (sym (c .before .before .class-word .ensures))
+    ∙ sym (c .before .is-valid .ensures) ∙ not-true _ (c .if1 .taken))
 
 kind-requires : tie.Need-kind-requires
 kind-requires c κs = search needs
@@ -30,8 +31,14 @@ in-bytes-requires c κs = search needs
 
 returns-2 : tie.Need-returns-2
 returns-2 c =
-    let a = c .before .before .before .before .before .before .before .before .args in
-    words-bytes (objectsAt (a .n) (a .b) (a .contents .now) (a .bodies .now)) (a .k) (ap (isValid (a .n)) (sym (c .before .before .before .before .before .class-word .ensures)) ∙ sym (c .before .before .before .before .is-valid .ensures) ∙ not-false _ (c .before .before .before .if1 .left)) (ap sizedInBytes (sym (c .before .before .kind .ensures)) ∙ sym (c .before .in-bytes .ensures) ∙ c .if2 .taken)
+    let at-if1 = c .before .before .before in
+    let at-is-valid = at-if1 .before in
+    let at-class-word = at-is-valid .before in
+    let at-start = at-class-word .before .before .before in
+    let a = at-start .args in
+    words-bytes (objectsAt (a .n) (a .b) (a .contents .now) (a .bodies .now)) (a .k) (ap (isValid (a .n)) (sym (at-class-word .class-word .ensures))
+    ∙ sym (at-is-valid .is-valid .ensures) ∙ not-false _ (at-if1 .if1 .left)) (ap sizedInBytes (sym (c .before .before .kind .ensures))
+    ∙ sym (c .before .in-bytes .ensures) ∙ c .if2 .taken)
 
 start-requires : tie.Need-start-requires
 start-requires c κs = search needs
@@ -59,11 +66,13 @@ part-valid-words-start c = search needs
 
 part-valid-words-end : tie.Need-part-valid-words-end
 part-valid-words-end c =
-    let a = c .before .before .before .before .before .before .before .before .before .before .args in
-    let p = c .before .before .before .before .before .before .before .before .before .before .pre in
+    let at-kind = c .before .before .before .before in
+    let at-start = at-kind .before .before .before .before .before .before in
+    let a = at-start .args in
+    let p = at-start .pre in
     let o = objectsAt (a .n) (a .b) (a .contents .now) (a .bodies .now) in
     let h = inside-at o (p .0 .layout) (a .k) (p .1 .0) (p .1 .1) in
-    let w = body-plain o (a .k) (ap sizedInBytes (sym (c .before .before .before .before .kind .ensures)) ∙ sym (c .before .before .before .in-bytes .ensures) ∙ c .before .before .if2 .left) in
+    let w = body-plain o (a .k) (ap sizedInBytes (sym (at-kind .kind .ensures)) ∙ sym (c .before .before .before .in-bytes .ensures) ∙ c .before .before .if2 .left) in
     let s = c .before .start .ensures in
     let z = c .size .ensures in
     let l = p .0 .lent .words in
@@ -74,17 +83,26 @@ valid-words-requires c κs = search needs
 
 returns-3 : tie.Need-returns-3
 returns-3 c =
-    let a = c .before .before .before .before .before .before .before .before .before .before .before .before .args in
-    let p = c .before .before .before .before .before .before .before .before .before .before .before .before .pre in
+    let at-size = c .before .before in
+    let at-start = at-size .before in
+    let at-if2 = at-start .before in
+    let at-in-bytes = at-if2 .before in
+    let at-kind = at-in-bytes .before in
+    let at-if1 = at-kind .before in
+    let at-is-valid = at-if1 .before in
+    let at-class-word = at-is-valid .before in
+    let at-start′ = at-class-word .before .before .before in
+    let a = at-start′ .args in
+    let p = at-start′ .pre in
     let o = objectsAt (a .n) (a .b) (a .contents .now) (a .bodies .now) in
     let g = inside-at o (p .0 .layout) (a .k) (p .1 .0) (p .1 .1) in
-    let t = ap sizedInBytes (sym (c .before .before .before .before .before .before .kind .ensures)) ∙ sym (c .before .before .before .before .before .in-bytes .ensures) ∙ c .before .before .before .before .if2 .left in
+    let t = ap sizedInBytes (sym (at-kind .kind .ensures)) ∙ sym (at-in-bytes .in-bytes .ensures) ∙ at-if2 .if2 .left in
     let w = body-plain o (a .k) t in
-    let s = c .before .before .before .start .ensures in
-    let z = c .before .before .size .ensures in
-    let count : c .before .before .before .start .result + c .before .before .size .result - c .before .before .before .start .result ≡ bodyWords o (a .k) = omega arith in
+    let s = at-start .start .ensures in
+    let z = at-size .size .ensures in
+    let count : at-start .start .result + at-size .size .result - at-start .start .result ≡ bodyWords o (a .k) = omega arith in
     c .valid-words .ensures ∙ ap (every (isValid (a .n))) (ap₂ (part (a .bodies .now)) s count ∙ sym (body-part (a .n) (a .b) (a .contents .now) (a .bodies .now) (a .k) (p .0 .lent .words) g))
-    ∙ words-all o (a .k) (ap (isValid (a .n)) (sym (c .before .before .before .before .before .before .before .before .before .class-word .ensures)) ∙ sym (c .before .before .before .before .before .before .before .before .is-valid .ensures) ∙ not-false _ (c .before .before .before .before .before .before .before .if1 .left)) t
+    ∙ words-all o (a .k) (ap (isValid (a .n)) (sym (at-class-word .class-word .ensures)) ∙ sym (at-is-valid .is-valid .ensures) ∙ not-false _ (at-if1 .if1 .left)) t
 
 pub object-words-spec : {M : Type 1} → statement M
 object-words-spec =

@@ -30,8 +30,11 @@ is-valid-requires c κs = search needs
 
 returns : tie.Need-returns Inv-loop μ-loop
 returns c =
-    let a = c .before .before .before .before .before .before .args in
-    sym (every-no (isValid (a .n)) (a .words .now) (c .before .before .before .before .loop .i) (c .before .before .before .loop-test .taken) (sym (c .before .is-valid .ensures) ∙ not-true _ (c .if1 .taken)))
+    let at-loop-test = c .before .before .before in
+    let at-loop = at-loop-test .before in
+    let at-start = at-loop .before .before in
+    let a = at-start .args in
+    sym (every-no (isValid (a .n)) (a .words .now) (at-loop .loop .i) (at-loop-test .loop-test .taken) (sym (c .before .is-valid .ensures) ∙ not-true _ (c .if1 .taken)))
 
 add-i : tie.Need-add-i Inv-loop μ-loop
 add-i c = omega arith
@@ -41,8 +44,10 @@ loop-less c = omega arith
 
 loop-again : tie.Need-loop-again Inv-loop μ-loop
 loop-again c =
-    let a = c .before .before .before .before .before .before .args in
-    (omega arith, before-more (λ j. isValid (a .n) (getD (a .words .now) j 0)) (c .before .before .before .before .loop .i) (c .before .before .before .before .loop .inv .1) (sym (c .before .is-valid .ensures) ∙ not-false _ (c .if1 .left)))
+    let at-loop = c .before .before .before .before in
+    let at-start = at-loop .before .before in
+    let a = at-start .args in
+    (omega arith, before-more (λ j. isValid (a .n) (getD (a .words .now) j 0)) (at-loop .loop .i) (at-loop .loop .inv .1) (sym (c .before .is-valid .ensures) ∙ not-false _ (c .if1 .left)))
 
 returns-2 : tie.Need-returns-2 Inv-loop μ-loop
 returns-2 c =

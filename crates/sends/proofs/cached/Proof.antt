@@ -46,7 +46,11 @@ shared-slice-read-t11 : tie.Need-shared-slice-read-t11
 shared-slice-read-t11 c = search needs
 
 returns-3 : tie.Need-returns-3
-returns-3 c = entry-found _ _ _ _ _ (c .before .before .before .before .before .before .before .before .before .before .pre .caches .fine) (c .before .before .before .before .before .before .before .before .before .before .pre .named) (c .before .before .before .before .before .before .entry .ensures .1) (c .before .before .before .before .if1 .left) (c .before .if2 .left)
+returns-3 c =
+    let at-if1 = c .before .before .before .before in
+    let at-entry = at-if1 .before .before in
+    let at-start = at-entry .before .before .before .before in
+    entry-found _ _ _ _ _ (at-start .pre .caches .fine) (at-start .pre .named) (at-entry .entry .ensures .1) (at-if1 .if1 .left) (c .before .if2 .left)
 
 pub cached-spec : {M : Type 1} → statement M
 cached-spec =

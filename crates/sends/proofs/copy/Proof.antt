@@ -46,7 +46,11 @@ same-length : tie.Need-same-length Inv-loop μ-loop
 same-length c = search needs
 
 returns-2 : tie.Need-returns-2 Inv-loop μ-loop
-returns-2 c = ap (λ (k : ℕ). take k (set (c .before .before .before .args .words .now) 0 (getD (c .before .before .before .args .stack .now) (c .before .before .before .args .from) 0))) (c .if2 .taken) ∙ first (c .before .before .before .args .words .now) (c .before .before .before .args .stack .now) (c .before .before .before .args .from) (omega arith) (omega arith) ∙ ap (λ (k : ℕ). part (c .before .before .before .args .stack .now) (c .before .before .before .args .from) k) (sym (c .if2 .taken))
+returns-2 c =
+    let at-start = c .before .before .before in
+    let args = at-start .args in
+    ap (λ (k : ℕ). take k (set (args .words .now) 0 (getD (args .stack .now) (args .from) 0))) (c .if2 .taken) ∙ first (args .words .now) (args .stack .now)
+    (args .from) (omega arith) (omega arith) ∙ ap (λ (k : ℕ). part (args .stack .now) (args .from) k) (sym (c .if2 .taken))
 
 add-words : tie.Need-add-words Inv-loop μ-loop
 add-words c = omega arith
@@ -61,7 +65,10 @@ slice-write-words-2 : tie.Need-slice-write-words-2 Inv-loop μ-loop
 slice-write-words-2 c = simp length-set (omega arith)
 
 loop-holds : tie.Need-loop-holds Inv-loop μ-loop
-loop-holds c = (omega arith, refl, second (c .before .before .before .before .args .words .now) (c .before .before .before .before .args .stack .now) (c .before .before .before .before .args .from) (omega arith) (omega arith))
+loop-holds c =
+    let at-start = c .before .before .before .before in
+    let args = at-start .args in
+    (omega arith, refl, second (args .words .now) (args .stack .now) (args .from) (omega arith) (omega arith))
 
 add-words-2 : tie.Need-add-words-2 Inv-loop μ-loop
 add-words-2 c = omega arith
@@ -76,7 +83,10 @@ mul-words-4 : tie.Need-mul-words-4 Inv-loop μ-loop
 mul-words-4 c = search needs
 
 slice-write-words-3 : tie.Need-slice-write-words-3 Inv-loop μ-loop
-slice-write-words-3 c = let l = before-loop (c .before .before .before .before .before .before .before .args .words .now) (c .before .before .before .before .before .before .before .args .stack .now) (c .before .before .before .before .before .before .before .args .from) in let k = c .before .before .loop .inv .1 in omega arith
+slice-write-words-3 c =
+    let at-start = c .before .before .before .before .before .before .before in
+    let args = at-start .args in
+    let l = before-loop (args .words .now) (args .stack .now) (args .from) in let k = c .before .before .loop .inv .1 in omega arith
 
 add-i : tie.Need-add-i Inv-loop μ-loop
 add-i c = search needs
@@ -85,13 +95,30 @@ loop-less : tie.Need-loop-less Inv-loop μ-loop
 loop-less c = omega arith
 
 loop-again : tie.Need-loop-again Inv-loop μ-loop
-loop-again c = let l = before-loop (c .before .before .before .before .before .before .before .args .words .now) (c .before .before .before .before .before .before .before .args .stack .now) (c .before .before .before .before .before .before .before .args .from) in let k = c .before .before .loop .inv .1 in (omega arith, length-set (c .before .before .loop .words) (c .before .before .loop .i) _ ∙ c .before .before .loop .inv .1, copied-more (c .before .before .loop .words) (c .before .before .before .before .before .before .before .args .stack .now) (c .before .before .before .before .before .before .before .args .from) (c .before .before .loop .i) (omega arith) (omega arith) (c .before .before .loop .inv .2))
+loop-again c =
+    let at-loop = c .before .before in
+    let at-start = at-loop .before .before .before .before .before in
+    let args = at-start .args in
+    let l = before-loop (args .words .now) (args .stack .now) (args .from) in let k = at-loop .loop .inv .1 in (
+      omega arith,
+      length-set (at-loop .loop .words)
+          (at-loop .loop .i) _ ∙ at-loop .loop .inv .1,
+      copied-more (at-loop .loop .words) (args .stack .now) (args .from) (at-loop .loop .i) (omega arith)
+          (omega arith) (at-loop .loop .inv .2),
+    )
 
 same-length-2 : tie.Need-same-length-2 Inv-loop μ-loop
-same-length-2 c = c .before .loop .inv .1 ∙ sym (before-loop (c .before .before .before .before .before .before .args .words .now) (c .before .before .before .before .before .before .args .stack .now) (c .before .before .before .before .before .before .args .from))
+same-length-2 c =
+    let at-start = c .before .before .before .before .before .before in
+    let args = at-start .args in
+    c .before .loop .inv .1 ∙ sym (before-loop (args .words .now) (args .stack .now) (args .from))
 
 returns-3 : tie.Need-returns-3 Inv-loop μ-loop
-returns-3 c = let e : c .before .loop .i ≡ c .before .before .before .before .before .before .args .count = omega arith in ap (λ (k : ℕ). take k (c .before .loop .words)) (sym e) ∙ c .before .loop .inv .2 ∙ ap (λ (k : ℕ). part (c .before .before .before .before .before .before .args .stack .now) (c .before .before .before .before .before .before .args .from) k) e
+returns-3 c =
+    let at-start = c .before .before .before .before .before .before in
+    let args = at-start .args in
+    let e : c .before .loop .i ≡ args .count = omega arith in ap (λ (k : ℕ). take k (c .before .loop .words)) (sym e) ∙ c .before .loop .inv .2
+    ∙ ap (λ (k : ℕ). part (args .stack .now) (args .from) k) e
 
 pub copy-spec : {M : Type 1} → statement M
 copy-spec =

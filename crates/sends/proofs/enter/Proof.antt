@@ -41,7 +41,17 @@ same-length : tie.Need-same-length
 same-length c = search needs
 
 returns : tie.Need-returns
-returns c = lent-sets (newWords (c .before .before .before .before .before .before .before .before .before .before .before .before .before .before .args .top .0) (c .before .before .before .before .before .before .before .before .before .before .before .before .before .before .args .method .0) (c .before .before .before .before .before .before .before .before .before .before .before .before .before .before .args .receiver) (c .before .before .before .before .before .before .before .before .before .before .before .before .before .before .args .temporaries) (take (c .before .before .before .before .before .before .before .before .before .before .before .before .before .before .args .count) (c .before .before .before .before .before .before .before .before .before .before .copy .last .0))) (c .before .before .before .before .before .before .before .move-to .last .0) (c .before .before .write-frame .last .0) (c .before .before .before .before .before .before .before .before .before .before .before .before .before .before .args .base) (let f = c .before .before .before .before .before .before .before .before .before .before .before .before .before .before .pre .fits in let l = c .before .before .before .before .before .before .before .move-to .kept .0 in omega arith) (c .before .before .write-frame .ensures) ∙ ap₂ (λ (xs ws : List ℕ). sets xs (c .before .before .before .before .before .before .before .before .before .before .before .before .before .before .args .base) (newWords (c .before .before .before .before .before .before .before .before .before .before .before .before .before .before .args .top .0) (c .before .before .before .before .before .before .before .before .before .before .before .before .before .before .args .method .0) (c .before .before .before .before .before .before .before .before .before .before .before .before .before .before .args .receiver) (c .before .before .before .before .before .before .before .before .before .before .before .before .before .before .args .temporaries) ws)) (c .before .before .before .before .before .before .before .move-to .ensures) (c .before .before .before .before .before .before .before .before .before .before .copy .ensures)
+returns c =
+    let at-write-frame = c .before .before in
+    let at-move-to = at-write-frame .before .before .before .before .before in
+    let at-copy = at-move-to .before .before .before in
+    let at-start = at-copy .before .before .before .before in
+    let args = at-start .args in
+    lent-sets (newWords (args .top .0) (args .method .0) (args .receiver) (args .temporaries) (take (args .count) (at-copy .copy .last .0)))
+    (at-move-to .move-to .last .0) (at-write-frame .write-frame .last .0) (args .base)
+    (let f = at-start .pre .fits in let l = at-move-to .move-to .kept .0 in omega arith) (at-write-frame .write-frame .ensures)
+    ∙ ap₂ (λ (xs ws : List ℕ). sets xs (args .base) (newWords (args .top .0) (args .method .0) (args .receiver) (args .temporaries) ws))
+    (at-move-to .move-to .ensures) (at-copy .copy .ensures)
 
 pub enter-spec : {M : Type 1} → statement M
 enter-spec =

@@ -16,13 +16,22 @@ home-requires : tie.Need-home-requires
 home-requires c κs = search needs
 
 class-of-requires : tie.Need-class-of-requires
-class-of-requires c κs = (c .before .before .before .before .pre .valid, contents-room (c .before .before .before .before .args .n) (c .before .before .before .before .args .b) (c .before .before .before .before .args .contents .now) (c .before .before .before .before .args .bodies .now) (c .before .before .before .before .pre .right))
+class-of-requires c κs =
+    let at-start = c .before .before .before .before in
+    let args = at-start .args in
+    (at-start .pre .valid, contents-room (args .n) (args .b) (args .contents .now) (args .bodies .now) (at-start .pre .right))
 
 in-chain-requires : tie.Need-in-chain-requires
-in-chain-requires c κs = (c .before .before .before .before .before .pre .right, class-starts (c .before .before .before .before .before .pre .right) _ _ (c .before .before .before .before .before .pre .valid) (c .class-of .ensures (c .before .before .before .before .before .args .b) (c .before .before .before .before .before .args .bodies .now)))
+in-chain-requires c κs =
+    let at-start = c .before .before .before .before .before in
+    (at-start .pre .right, class-starts (at-start .pre .right) _ _ (at-start .pre .valid) (c .class-of .ensures (at-start .args .b) (at-start .args .bodies .now)))
 
 returns-2 : tie.Need-returns-2
-returns-2 c = c .in-chain .ensures ∙ ap₂ (λ (h k : ℕ). inChain (objectsAt (c .before .before .before .before .before .before .args .n) (c .before .before .before .before .before .before .args .b) (c .before .before .before .before .before .before .args .contents .now) (c .before .before .before .before .before .before .args .bodies .now)) h k) (c .before .before .home .ensures) (c .before .class-of .ensures (c .before .before .before .before .before .before .args .b) (c .before .before .before .before .before .before .args .bodies .now))
+returns-2 c =
+    let at-start = c .before .before .before .before .before .before in
+    let args = at-start .args in
+    c .in-chain .ensures ∙ ap₂ (λ (h k : ℕ). inChain (objectsAt (args .n) (args .b) (args .contents .now) (args .bodies .now)) h k)
+    (c .before .before .home .ensures) (c .before .class-of .ensures (args .b) (args .bodies .now))
 
 pub runs-on-spec : {M : Type 1} → statement M
 runs-on-spec =

@@ -26,22 +26,41 @@ same-length-3 : tie.Need-same-length-3
 same-length-3 c = search needs
 
 returns : tie.Need-returns
-returns c = λ receiver selector. (send-none (c .before .before .before .before .before .before .before .before .before .before .pre .0) _ receiver selector (sym (c .before .before .cached .ensures) ∙ c .enum-told .given .1), record { entries = refl; words = refl; frames = refl; cached = refl })
+returns c =
+    let at-start = c .before .before .before .before .before .before .before .before .before .before in
+    λ receiver selector. (
+      send-none (at-start .pre .0) _ receiver selector (sym (c .before .before .cached .ensures) ∙ c .enum-told .given .1),
+      record
+          { entries = refl; words = refl; frames = refl; cached = refl },
+    )
 
 received-requires : tie.Need-received-requires
-received-requires c κs = readable (c .before .before .before .before .before .before .before .before .before .before .before .before .pre .0) (c .before .before .before .before .before .before .before .before .before .before .before .before .pre .3)
+received-requires c κs =
+    let at-start = c .before .before .before .before .before .before .before .before .before .before .before .before in
+    readable (at-start .pre .0) (at-start .pre .3)
 
 acted-requires : tie.Need-acted-requires
-acted-requires c κs = activable (c .before .before .before .before .before .before .before .before .before .before .before .before .before .before .before .pre .0) (message (c .before .before .before .before .before .before .before .before .before .before .before .before .before .before .before .pre .0) (c .before .before .before .before .before .before .before .before .before .before .before .before .before .before .before .pre .3) (c .before .before .received .ensures)) _ (sym (c .before .before .before .before .before .before .before .cached .ensures) ∙ c .before .before .before .before .before .found .given .1)
+acted-requires c κs =
+    let at-found = c .before .before .before .before .before in
+    let at-cached = at-found .before .before in
+    let at-start = at-cached .before .before .before .before .before .before .before .before in
+    activable (at-start .pre .0) (message (at-start .pre .0) (at-start .pre .3) (c .before .before .received .ensures)) _ (sym (at-cached .cached .ensures) ∙ at-found .found .given .1)
 
 enum-known-done : tie.Need-enum-known-done
 enum-known-done c = search needs
 
 add-push : tie.Need-add-push
-add-push c = let t = top-bounds (c .before .before .before .before .before .before .before .before .before .before .before .before .before .before .before .before .before .before .before .before .before .before .before .before .pre .0 .runs) in let g = message (c .before .before .before .before .before .before .before .before .before .before .before .before .before .before .before .before .before .before .before .before .before .before .before .before .pre .0) (c .before .before .before .before .before .before .before .before .before .before .before .before .before .before .before .before .before .before .before .before .before .before .before .before .pre .3) (c .before .before .before .before .before .before .before .before .before .before .before .received .ensures) in let l = g .left in omega arith
+add-push c =
+    let at-received = c .before .before .before .before .before .before .before .before .before .before .before in
+    let at-start = at-received .before .before .before .before .before .before .before .before .before .before .before .before .before in
+    let t = top-bounds (at-start .pre .0 .runs) in let g = message (at-start .pre .0) (at-start .pre .3) (at-received .received .ensures) in let l = g .left in omega arith
 
 push-requires : tie.Need-push-requires
-push-requires c κs = let t = top-bounds (c .before .before .before .before .before .before .before .before .before .before .before .before .before .before .before .before .before .before .before .before .before .before .before .before .pre .0 .runs) in let h = c .before .before .before .before .before .before .before .before .before .before .before .before .before .before .before .before .before .before .before .before .before .before .before .before .pre .0 .needs in let g = message (c .before .before .before .before .before .before .before .before .before .before .before .before .before .before .before .before .before .before .before .before .before .before .before .before .pre .0) (c .before .before .before .before .before .before .before .before .before .before .before .before .before .before .before .before .before .before .before .before .before .before .before .before .pre .3) (c .before .before .before .before .before .before .before .before .before .before .before .received .ensures) in let p = g .place in let l = g .left in let x = c .before .before .before .before .before .before .before .before .before .before .before .before .before .before .before .before .before .before .before .before .before .before .before .before .pre .2 in (omega arith, omega arith, x, omega arith)
+push-requires c κs =
+    let at-received = c .before .before .before .before .before .before .before .before .before .before .before in
+    let at-start = at-received .before .before .before .before .before .before .before .before .before .before .before .before .before in
+    let t = top-bounds (at-start .pre .0 .runs) in let h = at-start .pre .0 .needs in let g = message (at-start .pre .0) (at-start .pre .3)
+    (at-received .received .ensures) in let p = g .place in let l = g .left in let x = at-start .pre .2 in (omega arith, omega arith, x, omega arith)
 
 fill-requires : tie.Need-fill-requires
 fill-requires c κs = c .before .before .before .before .before .before .before .before .before .before .before .before .before .before .before .before .before .before .before .before .before .before .before .before .before .before .before .before .pre .1 .long
@@ -53,16 +72,39 @@ enum-told-3 : tie.Need-enum-told-3
 enum-told-3 c = search needs
 
 new-base-requires : tie.Need-new-base-requires
-new-base-requires c κs = framing (c .before .before .before .before .before .before .before .before .before .before .before .before .before .before .before .before .before .before .before .before .before .before .before .before .pre .0) (message (c .before .before .before .before .before .before .before .before .before .before .before .before .before .before .before .before .before .before .before .before .before .before .before .before .pre .0) (c .before .before .before .before .before .before .before .before .before .before .before .before .before .before .before .before .before .before .before .before .before .before .before .before .pre .3) (c .before .before .before .before .before .before .before .before .before .before .before .received .ensures)) _ (sym (c .before .before .before .before .before .before .before .before .before .before .before .before .before .before .before .before .cached .ensures) ∙ c .before .before .before .before .before .before .before .before .before .before .before .before .before .before .found .given .1) (c .before .before .before .before .before .before .before .before .before .before .before .before .before .before .before .before .before .before .before .before .before .before .before .before .args .cache .now) (c .before .before .before .before .before .before .before .before .acted .last .0) (c .before .before .before .before .before .before .before .before .acted .last .1 .0) (c .before .before .before .before .before .before .before .before .acted .result) (c .before .before .before .before .before .before .before .before .acted .ensures) (c .before .before .enum-told3 .given .1)
+new-base-requires c κs =
+    let at-acted = c .before .before .before .before .before .before .before .before in
+    let at-received = at-acted .before .before .before in
+    let at-found = at-received .before .before .before in
+    let at-cached = at-found .before .before in
+    let at-start = at-cached .before .before .before .before .before .before .before .before in
+    framing (at-start .pre .0) (message (at-start .pre .0) (at-start .pre .3) (at-received .received .ensures)) _ (sym (at-cached .cached .ensures)
+    ∙ at-found .found .given .1) (at-start .args .cache .now) (at-acted .acted .last .0) (at-acted .acted .last .1 .0) (at-acted .acted .result)
+    (at-acted .acted .ensures) (c .before .before .enum-told3 .given .1)
 
 enum-known-fit : tie.Need-enum-known-fit
 enum-known-fit c = search needs
 
 add-enter : tie.Need-add-enter
-add-enter c = let t = top-bounds (c .before .before .before .before .before .before .before .before .before .before .before .before .before .before .before .before .before .before .before .before .before .before .before .before .before .before .before .before .before .pre .0 .runs) in let h = c .before .before .before .before .before .before .before .before .before .before .before .before .before .before .before .before .before .before .before .before .before .before .before .before .before .before .before .before .before .pre .0 .needs in let g = message (c .before .before .before .before .before .before .before .before .before .before .before .before .before .before .before .before .before .before .before .before .before .before .before .before .before .before .before .before .before .pre .0) (c .before .before .before .before .before .before .before .before .before .before .before .before .before .before .before .before .before .before .before .before .before .before .before .before .before .before .before .before .before .pre .3) (c .before .before .before .before .before .before .before .before .before .before .before .before .before .before .before .before .received .ensures) in let p = g .place in omega arith
+add-enter c =
+    let at-received = c .before .before .before .before .before .before .before .before .before .before .before .before .before .before .before .before in
+    let at-start = at-received .before .before .before .before .before .before .before .before .before .before .before .before .before in
+    let t = top-bounds (at-start .pre .0 .runs) in let h = at-start .pre .0 .needs in let g = message (at-start .pre .0) (at-start .pre .3)
+    (at-received .received .ensures) in let p = g .place in omega arith
 
 enter-requires : tie.Need-enter-requires
-enter-requires c κs = enters-there (c .before .before .before .before .before .before .before .before .before .before .before .before .before .before .before .before .before .before .before .before .before .before .before .before .before .before .before .before .before .pre .0) (message (c .before .before .before .before .before .before .before .before .before .before .before .before .before .before .before .before .before .before .before .before .before .before .before .before .before .before .before .before .before .pre .0) (c .before .before .before .before .before .before .before .before .before .before .before .before .before .before .before .before .before .before .before .before .before .before .before .before .before .before .before .before .before .pre .3) (c .before .before .before .before .before .before .before .before .before .before .before .before .before .before .before .before .received .ensures)) _ (sym (c .before .before .before .before .before .before .before .before .before .before .before .before .before .before .before .before .before .before .before .before .before .cached .ensures) ∙ c .before .before .before .before .before .before .before .before .before .before .before .before .before .before .before .before .before .before .before .found .given .1) (c .before .before .before .before .before .before .before .before .before .before .before .before .before .before .before .before .before .before .before .before .before .before .before .before .before .before .before .before .before .args .cache .now) (c .before .before .before .before .before .before .before .before .before .before .before .before .before .acted .last .0) (c .before .before .before .before .before .before .before .before .before .before .before .before .before .acted .last .1 .0) (c .before .before .before .before .before .before .before .before .before .before .before .before .before .acted .result) (c .before .before .before .before .before .before .before .before .before .before .before .before .before .acted .ensures) (c .before .before .before .before .before .before .before .enum-told3 .given .1) (c .before .before .before .before .new-base .result) (c .before .before .before .before .new-base .ensures) _ _ (c .before .before .fit .given .1) (c .before .before .before .before .before .before .before .before .before .before .before .before .before .before .before .before .before .before .before .before .before .before .before .before .before .before .before .before .before .pre .2)
+enter-requires c κs =
+    let at-new-base = c .before .before .before .before in
+    let at-enum-told3 = at-new-base .before .before .before in
+    let at-acted = at-enum-told3 .before .before .before .before .before .before in
+    let at-received = at-acted .before .before .before in
+    let at-found = at-received .before .before .before in
+    let at-cached = at-found .before .before in
+    let at-start = at-cached .before .before .before .before .before .before .before .before in
+    enters-there (at-start .pre .0) (message (at-start .pre .0) (at-start .pre .3) (at-received .received .ensures)) _ (sym (at-cached .cached .ensures)
+    ∙ at-found .found .given .1) (at-start .args .cache .now) (at-acted .acted .last .0) (at-acted .acted .last .1 .0) (at-acted .acted .result)
+    (at-acted .acted .ensures) (at-enum-told3 .enum-told3 .given .1) (at-new-base .new-base .result) (at-new-base .new-base .ensures) _ _
+    (c .before .before .fit .given .1) (at-start .pre .2)
 
 fill-requires-2 : tie.Need-fill-requires-2
 fill-requires-2 c κs = c .before .before .before .before .before .before .before .before .before .before .before .before .before .before .before .before .before .before .before .before .before .before .before .before .before .before .before .before .before .before .before .before .before .pre .1 .long
@@ -86,7 +128,17 @@ same-length-7 : tie.Need-same-length-7
 same-length-7 c = search needs
 
 returns-2 : tie.Need-returns-2
-returns-2 c = made-answer (c .before .before .before .before .before .before .before .before .before .before .before .before .before .before .before .before .before .before .before .before .before .before .before .before .before .before .before .before .before .before .before .pre .0) (message (c .before .before .before .before .before .before .before .before .before .before .before .before .before .before .before .before .before .before .before .before .before .before .before .before .before .before .before .before .before .before .before .pre .0) (c .before .before .before .before .before .before .before .before .before .before .before .before .before .before .before .before .before .before .before .before .before .before .before .before .before .before .before .before .before .before .before .pre .3) (c .before .before .before .before .before .before .before .before .before .before .before .before .before .before .before .before .before .before .received .ensures)) _ (sym (c .before .before .before .before .before .before .before .before .before .before .before .before .before .before .before .before .before .before .before .before .before .before .before .cached .ensures) ∙ c .before .before .before .before .before .before .before .before .before .before .before .before .before .before .before .before .before .before .before .before .before .found .given .1) (c .before .before .before .before .before .before .before .before .before .before .before .before .before .before .before .before .before .before .before .before .before .before .before .before .before .before .before .before .before .before .before .args .cache .now) (c .before .before .before .before .before .before .before .before .before .before .before .before .before .before .before .acted .last .0) (c .before .before .before .before .before .before .before .before .before .before .before .before .before .before .before .acted .last .1 .0) (c .before .before .before .before .before .before .before .before .before .before .before .before .before .before .before .acted .result) (c .before .before .before .before .before .before .before .before .before .before .before .before .before .before .before .acted .ensures) _ _ _ _ _ (c .before .before .before .before .before .before .before .before .before .done .given .1) (c .before .before .before .before .before .before .push .ensures) (c .before .before .fill .ensures)
+returns-2 c =
+    let at-push = c .before .before .before .before .before .before in
+    let at-done = at-push .before .before .before in
+    let at-acted = at-done .before .before .before .before .before .before in
+    let at-received = at-acted .before .before .before in
+    let at-found = at-received .before .before .before in
+    let at-cached = at-found .before .before in
+    let at-start = at-cached .before .before .before .before .before .before .before .before in
+    made-answer (at-start .pre .0) (message (at-start .pre .0) (at-start .pre .3) (at-received .received .ensures)) _ (sym (at-cached .cached .ensures)
+    ∙ at-found .found .given .1) (at-start .args .cache .now) (at-acted .acted .last .0) (at-acted .acted .last .1 .0) (at-acted .acted .result)
+    (at-acted .acted .ensures) _ _ _ _ _ (at-done .done .given .1) (at-push .push .ensures) (c .before .before .fill .ensures)
 
 same-length-8 : tie.Need-same-length-8
 same-length-8 c = search needs
@@ -101,7 +153,15 @@ same-length-11 : tie.Need-same-length-11
 same-length-11 c = search needs
 
 returns-3 : tie.Need-returns-3
-returns-3 c = made-none (c .before .before .before .before .before .before .before .before .before .before .before .before .before .before .before .before .before .before .before .before .before .before .pre .0) (message (c .before .before .before .before .before .before .before .before .before .before .before .before .before .before .before .before .before .before .before .before .before .before .pre .0) (c .before .before .before .before .before .before .before .before .before .before .before .before .before .before .before .before .before .before .before .before .before .before .pre .3) (c .before .before .before .before .before .before .before .before .before .received .ensures)) _ (sym (c .before .before .before .before .before .before .before .before .before .before .before .before .before .before .cached .ensures) ∙ c .before .before .before .before .before .before .before .before .before .before .before .before .found .given .1) (c .before .before .before .before .before .before .before .before .before .before .before .before .before .before .before .before .before .before .before .before .before .before .args .cache .now) (c .before .before .before .before .before .before .acted .last .0) (c .before .before .before .before .before .before .acted .last .1 .0) (c .before .before .before .before .before .before .acted .result) (c .before .before .before .before .before .before .acted .ensures) (c .enum-told2 .given .1)
+returns-3 c =
+    let at-acted = c .before .before .before .before .before .before in
+    let at-received = at-acted .before .before .before in
+    let at-found = at-received .before .before .before in
+    let at-cached = at-found .before .before in
+    let at-start = at-cached .before .before .before .before .before .before .before .before in
+    made-none (at-start .pre .0) (message (at-start .pre .0) (at-start .pre .3) (at-received .received .ensures)) _ (sym (at-cached .cached .ensures)
+    ∙ at-found .found .given .1) (at-start .args .cache .now) (at-acted .acted .last .0) (at-acted .acted .last .1 .0) (at-acted .acted .result)
+    (at-acted .acted .ensures) (c .enum-told2 .given .1)
 
 same-length-12 : tie.Need-same-length-12
 same-length-12 c = search needs
@@ -116,7 +176,20 @@ same-length-15 : tie.Need-same-length-15
 same-length-15 c = search needs
 
 returns-4 : tie.Need-returns-4
-returns-4 c = made-frame (c .before .before .before .before .before .before .before .before .before .before .before .before .before .before .before .before .before .before .before .before .before .before .before .before .before .before .before .before .before .before .before .before .before .before .before .before .pre .0) (message (c .before .before .before .before .before .before .before .before .before .before .before .before .before .before .before .before .before .before .before .before .before .before .before .before .before .before .before .before .before .before .before .before .before .before .before .before .pre .0) (c .before .before .before .before .before .before .before .before .before .before .before .before .before .before .before .before .before .before .before .before .before .before .before .before .before .before .before .before .before .before .before .before .before .before .before .before .pre .3) (c .before .before .before .before .before .before .before .before .before .before .before .before .before .before .before .before .before .before .before .before .before .before .before .received .ensures)) _ (sym (c .before .before .before .before .before .before .before .before .before .before .before .before .before .before .before .before .before .before .before .before .before .before .before .before .before .before .before .before .cached .ensures) ∙ c .before .before .before .before .before .before .before .before .before .before .before .before .before .before .before .before .before .before .before .before .before .before .before .before .before .before .found .given .1) (c .before .before .before .before .before .before .before .before .before .before .before .before .before .before .before .before .before .before .before .before .before .before .before .before .before .before .before .before .before .before .before .before .before .before .before .before .args .cache .now) (c .before .before .before .before .before .before .before .before .before .before .before .before .before .before .before .before .before .before .before .before .acted .last .0) (c .before .before .before .before .before .before .before .before .before .before .before .before .before .before .before .before .before .before .before .before .acted .last .1 .0) (c .before .before .before .before .before .before .before .before .before .before .before .before .before .before .before .before .before .before .before .before .acted .result) (c .before .before .before .before .before .before .before .before .before .before .before .before .before .before .before .before .before .before .before .before .acted .ensures) (c .before .before .before .before .before .before .before .before .before .before .before .before .before .before .enum-told3 .given .1) (c .before .before .before .before .before .before .before .before .before .before .before .new-base .result) (c .before .before .before .before .before .before .before .before .before .before .before .new-base .ensures) _ _ (c .before .before .before .before .before .before .before .before .before .fit .given .1) _ _ (c .before .before .before .before .before .before .enter .ensures) (c .before .before .fill2 .ensures)
+returns-4 c =
+    let at-enter = c .before .before .before .before .before .before in
+    let at-fit = at-enter .before .before .before in
+    let at-new-base = at-fit .before .before in
+    let at-enum-told3 = at-new-base .before .before .before in
+    let at-acted = at-enum-told3 .before .before .before .before .before .before in
+    let at-received = at-acted .before .before .before in
+    let at-found = at-received .before .before .before in
+    let at-cached = at-found .before .before in
+    let at-start = at-cached .before .before .before .before .before .before .before .before in
+    made-frame (at-start .pre .0) (message (at-start .pre .0) (at-start .pre .3) (at-received .received .ensures)) _ (sym (at-cached .cached .ensures)
+    ∙ at-found .found .given .1) (at-start .args .cache .now) (at-acted .acted .last .0) (at-acted .acted .last .1 .0) (at-acted .acted .result)
+    (at-acted .acted .ensures) (at-enum-told3 .enum-told3 .given .1) (at-new-base .new-base .result) (at-new-base .new-base .ensures) _ _
+    (at-fit .fit .given .1) _ _ (at-enter .enter .ensures) (c .before .before .fill2 .ensures)
 
 same-length-16 : tie.Need-same-length-16
 same-length-16 c = search needs
@@ -131,7 +204,17 @@ same-length-19 : tie.Need-same-length-19
 same-length-19 c = search needs
 
 returns-5 : tie.Need-returns-5
-returns-5 c = made-full (c .before .before .before .before .before .before .before .before .before .before .before .before .before .before .before .before .before .before .before .before .before .before .before .before .before .before .before .pre .0) (message (c .before .before .before .before .before .before .before .before .before .before .before .before .before .before .before .before .before .before .before .before .before .before .before .before .before .before .before .pre .0) (c .before .before .before .before .before .before .before .before .before .before .before .before .before .before .before .before .before .before .before .before .before .before .before .before .before .before .before .pre .3) (c .before .before .before .before .before .before .before .before .before .before .before .before .before .before .received .ensures)) _ (sym (c .before .before .before .before .before .before .before .before .before .before .before .before .before .before .before .before .before .before .before .cached .ensures) ∙ c .before .before .before .before .before .before .before .before .before .before .before .before .before .before .before .before .before .found .given .1) (c .before .before .before .before .before .before .before .before .before .before .before .before .before .before .before .before .before .before .before .before .before .before .before .before .before .before .before .args .cache .now) (c .before .before .before .before .before .before .before .before .before .before .before .acted .last .0) (c .before .before .before .before .before .before .before .before .before .before .before .acted .last .1 .0) (c .before .before .before .before .before .before .before .before .before .before .before .acted .result) (c .before .before .before .before .before .before .before .before .before .before .before .acted .ensures) (c .before .before .before .before .before .enum-told3 .given .1) (c .before .before .new-base .result) (c .before .before .new-base .ensures) (c .enum-told4 .given .1)
+returns-5 c =
+    let at-new-base = c .before .before in
+    let at-enum-told3 = at-new-base .before .before .before in
+    let at-acted = at-enum-told3 .before .before .before .before .before .before in
+    let at-received = at-acted .before .before .before in
+    let at-found = at-received .before .before .before in
+    let at-cached = at-found .before .before in
+    let at-start = at-cached .before .before .before .before .before .before .before .before in
+    made-full (at-start .pre .0) (message (at-start .pre .0) (at-start .pre .3) (at-received .received .ensures)) _ (sym (at-cached .cached .ensures)
+    ∙ at-found .found .given .1) (at-start .args .cache .now) (at-acted .acted .last .0) (at-acted .acted .last .1 .0) (at-acted .acted .result)
+    (at-acted .acted .ensures) (at-enum-told3 .enum-told3 .given .1) (at-new-base .new-base .result) (at-new-base .new-base .ensures) (c .enum-told4 .given .1)
 
 same-length-20 : tie.Need-same-length-20
 same-length-20 c = search needs
@@ -146,7 +229,17 @@ same-length-23 : tie.Need-same-length-23
 same-length-23 c = search needs
 
 returns-6 : tie.Need-returns-6
-returns-6 c = made-unfit (c .before .before .before .before .before .before .before .before .before .before .before .before .before .before .before .before .before .before .before .before .before .before .before .before .before .before .before .pre .0) (message (c .before .before .before .before .before .before .before .before .before .before .before .before .before .before .before .before .before .before .before .before .before .before .before .before .before .before .before .pre .0) (c .before .before .before .before .before .before .before .before .before .before .before .before .before .before .before .before .before .before .before .before .before .before .before .before .before .before .before .pre .3) (c .before .before .before .before .before .before .before .before .before .before .before .before .before .before .received .ensures)) _ (sym (c .before .before .before .before .before .before .before .before .before .before .before .before .before .before .before .before .before .before .before .cached .ensures) ∙ c .before .before .before .before .before .before .before .before .before .before .before .before .before .before .before .before .before .found .given .1) (c .before .before .before .before .before .before .before .before .before .before .before .before .before .before .before .before .before .before .before .before .before .before .before .before .before .before .before .args .cache .now) (c .before .before .before .before .before .before .before .before .before .before .before .acted .last .0) (c .before .before .before .before .before .before .before .before .before .before .before .acted .last .1 .0) (c .before .before .before .before .before .before .before .before .before .before .before .acted .result) (c .before .before .before .before .before .before .before .before .before .before .before .acted .ensures) (c .before .before .before .before .before .enum-told3 .given .1) (c .before .before .new-base .result) (c .before .before .new-base .ensures) (c .enum-told5 .given .1)
+returns-6 c =
+    let at-new-base = c .before .before in
+    let at-enum-told3 = at-new-base .before .before .before in
+    let at-acted = at-enum-told3 .before .before .before .before .before .before in
+    let at-received = at-acted .before .before .before in
+    let at-found = at-received .before .before .before in
+    let at-cached = at-found .before .before in
+    let at-start = at-cached .before .before .before .before .before .before .before .before in
+    made-unfit (at-start .pre .0) (message (at-start .pre .0) (at-start .pre .3) (at-received .received .ensures)) _ (sym (at-cached .cached .ensures)
+    ∙ at-found .found .given .1) (at-start .args .cache .now) (at-acted .acted .last .0) (at-acted .acted .last .1 .0) (at-acted .acted .result)
+    (at-acted .acted .ensures) (at-enum-told3 .enum-told3 .given .1) (at-new-base .new-base .result) (at-new-base .new-base .ensures) (c .enum-told5 .given .1)
 
 pub send-spec : {M : Type 1} → statement M
 send-spec =

@@ -14,7 +14,9 @@ mul-last : tie.Need-mul-last
 mul-last c = let k = ends (c .before .before .before .pre .0 .active) in omega arith
 
 slice-read-last : tie.Need-slice-read-last
-slice-read-last c = let k = ends (c .before .before .before .before .pre .0 .active) in let o = two (c .before .before .before .before .pre .0) (c .before .before .before .before .pre .1) in omega arith
+slice-read-last c =
+    let at-start = c .before .before .before .before in
+    let k = ends (at-start .pre .0 .active) in let o = two (at-start .pre .0) (at-start .pre .1) in omega arith
 
 sub-under : tie.Need-sub-under
 sub-under c = let k = two (c .before .before .before .before .pre .0) (c .before .before .before .before .pre .1) in omega arith
@@ -23,7 +25,9 @@ mul-under : tie.Need-mul-under
 mul-under c = let k = ends (c .before .before .before .before .pre .0 .active) in omega arith
 
 slice-read-under : tie.Need-slice-read-under
-slice-read-under c = let k = ends (c .before .before .before .before .before .pre .0 .active) in let o = two (c .before .before .before .before .before .pre .0) (c .before .before .before .before .before .pre .1) in omega arith
+slice-read-under c =
+    let at-start = c .before .before .before .before .before in
+    let k = ends (at-start .pre .0 .active) in let o = two (at-start .pre .0) (at-start .pre .1) in omega arith
 
 tried-requires : tie.Need-tried-requires
 tried-requires c κs = search needs
@@ -32,13 +36,17 @@ enum-known-w : tie.Need-enum-known-w
 enum-known-w c = search needs
 
 sub-stack : tie.Need-sub-stack
-sub-stack c = let k = two (c .before .before .before .before .before .before .before .before .before .pre .0) (c .before .before .before .before .before .before .before .before .before .pre .1) in omega arith
+sub-stack c =
+    let at-start = c .before .before .before .before .before .before .before .before .before in
+    let k = two (at-start .pre .0) (at-start .pre .1) in omega arith
 
 mul-stack : tie.Need-mul-stack
 mul-stack c = let k = ends (c .before .before .before .before .before .before .before .before .before .pre .0 .active) in omega arith
 
 slice-write-stack : tie.Need-slice-write-stack
-slice-write-stack c = let k = ends (c .before .before .before .before .before .before .before .before .before .pre .0 .active) in let o = two (c .before .before .before .before .before .before .before .before .before .pre .0) (c .before .before .before .before .before .before .before .before .before .pre .1) in omega arith
+slice-write-stack c =
+    let at-start = c .before .before .before .before .before .before .before .before .before in
+    let k = ends (at-start .pre .0 .active) in let o = two (at-start .pre .0) (at-start .pre .1) in omega arith
 
 sub-t21 : tie.Need-sub-t21
 sub-t21 c = search needs
@@ -50,13 +58,19 @@ word-of-requires : tie.Need-word-of-requires
 word-of-requires c κs = special-inside (c .before .before .before .before .before .before .before .before .pre .0)
 
 sent-requires : tie.Need-sent-requires
-sent-requires c κs = failed-sends (c .before .before .before .before .before .before .before .before .before .before .pre .0) (c .before .before .before .before .before .before .before .before .before .before .pre .1) _ _ _ (c .before .before .before .before .tried .result) refl refl (c .before .before .before .before .tried .ensures) (c .before .before .enum-told .given .1) (c .before .word-of .ensures)
+sent-requires c κs =
+    let at-tried = c .before .before .before .before in
+    let at-start = at-tried .before .before .before .before .before .before in
+    failed-sends (at-start .pre .0) (at-start .pre .1) _ _ _ (at-tried .tried .result) refl refl (at-tried .tried .ensures) (c .before .before .enum-told .given .1) (c .before .word-of .ensures)
 
 same-length : tie.Need-same-length
 same-length c = search needs
 
 returns : tie.Need-returns
-returns c = computed-done (c .before .before .before .before .before .before .before .before .before .pre .0) (c .before .before .before .before .before .before .before .before .before .pre .1) _ _ _ (c .before .before .before .tried .result) _ _ refl refl (c .before .before .before .tried .ensures) (c .before .w .given .1) refl refl
+returns c =
+    let at-tried = c .before .before .before in
+    let at-start = at-tried .before .before .before .before .before .before in
+    computed-done (at-start .pre .0) (at-start .pre .1) _ _ _ (at-tried .tried .result) _ _ refl refl (at-tried .tried .ensures) (c .before .w .given .1) refl refl
 
 same-length-2 : tie.Need-same-length-2
 same-length-2 c = search needs

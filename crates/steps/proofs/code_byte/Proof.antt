@@ -19,7 +19,9 @@ code-of-requires : tie.Need-code-of-requires
 code-of-requires c κs = active-method (c .before .before .before .before .pre .0) _ refl
 
 add-at : tie.Need-add-at
-add-at c = let k = code-small (c .before .before .before .before .before .before .pre .0) in omega (arith, c .before .before .before .before .before .before .pre .1)
+add-at c =
+    let at-start = c .before .before .before .before .before .before in
+    let k = code-small (at-start .pre .0) in omega (arith, at-start .pre .1)
 
 mul-fetch : tie.Need-mul-fetch
 mul-fetch c = let k = from-is (c .before .before .before .before .before .before .pre .0) (c .before .code-of .ensures) in search needs
@@ -34,7 +36,9 @@ part-fetch-end : tie.Need-part-fetch-end
 part-fetch-end c = search needs
 
 fetch-requires : tie.Need-fetch-requires
-fetch-requires c κs = byte-inside (c .before .before .before .before .before .before .before .pre .0) (c .before .before .code-of .ensures) _ (c .before .before .before .before .before .before .before .pre .1)
+fetch-requires c κs =
+    let at-start = c .before .before .before .before .before .before .before in
+    byte-inside (at-start .pre .0) (c .before .before .code-of .ensures) _ (at-start .pre .1)
 
 returns : tie.Need-returns
 returns c = byte-is (c .before .before .before .before .before .before .before .before .pre .0) (c .before .before .before .code-of .ensures) _ _ (c .fetch .ensures)

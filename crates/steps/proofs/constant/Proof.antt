@@ -23,35 +23,44 @@ slice-read-w c = let k = ends (c .before .before .before .before .before .pre .0
 
 push-word-requires : tie.Need-push-word-requires
 unfolding lengthOf instructionOf constantOf if_then_else_
-push-word-requires c κs = self-pushing (doing-at (c .before .before .before .before .before .before .pre .0) 112 1 _ PushSelf (c .before .before .match .keys1) refl (c .before .before .before .before .before .before .pre .2) refl)
+push-word-requires c κs =
+    let at-start = c .before .before .before .before .before .before in
+    self-pushing (doing-at (at-start .pre .0) 112 1 _ PushSelf (c .before .before .match .keys1) refl (at-start .pre .2) refl)
 
 push-word-requires-2 : tie.Need-push-word-requires-2
 unfolding lengthOf instructionOf constantOf if_then_else_
-push-word-requires-2 c κs = constant-pushing (doing-at (c .before .before .before .before .before .pre .0) 113 1 _ (PushConstant 6) (c .before .match .keys2) refl (c .before .before .before .before .before .pre .2) refl)
+push-word-requires-2 c κs = constant-pushing (doing-at (c .before .before .before .before .before .pre .0) 113 1 _ (PushConstant 6) (c .before .match .keys2)
+    refl (c .before .before .before .before .before .pre .2) refl)
 
 push-word-requires-3 : tie.Need-push-word-requires-3
 unfolding lengthOf instructionOf constantOf if_then_else_
-push-word-requires-3 c κs = constant-pushing (doing-at (c .before .before .before .before .before .pre .0) 114 1 _ (PushConstant 4) (c .before .match .keys3) refl (c .before .before .before .before .before .pre .2) refl)
+push-word-requires-3 c κs = constant-pushing (doing-at (c .before .before .before .before .before .pre .0) 114 1 _ (PushConstant 4) (c .before .match .keys3)
+    refl (c .before .before .before .before .before .pre .2) refl)
 
 push-word-requires-4 : tie.Need-push-word-requires-4
 unfolding lengthOf instructionOf constantOf if_then_else_
-push-word-requires-4 c κs = constant-pushing (doing-at (c .before .before .before .before .before .pre .0) 115 1 _ (PushConstant 2) (c .before .match .keys4) refl (c .before .before .before .before .before .pre .2) refl)
+push-word-requires-4 c κs = constant-pushing (doing-at (c .before .before .before .before .before .pre .0) 115 1 _ (PushConstant 2) (c .before .match .keys4)
+    refl (c .before .before .before .before .before .pre .2) refl)
 
 push-word-requires-5 : tie.Need-push-word-requires-5
 unfolding lengthOf instructionOf constantOf if_then_else_
-push-word-requires-5 c κs = constant-pushing (doing-at (c .before .before .before .before .before .pre .0) 116 1 _ (PushConstant 65535) (c .before .match .keys5) refl (c .before .before .before .before .before .pre .2) refl)
+push-word-requires-5 c κs = constant-pushing (doing-at (c .before .before .before .before .before .pre .0) 116 1 _ (PushConstant 65535)
+    (c .before .match .keys5) refl (c .before .before .before .before .before .pre .2) refl)
 
 push-word-requires-6 : tie.Need-push-word-requires-6
 unfolding lengthOf instructionOf constantOf if_then_else_
-push-word-requires-6 c κs = constant-pushing (doing-at (c .before .before .before .before .before .pre .0) 117 1 _ (PushConstant 1) (c .before .match .keys6) refl (c .before .before .before .before .before .pre .2) refl)
+push-word-requires-6 c κs = constant-pushing (doing-at (c .before .before .before .before .before .pre .0) 117 1 _ (PushConstant 1) (c .before .match .keys6)
+    refl (c .before .before .before .before .before .pre .2) refl)
 
 push-word-requires-7 : tie.Need-push-word-requires-7
 unfolding lengthOf instructionOf constantOf if_then_else_
-push-word-requires-7 c κs = constant-pushing (doing-at (c .before .before .before .before .before .pre .0) 118 1 _ (PushConstant 3) (c .before .match .keys7) refl (c .before .before .before .before .before .pre .2) refl)
+push-word-requires-7 c κs = constant-pushing (doing-at (c .before .before .before .before .before .pre .0) 118 1 _ (PushConstant 3) (c .before .match .keys7)
+    refl (c .before .before .before .before .before .pre .2) refl)
 
 push-word-requires-8 : tie.Need-push-word-requires-8
 unfolding lengthOf instructionOf constantOf if_then_else_
-push-word-requires-8 c κs = constant-pushing (doing-at (c .before .before .before .before .before .pre .0) 119 1 _ (PushConstant 5) (c .before .match .keys8) refl (c .before .before .before .before .before .pre .2) refl)
+push-word-requires-8 c κs = constant-pushing (doing-at (c .before .before .before .before .before .pre .0) 119 1 _ (PushConstant 5) (c .before .match .keys8)
+    refl (c .before .before .before .before .before .pre .2) refl)
 
 add-t33 : tie.Need-add-t33
 add-t33 c = search needs
@@ -64,70 +73,112 @@ slice-read-t36 c = let k = ends (c .before .before .before .before .before .pre 
 
 sub-at : tie.Need-sub-at
 unfolding lengthOf instructionOf constantOf if_then_else_
-sub-at c = let k = top-one (doing-at (c .before .before .before .before .before .pre .0) 124 1 _ ReturnTop (c .before .match .keys13) refl (c .before .before .before .before .before .pre .2) refl) in omega arith
+sub-at c = let k = top-one (doing-at (c .before .before .before .before .before .pre .0) 124 1 _ ReturnTop (c .before .match .keys13) refl
+    (c .before .before .before .before .before .pre .2) refl) in omega arith
 
 mul-t37 : tie.Need-mul-t37
 mul-t37 c = let k = ends (c .before .before .before .before .before .pre .0 .active) in omega arith
 
 slice-read-t39 : tie.Need-slice-read-t39
 unfolding lengthOf instructionOf constantOf if_then_else_
-slice-read-t39 c = let k = ends (c .before .before .before .before .before .before .pre .0 .active) in let o = top-one (doing-at (c .before .before .before .before .before .before .pre .0) 124 1 _ ReturnTop (c .before .before .match .keys13) refl (c .before .before .before .before .before .before .pre .2) refl) in omega arith
+slice-read-t39 c =
+    let at-start = c .before .before .before .before .before .before in
+    let k = ends (at-start .pre .0 .active) in let o = top-one (doing-at (at-start .pre .0) 124 1 _ ReturnTop (c .before .before .match .keys13) refl (at-start .pre .2) refl) in omega arith
 
 same-length : tie.Need-same-length
 same-length c = search needs
 
 returns : tie.Need-returns
 unfolding lengthOf instructionOf constantOf if_then_else_
-returns c = self-done (doing-at (c .before .before .before .before .before .before .before .before .before .pre .0) 112 1 _ PushSelf (c .before .before .before .before .before .match .keys1) refl (c .before .before .before .before .before .before .before .before .before .pre .2) refl) _ (c .before .before .push-word .result) (c .before .before .push-word .ensures)
+returns c =
+    let at-push-word = c .before .before in
+    let at-match = at-push-word .before .before .before in
+    let at-start = at-match .before .before .before .before in
+    self-done (doing-at (at-start .pre .0) 112 1 _ PushSelf (at-match .match .keys1) refl (at-start .pre .2) refl) _ (at-push-word .push-word .result) (at-push-word .push-word .ensures)
 
 same-length-2 : tie.Need-same-length-2
 same-length-2 c = search needs
 
 returns-2 : tie.Need-returns-2
 unfolding lengthOf instructionOf constantOf if_then_else_
-returns-2 c = constant-done (doing-at (c .before .before .before .before .before .before .before .before .pre .0) 113 1 _ (PushConstant 6) (c .before .before .before .before .match .keys2) refl (c .before .before .before .before .before .before .before .before .pre .2) refl) _ (c .before .before .push-word2 .result) (c .before .before .push-word2 .ensures)
+returns-2 c =
+    let at-push-word2 = c .before .before in
+    let at-match = at-push-word2 .before .before in
+    let at-start = at-match .before .before .before .before in
+    constant-done (doing-at (at-start .pre .0) 113 1 _ (PushConstant 6) (at-match .match .keys2) refl (at-start .pre .2) refl) _
+    (at-push-word2 .push-word2 .result) (at-push-word2 .push-word2 .ensures)
 
 same-length-3 : tie.Need-same-length-3
 same-length-3 c = search needs
 
 returns-3 : tie.Need-returns-3
 unfolding lengthOf instructionOf constantOf if_then_else_
-returns-3 c = constant-done (doing-at (c .before .before .before .before .before .before .before .before .pre .0) 114 1 _ (PushConstant 4) (c .before .before .before .before .match .keys3) refl (c .before .before .before .before .before .before .before .before .pre .2) refl) _ (c .before .before .push-word3 .result) (c .before .before .push-word3 .ensures)
+returns-3 c =
+    let at-push-word3 = c .before .before in
+    let at-match = at-push-word3 .before .before in
+    let at-start = at-match .before .before .before .before in
+    constant-done (doing-at (at-start .pre .0) 114 1 _ (PushConstant 4) (at-match .match .keys3) refl (at-start .pre .2) refl) _
+    (at-push-word3 .push-word3 .result) (at-push-word3 .push-word3 .ensures)
 
 same-length-4 : tie.Need-same-length-4
 same-length-4 c = search needs
 
 returns-4 : tie.Need-returns-4
 unfolding lengthOf instructionOf constantOf if_then_else_
-returns-4 c = constant-done (doing-at (c .before .before .before .before .before .before .before .before .pre .0) 115 1 _ (PushConstant 2) (c .before .before .before .before .match .keys4) refl (c .before .before .before .before .before .before .before .before .pre .2) refl) _ (c .before .before .push-word4 .result) (c .before .before .push-word4 .ensures)
+returns-4 c =
+    let at-push-word4 = c .before .before in
+    let at-match = at-push-word4 .before .before in
+    let at-start = at-match .before .before .before .before in
+    constant-done (doing-at (at-start .pre .0) 115 1 _ (PushConstant 2) (at-match .match .keys4) refl (at-start .pre .2) refl) _
+    (at-push-word4 .push-word4 .result) (at-push-word4 .push-word4 .ensures)
 
 same-length-5 : tie.Need-same-length-5
 same-length-5 c = search needs
 
 returns-5 : tie.Need-returns-5
 unfolding lengthOf instructionOf constantOf if_then_else_
-returns-5 c = constant-done (doing-at (c .before .before .before .before .before .before .before .before .pre .0) 116 1 _ (PushConstant 65535) (c .before .before .before .before .match .keys5) refl (c .before .before .before .before .before .before .before .before .pre .2) refl) _ (c .before .before .push-word5 .result) (c .before .before .push-word5 .ensures)
+returns-5 c =
+    let at-push-word5 = c .before .before in
+    let at-match = at-push-word5 .before .before in
+    let at-start = at-match .before .before .before .before in
+    constant-done (doing-at (at-start .pre .0) 116 1 _ (PushConstant 65535) (at-match .match .keys5) refl (at-start .pre .2) refl) _
+    (at-push-word5 .push-word5 .result) (at-push-word5 .push-word5 .ensures)
 
 same-length-6 : tie.Need-same-length-6
 same-length-6 c = search needs
 
 returns-6 : tie.Need-returns-6
 unfolding lengthOf instructionOf constantOf if_then_else_
-returns-6 c = constant-done (doing-at (c .before .before .before .before .before .before .before .before .pre .0) 117 1 _ (PushConstant 1) (c .before .before .before .before .match .keys6) refl (c .before .before .before .before .before .before .before .before .pre .2) refl) _ (c .before .before .push-word6 .result) (c .before .before .push-word6 .ensures)
+returns-6 c =
+    let at-push-word6 = c .before .before in
+    let at-match = at-push-word6 .before .before in
+    let at-start = at-match .before .before .before .before in
+    constant-done (doing-at (at-start .pre .0) 117 1 _ (PushConstant 1) (at-match .match .keys6) refl (at-start .pre .2) refl) _
+    (at-push-word6 .push-word6 .result) (at-push-word6 .push-word6 .ensures)
 
 same-length-7 : tie.Need-same-length-7
 same-length-7 c = search needs
 
 returns-7 : tie.Need-returns-7
 unfolding lengthOf instructionOf constantOf if_then_else_
-returns-7 c = constant-done (doing-at (c .before .before .before .before .before .before .before .before .pre .0) 118 1 _ (PushConstant 3) (c .before .before .before .before .match .keys7) refl (c .before .before .before .before .before .before .before .before .pre .2) refl) _ (c .before .before .push-word7 .result) (c .before .before .push-word7 .ensures)
+returns-7 c =
+    let at-push-word7 = c .before .before in
+    let at-match = at-push-word7 .before .before in
+    let at-start = at-match .before .before .before .before in
+    constant-done (doing-at (at-start .pre .0) 118 1 _ (PushConstant 3) (at-match .match .keys7) refl (at-start .pre .2) refl) _
+    (at-push-word7 .push-word7 .result) (at-push-word7 .push-word7 .ensures)
 
 same-length-8 : tie.Need-same-length-8
 same-length-8 c = search needs
 
 returns-8 : tie.Need-returns-8
 unfolding lengthOf instructionOf constantOf if_then_else_
-returns-8 c = constant-done (doing-at (c .before .before .before .before .before .before .before .before .pre .0) 119 1 _ (PushConstant 5) (c .before .before .before .before .match .keys8) refl (c .before .before .before .before .before .before .before .before .pre .2) refl) _ (c .before .before .push-word8 .result) (c .before .before .push-word8 .ensures)
+returns-8 c =
+    let at-push-word8 = c .before .before in
+    let at-match = at-push-word8 .before .before in
+    let at-start = at-match .before .before .before .before in
+    constant-done (doing-at (at-start .pre .0) 119 1 _ (PushConstant 5) (at-match .match .keys8) refl (at-start .pre .2) refl) _
+    (at-push-word8 .push-word8 .result) (at-push-word8 .push-word8 .ensures)
 
 returns-9 : tie.Need-returns-9
 unfolding lengthOf instructionOf constantOf if_then_else_
@@ -147,10 +198,14 @@ returns-12 c = constant-returned (doing-at (c .before .before .before .before .p
 
 returns-13 : tie.Need-returns-13
 unfolding lengthOf instructionOf constantOf if_then_else_
-returns-13 c = top-returned (doing-at (c .before .before .before .before .before .before .pre .0) 124 1 _ ReturnTop (c .before .before .match .keys13) refl (c .before .before .before .before .before .before .pre .2) refl) _ refl
+returns-13 c =
+    let at-start = c .before .before .before .before .before .before in
+    top-returned (doing-at (at-start .pre .0) 124 1 _ ReturnTop (c .before .before .match .keys13) refl (at-start .pre .2) refl) _ refl
 
 returns-14 : tie.Need-returns-14
-returns-14 c = absurd (row-unused (c .before .before .before .before .pre .0) (past 112 13 _ (omega (arith, c .before .before .before .before .pre .1)) (c .match .rest)) (omega (arith, c .before .before .before .before .pre .1)))
+returns-14 c =
+    let at-start = c .before .before .before .before in
+    absurd (row-unused (at-start .pre .0) (past 112 13 _ (omega (arith, at-start .pre .1)) (c .match .rest)) (omega (arith, at-start .pre .1)))
 
 pub constant-spec : {M : Type 1} → statement M
 constant-spec =

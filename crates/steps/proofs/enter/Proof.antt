@@ -56,10 +56,16 @@ cast-depth : tie.Need-cast-depth
 cast-depth c = let k = enter-bounds _ (c .before .before .before .before .before .before .before .before .before .pre) in omega arith
 
 add-t14 : tie.Need-add-t14
-add-t14 c = let k = enter-bounds _ (c .before .before .before .before .before .before .before .before .before .pre) in omega (arith, c .before .before .temporary-count .ensures, c .before .before .before .header .ensures)
+add-t14 c =
+    let at-header = c .before .before .before in
+    let at-start = at-header .before .before .before .before .before .before in
+    let k = enter-bounds _ (at-start .pre) in omega (arith, c .before .before .temporary-count .ensures, at-header .header .ensures)
 
 returns : tie.Need-returns
-returns c = entered _ (c .before .before .before .before .before .before .before .before .before .pre) (c .before .before .before .before .code-of .result) _ _ (c .before .before .before .before .code-of .ensures) (c .before .before .before .header .ensures) (c .before .before .temporary-count .ensures)
+returns c =
+    let at-code-of = c .before .before .before .before in
+    let at-start = at-code-of .before .before .before .before .before in
+    entered _ (at-start .pre) (at-code-of .code-of .result) _ _ (at-code-of .code-of .ensures) (c .before .before .before .header .ensures) (c .before .before .temporary-count .ensures)
 
 pub enter-spec : {M : Type 1} → statement M
 enter-spec =

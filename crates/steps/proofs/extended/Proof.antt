@@ -13,7 +13,9 @@ use Rattle.steps.proofs.extended.Tie as tie
 
 code-byte-requires : tie.Need-code-byte-requires
 unfolding lengthOf if_then_else_
-code-byte-requires c κs = (c .before .before .before .before .before .before .pre .0 .active, byte-there (c .before .before .before .before .before .before .pre .0) 128 2 1 (c .before .before .match .keys1) refl (omega arith))
+code-byte-requires c κs =
+    let at-start = c .before .before .before .before .before .before in
+    (at-start .pre .0 .active, byte-there (at-start .pre .0) 128 2 1 (c .before .before .match .keys1) refl (omega arith))
 
 place-of-requires : tie.Need-place-of-requires
 place-of-requires c κs = search needs
@@ -22,11 +24,17 @@ add-t34 : tie.Need-add-t34
 add-t34 c = let k = position-small (c .before .before .before .before .before .before .before .before .before .before .pre .0 .active) in omega arith
 
 push-requires : tie.Need-push-requires
-push-requires c κs = extended-push (c .before .before .before .before .before .before .before .before .before .before .pre .0) (c .before .before .before .before .before .before .match .keys1) _ _ (c .before .before .before .code-byte .ensures) (c .before .before .place-of .ensures)
+push-requires c κs =
+    let at-code-byte = c .before .before .before in
+    let at-match = at-code-byte .before .before .before in
+    let at-start = at-match .before .before .before .before in
+    extended-push (at-start .pre .0) (at-match .match .keys1) _ _ (at-code-byte .code-byte .ensures) (c .before .before .place-of .ensures)
 
 code-byte-requires-2 : tie.Need-code-byte-requires-2
 unfolding lengthOf if_then_else_
-code-byte-requires-2 c κs = (c .before .before .before .before .before .before .pre .0 .active, byte-there (c .before .before .before .before .before .before .pre .0) 129 2 1 (c .before .before .match .keys2) refl (omega arith))
+code-byte-requires-2 c κs =
+    let at-start = c .before .before .before .before .before .before in
+    (at-start .pre .0 .active, byte-there (at-start .pre .0) 129 2 1 (c .before .before .match .keys2) refl (omega arith))
 
 place-of-requires-2 : tie.Need-place-of-requires-2
 place-of-requires-2 c κs = search needs
@@ -35,11 +43,17 @@ add-t40 : tie.Need-add-t40
 add-t40 c = let k = position-small (c .before .before .before .before .before .before .before .before .pre .0 .active) in omega arith
 
 store-requires : tie.Need-store-requires
-store-requires c κs = storing-kept (extended-store (c .before .before .before .before .before .before .before .before .before .before .pre .0) (c .before .before .before .before .before .before .match .keys2) _ _ (c .before .before .before .code-byte2 .ensures) (c .before .before .place-of2 .ensures)) _ refl
+store-requires c κs =
+    let at-code-byte2 = c .before .before .before in
+    let at-match = at-code-byte2 .before .before .before in
+    let at-start = at-match .before .before .before .before in
+    storing-kept (extended-store (at-start .pre .0) (at-match .match .keys2) _ _ (at-code-byte2 .code-byte2 .ensures) (c .before .before .place-of2 .ensures)) _ refl
 
 code-byte-requires-3 : tie.Need-code-byte-requires-3
 unfolding lengthOf if_then_else_
-code-byte-requires-3 c κs = (c .before .before .before .before .before .before .pre .0 .active, byte-there (c .before .before .before .before .before .before .pre .0) 130 2 1 (c .before .before .match .keys3) refl (omega arith))
+code-byte-requires-3 c κs =
+    let at-start = c .before .before .before .before .before .before in
+    (at-start .pre .0 .active, byte-there (at-start .pre .0) 130 2 1 (c .before .before .match .keys3) refl (omega arith))
 
 place-of-requires-3 : tie.Need-place-of-requires-3
 place-of-requires-3 c κs = search needs
@@ -51,55 +65,87 @@ sub-t50 : tie.Need-sub-t50
 sub-t50 c = search needs
 
 store-requires-2 : tie.Need-store-requires-2
-store-requires-2 c κs = storing-popped (extended-pop-store (c .before .before .before .before .before .before .before .before .before .before .pre .0) (c .before .before .before .before .before .before .match .keys3) _ _ (c .before .before .before .code-byte3 .ensures) (c .before .before .place-of3 .ensures)) _ refl
+store-requires-2 c κs =
+    let at-code-byte3 = c .before .before .before in
+    let at-match = at-code-byte3 .before .before .before in
+    let at-start = at-match .before .before .before .before in
+    storing-popped (extended-pop-store (at-start .pre .0) (at-match .match .keys3) _ _ (at-code-byte3 .code-byte3 .ensures) (c .before .before .place-of3 .ensures)) _ refl
 
 code-byte-requires-4 : tie.Need-code-byte-requires-4
 unfolding lengthOf if_then_else_
-code-byte-requires-4 c κs = (c .before .before .before .before .before .before .pre .0 .active, byte-there (c .before .before .before .before .before .before .pre .0) 131 2 1 (c .before .before .match .keys4) refl (omega arith))
+code-byte-requires-4 c κs =
+    let at-start = c .before .before .before .before .before .before in
+    (at-start .pre .0 .active, byte-there (at-start .pre .0) 131 2 1 (c .before .before .match .keys4) refl (omega arith))
 
 add-t64 : tie.Need-add-t64
 add-t64 c = let k = position-small (c .before .before .before .before .before .before .before .before .before .pre .0 .active) in omega arith
 
 send-requires : tie.Need-send-requires
-send-requires c κs = extended-send (c .before .before .before .before .before .before .before .before .before .pre .0) (c .before .before .before .before .before .match .keys4) _ (c .before .before .code-byte4 .ensures)
+send-requires c κs =
+    let at-match = c .before .before .before .before .before in
+    let at-start = at-match .before .before .before .before in
+    extended-send (at-start .pre .0) (at-match .match .keys4) _ (c .before .before .code-byte4 .ensures)
 
 code-byte-requires-5 : tie.Need-code-byte-requires-5
 unfolding lengthOf if_then_else_
-code-byte-requires-5 c κs = (c .before .before .before .before .before .before .pre .0 .active, byte-there (c .before .before .before .before .before .before .pre .0) 132 3 1 (c .before .before .match .keys5) refl (omega arith))
+code-byte-requires-5 c κs =
+    let at-start = c .before .before .before .before .before .before in
+    (at-start .pre .0 .active, byte-there (at-start .pre .0) 132 3 1 (c .before .before .match .keys5) refl (omega arith))
 
 code-byte-requires-6 : tie.Need-code-byte-requires-6
 unfolding lengthOf if_then_else_
-code-byte-requires-6 c κs = (c .before .before .before .before .before .before .before .before .before .pre .0 .active, byte-there (c .before .before .before .before .before .before .before .before .before .pre .0) 132 3 2 (c .before .before .before .before .before .match .keys5) refl (omega arith))
+code-byte-requires-6 c κs =
+    let at-match = c .before .before .before .before .before in
+    let at-start = at-match .before .before .before .before in
+    (at-start .pre .0 .active, byte-there (at-start .pre .0) 132 3 2 (at-match .match .keys5) refl (omega arith))
 
 add-t80 : tie.Need-add-t80
 add-t80 c = let k = position-small (c .before .before .before .before .before .before .before .before .before .before .before .before .pre .0 .active) in omega arith
 
 send-requires-2 : tie.Need-send-requires-2
-send-requires-2 c κs = extended-send-long (c .before .before .before .before .before .before .before .before .before .before .before .before .pre .0) (c .before .before .before .before .before .before .before .before .match .keys5) _ _ (c .before .before .before .before .before .code-byte5 .ensures) (c .before .before .code-byte6 .ensures)
+send-requires-2 c κs =
+    let at-code-byte5 = c .before .before .before .before .before in
+    let at-match = at-code-byte5 .before .before .before in
+    let at-start = at-match .before .before .before .before in
+    extended-send-long (at-start .pre .0) (at-match .match .keys5) _ _ (at-code-byte5 .code-byte5 .ensures) (c .before .before .code-byte6 .ensures)
 
 code-byte-requires-7 : tie.Need-code-byte-requires-7
 unfolding lengthOf if_then_else_
-code-byte-requires-7 c κs = (c .before .before .before .before .before .before .pre .0 .active, byte-there (c .before .before .before .before .before .before .pre .0) 133 2 1 (c .before .before .match .keys6) refl (omega arith))
+code-byte-requires-7 c κs =
+    let at-start = c .before .before .before .before .before .before in
+    (at-start .pre .0 .active, byte-there (at-start .pre .0) 133 2 1 (c .before .before .match .keys6) refl (omega arith))
 
 add-t90 : tie.Need-add-t90
 add-t90 c = let k = position-small (c .before .before .before .before .before .before .before .before .before .pre .0 .active) in omega arith
 
 super-send-requires : tie.Need-super-send-requires
-super-send-requires c κs = extended-super (c .before .before .before .before .before .before .before .before .before .pre .0) (c .before .before .before .before .before .match .keys6) _ (c .before .before .code-byte7 .ensures)
+super-send-requires c κs =
+    let at-match = c .before .before .before .before .before in
+    let at-start = at-match .before .before .before .before in
+    extended-super (at-start .pre .0) (at-match .match .keys6) _ (c .before .before .code-byte7 .ensures)
 
 code-byte-requires-8 : tie.Need-code-byte-requires-8
 unfolding lengthOf if_then_else_
-code-byte-requires-8 c κs = (c .before .before .before .before .before .before .pre .0 .active, byte-there (c .before .before .before .before .before .before .pre .0) 134 3 1 (c .before .before .match .keys7) refl (omega arith))
+code-byte-requires-8 c κs =
+    let at-start = c .before .before .before .before .before .before in
+    (at-start .pre .0 .active, byte-there (at-start .pre .0) 134 3 1 (c .before .before .match .keys7) refl (omega arith))
 
 code-byte-requires-9 : tie.Need-code-byte-requires-9
 unfolding lengthOf if_then_else_
-code-byte-requires-9 c κs = (c .before .before .before .before .before .before .before .before .before .pre .0 .active, byte-there (c .before .before .before .before .before .before .before .before .before .pre .0) 134 3 2 (c .before .before .before .before .before .match .keys7) refl (omega arith))
+code-byte-requires-9 c κs =
+    let at-match = c .before .before .before .before .before in
+    let at-start = at-match .before .before .before .before in
+    (at-start .pre .0 .active, byte-there (at-start .pre .0) 134 3 2 (at-match .match .keys7) refl (omega arith))
 
 add-t106 : tie.Need-add-t106
 add-t106 c = let k = position-small (c .before .before .before .before .before .before .before .before .before .before .before .before .pre .0 .active) in omega arith
 
 super-send-requires-2 : tie.Need-super-send-requires-2
-super-send-requires-2 c κs = extended-super-long (c .before .before .before .before .before .before .before .before .before .before .before .before .pre .0) (c .before .before .before .before .before .before .before .before .match .keys7) _ _ (c .before .before .before .before .before .code-byte8 .ensures) (c .before .before .code-byte9 .ensures)
+super-send-requires-2 c κs =
+    let at-code-byte8 = c .before .before .before .before .before in
+    let at-match = at-code-byte8 .before .before .before in
+    let at-start = at-match .before .before .before .before in
+    extended-super-long (at-start .pre .0) (at-match .match .keys7) _ _ (at-code-byte8 .code-byte8 .ensures) (c .before .before .code-byte9 .ensures)
 
 add-t108 : tie.Need-add-t108
 add-t108 c = let k = position-small (c .before .before .before .before .pre .0 .active) in omega arith
@@ -114,7 +160,8 @@ mul-w : tie.Need-mul-w
 mul-w c = let k = ends (c .before .before .before .before .pre .0 .active) in omega arith
 
 slice-read-w : tie.Need-slice-read-w
-slice-read-w c = let k = ends (c .before .before .before .before .before .pre .0 .active) in let o = duplicate-one (extended-duplicate (c .before .before .before .before .before .pre .0) (c .before .match .keys9)) in omega arith
+slice-read-w c = let k = ends (c .before .before .before .before .before .pre .0 .active) in let o = duplicate-one
+    (extended-duplicate (c .before .before .before .before .before .pre .0) (c .before .match .keys9)) in omega arith
 
 add-t112 : tie.Need-add-t112
 add-t112 c = let k = position-small (c .before .before .before .before .before .before .pre .0 .active) in omega arith
@@ -192,10 +239,16 @@ same-length-15 : tie.Need-same-length-15
 same-length-15 c = search needs
 
 returns-9 : tie.Need-returns-9
-returns-9 c = duplicate-done (extended-duplicate (c .before .before .before .before .before .before .before .before .before .pre .0) (c .before .before .before .before .before .match .keys9)) _ _ (c .before .before .push-word .result) refl (c .before .before .push-word .ensures)
+returns-9 c =
+    let at-push-word = c .before .before in
+    let at-match = at-push-word .before .before .before in
+    let at-start = at-match .before .before .before .before in
+    duplicate-done (extended-duplicate (at-start .pre .0) (at-match .match .keys9)) _ _ (at-push-word .push-word .result) refl (at-push-word .push-word .ensures)
 
 returns-10 : tie.Need-returns-10
-returns-10 c = absurd (extended-unused (c .before .before .before .before .pre .0) (c .before .before .before .before .pre .1) (past 128 9 _ (omega (arith, c .before .before .before .before .pre .1)) (c .match .rest)))
+returns-10 c =
+    let at-start = c .before .before .before .before in
+    absurd (extended-unused (at-start .pre .0) (at-start .pre .1) (past 128 9 _ (omega (arith, at-start .pre .1)) (c .match .rest)))
 
 pub extended-spec : {M : Type 1} → statement M
 extended-spec =

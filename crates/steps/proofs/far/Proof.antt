@@ -29,10 +29,14 @@ add-t16 : tie.Need-add-t16
 add-t16 c = let k = position-small (c .before .before .before .before .before .before .before .pre .0 .active) in omega arith
 
 sub-t17 : tie.Need-sub-t17
-sub-t17 c = jump-low (far-jump (c .before .before .before .before .before .before .before .pre .0) (c .before .before .before .before .before .before .before .pre .1) (c .if1 .taken) _ (c .before .before .before .code-byte .ensures))
+sub-t17 c =
+    let at-start = c .before .before .before .before .before .before .before in
+    jump-low (far-jump (at-start .pre .0) (at-start .pre .1) (c .if1 .taken) _ (c .before .before .before .code-byte .ensures))
 
 returns : tie.Need-returns
-returns c = jump-done (far-jump (c .before .before .before .before .before .before .before .pre .0) (c .before .before .before .before .before .before .before .pre .1) (c .if1 .taken) _ (c .before .before .before .code-byte .ensures)) _ refl
+returns c =
+    let at-start = c .before .before .before .before .before .before .before in
+    jump-done (far-jump (at-start .pre .0) (at-start .pre .1) (c .if1 .taken) _ (c .before .before .before .code-byte .ensures)) _ refl
 
 cast-ahead-2 : tie.Need-cast-ahead-2
 cast-ahead-2 c = search needs
@@ -44,7 +48,9 @@ add-ahead-2 : tie.Need-add-ahead-2
 add-ahead-2 c = search needs
 
 jump-on-requires : tie.Need-jump-on-requires
-jump-on-requires c κs = far-on (c .before .before .before .before .before .before .before .pre .0) (c .before .before .before .before .before .before .before .pre .1) (c .if1 .left) _ (c .before .before .before .code-byte .ensures)
+jump-on-requires c κs =
+    let at-start = c .before .before .before .before .before .before .before in
+    far-on (at-start .pre .0) (at-start .pre .1) (c .if1 .left) _ (c .before .before .before .code-byte .ensures)
 
 returns-2 : tie.Need-returns-2
 returns-2 c = search needs

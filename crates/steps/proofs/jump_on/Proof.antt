@@ -29,10 +29,16 @@ returns-2 : tie.Need-returns-2
 returns-2 c = passes (c .before .before .before .before .before .before .before .before .pre) _ _ refl (c .before .before .boolean .ensures) (c .before .if1 .left) (inl (c .if2 .taken))
 
 returns-3 : tie.Need-returns-3
-returns-3 c = passes (c .before .before .before .before .before .before .before .before .before .pre) _ _ refl (c .before .before .before .boolean .ensures) (c .before .before .if1 .left) (inr (c .if3 .taken))
+returns-3 c =
+    let at-boolean = c .before .before .before in
+    let at-start = at-boolean .before .before .before .before .before .before in
+    passes (at-start .pre) _ _ refl (at-boolean .boolean .ensures) (c .before .before .if1 .left) (inr (c .if3 .taken))
 
 returns-4 : tie.Need-returns-4
-returns-4 c = halts-there (c .before .before .before .before .before .before .before .before .before .pre) _ _ refl (c .before .before .before .boolean .ensures) (c .before .before .if1 .left) (c .before .if2 .left) (c .if3 .left)
+returns-4 c =
+    let at-boolean = c .before .before .before in
+    let at-start = at-boolean .before .before .before .before .before .before in
+    halts-there (at-start .pre) _ _ refl (at-boolean .boolean .ensures) (c .before .before .if1 .left) (c .before .if2 .left) (c .if3 .left)
 
 pub jump-on-spec : {M : Type 1} → statement M
 jump-on-spec =

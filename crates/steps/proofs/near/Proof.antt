@@ -19,10 +19,14 @@ add-t14 : tie.Need-add-t14
 add-t14 c = let k = position-small (c .before .before .before .before .before .before .pre .0 .active) in omega arith
 
 returns : tie.Need-returns
-returns c = jump-done (near-jump (c .before .before .before .before .before .before .pre .0) (c .before .before .before .before .before .before .pre .1) (c .if1 .taken)) _ (omega arith)
+returns c =
+    let at-start = c .before .before .before .before .before .before in
+    jump-done (near-jump (at-start .pre .0) (at-start .pre .1) (c .if1 .taken)) _ (omega arith)
 
 jump-on-requires : tie.Need-jump-on-requires
-jump-on-requires c κs = near-on (c .before .before .before .before .before .before .pre .0) (c .before .before .before .before .before .before .pre .1) (c .if1 .left)
+jump-on-requires c κs =
+    let at-start = c .before .before .before .before .before .before in
+    near-on (at-start .pre .0) (at-start .pre .1) (c .if1 .left)
 
 returns-2 : tie.Need-returns-2
 returns-2 c = search needs

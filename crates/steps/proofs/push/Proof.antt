@@ -14,7 +14,11 @@ same-length : tie.Need-same-length
 same-length c = search needs
 
 returns : tie.Need-returns
-returns c = push-done (c .before .before .before .before .before .before .before .before .before .pre) _ _ (c .before .before .push-word .result) (c .before .before .before .before .read .ensures) (c .before .before .push-word .ensures)
+returns c =
+    let at-push-word = c .before .before in
+    let at-read = at-push-word .before .before in
+    let at-start = at-read .before .before .before .before .before in
+    push-done (at-start .pre) _ _ (at-push-word .push-word .result) (at-read .read .ensures) (at-push-word .push-word .ensures)
 
 pub push-spec : {M : Type 1} → statement M
 push-spec = tie.close (tie.spec read-requires push-word-requires same-length returns)

@@ -81,19 +81,30 @@ literal-requires-2 : tie.Need-literal-requires-2
 literal-requires-2 c κs = variable-lies (push-as (c .before .before .before .before .before .before .before .pre) (LiteralVariable _) (c .before .before .place4 .given .1))
 
 word-of-requires-2 : tie.Need-word-of-requires-2
-word-of-requires-2 c κs = variable-there (push-as (c .before .before .before .before .before .before .before .before .pre) (LiteralVariable _) (c .before .before .before .place4 .given .1)) _ (c .literal2 .ensures)
+word-of-requires-2 c κs = variable-there (push-as (c .before .before .before .before .before .before .before .before .pre) (LiteralVariable _)
+    (c .before .before .before .place4 .given .1)) _ (c .literal2 .ensures)
 
 returns : tie.Need-returns
-returns c = read-as _ _ (c .before .before .before .place .given .1) (field-reads (push-as (c .before .before .before .before .before .before .before .before .pre) (Field _) (c .before .before .before .place .given .1)) _ (c .word-of .ensures))
+returns c =
+    let at-place = c .before .before .before in
+    let at-start = at-place .before .before .before .before .before in
+    read-as _ _ (at-place .place .given .1) (field-reads (push-as (at-start .pre) (Field _) (at-place .place .given .1)) _ (c .word-of .ensures))
 
 returns-2 : tie.Need-returns-2
-returns-2 c = read-as _ _ (c .before .before .place2 .given .1) (temporary-reads (push-as (c .before .before .before .before .before .before .before .pre) (Temporary _) (c .before .before .place2 .given .1)))
+returns-2 c = read-as _ _ (c .before .before .place2 .given .1) (temporary-reads (push-as (c .before .before .before .before .before .before .before .pre)
+    (Temporary _) (c .before .before .place2 .given .1)))
 
 returns-3 : tie.Need-returns-3
-returns-3 c = read-as _ _ (c .before .before .before .place3 .given .1) (literal-reads (push-as (c .before .before .before .before .before .before .before .before .pre) (Literal _) (c .before .before .before .place3 .given .1)) _ (c .literal .ensures))
+returns-3 c =
+    let at-place3 = c .before .before .before in
+    let at-start = at-place3 .before .before .before .before .before in
+    read-as _ _ (at-place3 .place3 .given .1) (literal-reads (push-as (at-start .pre) (Literal _) (at-place3 .place3 .given .1)) _ (c .literal .ensures))
 
 returns-4 : tie.Need-returns-4
-returns-4 c = read-as _ _ (c .before .before .before .before .place4 .given .1) (variable-reads (push-as (c .before .before .before .before .before .before .before .before .before .pre) (LiteralVariable _) (c .before .before .before .before .place4 .given .1)) _ _ (c .before .literal2 .ensures) (c .word-of2 .ensures))
+returns-4 c =
+    let at-place4 = c .before .before .before .before in
+    let at-start = at-place4 .before .before .before .before .before in
+    read-as _ _ (at-place4 .place4 .given .1) (variable-reads (push-as (at-start .pre) (LiteralVariable _) (at-place4 .place4 .given .1)) _ _ (c .before .literal2 .ensures) (c .word-of2 .ensures))
 
 pub read-spec : {M : Type 1} → statement M
 read-spec =

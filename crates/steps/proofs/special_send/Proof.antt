@@ -23,7 +23,9 @@ mul-under : tie.Need-mul-under
 mul-under c = let k = ends (c .before .before .before .before .before .pre .0 .active) in omega arith
 
 slice-read-under : tie.Need-slice-read-under
-slice-read-under c = let k = ends (c .before .before .before .before .before .before .pre .0 .active) in let o = same-two-there (c .before .before .before .before .before .before .pre .0) (c .before .if1 .taken) in omega arith
+slice-read-under c =
+    let at-start = c .before .before .before .before .before .before in
+    let k = ends (at-start .pre .0 .active) in let o = same-two-there (at-start .pre .0) (c .before .if1 .taken) in omega arith
 
 boolean-requires : tie.Need-boolean-requires
 boolean-requires c κs = search needs
@@ -35,7 +37,9 @@ mul-stack : tie.Need-mul-stack
 mul-stack c = let k = ends (c .before .before .before .before .before .before .before .pre .0 .active) in omega arith
 
 slice-write-stack : tie.Need-slice-write-stack
-slice-write-stack c = let k = ends (c .before .before .before .before .before .before .before .pre .0 .active) in let o = same-two-there (c .before .before .before .before .before .before .before .pre .0) (c .before .before .if1 .taken) in omega arith
+slice-write-stack c =
+    let at-start = c .before .before .before .before .before .before .before in
+    let k = ends (at-start .pre .0 .active) in let o = same-two-there (at-start .pre .0) (c .before .before .if1 .taken) in omega arith
 
 sub-t20 : tie.Need-sub-t20
 sub-t20 c = let k = special-one (c .before .before .before .before .before .before .before .pre .0) in omega arith
@@ -47,7 +51,9 @@ returns : tie.Need-returns
 returns c = same-done (c .before .before .before .before .before .before .before .pre .0) (c .before .before .if1 .taken) _ _ _ _ _ refl refl (c .boolean .ensures) refl refl
 
 class-of-requires : tie.Need-class-of-requires
-class-of-requires c κs = (special-valid (c .before .before .before .before .before .before .pre .0) _ refl, entries-room (c .before .before .before .before .before .before .pre .0))
+class-of-requires c κs =
+    let at-start = c .before .before .before .before .before .before in
+    (special-valid (at-start .pre .0) _ refl, entries-room (at-start .pre .0))
 
 sub-stack-2 : tie.Need-sub-stack-2
 sub-stack-2 c = let k = special-one (c .before .before .before .before .before .before .before .pre .0) in omega arith
@@ -56,7 +62,9 @@ mul-stack-2 : tie.Need-mul-stack-2
 mul-stack-2 c = let k = ends (c .before .before .before .before .before .before .before .pre .0 .active) in omega arith
 
 slice-write-stack-2 : tie.Need-slice-write-stack-2
-slice-write-stack-2 c = let k = ends (c .before .before .before .before .before .before .before .pre .0 .active) in let o = special-one (c .before .before .before .before .before .before .before .pre .0) in omega arith
+slice-write-stack-2 c =
+    let at-start = c .before .before .before .before .before .before .before in
+    let k = ends (at-start .pre .0 .active) in let o = special-one (at-start .pre .0) in omega arith
 
 same-length-2 : tie.Need-same-length-2
 same-length-2 c = search needs
@@ -68,10 +76,15 @@ word-of-requires : tie.Need-word-of-requires
 word-of-requires c κs = special-inside (c .before .before .before .before .before .before .pre .0)
 
 special-count-requires : tie.Need-special-count-requires
-special-count-requires c κs = (c .before .before .before .before .before .before .before .pre .1, special-below (c .before .before .before .before .before .before .before .pre .0))
+special-count-requires c κs =
+    let at-start = c .before .before .before .before .before .before .before in
+    (at-start .pre .1, special-below (at-start .pre .0))
 
 sent-requires : tie.Need-sent-requires
-sent-requires c κs = special-done (c .before .before .before .before .before .before .before .before .before .pre .0) _ _ (c .before .before .before .before .before .before .before .before .before .pre .1) (c .before .before .before .before .if1 .left) (c .before .before .before .if2 .left) (c .before .before .word-of .ensures) (c .before .special-count .ensures)
+sent-requires c κs =
+    let at-if1 = c .before .before .before .before in
+    let at-start = at-if1 .before .before .before .before .before in
+    special-done (at-start .pre .0) _ _ (at-start .pre .1) (at-if1 .if1 .left) (c .before .before .before .if2 .left) (c .before .before .word-of .ensures) (c .before .special-count .ensures)
 
 same-length-3 : tie.Need-same-length-3
 same-length-3 c = search needs

@@ -15,28 +15,54 @@ add-t14 : tie.Need-add-t14
 add-t14 c = let k = position-small (c .before .before .before .before .before .before .before .pre) in omega arith
 
 push-requires : tie.Need-push-requires
-push-requires c κs = row-field (fetched (c .before .before .before .before .before .before .before .before .before .before .pre) _ (c .before .before .before .before .code-byte .ensures)) (c .before .before .match .keys1)
+push-requires c κs =
+    let at-code-byte = c .before .before .before .before in
+    let at-start = at-code-byte .before .before .before .before .before .before in
+    row-field (fetched (at-start .pre) _ (at-code-byte .code-byte .ensures)) (c .before .before .match .keys1)
 
 push-requires-2 : tie.Need-push-requires-2
-push-requires-2 c κs = row-temporary (fetched (c .before .before .before .before .before .before .before .before .before .before .pre) _ (c .before .before .before .before .code-byte .ensures)) (c .before .before .match .keys2)
+push-requires-2 c κs =
+    let at-code-byte = c .before .before .before .before in
+    let at-start = at-code-byte .before .before .before .before .before .before in
+    row-temporary (fetched (at-start .pre) _ (at-code-byte .code-byte .ensures)) (c .before .before .match .keys2)
 
 push-requires-3 : tie.Need-push-requires-3
-push-requires-3 c κs = row-literal (fetched (c .before .before .before .before .before .before .before .before .before .before .pre) _ (c .before .before .before .before .code-byte .ensures)) (omega (arith, c .before .before .match .keys3)) (omega (arith, c .before .before .match .keys3))
+push-requires-3 c κs =
+    let at-match = c .before .before in
+    let at-code-byte = at-match .before .before in
+    let at-start = at-code-byte .before .before .before .before .before .before in
+    row-literal (fetched (at-start .pre) _ (at-code-byte .code-byte .ensures)) (omega (arith, at-match .match .keys3)) (omega (arith, at-match .match .keys3))
 
 push-requires-4 : tie.Need-push-requires-4
-push-requires-4 c κs = row-literal (fetched (c .before .before .before .before .before .before .before .before .before .before .pre) _ (c .before .before .before .before .code-byte .ensures)) (omega (arith, c .before .before .match .keys4)) (omega (arith, c .before .before .match .keys4))
+push-requires-4 c κs =
+    let at-match = c .before .before in
+    let at-code-byte = at-match .before .before in
+    let at-start = at-code-byte .before .before .before .before .before .before in
+    row-literal (fetched (at-start .pre) _ (at-code-byte .code-byte .ensures)) (omega (arith, at-match .match .keys4)) (omega (arith, at-match .match .keys4))
 
 push-requires-5 : tie.Need-push-requires-5
-push-requires-5 c κs = row-variable (fetched (c .before .before .before .before .before .before .before .before .before .before .pre) _ (c .before .before .before .before .code-byte .ensures)) (omega (arith, c .before .before .match .keys5)) (omega (arith, c .before .before .match .keys5))
+push-requires-5 c κs =
+    let at-match = c .before .before in
+    let at-code-byte = at-match .before .before in
+    let at-start = at-code-byte .before .before .before .before .before .before in
+    row-variable (fetched (at-start .pre) _ (at-code-byte .code-byte .ensures)) (omega (arith, at-match .match .keys5)) (omega (arith, at-match .match .keys5))
 
 push-requires-6 : tie.Need-push-requires-6
-push-requires-6 c κs = row-variable (fetched (c .before .before .before .before .before .before .before .before .before .before .pre) _ (c .before .before .before .before .code-byte .ensures)) (omega (arith, c .before .before .match .keys6)) (omega (arith, c .before .before .match .keys6))
+push-requires-6 c κs =
+    let at-match = c .before .before in
+    let at-code-byte = at-match .before .before in
+    let at-start = at-code-byte .before .before .before .before .before .before in
+    row-variable (fetched (at-start .pre) _ (at-code-byte .code-byte .ensures)) (omega (arith, at-match .match .keys6)) (omega (arith, at-match .match .keys6))
 
 sub-t53 : tie.Need-sub-t53
 sub-t53 c = search needs
 
 store-requires : tie.Need-store-requires
-store-requires c κs = storing-popped (row-pop-field (fetched (c .before .before .before .before .before .before .before .before .before .before .before .before .pre) _ (c .before .before .before .before .before .before .code-byte .ensures)) (c .before .before .before .before .match .keys7) (c .before .before .if1 .taken)) _ refl
+store-requires c κs =
+    let at-match = c .before .before .before .before in
+    let at-code-byte = at-match .before .before in
+    let at-start = at-code-byte .before .before .before .before .before .before in
+    storing-popped (row-pop-field (fetched (at-start .pre) _ (at-code-byte .code-byte .ensures)) (at-match .match .keys7) (c .before .before .if1 .taken)) _ refl
 
 same-length : tie.Need-same-length
 same-length c = search needs
@@ -48,40 +74,79 @@ returns : tie.Need-returns
 returns c = search needs
 
 store-requires-2 : tie.Need-store-requires-2
-store-requires-2 c κs = storing-popped (row-pop-temporary (fetched (c .before .before .before .before .before .before .before .before .before .before .before .before .pre) _ (c .before .before .before .before .before .before .code-byte .ensures)) (c .before .before .before .before .match .keys7) (c .before .before .if1 .left)) _ refl
+store-requires-2 c κs =
+    let at-match = c .before .before .before .before in
+    let at-code-byte = at-match .before .before in
+    let at-start = at-code-byte .before .before .before .before .before .before in
+    storing-popped (row-pop-temporary (fetched (at-start .pre) _ (at-code-byte .code-byte .ensures)) (at-match .match .keys7) (c .before .before .if1 .left)) _ refl
 
 constant-requires : tie.Need-constant-requires
-constant-requires c κs = ((fetched (c .before .before .before .before .before .before .before .before .before .before .pre) _ (c .before .before .before .before .code-byte .ensures)), c .before .before .match .keys8, refl)
+constant-requires c κs =
+    let at-code-byte = c .before .before .before .before in
+    let at-start = at-code-byte .before .before .before .before .before .before in
+    ((fetched (at-start .pre) _ (at-code-byte .code-byte .ensures)), c .before .before .match .keys8, refl)
 
 extended-requires : tie.Need-extended-requires
-extended-requires c κs = ((fetched (c .before .before .before .before .before .before .before .before .before .before .pre) _ (c .before .before .before .before .code-byte .ensures)), c .before .before .match .keys9)
+extended-requires c κs =
+    let at-code-byte = c .before .before .before .before in
+    let at-start = at-code-byte .before .before .before .before .before .before in
+    ((fetched (at-start .pre) _ (at-code-byte .code-byte .ensures)), c .before .before .match .keys9)
 
 near-requires : tie.Need-near-requires
-near-requires c κs = ((fetched (c .before .before .before .before .before .before .before .before .before .before .pre) _ (c .before .before .before .before .code-byte .ensures)), c .before .before .match .keys10)
+near-requires c κs =
+    let at-code-byte = c .before .before .before .before in
+    let at-start = at-code-byte .before .before .before .before .before .before in
+    ((fetched (at-start .pre) _ (at-code-byte .code-byte .ensures)), c .before .before .match .keys10)
 
 far-requires : tie.Need-far-requires
-far-requires c κs = ((fetched (c .before .before .before .before .before .before .before .before .before .before .pre) _ (c .before .before .before .before .code-byte .ensures)), c .before .before .match .keys11)
+far-requires c κs =
+    let at-code-byte = c .before .before .before .before in
+    let at-start = at-code-byte .before .before .before .before .before .before in
+    ((fetched (at-start .pre) _ (at-code-byte .code-byte .ensures)), c .before .before .match .keys11)
 
 sub-arithmetic-send : tie.Need-sub-arithmetic-send
 sub-arithmetic-send c = search needs
 
 arithmetic-send-requires : tie.Need-arithmetic-send-requires
-arithmetic-send-requires c κs = (row-special (fetched (c .before .before .before .before .before .before .before .before .before .before .pre) _ (c .before .before .before .before .code-byte .ensures)) (omega (arith, c .before .before .match .keys12)) (omega (arith, c .before .before .match .keys12)), omega (arith, c .before .before .match .keys12))
+arithmetic-send-requires c κs =
+    let at-match = c .before .before in
+    let at-code-byte = at-match .before .before in
+    let at-start = at-code-byte .before .before .before .before .before .before in (
+      row-special (fetched (at-start .pre) _ (at-code-byte .code-byte .ensures)) (omega (arith, at-match .match .keys12))
+          (omega (arith, at-match .match .keys12)),
+      omega (arith, at-match .match .keys12),
+    )
 
 sub-special-send : tie.Need-sub-special-send
 sub-special-send c = search needs
 
 special-send-requires : tie.Need-special-send-requires
-special-send-requires c κs = (row-special (fetched (c .before .before .before .before .before .before .before .before .before .before .pre) _ (c .before .before .before .before .code-byte .ensures)) (omega (arith, c .before .before .match .keys13)) (omega (arith, c .before .before .match .keys13)), omega (arith, c .before .before .match .keys13))
+special-send-requires c κs =
+    let at-match = c .before .before in
+    let at-code-byte = at-match .before .before in
+    let at-start = at-code-byte .before .before .before .before .before .before in (
+      row-special (fetched (at-start .pre) _ (at-code-byte .code-byte .ensures)) (omega (arith, at-match .match .keys13))
+          (omega (arith, at-match .match .keys13)),
+      omega (arith, at-match .match .keys13),
+    )
 
 send-requires : tie.Need-send-requires
-send-requires c κs = row-send (fetched (c .before .before .before .before .before .before .before .before .before .before .pre) _ (c .before .before .before .before .code-byte .ensures)) 0 (c .before .before .match .keys14)
+send-requires c κs =
+    let at-code-byte = c .before .before .before .before in
+    let at-start = at-code-byte .before .before .before .before .before .before in
+    row-send (fetched (at-start .pre) _ (at-code-byte .code-byte .ensures)) 0 (c .before .before .match .keys14)
 
 send-requires-2 : tie.Need-send-requires-2
-send-requires-2 c κs = row-send (fetched (c .before .before .before .before .before .before .before .before .before .before .pre) _ (c .before .before .before .before .code-byte .ensures)) 1 (c .before .before .match .keys15)
+send-requires-2 c κs =
+    let at-code-byte = c .before .before .before .before in
+    let at-start = at-code-byte .before .before .before .before .before .before in
+    row-send (fetched (at-start .pre) _ (at-code-byte .code-byte .ensures)) 1 (c .before .before .match .keys15)
 
 send-requires-3 : tie.Need-send-requires-3
-send-requires-3 c κs = let h = past 0 15 _ (omega arith) (c .before .before .match .rest) in row-send (fetched (c .before .before .before .before .before .before .before .before .before .before .pre) _ (c .before .before .before .before .code-byte .ensures)) 2 (omega (arith, c .before .before .before .before .code-byte .ensures))
+send-requires-3 c κs =
+    let at-code-byte = c .before .before .before .before in
+    let at-start = at-code-byte .before .before .before .before .before .before in
+    let h = past 0 15 _ (omega arith) (c .before .before .match .rest) in row-send (fetched (at-start .pre) _ (at-code-byte .code-byte .ensures)) 2 (omega (arith, at-code-byte .code-byte .ensures))
 
 same-length-3 : tie.Need-same-length-3
 same-length-3 c = search needs

@@ -32,7 +32,10 @@ cast-store-word : tie.Need-cast-store-word
 cast-store-word c = search needs
 
 store-word-requires : tie.Need-store-word-requires
-store-word-requires c κs = own-there (store-as (c .before .before .before .before .before .before .before .before .before .before .pre) (Field _) (c .before .before .before .place .given .1))
+store-word-requires c κs =
+    let at-place = c .before .before .before in
+    let at-start = at-place .before .before .before .before .before .before .before in
+    own-there (store-as (at-start .pre) (Field _) (at-place .place .given .1))
 
 enum-known-place-2 : tie.Need-enum-known-place-2
 enum-known-place-2 c = search needs
@@ -71,16 +74,25 @@ cast-literal : tie.Need-cast-literal
 cast-literal c = search needs
 
 literal-requires : tie.Need-literal-requires
-literal-requires c κs = variable-holds (store-as (c .before .before .before .before .before .before .before .before .before .before .pre) (LiteralVariable _) (c .before .before .before .place3 .given .1))
+literal-requires c κs =
+    let at-place3 = c .before .before .before in
+    let at-start = at-place3 .before .before .before .before .before .before .before in
+    variable-holds (store-as (at-start .pre) (LiteralVariable _) (at-place3 .place3 .given .1))
 
 store-word-requires-2 : tie.Need-store-word-requires-2
-store-word-requires-2 c κs = variable-room (store-as (c .before .before .before .before .before .before .before .before .before .before .before .before .pre) (LiteralVariable _) (c .before .before .before .before .before .place3 .given .1)) _ (c .before .literal .ensures)
+store-word-requires-2 c κs =
+    let at-place3 = c .before .before .before .before .before in
+    let at-start = at-place3 .before .before .before .before .before .before .before in
+    variable-room (store-as (at-start .pre) (LiteralVariable _) (at-place3 .place3 .given .1)) _ (c .before .literal .ensures)
 
 same-length : tie.Need-same-length
 same-length c = search needs
 
 returns : tie.Need-returns
-returns c = own-stored (store-as (c .before .before .before .before .before .before .before .before .before .before .before .before .before .pre) (Field _) (c .before .before .before .before .before .before .place .given .1)) _ _ refl (c .before .before .store-word .ensures)
+returns c =
+    let at-place = c .before .before .before .before .before .before in
+    let at-start = at-place .before .before .before .before .before .before .before in
+    own-stored (store-as (at-start .pre) (Field _) (at-place .place .given .1)) _ _ refl (c .before .before .store-word .ensures)
 
 same-length-2 : tie.Need-same-length-2
 same-length-2 c = search needs
@@ -95,7 +107,11 @@ same-length-3 : tie.Need-same-length-3
 same-length-3 c = search needs
 
 returns-4 : tie.Need-returns-4
-returns-4 c = variable-stored (store-as (c .before .before .before .before .before .before .before .before .before .before .before .before .before .before .before .pre) (LiteralVariable _) (c .before .before .before .before .before .before .before .before .place3 .given .1)) _ _ _ refl (c .before .before .before .before .literal .ensures) (c .before .before .store-word2 .ensures)
+returns-4 c =
+    let at-literal = c .before .before .before .before in
+    let at-place3 = at-literal .before .before .before .before in
+    let at-start = at-place3 .before .before .before .before .before .before .before in
+    variable-stored (store-as (at-start .pre) (LiteralVariable _) (at-place3 .place3 .given .1)) _ _ _ refl (at-literal .literal .ensures) (c .before .before .store-word2 .ensures)
 
 pub store-spec : {M : Type 1} → statement M
 store-spec =

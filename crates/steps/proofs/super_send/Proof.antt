@@ -26,7 +26,9 @@ mul-receiver-2 : tie.Need-mul-receiver-2
 mul-receiver-2 c = let k = ends (c .before .before .before .before .before .pre .active) in omega arith
 
 shared-slice-read-receiver-2 : tie.Need-shared-slice-read-receiver-2
-shared-slice-read-receiver-2 c = let k = ends (c .before .before .before .before .before .before .pre .active) in let o = super-one (c .before .before .before .before .before .before .pre) in omega arith
+shared-slice-read-receiver-2 c =
+    let at-start = c .before .before .before .before .before .before in
+    let k = ends (at-start .pre .active) in let o = super-one (at-start .pre) in omega arith
 
 add-own : tie.Need-add-own
 add-own c = search needs
@@ -47,7 +49,9 @@ superclass-requires : tie.Need-superclass-requires
 superclass-requires c κs = super-home (c .before .before .before .before .before .before .before .before .before .pre) _ (c .home .ensures)
 
 returns : tie.Need-returns
-returns c = super-done (c .before .before .before .before .before .before .before .before .before .before .pre) _ _ _ _ refl (c .before .before .literal .ensures) (c .before .home .ensures) (c .superclass .ensures)
+returns c =
+    let at-start = c .before .before .before .before .before .before .before .before .before .before in
+    super-done (at-start .pre) _ _ _ _ refl (c .before .before .literal .ensures) (c .before .home .ensures) (c .superclass .ensures)
 
 pub super-send-spec : {M : Type 1} → statement M
 super-send-spec =

@@ -103,7 +103,8 @@ returns-15 : tie.Need-returns-15
 returns-15 c = c .arithmetic10 .ensures ∙ ap (λ (x : ℕ). arithmetic (triedPrimitive x) (c .before .before .args .v) (c .before .before .args .w)) (sym (c .before .match .keys15))
 
 returns-16 : tie.Need-returns-16
-returns-16 c = let h = past 0 15 _ (omega arith) (c .before .match .rest) in let e : 15 ≡ c .before .before .args .k = omega (arith, c .before .before .pre) in c .arithmetic11 .ensures ∙ ap (λ (x : ℕ). arithmetic (triedPrimitive x) (c .before .before .args .v) (c .before .before .args .w)) e
+returns-16 c = let h = past 0 15 _ (omega arith) (c .before .match .rest) in let e : 15 ≡ c .before .before .args .k = omega
+    (arith, c .before .before .pre) in c .arithmetic11 .ensures ∙ ap (λ (x : ℕ). arithmetic (triedPrimitive x) (c .before .before .args .v) (c .before .before .args .w)) e
 
 pub tried-spec : {M : Type 1} → statement M
 tried-spec =

@@ -27,23 +27,45 @@ returns-2 : tie.Need-returns-2
 unfolding numberOf
 returns-2 c =
     record {
-      answer = sym (ap numberOf (gives-5 _ _ _ _ (sym (c .before .before .before .layout .ensures) ∙ not-false _ (c .before .before .if1 .left)) (sym (c .before .words .ensures) ∙ not-true _ (c .if2 .taken))));
+      answer = sym (ap numberOf (gives-5 _ _ _ _ (sym (c .before .before .before .layout .ensures) ∙ not-false _ (c .before .before .if1 .left))
+          (sym (c .before .words .ensures) ∙ not-true _ (c .if2 .taken))));
       noted = λ e. absurd (omega (arith, e));
     }
 
 classes-requires : tie.Need-classes-requires
-classes-requires c κs = record { lent = c .before .before .before .before .before .before .before .pre .0; layout = sym (c .before .before .before .layout .ensures) ∙ not-false _ (c .before .before .if1 .left) }
+classes-requires c κs =
+    let at-layout = c .before .before .before in
+    let at-start = at-layout .before .before .before .before in
+    record { lent = at-start .pre .0; layout = sym (at-layout .layout .ensures) ∙ not-false _ (c .before .before .if1 .left) }
 
 returns-3 : tie.Need-returns-3
 unfolding numberOf
 returns-3 c =
+    let at-words = c .before .before .before in
+    let at-if1 = at-words .before in
+    let at-layout = at-if1 .before in
     record {
-      answer = sym (ap numberOf (gives-6 _ _ _ _ (sym (c .before .before .before .before .before .layout .ensures) ∙ not-false _ (c .before .before .before .before .if1 .left)) (sym (c .before .before .before .words .ensures) ∙ not-false _ (c .before .before .if2 .left)) (sym (c .before .classes .ensures) ∙ not-true _ (c .if3 .taken))));
+      answer = sym (ap numberOf (gives-6 _ _ _ _ (sym (at-layout .layout .ensures) ∙ not-false _ (at-if1 .if1 .left)) (sym (at-words .words .ensures)
+          ∙ not-false _ (c .before .before .if2 .left)) (sym (c .before .classes .ensures) ∙ not-true _ (c .if3 .taken))));
       noted = λ e. absurd (omega (arith, e));
     }
 
 methods-fine-requires : tie.Need-methods-fine-requires
-methods-fine-requires c κs = (record { lent = c .before .before .before .before .before .before .before .before .before .before .pre .0; layout = true→T (sym (c .before .before .before .before .before .before .layout .ensures) ∙ not-false _ (c .before .before .before .before .before .if1 .left)); words = true→T (sym (c .before .before .before .before .words .ensures) ∙ not-false _ (c .before .before .before .if2 .left)); classes = true→T (sym (c .before .before .classes .ensures) ∙ not-false _ (c .before .if3 .left)) }, c .before .before .before .before .before .before .before .before .before .before .pre .1)
+methods-fine-requires c κs =
+    let at-words = c .before .before .before .before in
+    let at-if1 = at-words .before in
+    let at-layout = at-if1 .before in
+    let at-start = at-layout .before .before .before .before in (
+      record {
+        lent = at-start .pre .0;
+        layout = true→T (sym (at-layout .layout .ensures) ∙ not-false _ (at-if1 .if1 .left));
+        words = true→T
+            (sym (at-words .words .ensures) ∙ not-false _ (c .before .before .before .if2 .left));
+        classes = true→T (sym (c .before .before .classes .ensures)
+            ∙ not-false _ (c .before .if3 .left));
+      },
+      at-start .pre .1,
+    )
 
 same-length : tie.Need-same-length
 same-length c = search needs
@@ -51,8 +73,17 @@ same-length c = search needs
 returns-4 : tie.Need-returns-4
 unfolding numberOf
 returns-4 c =
+    let at-methods-fine = c .before .before .before in
+    let at-if3 = at-methods-fine .before .before in
+    let at-classes = at-if3 .before in
+    let at-if2 = at-classes .before in
+    let at-words = at-if2 .before in
+    let at-if1 = at-words .before in
+    let at-layout = at-if1 .before in
     record {
-      answer = sym (ap numberOf (gives-7 _ _ _ _ (sym (c .before .before .before .before .before .before .before .before .before .before .layout .ensures) ∙ not-false _ (c .before .before .before .before .before .before .before .before .before .if1 .left)) (sym (c .before .before .before .before .before .before .before .before .words .ensures) ∙ not-false _ (c .before .before .before .before .before .before .before .if2 .left)) (sym (c .before .before .before .before .before .before .classes .ensures) ∙ not-false _ (c .before .before .before .before .before .if3 .left)) (sym (c .before .before .before .methods-fine .ensures .answer) ∙ not-true _ (c .if4 .taken))));
+      answer = sym (ap numberOf (gives-7 _ _ _ _ (sym (at-layout .layout .ensures) ∙ not-false _ (at-if1 .if1 .left)) (sym (at-words .words .ensures)
+          ∙ not-false _ (at-if2 .if2 .left)) (sym (at-classes .classes .ensures) ∙ not-false _ (at-if3 .if3 .left))
+          (sym (at-methods-fine .methods-fine .ensures .answer) ∙ not-true _ (c .if4 .taken))));
       noted = λ e. absurd (omega (arith, e));
     }
 
@@ -65,8 +96,18 @@ same-length-2 c = search needs
 returns-5 : tie.Need-returns-5
 unfolding numberOf
 returns-5 c =
+    let at-methods-fine = c .before .before .before .before .before in
+    let at-if3 = at-methods-fine .before .before in
+    let at-classes = at-if3 .before in
+    let at-if2 = at-classes .before in
+    let at-words = at-if2 .before in
+    let at-if1 = at-words .before in
+    let at-layout = at-if1 .before in
     record {
-      answer = sym (ap numberOf (gives-8 _ _ _ _ (sym (c .before .before .before .before .before .before .before .before .before .before .before .before .layout .ensures) ∙ not-false _ (c .before .before .before .before .before .before .before .before .before .before .before .if1 .left)) (sym (c .before .before .before .before .before .before .before .before .before .before .words .ensures) ∙ not-false _ (c .before .before .before .before .before .before .before .before .before .if2 .left)) (sym (c .before .before .before .before .before .before .before .before .classes .ensures) ∙ not-false _ (c .before .before .before .before .before .before .before .if3 .left)) (sym (c .before .before .before .before .before .methods-fine .ensures .answer) ∙ not-false _ (c .before .before .if4 .left)) (sym (c .before .starts-fine .ensures _ _) ∙ not-true _ (c .if5 .taken))));
+      answer = sym (ap numberOf (gives-8 _ _ _ _ (sym (at-layout .layout .ensures) ∙ not-false _ (at-if1 .if1 .left)) (sym (at-words .words .ensures)
+          ∙ not-false _ (at-if2 .if2 .left)) (sym (at-classes .classes .ensures) ∙ not-false _ (at-if3 .if3 .left))
+          (sym (at-methods-fine .methods-fine .ensures .answer) ∙ not-false _ (c .before .before .if4 .left)) (sym (c .before .starts-fine .ensures _ _)
+          ∙ not-true _ (c .if5 .taken))));
       noted = λ e. absurd (omega (arith, e));
     }
 
@@ -76,9 +117,19 @@ same-length-3 c = search needs
 returns-6 : tie.Need-returns-6
 unfolding numberOf
 returns-6 c =
+    let at-if4 = c .before .before in
+    let at-methods-fine = at-if4 .before .before .before in
+    let at-if3 = at-methods-fine .before .before in
+    let at-classes = at-if3 .before in
+    let at-if2 = at-classes .before in
+    let at-words = at-if2 .before in
+    let at-if1 = at-words .before in
+    let at-layout = at-if1 .before in
     record {
-      answer = sym (ap numberOf (gives-none _ _ _ _ (sym (c .before .before .before .before .before .before .before .before .before .before .before .before .layout .ensures) ∙ not-false _ (c .before .before .before .before .before .before .before .before .before .before .before .if1 .left)) (sym (c .before .before .before .before .before .before .before .before .before .before .words .ensures) ∙ not-false _ (c .before .before .before .before .before .before .before .before .before .if2 .left)) (sym (c .before .before .before .before .before .before .before .before .classes .ensures) ∙ not-false _ (c .before .before .before .before .before .before .before .if3 .left)) (sym (c .before .before .before .before .before .methods-fine .ensures .answer) ∙ not-false _ (c .before .before .if4 .left)) (sym (c .before .starts-fine .ensures _ _) ∙ not-false _ (c .if5 .left))));
-      noted = λ e. c .before .before .before .before .before .methods-fine .ensures .noted (not-false _ (c .before .before .if4 .left));
+      answer = sym (ap numberOf (gives-none _ _ _ _ (sym (at-layout .layout .ensures) ∙ not-false _ (at-if1 .if1 .left)) (sym (at-words .words .ensures)
+          ∙ not-false _ (at-if2 .if2 .left)) (sym (at-classes .classes .ensures) ∙ not-false _ (at-if3 .if3 .left))
+          (sym (at-methods-fine .methods-fine .ensures .answer) ∙ not-false _ (at-if4 .if4 .left)) (sym (c .before .starts-fine .ensures _ _) ∙ not-false _ (c .if5 .left))));
+      noted = λ e. at-methods-fine .methods-fine .ensures .noted (not-false _ (at-if4 .if4 .left));
     }
 
 pub judge-spec : {M : Type 1} → statement M

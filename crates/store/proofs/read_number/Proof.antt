@@ -23,13 +23,20 @@ header-fine-requires : tie.Need-header-fine-requires
 header-fine-requires c κs = search needs
 
 returns-2 : tie.Need-returns-2
-returns-2 c = refuse _ 2 _ _ _ (read-2 _ _ _ (c .before .before .header-of .ensures) (sym (c .before .before .before .before .length-fine .ensures) ∙ not-false _ (c .before .before .before .if1 .left)) (sym (c .before .header-fine .ensures) ∙ not-true _ (c .if2 .taken))) (omega arith)
+returns-2 c = refuse _ 2 _ _ _ (read-2 _ _ _ (c .before .before .header-of .ensures) (sym (c .before .before .before .before .length-fine .ensures)
+    ∙ not-false _ (c .before .before .before .if1 .left)) (sym (c .before .header-fine .ensures) ∙ not-true _ (c .if2 .taken))) (omega arith)
 
 buffers-fine-requires : tie.Need-buffers-fine-requires
 buffers-fine-requires c κs = search needs
 
 returns-3 : tie.Need-returns-3
-returns-3 c = refuse _ 3 _ _ _ (read-3 _ _ _ (c .before .before .before .before .header-of .ensures) (sym (c .before .before .before .before .before .before .length-fine .ensures) ∙ not-false _ (c .before .before .before .before .before .if1 .left)) (sym (c .before .before .before .header-fine .ensures) ∙ not-false _ (c .before .before .if2 .left)) (sym (c .before .buffers-fine .ensures) ∙ not-true _ (c .if3 .taken))) (omega arith)
+returns-3 c =
+    let at-header-fine = c .before .before .before in
+    let at-header-of = at-header-fine .before in
+    let at-if1 = at-header-of .before in
+    let at-length-fine = at-if1 .before in
+    refuse _ 3 _ _ _ (read-3 _ _ _ (at-header-of .header-of .ensures) (sym (at-length-fine .length-fine .ensures) ∙ not-false _ (at-if1 .if1 .left))
+    (sym (at-header-fine .header-fine .ensures) ∙ not-false _ (c .before .before .if2 .left)) (sym (c .before .buffers-fine .ensures) ∙ not-true _ (c .if3 .taken))) (omega arith)
 
 cast-settle : tie.Need-cast-settle
 cast-settle c = search needs
@@ -38,7 +45,21 @@ cast-settle-2 : tie.Need-cast-settle-2
 cast-settle-2 c = search needs
 
 settle-requires : tie.Need-settle-requires
-settle-requires c κs = record { long = true→T (sym (c .before .before .before .before .before .before .before .before .length-fine .ensures) ∙ not-false _ (c .before .before .before .before .before .before .before .if1 .left)); objects = sym (ap (λ (h : Image.Header). h .n) (c .before .before .before .before .before .before .header-of .ensures)); words = sym (ap (λ (h : Image.Header). h .b) (c .before .before .before .before .before .before .header-of .ensures)); lent = lent-by (c .before .before .before .before .before .before .header-of .result .edition) _ _ (c .before .before .before .before .before .before .before .before .before .before .before .before .args .cache) _ _ (sym (c .before .before .before .before .before .header-fine .ensures) ∙ not-false _ (c .before .before .before .before .if2 .left)) (sym (c .before .before .before .buffers-fine .ensures) ∙ not-false _ (c .before .before .if3 .left)) }
+settle-requires c κs =
+    let at-if2 = c .before .before .before .before in
+    let at-header-fine = at-if2 .before in
+    let at-header-of = at-header-fine .before in
+    let at-if1 = at-header-of .before in
+    let at-length-fine = at-if1 .before in
+    let at-start = at-length-fine .before .before .before .before in
+    record {
+      long = true→T (sym (at-length-fine .length-fine .ensures) ∙ not-false _ (at-if1 .if1 .left));
+      objects = sym
+          (ap (λ (h : Image.Header). h .n) (at-header-of .header-of .ensures));
+      words = sym (ap (λ (h : Image.Header). h .b) (at-header-of .header-of .ensures));
+      lent = lent-by (at-header-of .header-of .result .edition) _ _ (at-start .args .cache) _ _ (sym (at-header-fine .header-fine .ensures)
+          ∙ not-false _ (at-if2 .if2 .left)) (sym (c .before .before .before .buffers-fine .ensures) ∙ not-false _ (c .before .before .if3 .left));
+    }
 
 same-length : tie.Need-same-length
 same-length c = search needs
@@ -47,7 +68,18 @@ same-length-2 : tie.Need-same-length-2
 same-length-2 c = search needs
 
 returns-4 : tie.Need-returns-4
-returns-4 c = stores _ _ _ _ _ _ (read-on _ _ _ (c .before .before .before .before .before .before .before .before .before .before .before .header-of .ensures) (sym (c .before .before .before .before .before .before .before .before .before .before .before .before .before .length-fine .ensures) ∙ not-false _ (c .before .before .before .before .before .before .before .before .before .before .before .before .if1 .left)) (sym (c .before .before .before .before .before .before .before .before .before .before .header-fine .ensures) ∙ not-false _ (c .before .before .before .before .before .before .before .before .before .if2 .left)) (sym (c .before .before .before .before .before .before .before .before .buffers-fine .ensures) ∙ not-false _ (c .before .before .before .before .before .before .before .if3 .left))) (c .before .before .before .before .settle .ensures)
+returns-4 c =
+    let at-settle = c .before .before .before .before in
+    let at-if3 = at-settle .before .before .before in
+    let at-buffers-fine = at-if3 .before in
+    let at-if2 = at-buffers-fine .before in
+    let at-header-fine = at-if2 .before in
+    let at-header-of = at-header-fine .before in
+    let at-if1 = at-header-of .before in
+    let at-length-fine = at-if1 .before in
+    stores _ _ _ _ _ _ (read-on _ _ _ (at-header-of .header-of .ensures) (sym (at-length-fine .length-fine .ensures) ∙ not-false _ (at-if1 .if1 .left))
+    (sym (at-header-fine .header-fine .ensures) ∙ not-false _ (at-if2 .if2 .left)) (sym (at-buffers-fine .buffers-fine .ensures)
+    ∙ not-false _ (at-if3 .if3 .left))) (at-settle .settle .ensures)
 
 pub read-number-spec : {M : Type 1} → statement M
 read-number-spec =

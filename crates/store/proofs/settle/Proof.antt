@@ -24,7 +24,14 @@ same-length-2 : tie.Need-same-length-2
 same-length-2 c = search needs
 
 returns : tie.Need-returns
-returns c = settled-no _ _ _ _ _ (c .before .before .before .before .before .before .before .before .before .before .before .before .before .before .before .before .before .before .before .before .before .before .before .pre) _ _ (c .before .before .before .before .before .before .before .before .before .before .before .before .before .before .before .before .before .place .ensures .0) (c .before .before .before .before .before .before .before .before .before .before .before .before .before .before .before .before .before .place .ensures .1) _ _ _ _ _ (c .before .before .before .before .before .before .before .before .before .judge .ensures .answer) (c .before .before .before .before .before .before .before .if1 .taken) (c .before .before .before .before .zero .ensures .0) (c .before .before .before .before .zero .ensures .1)
+returns c =
+    let at-zero = c .before .before .before .before in
+    let at-if1 = at-zero .before .before .before in
+    let at-judge = at-if1 .before .before in
+    let at-place = at-judge .before .before .before .before .before .before .before .before in
+    let at-start = at-place .before .before .before .before .before .before in
+    settled-no _ _ _ _ _ (at-start .pre) _ _ (at-place .place .ensures .0) (at-place .place .ensures .1) _ _ _ _ _ (at-judge .judge .ensures .answer)
+    (at-if1 .if1 .taken) (at-zero .zero .ensures .0) (at-zero .zero .ensures .1)
 
 same-length-3 : tie.Need-same-length-3
 same-length-3 c = search needs
@@ -33,7 +40,10 @@ same-length-4 : tie.Need-same-length-4
 same-length-4 c = search needs
 
 returns-2 : tie.Need-returns-2
-returns-2 c = settled-yes _ _ _ _ _ (c .before .before .before .before .before .before .before .before .before .before .before .before .before .before .before .before .pre) _ _ (c .before .before .before .before .before .before .before .before .before .before .place .ensures .0) (c .before .before .before .before .before .before .before .before .before .before .place .ensures .1) _ _ (sym (c .if1 .left) ∙ c .before .before .judge .ensures .answer)
+returns-2 c =
+    let at-place = c .before .before .before .before .before .before .before .before .before .before in
+    let at-start = at-place .before .before .before .before .before .before in
+    settled-yes _ _ _ _ _ (at-start .pre) _ _ (at-place .place .ensures .0) (at-place .place .ensures .1) _ _ (sym (c .if1 .left) ∙ c .before .before .judge .ensures .answer)
 
 pub settle-spec : {M : Type 1} → statement M
 settle-spec =

@@ -20,7 +20,8 @@ returns : tie.Need-returns
 returns c =
     let a = c .before .before .before .before .before .args in
     let o = objectsAt (a .n) (a .b) (a .contents .now) (a .bodies .now) in
-    sym (no-superclass o (a .c) (ap (λ (x : ℕ). isNilOr o 2 x) (sym (c .before .before .superclass .ensures)) ∙ sym (c .before .is-nil-or .ensures (a .b) (a .bodies .now)) ∙ not-true _ (c .if1 .taken)))
+    sym (no-superclass o (a .c) (ap (λ (x : ℕ). isNilOr o 2 x) (sym (c .before .before .superclass .ensures))
+    ∙ sym (c .before .is-nil-or .ensures (a .b) (a .bodies .now)) ∙ not-true _ (c .if1 .taken)))
 
 dictionary-requires : tie.Need-dictionary-requires
 dictionary-requires c κs = search needs
@@ -30,9 +31,13 @@ is-kind-requires c κs = search needs
 
 returns-2 : tie.Need-returns-2
 returns-2 c =
-    let a = c .before .before .before .before .before .before .before .before .args in
+    let at-if1 = c .before .before .before in
+    let at-is-nil-or = at-if1 .before in
+    let at-superclass = at-is-nil-or .before in
+    let at-start = at-superclass .before .before .before in
+    let a = at-start .args in
     let o = objectsAt (a .n) (a .b) (a .contents .now) (a .bodies .now) in
-    let s = ap (λ (x : ℕ). isNilOr o 2 x) (sym (c .before .before .before .before .before .superclass .ensures)) ∙ sym (c .before .before .before .before .is-nil-or .ensures (a .b) (a .bodies .now)) ∙ not-false _ (c .before .before .before .if1 .left) in
+    let s = ap (λ (x : ℕ). isNilOr o 2 x) (sym (at-superclass .superclass .ensures)) ∙ sym (at-is-nil-or .is-nil-or .ensures (a .b) (a .bodies .now)) ∙ not-false _ (at-if1 .if1 .left) in
     sym (no-dictionary o (a .c) s (ap (isKind o 3) (sym (c .before .before .dictionary .ensures)) ∙ sym (c .before .is-kind .ensures (a .b) (a .bodies .now)) ∙ not-true _ (c .if2 .taken)))
 
 fields-word-requires : tie.Need-fields-word-requires
@@ -46,41 +51,79 @@ numbers-fine-requires c κs = search needs
 
 returns-3 : tie.Need-returns-3
 returns-3 c =
-    let a = c .before .before .before .before .before .before .before .before .before .before .before .before .args in
+    let at-fields-word = c .before .before .before in
+    let at-if2 = at-fields-word .before in
+    let at-is-kind = at-if2 .before in
+    let at-dictionary = at-is-kind .before in
+    let at-if1 = at-dictionary .before in
+    let at-is-nil-or = at-if1 .before in
+    let at-superclass = at-is-nil-or .before in
+    let at-start = at-superclass .before .before .before in
+    let a = at-start .args in
     let o = objectsAt (a .n) (a .b) (a .contents .now) (a .bodies .now) in
-    let s = ap (λ (x : ℕ). isNilOr o 2 x) (sym (c .before .before .before .before .before .before .before .before .before .superclass .ensures)) ∙ sym (c .before .before .before .before .before .before .before .before .is-nil-or .ensures (a .b) (a .bodies .now)) ∙ not-false _ (c .before .before .before .before .before .before .before .if1 .left) in
-    let d = ap (isKind o 3) (sym (c .before .before .before .before .before .before .dictionary .ensures)) ∙ sym (c .before .before .before .before .before .is-kind .ensures (a .b) (a .bodies .now)) ∙ not-false _ (c .before .before .before .before .if2 .left) in
-    sym (no-numbers o (a .c) s d (ap₂ numbersFine (sym (c .before .before .before .fields-word .ensures)) (sym (c .before .before .form-word .ensures)) ∙ sym (c .before .numbers-fine .ensures) ∙ not-true _ (c .if3 .taken)))
+    let s = ap (λ (x : ℕ). isNilOr o 2 x) (sym (at-superclass .superclass .ensures)) ∙ sym (at-is-nil-or .is-nil-or .ensures (a .b) (a .bodies .now)) ∙ not-false _ (at-if1 .if1 .left) in
+    let d = ap (isKind o 3) (sym (at-dictionary .dictionary .ensures)) ∙ sym (at-is-kind .is-kind .ensures (a .b) (a .bodies .now)) ∙ not-false _ (at-if2 .if2 .left) in
+    sym (no-numbers o (a .c) s d (ap₂ numbersFine (sym (at-fields-word .fields-word .ensures)) (sym (c .before .before .form-word .ensures))
+    ∙ sym (c .before .numbers-fine .ensures) ∙ not-true _ (c .if3 .taken)))
 
 rises-fine-requires : tie.Need-rises-fine-requires
 rises-fine-requires c κs =
-    let a = c .before .before .before .before .before .before .before .before .before .before .before .before .args in
-    let p = c .before .before .before .before .before .before .before .before .before .before .before .before .pre in
-    (p .0, (p .1, (c .before .before .before .before .before .before .before .before .before .superclass .ensures, sym (c .before .before .before .before .before .before .before .before .is-nil-or .ensures (a .b) (a .bodies .now)) ∙ not-false _ (c .before .before .before .before .before .before .before .if1 .left))))
+    let at-if1 = c .before .before .before .before .before .before .before in
+    let at-is-nil-or = at-if1 .before in
+    let at-superclass = at-is-nil-or .before in
+    let at-start = at-superclass .before .before .before in
+    let a = at-start .args in
+    let p = at-start .pre in
+    (p .0, (p .1, (at-superclass .superclass .ensures, sym (at-is-nil-or .is-nil-or .ensures (a .b) (a .bodies .now)) ∙ not-false _ (at-if1 .if1 .left))))
 
 returns-4 : tie.Need-returns-4
 returns-4 c =
-    let a = c .before .before .before .before .before .before .before .before .before .before .before .before .before .before .args in
+    let at-numbers-fine = c .before .before .before in
+    let at-form-word = at-numbers-fine .before in
+    let at-fields-word = at-form-word .before in
+    let at-if2 = at-fields-word .before in
+    let at-is-kind = at-if2 .before in
+    let at-dictionary = at-is-kind .before in
+    let at-if1 = at-dictionary .before in
+    let at-is-nil-or = at-if1 .before in
+    let at-superclass = at-is-nil-or .before in
+    let at-start = at-superclass .before .before .before in
+    let a = at-start .args in
     let o = objectsAt (a .n) (a .b) (a .contents .now) (a .bodies .now) in
-    let s = ap (λ (x : ℕ). isNilOr o 2 x) (sym (c .before .before .before .before .before .before .before .before .before .before .before .superclass .ensures)) ∙ sym (c .before .before .before .before .before .before .before .before .before .before .is-nil-or .ensures (a .b) (a .bodies .now)) ∙ not-false _ (c .before .before .before .before .before .before .before .before .before .if1 .left) in
-    let d = ap (isKind o 3) (sym (c .before .before .before .before .before .before .before .before .dictionary .ensures)) ∙ sym (c .before .before .before .before .before .before .before .is-kind .ensures (a .b) (a .bodies .now)) ∙ not-false _ (c .before .before .before .before .before .before .if2 .left) in
-    let f = ap₂ numbersFine (sym (c .before .before .before .before .before .fields-word .ensures)) (sym (c .before .before .before .before .form-word .ensures)) ∙ sym (c .before .before .before .numbers-fine .ensures) ∙ not-false _ (c .before .before .if3 .left) in
+    let s = ap (λ (x : ℕ). isNilOr o 2 x) (sym (at-superclass .superclass .ensures)) ∙ sym (at-is-nil-or .is-nil-or .ensures (a .b) (a .bodies .now)) ∙ not-false _ (at-if1 .if1 .left) in
+    let d = ap (isKind o 3) (sym (at-dictionary .dictionary .ensures)) ∙ sym (at-is-kind .is-kind .ensures (a .b) (a .bodies .now)) ∙ not-false _ (at-if2 .if2 .left) in
+    let f = ap₂ numbersFine (sym (at-fields-word .fields-word .ensures)) (sym (at-form-word .form-word .ensures))
+    ∙ sym (at-numbers-fine .numbers-fine .ensures) ∙ not-false _ (c .before .before .if3 .left) in
     sym (no-rise o (a .c) s d f (sym (c .before .rises-fine .ensures) ∙ not-true _ (c .if4 .taken)))
 
 dictionary-fine-requires : tie.Need-dictionary-fine-requires
 dictionary-fine-requires c κs =
-    let a = c .before .before .before .before .before .before .before .before .before .before .before .before .before .before .args in
-    let p = c .before .before .before .before .before .before .before .before .before .before .before .before .before .before .pre in
-    (p .0, sym (c .before .before .before .before .before .before .before .is-kind .ensures (a .b) (a .bodies .now)) ∙ not-false _ (c .before .before .before .before .before .before .if2 .left))
+    let at-if2 = c .before .before .before .before .before .before in
+    let at-is-kind = at-if2 .before in
+    let at-start = at-is-kind .before .before .before .before .before .before .before in
+    let a = at-start .args in
+    let p = at-start .pre in
+    (p .0, sym (at-is-kind .is-kind .ensures (a .b) (a .bodies .now)) ∙ not-false _ (at-if2 .if2 .left))
 
 returns-5 : tie.Need-returns-5
 returns-5 c =
-    let a = c .before .before .before .before .before .before .before .before .before .before .before .before .before .before .before .args in
+    let at-numbers-fine = c .before .before .before .before in
+    let at-form-word = at-numbers-fine .before in
+    let at-fields-word = at-form-word .before in
+    let at-if2 = at-fields-word .before in
+    let at-is-kind = at-if2 .before in
+    let at-dictionary = at-is-kind .before in
+    let at-if1 = at-dictionary .before in
+    let at-is-nil-or = at-if1 .before in
+    let at-superclass = at-is-nil-or .before in
+    let at-start = at-superclass .before .before .before in
+    let a = at-start .args in
     let o = objectsAt (a .n) (a .b) (a .contents .now) (a .bodies .now) in
-    let s = ap (λ (x : ℕ). isNilOr o 2 x) (sym (c .before .before .before .before .before .before .before .before .before .before .before .before .superclass .ensures)) ∙ sym (c .before .before .before .before .before .before .before .before .before .before .before .is-nil-or .ensures (a .b) (a .bodies .now)) ∙ not-false _ (c .before .before .before .before .before .before .before .before .before .before .if1 .left) in
-    let d = ap (isKind o 3) (sym (c .before .before .before .before .before .before .before .before .before .dictionary .ensures)) ∙ sym (c .before .before .before .before .before .before .before .before .is-kind .ensures (a .b) (a .bodies .now)) ∙ not-false _ (c .before .before .before .before .before .before .before .if2 .left) in
-    let f = ap₂ numbersFine (sym (c .before .before .before .before .before .before .fields-word .ensures)) (sym (c .before .before .before .before .before .form-word .ensures)) ∙ sym (c .before .before .before .before .numbers-fine .ensures) ∙ not-false _ (c .before .before .before .if3 .left) in
-    let l = c .dictionary-fine .ensures ∙ ap (dictionaryFine o) (c .before .before .before .before .before .before .before .before .before .dictionary .ensures) in
+    let s = ap (λ (x : ℕ). isNilOr o 2 x) (sym (at-superclass .superclass .ensures)) ∙ sym (at-is-nil-or .is-nil-or .ensures (a .b) (a .bodies .now)) ∙ not-false _ (at-if1 .if1 .left) in
+    let d = ap (isKind o 3) (sym (at-dictionary .dictionary .ensures)) ∙ sym (at-is-kind .is-kind .ensures (a .b) (a .bodies .now)) ∙ not-false _ (at-if2 .if2 .left) in
+    let f = ap₂ numbersFine (sym (at-fields-word .fields-word .ensures)) (sym (at-form-word .form-word .ensures))
+    ∙ sym (at-numbers-fine .numbers-fine .ensures) ∙ not-false _ (c .before .before .before .if3 .left) in
+    let l = c .dictionary-fine .ensures ∙ ap (dictionaryFine o) (at-dictionary .dictionary .ensures) in
     l ∙ sym (by-dictionary o (a .c) s d f (sym (c .before .before .rises-fine .ensures) ∙ not-false _ (c .before .if4 .left)))
 
 pub class-fine-spec : {M : Type 1} → statement M

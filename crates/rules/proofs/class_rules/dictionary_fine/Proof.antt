@@ -39,7 +39,8 @@ returns-2 : tie.Need-returns-2
 returns-2 c =
     let a = c .before .before .before .before .before .args in
     let o = objectsAt (a .n) (a .b) (a .contents .now) (a .bodies .now) in
-    c .pairs-fine .ensures ∙ ap (λ (x : ℕ). below (x / 2) (pairFine o (a .d))) (c .before .before .size .ensures) ∙ sym (by-pairs o (a .d) (ap (λ (x : ℕ). x % 2) (sym (c .before .before .size .ensures)) ∙ c .before .if1 .left))
+    c .pairs-fine .ensures ∙ ap (λ (x : ℕ). below (x / 2) (pairFine o (a .d))) (c .before .before .size .ensures)
+    ∙ sym (by-pairs o (a .d) (ap (λ (x : ℕ). x % 2) (sym (c .before .before .size .ensures)) ∙ c .before .if1 .left))
 
 pub dictionary-fine-spec : {M : Type 1} → statement M
 dictionary-fine-spec =

@@ -36,11 +36,13 @@ returns c =
 
 superclass-requires : tie.Need-superclass-requires Inv-loop μ-loop
 superclass-requires c κs =
-    let a = c .before .before .before .before .before .args in
-    let p = c .before .before .before .before .before .pre in
+    let at-loop = c .before .before in
+    let at-start = at-loop .before .before .before in
+    let a = at-start .args in
+    let p = at-start .pre in
     let o = objectsAt (a .n) (a .b) (a .contents .now) (a .bodies .now) in
-    let i = c .before .before .loop .inv in
-    (p .0, nil-or-class o (c .before .before .loop .at) (i .link) (c .if1 .left))
+    let i = at-loop .loop .inv in
+    (p .0, nil-or-class o (at-loop .loop .at) (i .link) (c .if1 .left))
 
 sub-left : tie.Need-sub-left Inv-loop μ-loop
 sub-left c =
@@ -54,16 +56,18 @@ loop-less c =
 
 loop-again : tie.Need-loop-again Inv-loop μ-loop
 loop-again c =
-    let a = c .before .before .before .before .before .before .args in
-    let p = c .before .before .before .before .before .before .pre in
+    let at-loop = c .before .before .before in
+    let at-start = at-loop .before .before .before in
+    let a = at-start .args in
+    let p = at-start .pre in
     let o = objectsAt (a .n) (a .b) (a .contents .now) (a .bodies .now) in
-    let i = c .before .before .before .loop .inv in
+    let i = at-loop .loop .inv in
     let t = c .before .before .loop-test .taken in
     let s = c .superclass .ensures in
     record {
       turns = omega arith;
-      rest = i .rest ∙ chain-turn o (c .before .before .before .loop .left) (c .before .before .before .loop .left - 1) (c .before .before .before .loop .at) (omega arith) (c .before .if1 .left) ∙ ap (endsWithin (c .before .before .before .loop .left - 1) o) (sym s);
-      link = ap (λ (x : ℕ). isNilOr o 2 x) s ∙ above-class o (p .1 .0) (c .before .before .before .loop .at) (nil-or-class o (c .before .before .before .loop .at) (i .link) (c .before .if1 .left));
+      rest = i .rest ∙ chain-turn o (at-loop .loop .left) (at-loop .loop .left - 1) (at-loop .loop .at) (omega arith) (c .before .if1 .left) ∙ ap (endsWithin (at-loop .loop .left - 1) o) (sym s);
+      link = ap (λ (x : ℕ). isNilOr o 2 x) s ∙ above-class o (p .1 .0) (at-loop .loop .at) (nil-or-class o (at-loop .loop .at) (i .link) (c .before .if1 .left));
     }
 
 returns-2 : tie.Need-returns-2 Inv-loop μ-loop

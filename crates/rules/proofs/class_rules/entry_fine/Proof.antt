@@ -29,8 +29,9 @@ form-requires c κs =
 
 field-count-requires : tie.Need-field-count-requires
 field-count-requires c κs =
-    let a = c .before .before .before .before .before .before .args in
-    let p = c .before .before .before .before .before .before .pre in
+    let at-start = c .before .before .before .before .before .before in
+    let a = at-start .args in
+    let p = at-start .pre in
     (p .0, sym (c .before .before .is-kind .ensures (a .b) (a .bodies .now)) ∙ not-false _ (c .before .if1 .left))
 
 kind-requires : tie.Need-kind-requires
@@ -44,12 +45,19 @@ fits-form-requires c κs = search needs
 
 returns-2 : tie.Need-returns-2
 returns-2 c =
-    let a = c .before .before .before .before .before .before .before .before .before .before .args in
+    let at-kind = c .before .before in
+    let at-form = at-kind .before .before in
+    let at-if1 = at-form .before in
+    let at-is-kind = at-if1 .before in
+    let at-class-word = at-is-kind .before in
+    let at-start = at-class-word .before .before .before in
+    let a = at-start .args in
     let o = objectsAt (a .n) (a .b) (a .contents .now) (a .bodies .now) in
     c .fits-form .ensures
-    ∙ ap₂ (λ (x y : ℕ). fitsForm x y (c .before .before .kind .result) (c .before .size .result)) (c .before .before .before .before .form .ensures ∙ ap (form o) (c .before .before .before .before .before .before .before .class-word .ensures)) (c .before .before .before .field-count .ensures ∙ ap (fieldCount o) (c .before .before .before .before .before .before .before .class-word .ensures))
-    ∙ ap₂ (fitsForm (form o (classWord o (a .k))) (fieldCount o (classWord o (a .k)))) (c .before .before .kind .ensures) (c .before .size .ensures)
-    ∙ sym (entry-yes o (a .k) (ap (isKind o 2) (sym (c .before .before .before .before .before .before .before .class-word .ensures)) ∙ sym (c .before .before .before .before .before .before .is-kind .ensures (a .b) (a .bodies .now)) ∙ not-false _ (c .before .before .before .before .before .if1 .left)))
+    ∙ ap₂ (λ (x y : ℕ). fitsForm x y (at-kind .kind .result) (c .before .size .result)) (at-form .form .ensures
+    ∙ ap (form o) (at-class-word .class-word .ensures)) (at-kind .before .field-count .ensures ∙ ap (fieldCount o) (at-class-word .class-word .ensures))
+    ∙ ap₂ (fitsForm (form o (classWord o (a .k))) (fieldCount o (classWord o (a .k)))) (at-kind .kind .ensures) (c .before .size .ensures)
+    ∙ sym (entry-yes o (a .k) (ap (isKind o 2) (sym (at-class-word .class-word .ensures)) ∙ sym (at-is-kind .is-kind .ensures (a .b) (a .bodies .now)) ∙ not-false _ (at-if1 .if1 .left)))
 
 pub entry-fine-spec : {M : Type 1} → statement M
 entry-fine-spec =

@@ -25,18 +25,23 @@ form-requires c κs =
 
 returns-2 : tie.Need-returns-2
 returns-2 c =
-    let a = c .before .before .before .before .before .before .args in
+    let at-known-kinds = c .before .before .before in
+    let at-start = at-known-kinds .before .before .before in
+    let a = at-start .args in
     let o = objectsAt (a .n) (a .b) (a .contents .now) (a .bodies .now) in
-    sym (no-form o (sym (c .before .before .before .known-kinds .ensures) ∙ not-false _ (c .before .before .if1 .left)) (λ e. c .if2 .taken (c .before .form .ensures ∙ e)))
+    sym (no-form o (sym (at-known-kinds .known-kinds .ensures) ∙ not-false _ (c .before .before .if1 .left)) (λ e. c .if2 .taken (c .before .form .ensures ∙ e)))
 
 selectors-fine-requires : tie.Need-selectors-fine-requires
 selectors-fine-requires c κs = search needs
 
 returns-3 : tie.Need-returns-3
 returns-3 c =
-    let a = c .before .before .before .before .before .before .before .args in
+    let at-if1 = c .before .before .before in
+    let at-known-kinds = at-if1 .before in
+    let at-start = at-known-kinds .before .before .before in
+    let a = at-start .args in
     let o = objectsAt (a .n) (a .b) (a .contents .now) (a .bodies .now) in
-    c .selectors-fine .ensures ∙ sym (by-selectors o (sym (c .before .before .before .before .known-kinds .ensures) ∙ not-false _ (c .before .before .before .if1 .left)) (sym (c .before .before .form .ensures) ∙ c .before .if2 .left))
+    c .selectors-fine .ensures ∙ sym (by-selectors o (sym (at-known-kinds .known-kinds .ensures) ∙ not-false _ (at-if1 .if1 .left)) (sym (c .before .before .form .ensures) ∙ c .before .if2 .left))
 
 pub known-fine-spec : {M : Type 1} → statement M
 known-fine-spec =

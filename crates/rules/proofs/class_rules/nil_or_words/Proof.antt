@@ -33,8 +33,12 @@ is-nil-or-requires c κs = c .before .before .before .before .before .pre
 
 returns : tie.Need-returns Inv-loop μ-loop
 returns c =
-    let a = c .before .before .before .before .before .before .before .args in
-    sym (every-no (λ w. isNilOr (entriesAt (a .n) (a .contents .now)) (a .of) w) (a .words .now) (c .before .before .before .before .loop .i) (c .before .before .before .loop-test .taken) (sym (c .before .is-nil-or .ensures 0 []) ∙ not-true _ (c .if1 .taken)))
+    let at-loop-test = c .before .before .before in
+    let at-loop = at-loop-test .before in
+    let at-start = at-loop .before .before .before in
+    let a = at-start .args in
+    sym (every-no (λ w. isNilOr (entriesAt (a .n) (a .contents .now)) (a .of) w) (a .words .now) (at-loop .loop .i) (at-loop-test .loop-test .taken)
+    (sym (c .before .is-nil-or .ensures 0 []) ∙ not-true _ (c .if1 .taken)))
 
 add-i : tie.Need-add-i Inv-loop μ-loop
 add-i c = omega arith
@@ -44,8 +48,13 @@ loop-less c = omega arith
 
 loop-again : tie.Need-loop-again Inv-loop μ-loop
 loop-again c =
-    let a = c .before .before .before .before .before .before .before .args in
-    (omega arith, before-more (λ j. isNilOr (entriesAt (a .n) (a .contents .now)) (a .of) (getD (a .words .now) j 0)) (c .before .before .before .before .loop .i) (c .before .before .before .before .loop .inv .1) (sym (c .before .is-nil-or .ensures 0 []) ∙ not-false _ (c .if1 .left)))
+    let at-loop = c .before .before .before .before in
+    let at-start = at-loop .before .before .before in
+    let a = at-start .args in (
+      omega arith,
+      before-more (λ j. isNilOr (entriesAt (a .n) (a .contents .now)) (a .of) (getD (a .words .now) j 0)) (at-loop .loop .i)
+          (at-loop .loop .inv .1) (sym (c .before .is-nil-or .ensures 0 []) ∙ not-false _ (c .if1 .left)),
+    )
 
 returns-2 : tie.Need-returns-2 Inv-loop μ-loop
 returns-2 c =

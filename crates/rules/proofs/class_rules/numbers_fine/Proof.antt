@@ -20,17 +20,26 @@ is-natural-requires-2 c κs = search needs
 returns-2 : tie.Need-returns-2
 returns-2 c =
     let a = c .before .before .before .before .args in
-    sym (no-form-number (a .fields) (a .form) (sym (c .before .before .before .is-natural .ensures) ∙ not-false _ (c .before .before .if1 .left)) (sym (c .before .is-natural2 .ensures) ∙ not-true _ (c .if2 .taken)))
+    sym (no-form-number (a .fields) (a .form) (sym (c .before .before .before .is-natural .ensures) ∙ not-false _ (c .before .before .if1 .left))
+    (sym (c .before .is-natural2 .ensures) ∙ not-true _ (c .if2 .taken)))
 
 returns-3 : tie.Need-returns-3
 returns-3 c =
-    let a = c .before .before .before .before .before .args in
-    sym (with-fields (a .fields) (a .form) (sym (c .before .before .before .before .is-natural .ensures) ∙ not-false _ (c .before .before .before .if1 .left)) (sym (c .before .before .is-natural2 .ensures) ∙ not-false _ (c .before .if2 .left)) (c .if3 .taken))
+    let at-if1 = c .before .before .before in
+    let at-is-natural = at-if1 .before in
+    let at-start = at-is-natural .before in
+    let a = at-start .args in
+    sym (with-fields (a .fields) (a .form) (sym (at-is-natural .is-natural .ensures) ∙ not-false _ (at-if1 .if1 .left))
+    (sym (c .before .before .is-natural2 .ensures) ∙ not-false _ (c .before .if2 .left)) (c .if3 .taken))
 
 returns-4 : tie.Need-returns-4
 returns-4 c =
-    let a = c .before .before .before .before .before .args in
-    sym (without-fields (a .fields) (a .form) (sym (c .before .before .before .before .is-natural .ensures) ∙ not-false _ (c .before .before .before .if1 .left)) (sym (c .before .before .is-natural2 .ensures) ∙ not-false _ (c .before .if2 .left)) (c .if3 .left))
+    let at-if1 = c .before .before .before in
+    let at-is-natural = at-if1 .before in
+    let at-start = at-is-natural .before in
+    let a = at-start .args in
+    sym (without-fields (a .fields) (a .form) (sym (at-is-natural .is-natural .ensures) ∙ not-false _ (at-if1 .if1 .left))
+    (sym (c .before .before .is-natural2 .ensures) ∙ not-false _ (c .before .if2 .left)) (c .if3 .left))
 
 pub numbers-fine-spec : {M : Type 1} → statement M
 numbers-fine-spec =

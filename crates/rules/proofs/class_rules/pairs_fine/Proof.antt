@@ -30,9 +30,11 @@ pair-fine-requires c κs =
 
 returns : tie.Need-returns Inv-loop μ-loop
 returns c =
-    let a = c .before .before .before .before .before .before .args in
+    let at-loop = c .before .before .before in
+    let at-start = at-loop .before .before .before in
+    let a = at-start .args in
     let o = objectsAt (a .n) (a .b) (a .contents .now) (a .bodies .now) in
-    sym (below-no (a .count) (pairFine o (a .d)) (c .before .before .before .loop .i) (c .before .before .loop-test .taken) (sym (c .before .pair-fine .ensures) ∙ not-true _ (c .if1 .taken)))
+    sym (below-no (a .count) (pairFine o (a .d)) (at-loop .loop .i) (c .before .before .loop-test .taken) (sym (c .before .pair-fine .ensures) ∙ not-true _ (c .if1 .taken)))
 
 add-i : tie.Need-add-i Inv-loop μ-loop
 add-i c =
@@ -46,10 +48,12 @@ loop-less c =
 
 loop-again : tie.Need-loop-again Inv-loop μ-loop
 loop-again c =
-    let a = c .before .before .before .before .before .before .args in
+    let at-loop = c .before .before .before in
+    let at-start = at-loop .before .before .before in
+    let a = at-start .args in
     let o = objectsAt (a .n) (a .b) (a .contents .now) (a .bodies .now) in
     let t = c .before .before .loop-test .taken in
-    (omega arith, before-more (pairFine o (a .d)) (c .before .before .before .loop .i) (c .before .before .before .loop .inv .1) (sym (c .before .pair-fine .ensures) ∙ not-false _ (c .if1 .left)))
+    (omega arith, before-more (pairFine o (a .d)) (at-loop .loop .i) (at-loop .loop .inv .1) (sym (c .before .pair-fine .ensures) ∙ not-false _ (c .if1 .left)))
 
 returns-2 : tie.Need-returns-2 Inv-loop μ-loop
 returns-2 c =

@@ -26,8 +26,9 @@ field-count-requires-2 c κs = search needs
 
 returns-2 : tie.Need-returns-2
 returns-2 c =
-    let a = c .before .before .before .before .before .args in
-    let p = c .before .before .before .before .before .pre in
+    let at-start = c .before .before .before .before .before in
+    let a = at-start .args in
+    let p = at-start .pre in
     let o = objectsAt (a .n) (a .b) (a .contents .now) (a .bodies .now) in
     ap₂ leb (c .before .field-count .ensures ∙ ap (fieldCount o) (p .1 .1 .0)) (c .field-count2 .ensures) ∙ sym (rises-class o (a .c) (λ e. c .before .before .if1 .left (p .1 .1 .0 ∙ e)))
 

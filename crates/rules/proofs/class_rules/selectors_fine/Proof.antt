@@ -25,9 +25,11 @@ size-requires c κs = search needs
 
 returns-2 : tie.Need-returns-2
 returns-2 c =
-    let a = c .before .before .before .before .before .before .args in
+    let at-kind = c .before .before .before in
+    let at-start = at-kind .before .before .before in
+    let a = at-start .args in
     let o = objectsAt (a .n) (a .b) (a .contents .now) (a .bodies .now) in
-    selectors-size o (sym (c .before .before .before .kind .ensures) ∙ c .before .before .if1 .left) (λ e. c .if2 .taken (c .before .size .ensures ∙ e))
+    selectors-size o (sym (at-kind .kind .ensures) ∙ c .before .before .if1 .left) (λ e. c .if2 .taken (c .before .size .ensures ∙ e))
 
 start-requires : tie.Need-start-requires
 start-requires c κs = search needs
@@ -52,12 +54,14 @@ part-nil-or-words-start c = search needs
 
 part-nil-or-words-end : tie.Need-part-nil-or-words-end
 part-nil-or-words-end c =
-    let a = c .before .before .before .before .before .before .before .args in
-    let p = c .before .before .before .before .before .before .before .pre in
+    let at-kind = c .before .before .before .before in
+    let at-start = at-kind .before .before .before in
+    let a = at-start .args in
+    let p = at-start .pre in
     let o = objectsAt (a .n) (a .b) (a .contents .now) (a .bodies .now) in
     let l = p .lent in
     let h = inside-at o (p .layout) 5 (omega arith) (omega arith) in
-    let w = list-holds o (p .layout) 10 (names-kind o 5 3 (omega arith) (omega arith) (sym (c .before .before .before .before .kind .ensures) ∙ c .before .before .before .if1 .left)) in
+    let w = list-holds o (p .layout) 10 (names-kind o 5 3 (omega arith) (omega arith) (sym (at-kind .kind .ensures) ∙ c .before .before .before .if1 .left)) in
     let s = c .start .ensures in
     let z = sym (c .before .before .size .ensures) ∙ c .before .if2 .left in
     omega arith
@@ -67,17 +71,23 @@ nil-or-words-requires c κs = search needs
 
 returns-3 : tie.Need-returns-3
 returns-3 c =
-    let a = c .before .before .before .before .before .before .before .before .before .args in
-    let p = c .before .before .before .before .before .before .before .before .before .pre in
+    let at-start = c .before .before in
+    let at-size = at-start .before .before in
+    let at-if1 = at-size .before in
+    let at-kind = at-if1 .before in
+    let at-start′ = at-kind .before .before .before in
+    let a = at-start′ .args in
+    let p = at-start′ .pre in
     let o = objectsAt (a .n) (a .b) (a .contents .now) (a .bodies .now) in
     let l = p .lent in
     let h = inside-at o (p .layout) 5 (omega arith) (omega arith) in
-    let w = list-holds o (p .layout) 10 (names-kind o 5 3 (omega arith) (omega arith) (sym (c .before .before .before .before .before .before .kind .ensures) ∙ c .before .before .before .before .before .if1 .left)) in
-    let z = sym (c .before .before .before .before .size .ensures) ∙ c .before .before .before .if2 .left in
-    let count : c .before .before .start .result + 32 - c .before .before .start .result ≡ bodyWords o 5 = omega arith in
-    c .nil-or-words .ensures ∙ nil-or-entries (a .n) (a .b) (a .contents .now) (a .bodies .now) 1 (part (a .bodies .now) (c .before .before .start .result) (c .before .before .start .result + 32 - c .before .before .start .result))
-    ∙ ap (every (λ (x : ℕ). isNilOr o 1 x)) (ap₂ (part (a .bodies .now)) (c .before .before .start .ensures) count ∙ sym (body-part (a .n) (a .b) (a .contents .now) (a .bodies .now) 5 (l .words) h))
-    ∙ selectors-words o (sym (c .before .before .before .before .before .before .kind .ensures) ∙ c .before .before .before .before .before .if1 .left) z
+    let w = list-holds o (p .layout) 10 (names-kind o 5 3 (omega arith) (omega arith) (sym (at-kind .kind .ensures) ∙ at-if1 .if1 .left)) in
+    let z = sym (at-size .size .ensures) ∙ at-start .before .if2 .left in
+    let count : at-start .start .result + 32 - at-start .start .result ≡ bodyWords o 5 = omega arith in
+    c .nil-or-words .ensures ∙ nil-or-entries (a .n) (a .b) (a .contents .now) (a .bodies .now) 1 (part (a .bodies .now) (at-start .start .result)
+    (at-start .start .result + 32 - at-start .start .result))
+    ∙ ap (every (λ (x : ℕ). isNilOr o 1 x)) (ap₂ (part (a .bodies .now)) (at-start .start .ensures) count ∙ sym (body-part (a .n) (a .b) (a .contents .now) (a .bodies .now) 5 (l .words) h))
+    ∙ selectors-words o (sym (at-kind .kind .ensures) ∙ at-if1 .if1 .left) z
 
 pub selectors-fine-spec : {M : Type 1} → statement M
 selectors-fine-spec =

@@ -23,9 +23,11 @@ kind-requires c κs = search needs
 
 returns-2 : tie.Need-returns-2
 returns-2 c =
-    let a = c .before .before .before .before .before .before .args in
+    let at-entry-fine = c .before .before .before in
+    let at-start = at-entry-fine .before .before .before in
+    let a = at-start .args in
     let o = objectsAt (a .n) (a .b) (a .contents .now) (a .bodies .now) in
-    sym (shape-other o (a .k) (sym (c .before .before .before .entry-fine .ensures) ∙ not-false _ (c .before .before .if1 .left)) (λ e. c .if2 .taken (c .before .kind .ensures ∙ e)))
+    sym (shape-other o (a .k) (sym (at-entry-fine .entry-fine .ensures) ∙ not-false _ (c .before .before .if1 .left)) (λ e. c .if2 .taken (c .before .kind .ensures ∙ e)))
 
 mul-class-fine : tie.Need-mul-class-fine
 mul-class-fine c =
@@ -43,16 +45,20 @@ cast-class-fine c =
 
 class-fine-requires : tie.Need-class-fine-requires
 class-fine-requires c κs =
-    let a = c .before .before .before .before .before .before .args in
-    let p = c .before .before .before .before .before .before .pre in
+    let at-start = c .before .before .before .before .before .before in
+    let a = at-start .args in
+    let p = at-start .pre in
     let o = objectsAt (a .n) (a .b) (a .contents .now) (a .bodies .now) in
     (p .0, names-kind o (a .k) 2 (p .1 .0) (p .1 .1) (sym (c .before .kind .ensures) ∙ c .if2 .left))
 
 returns-3 : tie.Need-returns-3
 returns-3 c =
-    let a = c .before .before .before .before .before .before .before .args in
+    let at-if1 = c .before .before .before in
+    let at-entry-fine = at-if1 .before in
+    let at-start = at-entry-fine .before .before .before in
+    let a = at-start .args in
     let o = objectsAt (a .n) (a .b) (a .contents .now) (a .bodies .now) in
-    c .class-fine .ensures ∙ sym (shape-class o (a .k) (sym (c .before .before .before .before .entry-fine .ensures) ∙ not-false _ (c .before .before .before .if1 .left)) (sym (c .before .before .kind .ensures) ∙ c .before .if2 .left))
+    c .class-fine .ensures ∙ sym (shape-class o (a .k) (sym (at-entry-fine .entry-fine .ensures) ∙ not-false _ (at-if1 .if1 .left)) (sym (c .before .before .kind .ensures) ∙ c .before .if2 .left))
 
 pub shape-fine-spec : {M : Type 1} → statement M
 shape-fine-spec =
