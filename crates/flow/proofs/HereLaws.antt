@@ -19,7 +19,7 @@ use Rattle.bytecode.proofs.EntryLaws.{one-byte, goes-on, group-of}
 use Rattle.bytecode.proofs.PositionLaws.{plain-at, return-at, unused-at, short-at, whole-at}
 use Rattle.model.specs.Depth.{successorsAt, depthAfterAt, rulesAt, fineAt}
 use Rattle.flow.specs.Index.{indexed, indexedBy}
-use Rattle.flow.specs.Walk.{Step, fineIn, Here, Expand}
+use Rattle.flow.specs.Walk.{alike, Step, fineIn, Here, Expand}
 use Rattle.flow.specs.declared.Went.{Went}
 use Rattle.flow.specs.declared.Went.the-variants.{Stuck}
 use Rattle.flow.proofs.StepLaws.{step-as, step-no}
@@ -60,19 +60,20 @@ module _ (counts words : List ℕ) (size room p d b e : ℕ) (small : b < 256) (
   unfolding successorsAt
   follow-of = refl
 
-  after-of : depthAfterAt words size p d ≡ d - need here + leaves here
+  after-of : (λ q. depthAfterAt words size p q d) ≡ alike (d - need here + leaves here)
   unfolding depthAfterAt
   after-of = refl
 
   module _ (t s : List ℕ) (n : ℕ) (t′ s′ : List ℕ) (r : Went) where
-    expand-as : (ok : Bool) (qs : List ℕ) (k : ℕ) → fineIn counts words size room p d ≡ ok → successorsAt words size p ≡ qs → depthAfterAt words size p d ≡ k
-        → Step room ok qs k t s n t′ s′ r → Expand counts words size room p d t s n t′ s′ r
+    expand-as : (ok : Bool) (qs : List ℕ) (k : ℕ) → fineIn counts words size room p d ≡ ok → successorsAt words size p ≡ qs → d - need here + leaves here ≡ k
+        → Step room ok qs (alike k) t s n t′ s′ r → Expand counts words size room p d t s n t′ s′ r
     unfolding Expand
-    expand-as ok qs k f g i z = step-as room (fineIn counts words size room p d) (successorsAt words size p) (depthAfterAt words size p d) t s n t′ s′ r ok qs k f g i z
+    expand-as ok qs k f g i z = step-as room (fineIn counts words size room p d) (successorsAt words size p) (λ q. depthAfterAt words size p q d) t s n t′ s′ r
+        ok qs (alike k) f g (after-of ∙ ap alike i) z
 
     -- groups 0 and 1
     pub expand-plain : groupPart e < 2
-        → Step room (ltb (indexPart e) (getD counts (boundPart e) 0) && leb (needPart e) d) ((p + 1) ∷ []) (d - needPart e + leavesPart e) t s n t′ s′ r
+        → Step room (ltb (indexPart e) (getD counts (boundPart e) 0) && leb (needPart e) d) ((p + 1) ∷ []) (alike (d - needPart e + leavesPart e)) t s n t′ s′ r
         → Expand counts words size room p d t s n t′ s′ r
     expand-plain g z =
         let a = plain-at words size p b e (h .inside) (h .byte) (h .entry) g in
@@ -86,22 +87,22 @@ module _ (counts words : List ℕ) (size room p d b e : ℕ) (small : b < 256) (
         expand-as (ltb (indexPart e) (getD counts (boundPart e) 0) && leb (needPart e) d) ((p + 1) ∷ []) (d - needPart e + leavesPart e)
         (fine-of (a .used) ∙ (λ k. i k && leb (a .said .needs k) d))
         (follow-of ∙ a .follow)
-        (after-of ∙ (λ k. d - a .said .needs k + a .said .leave k))
+        (λ k. d - a .said .needs k + a .said .leave k)
         z
 
-    pub expand-return : groupPart e ≡ 2 → Step room (leb (needPart e) d) [] (d - needPart e + leavesPart e) t s n t′ s′ r → Expand counts words size room p d t s n t′ s′ r
+    pub expand-return : groupPart e ≡ 2 → Step room (leb (needPart e) d) [] (alike (d - needPart e + leavesPart e)) t s n t′ s′ r → Expand counts words size room p d t s n t′ s′ r
     expand-return g z =
         let a = return-at words size p b e (h .inside) (h .byte) (h .entry) g in
         let i : indexedBy counts here ≡ true = return-indexed counts here (a .said .groups ∙ g) in
         expand-as (leb (needPart e) d) [] (d - needPart e + leavesPart e)
         (fine-of (a .used) ∙ (λ k. i k && leb (a .said .needs k) d))
         (follow-of ∙ a .follow)
-        (after-of ∙ (λ k. d - a .said .needs k + a .said .leave k))
+        (λ k. d - a .said .needs k + a .said .leave k)
         z
 
     -- 128 to 134
     pub expand-extended : 128 ≤ b → b < 135 → p + lengthPart e ≤ size
-        → Step room (indexedBy counts (instructionOf b x y) && leb (needPart e + extraOf b x) d) ((p + lengthPart e) ∷ []) (d - (needPart e + extraOf b x) + leavesPart e) t s n t′ s′ r
+        → Step room (indexedBy counts (instructionOf b x y) && leb (needPart e + extraOf b x) d) ((p + lengthPart e) ∷ []) (alike (d - (needPart e + extraOf b x) + leavesPart e)) t s n t′ s′ r
         → Expand counts words size room p d t s n t′ s′ r
     expand-extended l u whole z =
         let a = whole-at words size p b e (h .inside) (h .byte) (h .entry) small whole in
@@ -109,18 +110,18 @@ module _ (counts words : List ℕ) (size room p d b e : ℕ) (small : b < 256) (
         expand-as (indexedBy counts (instructionOf b x y) && leb (needPart e + extraOf b x) d) ((p + lengthPart e) ∷ []) (d - (needPart e + extraOf b x) + leavesPart e)
         (fine-of (g .0) ∙ (λ k. indexedBy counts (a .decoded k) && leb (a .needs k) d))
         (follow-of ∙ g .1 ∙ ap (λ (k : ℕ). k ∷ []) (a .next))
-        (after-of ∙ (λ k. d - a .needs k + a .leave k))
+        (λ k. d - a .needs k + a .leave k)
         z
 
     -- jumps, by the instruction that is there
     as-jump : (ahead back to : ℕ) → here ≡ Jump ahead back → nextAt words p + ahead ≡ back + to
-        → Step room true (to ∷ []) d t s n t′ s′ r → Expand counts words size room p d t s n t′ s′ r
+        → Step room true (to ∷ []) (alike d) t s n t′ s′ r → Expand counts words size room p d t s n t′ s′ r
     as-jump ahead back to i q z =
         let ok : leb back (nextAt words p + ahead) ≡ true = le-leb back (nextAt words p + ahead) (omega arith) in
         expand-as true (to ∷ []) d
         (fine-of (ap (usable (nextAt words p)) i ∙ jump-usable ok) ∙ (λ k. indexedBy counts (i k) && leb (need (i k)) d) ∙ jump-fine)
         (follow-of ∙ ap (successors (nextAt words p)) i ∙ jump-follow)
-        (after-of ∙ (λ k. d - need (i k) + leaves (i k)) ∙ jump-after)
+        ((λ k. d - need (i k) + leaves (i k)) ∙ jump-after)
         z
       where
         jump-usable : leb back (nextAt words p + ahead) ≡ true → usable (nextAt words p) (Jump ahead back) ≡ true
@@ -136,12 +137,12 @@ module _ (counts words : List ℕ) (size room p d b e : ℕ) (small : b < 256) (
         jump-after = unfold need in unfold leaves in omega arith
 
     as-fork : (c : Bool) (ahead next to : ℕ) → here ≡ JumpOn c ahead → nextAt words p ≡ next → next + ahead ≡ to
-        → Step room (leb 1 d) (next ∷ to ∷ []) (d - 1) t s n t′ s′ r → Expand counts words size room p d t s n t′ s′ r
+        → Step room (leb 1 d) (next ∷ to ∷ []) (alike (d - 1)) t s n t′ s′ r → Expand counts words size room p d t s n t′ s′ r
     as-fork c ahead next to i f q z =
         expand-as (leb 1 d) (next ∷ to ∷ []) (d - 1)
         (fine-of (ap (usable (nextAt words p)) i ∙ fork-usable) ∙ (λ k. indexedBy counts (i k) && leb (need (i k)) d) ∙ fork-fine)
         (follow-of ∙ ap (successors (nextAt words p)) i ∙ fork-follow)
-        (after-of ∙ (λ k. d - need (i k) + leaves (i k)) ∙ fork-after)
+        ((λ k. d - need (i k) + leaves (i k)) ∙ fork-after)
         z
       where
         fork-usable : usable (nextAt words p) (JumpOn c ahead) ≡ true
@@ -163,19 +164,19 @@ module _ (counts words : List ℕ) (size room p d b e : ℕ) (small : b < 256) (
       next-at : (k : ℕ) → lengthOf b ≡ k → nextAt words p ≡ p + k
       next-at k l = whole-at words size p b e (h .inside) (h .byte) (h .entry) small whole .next ∙ ap (λ (j : ℕ). p + j) (h .entry .length ∙ l)
 
-      pub expand-jump : 144 ≤ b → b < 152 → Step room true ((p + 2 + b % 8) ∷ []) d t s n t′ s′ r → Expand counts words size room p d t s n t′ s′ r
+      pub expand-jump : 144 ≤ b → b < 152 → Step room true ((p + 2 + b % 8) ∷ []) (alike d) t s n t′ s′ r → Expand counts words size room p d t s n t′ s′ r
       expand-jump l u z =
           as-jump (b % 8 + 1) 0 (p + 2 + b % 8) (decoded ∙ jump-short b x y l u) (omega (arith, next-at 1 (length-middle b (omega arith) (omega arith)))) z
 
-      pub expand-fork : 152 ≤ b → b < 160 → Step room (leb 1 d) ((p + 1) ∷ (p + 2 + b % 8) ∷ []) (d - 1) t s n t′ s′ r → Expand counts words size room p d t s n t′ s′ r
+      pub expand-fork : 152 ≤ b → b < 160 → Step room (leb 1 d) ((p + 1) ∷ (p + 2 + b % 8) ∷ []) (alike (d - 1)) t s n t′ s′ r → Expand counts words size room p d t s n t′ s′ r
       expand-fork l u z =
           as-fork false (b % 8 + 1) (p + 1) (p + 2 + b % 8) (decoded ∙ jump-on-short b x y l u) (next-at 1 (length-middle b (omega arith) u)) (omega arith) z
 
-      pub expand-long : 160 ≤ b → b < 168 → (to : ℕ) → p + 2 + b % 8 * 256 + x ≡ 1024 + to → Step room true (to ∷ []) d t s n t′ s′ r → Expand counts words size room p d t s n t′ s′ r
+      pub expand-long : 160 ≤ b → b < 168 → (to : ℕ) → p + 2 + b % 8 * 256 + x ≡ 1024 + to → Step room true (to ∷ []) (alike d) t s n t′ s′ r → Expand counts words size room p d t s n t′ s′ r
       expand-long l u to q z =
           as-jump (b % 8 * 256 + x) 1024 to (decoded ∙ jump-long b x y l u) (omega (arith, next-at 2 (length-jump b (omega arith) l (omega arith)))) z
 
-      pub expand-fork-long : 168 ≤ b → b < 176 → Step room (leb 1 d) ((p + 2) ∷ (p + 2 + b % 4 * 256 + x) ∷ []) (d - 1) t s n t′ s′ r → Expand counts words size room p d t s n t′ s′ r
+      pub expand-fork-long : 168 ≤ b → b < 176 → Step room (leb 1 d) ((p + 2) ∷ (p + 2 + b % 4 * 256 + x) ∷ []) (alike (d - 1)) t s n t′ s′ r → Expand counts words size room p d t s n t′ s′ r
       expand-fork-long l u z =
           let i = jump-on-long b x y l u in
           as-fork (i .0) (b % 4 * 256 + x) (p + 2) (p + 2 + b % 4 * 256 + x) (decoded ∙ i .1) (next-at 2 (length-jump b (omega arith) (omega arith) u)) (omega arith) z
@@ -184,7 +185,7 @@ module _ (counts words : List ℕ) (size room p d b e : ℕ) (small : b < 256) (
   module _ (t s : List ℕ) (n : ℕ) (t′ s′ : List ℕ) where
     stuck-as : fineIn counts words size room p d ≡ false → Expand counts words size room p d t s n t′ s′ Stuck
     unfolding Expand
-    stuck-as f = step-no room (fineIn counts words size room p d) (successorsAt words size p) (depthAfterAt words size p d) t s n t′ s′ f
+    stuck-as f = step-no room (fineIn counts words size room p d) (successorsAt words size p) (λ q. depthAfterAt words size p q d) t s n t′ s′ f
 
     pub expand-unused : 4 ≤ groupPart e → Expand counts words size room p d t s n t′ s′ Stuck
     expand-unused g = stuck-as (fine-unused (unused-at words size p b e (h .inside) (h .byte) (h .entry) g))

@@ -18,7 +18,7 @@ use Rattle.flow.specs.declared.Went.{Went}
 use Rattle.flow.specs.declared.Went.the-variants.{On, Stuck}
 use Rattle.flow.proofs.VisitLaws.{visited-new}
 
-module _ (fine : ℕ → ℕ → Bool) (next : ℕ → List ℕ) (after : ℕ → ℕ → ℕ) (room : ℕ) where
+module _ (fine : ℕ → ℕ → Bool) (next : ℕ → List ℕ) (after : ℕ → ℕ → ℕ → ℕ) (room : ℕ) where
   abbrev None : Type 0
   None = HasTable fine next after → ⊥
 
@@ -74,7 +74,7 @@ module _ (fine : ℕ → ℕ → Bool) (next : ℕ → List ℕ) (after : ℕ �
     old-fate p d (inr (inl z)) =
         inr (inl (z .0, let h : z .0 < n = z .1 in let g = v .more in omega arith, v .stack (z .0) (z .1) ∙ z .2))
     old-fate p d (inr (inr z)) =
-        inr (inr (record { holds = z .holds; along = λ r m. v .kept r (after p d) (z .along r m) }))
+        inr (inr (record { holds = z .holds; along = λ r m. v .kept r (after p r d) (z .along r m) }))
 
     done-at : (p d : ℕ) → Noted t p d ⊎ ((p ≡ q) × (d ≡ e) × (n < n′)) → Fate p d
     done-at p d (inl h) = old-fate p d (w .done p d h)
@@ -116,17 +116,17 @@ module _ (fine : ℕ → ℕ → Bool) (next : ℕ → List ℕ) (after : ℕ �
     refused t s n Busy w l q e a (inr (inr h)) = two-depths q (h .0) e (w .path q (h .0) (h .1)) a (h .2)
 
     -- what visits of a list come to
-    record Passed (t : List ℕ) (n : ℕ) (qs : List ℕ) (e : ℕ) (t′ s′ : List ℕ) (n′ : ℕ) (Busy : ℕ → Type 0) : Type 0 where
+    record Passed (t : List ℕ) (n : ℕ) (qs : List ℕ) (e : ℕ → ℕ) (t′ s′ : List ℕ) (n′ : ℕ) (Busy : ℕ → Type 0) : Type 0 where
       walk : Inv t′ s′ n′ Busy
       count : n′ + zeros t′ ≡ n + zeros t
       kept : (q k : ℕ) → Noted t q k → Noted t′ q k
-      all : (q : ℕ) → List·Memᴰ q qs → Noted t′ q e
+      all : (q : ℕ) → List·Memᴰ q qs → Noted t′ q (e q)
 
-    abbrev Outcome : List ℕ → ℕ → List ℕ → ℕ → List ℕ → List ℕ → (ℕ → Type 0) → Went → Type 0
+    abbrev Outcome : List ℕ → ℕ → List ℕ → (ℕ → ℕ) → List ℕ → List ℕ → (ℕ → Type 0) → Went → Type 0
     Outcome t n qs e t′ s′ Busy r = ((r ≡ Stuck) × None) ⊎ ((n′ : ℕ) × (r ≡ On n′) × Passed t n qs e t′ s′ n′ Busy)
 
-    visits-come : (Busy : ℕ → Type 0) (qs : List ℕ) (e : ℕ) (t s : List ℕ) (n : ℕ) (t′ s′ : List ℕ) (r : Went)
-        → length t ≡ size → ((q : ℕ) → List·Memᴰ q qs → At next after q e) → Inv t s n Busy
+    visits-come : (Busy : ℕ → Type 0) (qs : List ℕ) (e : ℕ → ℕ) (t s : List ℕ) (n : ℕ) (t′ s′ : List ℕ) (r : Went)
+        → length t ≡ size → ((q : ℕ) → List·Memᴰ q qs → At next after q (e q)) → Inv t s n Busy
         → Visits room qs e t s n t′ s′ r → Outcome t n qs e t′ s′ Busy r
     unfolding Visits
     visits-come Busy [] e t s n t′ s′ r l a w v =
@@ -141,24 +141,24 @@ module _ (fine : ℕ → ℕ → Bool) (next : ℕ → List ℕ) (after : ℕ �
           },
         )
     visits-come Busy (q ∷ qs) e t s n t′ s′ r l a w (inl x) =
-        inl (x .1, refused t s n Busy w l q e (a q (List·Memᴰ·head refl)) (x .0))
+        inl (x .1, refused t s n Busy w l q (e q) (a q (List·Memᴰ·head refl)) (x .0))
     visits-come Busy (q ∷ qs) e t s n t′ s′ r l a w (inr x) =
         let t₁ = x .0 in
         let s₁ = x .1 in
         let n₁ = x .2 in
-        let v : Visited room t s n q e t₁ s₁ n₁ = x .3 in
-        let w₁ = visit-keeps Busy t s n q e t₁ s₁ n₁ v (a q (List·Memᴰ·head refl)) w in
+        let v : Visited room t s n q (e q) t₁ s₁ n₁ = x .3 in
+        let w₁ = visit-keeps Busy t s n q (e q) t₁ s₁ n₁ v (a q (List·Memᴰ·head refl)) w in
         ⊎-elim (λ z. inl z) (λ z. inr (z .0, z .1, further-on q qs e t n t₁ n₁ s₁ s v (z .0) (z .2)))
         (visits-come Busy qs e t₁ s₁ n₁ t′ s′ r (v .lengths .0 ∙ l) (λ p m. a p (List·Memᴰ·tail m)) w₁ (x .4))
       where
-        further-on : (q : ℕ) (qs : List ℕ) (e : ℕ) (t : List ℕ) (n : ℕ) (t₁ : List ℕ) (n₁ : ℕ) (s₁ s : List ℕ) → Visited room t s n q e t₁ s₁ n₁
+        further-on : (q : ℕ) (qs : List ℕ) (e : ℕ → ℕ) (t : List ℕ) (n : ℕ) (t₁ : List ℕ) (n₁ : ℕ) (s₁ s : List ℕ) → Visited room t s n q (e q) t₁ s₁ n₁
             → (n′ : ℕ) → Passed t₁ n₁ qs e t′ s′ n′ Busy → Passed t n (q ∷ qs) e t′ s′ n′ Busy
         further-on q qs e t n t₁ n₁ s₁ s v n′ y =
             record {
               walk = y .walk;
               count = y .count ∙ v .count;
               kept = λ p k h. y .kept p k (v .kept p k h);
-              all = λ p m. ⊎-elim (λ z. subst (λ (i : ℕ). Noted t′ i e) (sym z) (y .kept q e (v .here))) (λ z. y .all p z) (List·Memᴰ·cases-cons m);
+              all = λ p m. ⊎-elim (λ z. subst (λ (i : ℕ). Noted t′ i (e i)) (sym z) (y .kept q (e q) (v .here))) (λ z. y .all p z) (List·Memᴰ·cases-cons m);
             }
 
     module _ (t s : List ℕ) (n m p d : ℕ) (long : length t ≡ size) (one-less : n ≡ m + 1) (place : p ≡ getD s m 0) (noted : Noted t p d)
@@ -166,7 +166,7 @@ module _ (fine : ℕ → ℕ → Bool) (next : ℕ → List ℕ) (after : ℕ �
       path-here : At next after p d
       path-here = w .path p d noted
 
-      turned : (t′ s′ : List ℕ) (r : Went) → T (fine p d) → Outcome t m (next p) (after p d) t′ s′ (λ q. q ≡ p) r → Turn fine next after room t s n t′ s′ r
+      turned : (t′ s′ : List ℕ) (r : Went) → T (fine p d) → Outcome t m (next p) (λ q. after p q d) t′ s′ (λ q. q ≡ p) r → Turn fine next after room t s n t′ s′ r
       unfolding Turn
       turned t′ s′ r f (inl x) = rw (x .0) (x .1)
       turned t′ s′ r f (inr x) =
@@ -175,15 +175,15 @@ module _ (fine : ℕ → ℕ → Bool) (next : ℕ → List ℕ) (after : ℕ �
           rw (x .1)
           (closed t′ s′ (x .0) p d (y .kept p d noted) (record { holds = f; along = λ q h. y .all q h }) (y .walk), omega arith)
 
-      turn-at : (t′ s′ : List ℕ) (r : Went) (b : Bool) → fine p d ≡ b → Step room b (next p) (after p d) t s m t′ s′ r → Turn fine next after room t s n t′ s′ r
+      turn-at : (t′ s′ : List ℕ) (r : Went) (b : Bool) → fine p d ≡ b → Step room b (next p) (λ q. after p q d) t s m t′ s′ r → Turn fine next after room t s n t′ s′ r
       unfolding Step Turn
       turn-at t′ s′ r false e x = rw x (not-fine p d path-here (λ y. subst T e y))
       turn-at t′ s′ r true e x =
           turned t′ s′ r (true→T e)
-          (visits-come (λ q. q ≡ p) (next p) (after p d) t s m t′ s′ r long (λ q h. further path-here h)
+          (visits-come (λ q. q ≡ p) (next p) (λ q. after p q d) t s m t′ s′ r long (λ q h. further path-here h)
           (subst (λ (i : ℕ). Inv t s m (λ q. q ≡ i)) (sym place) (popped t s n m one-less w)) x)
 
-      pub turn-law : (t′ s′ : List ℕ) (r : Went) → Step room (fine p d) (next p) (after p d) t s m t′ s′ r → Turn fine next after room t s n t′ s′ r
+      pub turn-law : (t′ s′ : List ℕ) (r : Went) → Step room (fine p d) (next p) (λ q. after p q d) t s m t′ s′ r → Turn fine next after room t s n t′ s′ r
       turn-law t′ s′ r x = turn-at t′ s′ r (fine p d) refl x
 
     -- when nothing is pending
@@ -199,7 +199,7 @@ module _ (fine : ℕ → ℕ → Bool) (next : ℕ → List ℕ) (after : ℕ �
 
       all-noted : (p : ℕ) → Reached next p → Noted t p (depth p)
       all-noted p first = own 0 0 (w .first)
-      all-noted q (onward {p = p} r m) = own q (after p (depth p)) (settled p (depth p) (all-noted p r) .along q m)
+      all-noted q (onward {p = p} r m) = own q (after p q (depth p)) (settled p (depth p) (all-noted p r) .along q m)
 
       pub ended : Notes fine next after size t
       ended =

@@ -15,7 +15,7 @@ use Rattle.model.specs.Depth.{HasTable, successorsAt, depthAfterAt, rulesAt, fi
 use Rattle.model.proofs.WalkLaws.{at-reached, at-depth, Notes}
 use Rattle.model.proofs.DepthLaws.{decides, table-notes}
 
-module _ (next : ℕ → List ℕ) (after : ℕ → ℕ → ℕ) (size : ℕ) where
+module _ (next : ℕ → List ℕ) (after : ℕ → ℕ → ℕ → ℕ) (size : ℕ) where
   -- a note of one table is in the other
   carried : (fine fine′ : ℕ → ℕ → Bool) (t t′ : List ℕ) → Notes fine next after size t → Notes fine′ next after size t′ → (p d : ℕ) → getD t p 0 ≡ suc d → getD t′ p 0 ≡ suc d
   carried fine fine′ t t′ a b p d e =

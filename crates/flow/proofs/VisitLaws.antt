@@ -76,18 +76,18 @@ asks-again room t s n p d t′ s′ n′ a v =
     record { count = omega arith; long = omega arith; small = omega arith; shallow = a .shallow }
 
 -- one visit, and one before others
-pub visits-one : (room : ℕ) (t s : List ℕ) (n p d : ℕ) (t′ s′ : List ℕ) (r : Went) → Visit room t s n p d t′ s′ r → Visits room (p ∷ []) d t s n t′ s′ r
+pub visits-one : (room : ℕ) (t s : List ℕ) (n p : ℕ) (d : ℕ → ℕ) (t′ s′ : List ℕ) (r : Went) → Visit room t s n p (d p) t′ s′ r → Visits room (p ∷ []) d t s n t′ s′ r
 unfolding Visit Visits
 visits-one room t s n p d t′ s′ (On n′) v = inr (t′, s′, n′, v, (refl, refl, refl))
 visits-one room t s n p d t′ s′ Stuck v = inl (v, refl)
 
-pub visits-more : (room : ℕ) (t s : List ℕ) (n p d : ℕ) (qs : List ℕ) (t₁ s₁ : List ℕ) (n₁ : ℕ) (r₁ : Went) (t′ s′ : List ℕ) (r : Went)
-    → r₁ ≡ On n₁ → Visit room t s n p d t₁ s₁ r₁ → Visits room qs d t₁ s₁ n₁ t′ s′ r → Visits room (p ∷ qs) d t s n t′ s′ r
+pub visits-more : (room : ℕ) (t s : List ℕ) (n p : ℕ) (d : ℕ → ℕ) (qs : List ℕ) (t₁ s₁ : List ℕ) (n₁ : ℕ) (r₁ : Went) (t′ s′ : List ℕ) (r : Went)
+    → r₁ ≡ On n₁ → Visit room t s n p (d p) t₁ s₁ r₁ → Visits room qs d t₁ s₁ n₁ t′ s′ r → Visits room (p ∷ qs) d t s n t′ s′ r
 unfolding Visit Visits
 visits-more room t s n p d qs t₁ s₁ n₁ r₁ t′ s′ r e v rest = inr (t₁, s₁, n₁, rw e at v, rest)
 
-pub visits-stuck : (room : ℕ) (t s : List ℕ) (n p d : ℕ) (qs : List ℕ) (t₁ s₁ : List ℕ) (r₁ : Went) (t′ s′ : List ℕ)
-    → r₁ ≡ Stuck → Visit room t s n p d t₁ s₁ r₁ → Visits room (p ∷ qs) d t s n t′ s′ Stuck
+pub visits-stuck : (room : ℕ) (t s : List ℕ) (n p : ℕ) (d : ℕ → ℕ) (qs : List ℕ) (t₁ s₁ : List ℕ) (r₁ : Went) (t′ s′ : List ℕ)
+    → r₁ ≡ Stuck → Visit room t s n p (d p) t₁ s₁ r₁ → Visits room (p ∷ qs) d t s n t′ s′ Stuck
 unfolding Visit Visits
 visits-stuck room t s n p d qs t₁ s₁ r₁ t′ s′ e v = inl (rw e at v, refl)
 

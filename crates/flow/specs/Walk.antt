@@ -53,17 +53,21 @@ unfoldable pub Visit : ℕ → List ℕ → List ℕ → ℕ → ℕ → ℕ →
 Visit room t s n p d t′ s′ (On n′) = Visited room t s n p d t′ s′ n′
 Visit room t s n p d t′ s′ Stuck = Refused room t p d
 
--- all positions of a list, in turn, with one depth
-unfoldable pub Visits : ℕ → List ℕ → ℕ → List ℕ → List ℕ → ℕ → List ℕ → List ℕ → Went → Type 0
+-- all positions of a list, in turn, position q with depth d q
+unfoldable pub Visits : ℕ → List ℕ → (ℕ → ℕ) → List ℕ → List ℕ → ℕ → List ℕ → List ℕ → Went → Type 0
 Visits room [] d t s n t′ s′ r = (t′ ≡ t) × (s′ ≡ s) × (r ≡ On n)
 Visits room (q ∷ qs) d t s n t′ s′ r =
-    (Refused room t q d × (r ≡ Stuck))
-    ⊎ ((t₁ : List ℕ) × (s₁ : List ℕ) × (n₁ : ℕ) × Visited room t s n q d t₁ s₁ n₁ × Visits room qs d t₁ s₁ n₁ t′ s′ r)
+    (Refused room t q (d q) × (r ≡ Stuck))
+    ⊎ ((t₁ : List ℕ) × (s₁ : List ℕ) × (n₁ : ℕ) × Visited room t s n q (d q) t₁ s₁ n₁ × Visits room qs d t₁ s₁ n₁ t′ s′ r)
 
 -- the same where the instruction keeps its rules
-unfoldable pub Step : ℕ → Bool → List ℕ → ℕ → List ℕ → List ℕ → ℕ → List ℕ → List ℕ → Went → Type 0
+unfoldable pub Step : ℕ → Bool → List ℕ → (ℕ → ℕ) → List ℕ → List ℕ → ℕ → List ℕ → List ℕ → Went → Type 0
 Step room false qs d t s n t′ s′ r = r ≡ Stuck
 Step room true qs d t s n t′ s′ r = Visits room qs d t s n t′ s′ r
+
+-- one depth for every position
+abbrev pub alike : ℕ → ℕ → ℕ
+alike d = λ q. d
 
 -- nobody
 abbrev pub Nobody : ℕ → Type 0
@@ -73,11 +77,11 @@ Nobody p = ⊥
 abbrev pub Pending : List ℕ → ℕ → ℕ → Type 0
 Pending s n p = (k : ℕ) × (k < n) × (getD s k 0 ≡ p)
 
-module _ (fine : ℕ → ℕ → Bool) (next : ℕ → List ℕ) (after : ℕ → ℕ → ℕ) (room : ℕ) where
+module _ (fine : ℕ → ℕ → Bool) (next : ℕ → List ℕ) (after : ℕ → ℕ → ℕ → ℕ) (room : ℕ) where
   -- a position is dealt with: it keeps its rules, and what follows is noted
   pub record Done (t : List ℕ) (p d : ℕ) : Type 0 where
     pub holds : T (fine p d)
-    pub along : (q : ℕ) → List·Memᴰ q (next p) → Noted t q (after p d)
+    pub along : (q : ℕ) → List·Memᴰ q (next p) → Noted t q (after p q d)
 
   -- The invariant: each noted position is reached with its depth, and is busy, pending or dealt with.
   pub record Walk (t s : List ℕ) (n : ℕ) (Busy : ℕ → Type 0) : Type 0 where
@@ -111,7 +115,7 @@ module _ (counts words : List ℕ) (size room : ℕ) where
     pub shallow : d ≤ room
 
   unfoldable pub Expand : ℕ → ℕ → List ℕ → List ℕ → ℕ → List ℕ → List ℕ → Went → Type 0
-  Expand p d t s n t′ s′ r = Step room (fineIn p d) (successorsAt words size p) (depthAfterAt words size p d) t s n t′ s′ r
+  Expand p d t s n t′ s′ r = Step room (fineIn p d) (successorsAt words size p) (λ q. depthAfterAt words size p q d) t s n t′ s′ r
 
   unfoldable pub WalkingAt : List ℕ → List ℕ → ℕ → Type 0
   WalkingAt t s n = Walk fineIn (successorsAt words size) (depthAfterAt words size) room t s n Nobody

@@ -10,7 +10,7 @@ ghost use Rattle.bytecode.specs.Table.{groupPart, lengthPart, needPart, leavesP
 ghost use Rattle.model.specs.Depth.{depthTable};
 ghost use Rattle.model.specs.Rules.{isWritable};
 ghost use Rattle.flow.specs.Index.{indexed, placeIndexedBy, indexedBy};
-ghost use Rattle.flow.specs.Walk.{Asks, Visit, Visits, Step, Here, Expand, Static, WalkingAt, TurnAt, Answer, Lent, Walked, tableBy, mostCode};
+ghost use Rattle.flow.specs.Walk.{Asks, Visit, Visits, Step, alike, Here, Expand, Static, WalkingAt, TurnAt, Answer, Lent, Walked, tableBy, mostCode};
 
 // How many positions are pending after a step; or that there is no depth table.
 enum Went {
@@ -59,7 +59,7 @@ fn both(
     room: usize,
 ) -> Went
     requires { ⌜ Asks (now notes) (now pending) n room ⌝ }
-    ensures { λ r. ⌜ Visits room (a ∷ b ∷ []) depth (now (notes .entry)) (now (pending .entry)) n (now (notes .exit)) (now (pending .exit)) r ⌝ }
+    ensures { λ r. ⌜ Visits room (a ∷ b ∷ []) (alike depth) (now (notes .entry)) (now (pending .entry)) n (now (notes .exit)) (now (pending .exit)) r ⌝ }
 {
     match visit(notes, pending, n, a, depth, room) {
         Went::On(k) => visit(notes, pending, k, b, depth, room),
@@ -78,7 +78,7 @@ fn fork(
     room: usize,
 ) -> Went
     requires { ⌜ Asks (now notes) (now pending) n room ⌝ }
-    ensures { λ r. ⌜ Step room (leb 1 depth) (next ∷ target ∷ []) (depth - 1) (now (notes .entry)) (now (pending .entry)) n (now (notes .exit)) (now (pending .exit)) r ⌝ }
+    ensures { λ r. ⌜ Step room (leb 1 depth) (next ∷ target ∷ []) (alike (depth - 1)) (now (notes .entry)) (now (pending .entry)) n (now (notes .exit)) (now (pending .exit)) r ⌝ }
 {
     if depth < 1 {
         return Went::Stuck;
@@ -99,7 +99,7 @@ fn onward(
 ) -> Went
     requires { ⌜ Asks (now notes) (now pending) n room ⌝ }
     requires { ⌜ (depth ≤ room) × (leaves ≤ 3) ⌝ }
-    ensures { λ r. ⌜ Step room (leb need depth) (next ∷ []) (depth - need + leaves) (now (notes .entry)) (now (pending .entry)) n (now (notes .exit)) (now (pending .exit)) r ⌝ }
+    ensures { λ r. ⌜ Step room (leb need depth) (next ∷ []) (alike (depth - need + leaves)) (now (notes .entry)) (now (pending .entry)) n (now (notes .exit)) (now (pending .exit)) r ⌝ }
 {
     if depth < need {
         return Went::Stuck;
@@ -120,7 +120,7 @@ fn plain(
 ) -> Went
     requires { ⌜ Asks (now notes) (now pending) n room ⌝ }
     requires { ⌜ (depth ≤ room) × (at ≤ 48000) ⌝ }
-    ensures { λ r. ⌜ Step room (ltb (indexPart e) (getD (now (limits .entry)) (boundPart e) 0) && leb (needPart e) depth) ((at + 1) ∷ []) (depth - needPart e + leavesPart e) (now (notes .entry)) (now (pending .entry)) n (now (notes .exit)) (now (pending .exit)) r ⌝ }
+    ensures { λ r. ⌜ Step room (ltb (indexPart e) (getD (now (limits .entry)) (boundPart e) 0) && leb (needPart e) depth) ((at + 1) ∷ []) (alike (depth - needPart e + leavesPart e)) (now (notes .entry)) (now (pending .entry)) n (now (notes .exit)) (now (pending .exit)) r ⌝ }
 {
     let bound = e / 32 % 4;
     let index = (e % 32) as u8;

@@ -82,12 +82,12 @@ pub decides-method : (o : Objects) (m : ℕ) → SoundMethod o m ↔ T (isSome (
 unfolding methodTable
 decides-method o m = decides (codeWords o m) (codeSize o m) (temporaryCount o m) (frameWords o m) (allowed o m)
 
--- What a note of a method's table says of its position: the instruction there keeps its rules, and the successors are noted with the depth
--- that it leaves.
+-- What a note of a method's table says of its position: the instruction there keeps its rules, and each successor is noted with
+-- the depth that it leaves it.
 pub record Spot (o : Objects) (m p d : ℕ) : Type 0 where
   pub kept : T (allOf (rulesAt (codeWords o m) (codeSize o m) (temporaryCount o m) (frameWords o m) (allowed o m) p d))
   pub along : (q : ℕ) → List·Memᴰ q (successorsAt (codeWords o m) (codeSize o m) p)
-      → noteAt (methodTable o m) q ≡ suc (depthAfterAt (codeWords o m) (codeSize o m) p d)
+      → noteAt (methodTable o m) q ≡ suc (depthAfterAt (codeWords o m) (codeSize o m) p q d)
 
 module _ (o : Objects) (m : ℕ) where
   method-notes : (t : List ℕ) → methodTable o m ≡ some t
@@ -111,7 +111,7 @@ module _ (o : Objects) (m : ℕ) where
           record {
             kept = notes .kept p d n;
             along = λ q s. ap (λ (x : Option (List ℕ)). noteAt x q) h ∙ notes .reached q (onward r s)
-                ∙ ap suc (notes .table .along p q r s ∙ ap (λ (k : ℕ). depthAfterAt (codeWords o m) (codeSize o m) p (pred k)) n);
+                ∙ ap suc (notes .table .along p q r s ∙ ap (λ (k : ℕ). depthAfterAt (codeWords o m) (codeSize o m) p q (pred k)) n);
           }
 
   -- position 0 of a sound method is noted with depth 0

@@ -16,11 +16,11 @@ use Rattle.model.specs.Depth.{Reached, first, onward, DepthTable, HasTab
 use Rattle.model.proofs.Marks.{blanks, blank, zeros, zeros-set, zeros-blank}
 
 -- Position p is reached along a path that leaves d operands.
-pub data At (next : ℕ → List ℕ) (after : ℕ → ℕ → ℕ) : ℕ → ℕ → Type 0 where
+pub data At (next : ℕ → List ℕ) (after : ℕ → ℕ → ℕ → ℕ) : ℕ → ℕ → Type 0 where
   origin : At next after 0 0
-  further : {p q d : ℕ} → At next after p d → List·Memᴰ q (next p) → At next after q (after p d)
+  further : {p q d : ℕ} → At next after p d → List·Memᴰ q (next p) → At next after q (after p q d)
 
-pub at-reached : {next : ℕ → List ℕ} {after : ℕ → ℕ → ℕ} {p d : ℕ} → At next after p d → Reached next p
+pub at-reached : {next : ℕ → List ℕ} {after : ℕ → ℕ → ℕ → ℕ} {p d : ℕ} → At next after p d → Reached next p
 at-reached origin = first
 at-reached (further a m) = onward (at-reached a) m
 
@@ -38,14 +38,14 @@ right-part e = ap {A = ℕ × ℕ} (λ x. x .1) e
 apart : (t : List ℕ) (p q d : ℕ) → getD t p 0 ≡ 0 → getD t q 0 ≡ suc d → q ≢ p
 apart t p q d z e same = let bad : _≡_ {A = ℕ} 0 (suc d) = sym z ∙ ap (λ (k : ℕ). getD t k 0) (sym same) ∙ e in omega arith
 
-module _ (fine : ℕ → ℕ → Bool) (next : ℕ → List ℕ) (after : ℕ → ℕ → ℕ) where
+module _ (fine : ℕ → ℕ → Bool) (next : ℕ → List ℕ) (after : ℕ → ℕ → ℕ → ℕ) where
   abbrev Noted : List ℕ → ℕ → ℕ → Type 0
   Noted t p d = getD t p 0 ≡ suc d
 
   -- two depth tables have the same depth where a path leads
   pub at-depth : (g : ℕ → ℕ) → DepthTable fine next after g → {p d : ℕ} → At next after p d → g p ≡ d
   at-depth g table origin = table .start
-  at-depth g table (further {p = p} {q = q} a m) = table .along p q (at-reached a) m ∙ ap (after p) (at-depth g table a)
+  at-depth g table (further {p = p} {q = q} a m) = table .along p q (at-reached a) m ∙ ap (after p q) (at-depth g table a)
 
   -- What the notes of a finished walk say
   pub record Notes (size : ℕ) (t : List ℕ) : Type 0 where
@@ -61,7 +61,7 @@ module _ (fine : ℕ → ℕ → Bool) (next : ℕ → List ℕ) (after : ℕ �
       kept : (p d : ℕ) → Noted t p d → T (fine p d)
       path : (p d : ℕ) → Noted t p d → At next after p d
       queued : (p d : ℕ) → mem p d pending → At next after p d
-      follow : (p d q : ℕ) → Noted t p d → List·Memᴰ q (next p) → Noted t q (after p d) ⊎ mem q (after p d) pending
+      follow : (p d q : ℕ) → Noted t p d → List·Memᴰ q (next p) → Noted t q (after p q d) ⊎ mem q (after p q d) pending
 
     -- what a walk from notes t and pending positions ends with
     record Result (t t′ : List ℕ) (pending : List (ℕ × ℕ)) : Type 0 where
@@ -80,11 +80,11 @@ module _ (fine : ℕ → ℕ → Bool) (next : ℕ → List ℕ) (after : ℕ �
       settled : Noted t p d → Inv t pending
       settled e = record { long = inv .long; kept = inv .kept; path = inv .path; queued = λ q k m. inv .queued q k (List·Memᴰ·tail m); follow = λ q k r n m. choose q k r (inv .follow q k r n m) }
         where
-          chosen : (q k r : ℕ) → (_≡_ {A = ℕ × ℕ} (r, after q k) (p, d)) ⊎ mem r (after q k) pending → Noted t r (after q k) ⊎ mem r (after q k) pending
+          chosen : (q k r : ℕ) → (_≡_ {A = ℕ × ℕ} (r, after q r k) (p, d)) ⊎ mem r (after q r k) pending → Noted t r (after q r k) ⊎ mem r (after q r k) pending
           chosen q k r (inl x) = inl (ap (λ (i : ℕ). getD t i 0) (left-part x) ∙ e ∙ ap suc (sym (right-part x)))
           chosen q k r (inr m) = inr m
 
-          choose : (q k r : ℕ) → Noted t r (after q k) ⊎ mem r (after q k) ((p, d) ∷ pending) → Noted t r (after q k) ⊎ mem r (after q k) pending
+          choose : (q k r : ℕ) → Noted t r (after q r k) ⊎ mem r (after q r k) ((p, d) ∷ pending) → Noted t r (after q r k) ⊎ mem r (after q r k) pending
           choose q k r (inl x) = inl x
           choose q k r (inr m) = chosen q k r (List·Memᴰ·cases-cons m)
 
@@ -127,15 +127,15 @@ module _ (fine : ℕ → ℕ → Bool) (next : ℕ → List ℕ) (after : ℕ �
         old-settled r k (inl e) = inl (older r k e)
         old-settled r k (inr m) = pair-settled r k (List·Memᴰ·cases-cons m)
 
-        follow₁ : (q k r : ℕ) → Dec (q ≡ p) → Noted t₁ q k → List·Memᴰ r (next q) → Settled r (after q k)
+        follow₁ : (q k r : ℕ) → Dec (q ≡ p) → Noted t₁ q k → List·Memᴰ r (next q) → Settled r (after q r k)
         follow₁ q k r (yes s) e m =
             let m′ : List·Memᴰ r (next p) = subst (λ (i : ℕ). List·Memᴰ r (next i)) s m in
-            inr (Memᴰ·append-left pending (Memᴰ·cast (λ i. (r, after (s i) (sym (same-depth q k s e) i))) (Memᴰ·map (λ (i : ℕ). (i, after p d)) m′)))
-        follow₁ q k r (no h) e m = old-settled r (after q k) (inv .follow q k r (sym (other q h) ∙ e) m)
+            inr (Memᴰ·append-left pending (Memᴰ·cast (λ i. (r, after (s i) r (sym (same-depth q k s e) i))) (Memᴰ·map (λ (i : ℕ). (i, after p i d)) m′)))
+        follow₁ q k r (no h) e m = old-settled r (after q r k) (inv .follow q k r (sym (other q h) ∙ e) m)
 
         queued₁ : (q k : ℕ) → mem q k (following fine next after p d) ⊎ mem q k pending → At next after q k
         queued₁ q k (inl m) =
-            let r = Memᴰ·of-map (λ (i : ℕ). (i, after p d)) (next p) m in
+            let r = Memᴰ·of-map (λ (i : ℕ). (i, after p i d)) (next p) m in
             subst (λ (i : ℕ). At next after i k) (left-part (r .2)) (subst (At next after (r .0)) (right-part (r .2)) (further here (r .1)))
         queued₁ q k (inr m) = inv .queued q k (List·Memᴰ·tail m)
 
@@ -221,16 +221,16 @@ module _ (fine : ℕ → ℕ → Bool) (next : ℕ → List ℕ) (after : ℕ �
       own : (p d : ℕ) → Noted t p d → Noted t p (depth p)
       own p d e = e ∙ ap suc (sym (ap pred e))
 
-      noted-next : (p q d : ℕ) → Noted t p d → List·Memᴰ q (next p) → Noted t q (after p d)
+      noted-next : (p q d : ℕ) → Noted t p d → List·Memᴰ q (next p) → Noted t q (after p q d)
       noted-next p q d e m = last (closed .follow p d q e m)
         where
-          last : Noted t q (after p d) ⊎ mem q (after p d) [] → Noted t q (after p d)
+          last : Noted t q (after p q d) ⊎ mem q (after p q d) [] → Noted t q (after p q d)
           last (inl x) = x
           last (inr x) = absurd (List·Memᴰ·not-nil x)
 
       all-noted : (p : ℕ) → Reached next p → Noted t p (depth p)
       all-noted p first = own 0 0 zeroth
-      all-noted q (onward {p = p} r m) = own q (after p (depth p)) (noted-next p q (depth p) (all-noted p r) m)
+      all-noted q (onward {p = p} r m) = own q (after p q (depth p)) (noted-next p q (depth p) (all-noted p r) m)
 
       notes : Notes size t
       notes =
@@ -289,7 +289,7 @@ module _ (fine : ℕ → ℕ → Bool) (next : ℕ → List ℕ) (after : ℕ �
 
             queued₂ : (q k : ℕ) → mem q k (following fine next after p d) ⊎ mem q k pending → At next after q k
             queued₂ q k (inl m) =
-                let r = Memᴰ·of-map (λ (i : ℕ). (i, after p d)) (next p) m in
+                let r = Memᴰ·of-map (λ (i : ℕ). (i, after p i d)) (next p) m in
                 subst (λ (i : ℕ). At next after i k) (left-part (r .2)) (subst (At next after (r .0)) (right-part (r .2)) (further this (r .1)))
             queued₂ q k (inr m) = along .queued q k (List·Memᴰ·tail m)
 

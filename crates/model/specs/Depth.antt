@@ -13,27 +13,27 @@ use Rattle.bytecode.specs.Effect.{need, depthAfter, usable, successors}
 use Rattle.bytecode.specs.declared.Instruction.{Instruction}
 
 -- The statement, for code whose positions have these successors and whose instruction at p keeps its rules at depth d where `fine p d`
--- says so, and leaves the depth `after p d`.
+-- says so, and leaves its successor q the depth `after p q d`.
 
 -- Position 0 is reached, and all that follow a reached position.
 pub data Reached (next : ℕ → List ℕ) : ℕ → Type 0 where
   first : Reached next 0
   onward : {p q : ℕ} → Reached next p → List·Memᴰ q (next p) → Reached next q
 
--- Position 0 has depth 0, every reached instruction keeps its rules, and its successors have the depth that it leaves.
-pub record DepthTable (fine : ℕ → ℕ → Bool) (next : ℕ → List ℕ) (after : ℕ → ℕ → ℕ) (t : ℕ → ℕ) : Type 0 where
+-- Position 0 has depth 0, every reached instruction keeps its rules, and each successor has the depth that it leaves it.
+pub record DepthTable (fine : ℕ → ℕ → Bool) (next : ℕ → List ℕ) (after : ℕ → ℕ → ℕ → ℕ) (t : ℕ → ℕ) : Type 0 where
   pub start : t 0 ≡ 0
   pub kept : (p : ℕ) → Reached next p → T (fine p (t p))
-  pub along : (p q : ℕ) → Reached next p → List·Memᴰ q (next p) → t q ≡ after p (t p)
+  pub along : (p q : ℕ) → Reached next p → List·Memᴰ q (next p) → t q ≡ after p q (t p)
 
-abbrev pub HasTable : (ℕ → ℕ → Bool) → (ℕ → List ℕ) → (ℕ → ℕ → ℕ) → Type 0
+abbrev pub HasTable : (ℕ → ℕ → Bool) → (ℕ → List ℕ) → (ℕ → ℕ → ℕ → ℕ) → Type 0
 HasTable fine next after = (t : ℕ → ℕ) × DepthTable fine next after t
 
 -- The computation. `notes` has a number for each byte of the code: 0 where nothing is known, else one more than the depth there.
 -- `pending` are positions to visit, each with its depth. `again` is the rest of the walk, as a function so that it waits.
-module _ (fine : ℕ → ℕ → Bool) (next : ℕ → List ℕ) (after : ℕ → ℕ → ℕ) where
+module _ (fine : ℕ → ℕ → Bool) (next : ℕ → List ℕ) (after : ℕ → ℕ → ℕ → ℕ) where
   abbrev pub following : ℕ → ℕ → List (ℕ × ℕ)
-  following p d = map (λ q. (q, after p d)) (next p)
+  following p d = map (λ q. (q, after p q d)) (next p)
 
   -- a position not seen yet: it keeps its rules, and its successors are to be visited
   abbrev pub expanded : (List ℕ → List (ℕ × ℕ) → Option (List ℕ)) → List ℕ → ℕ → ℕ → List (ℕ × ℕ) → Bool → Option (List ℕ)
@@ -56,7 +56,7 @@ module _ (fine : ℕ → ℕ → Bool) (next : ℕ → List ℕ) (after : ℕ �
       visited (λ t q. walk fuel t q) notes (x .0) (x .1) pending (getD notes (x .0) 0)
 
 -- A position is expanded once and has at most two successors: 2 · size + 2 turns are enough.
-unfoldable pub walkFrom : (ℕ → ℕ → Bool) → (ℕ → List ℕ) → (ℕ → ℕ → ℕ) → ℕ → Option (List ℕ)
+unfoldable pub walkFrom : (ℕ → ℕ → Bool) → (ℕ → List ℕ) → (ℕ → ℕ → ℕ → ℕ) → ℕ → Option (List ℕ)
 walkFrom fine next after size = walk fine next after (2 * size + 2) (replicate size 0) ((0, 0) ∷ [])
 
 abbrev pub isSome : {A : Type 0} → Option A → Bool
@@ -73,8 +73,9 @@ module _ (words : List ℕ) (size : ℕ) where
   unfoldable pub successorsAt : ℕ → List ℕ
   successorsAt p = successors (nextAt words p) (decodeAt words size p)
 
-  unfoldable pub depthAfterAt : ℕ → ℕ → ℕ
-  depthAfterAt p d = depthAfter (decodeAt words size p) d
+  -- every instruction leaves all its successors the same depth today
+  unfoldable pub depthAfterAt : ℕ → ℕ → ℕ → ℕ
+  depthAfterAt p q d = depthAfter (decodeAt words size p) d
 
   -- in a method with these temporaries and frame words. `allowed` are the rules of a single instruction that do not speak of depth.
   module _ (temporaries limit : ℕ) (allowed : Instruction → Bool) where
