@@ -159,34 +159,34 @@ pub data Fits (o : Objects) (k c : ℕ) : Type 0 where
   fixed : form o c ≡ fixedForm → kind o k ≡ fieldsKind → size o k ≡ fieldCount o c → Fits o k c
   indexed : form o c ≡ indexedForm → kind o k ≡ fieldsKind → fieldCount o c ≤ size o k → Fits o k c
   bytes : form o c ≡ bytesForm → kind o k ≡ bytesKind → Fits o k c
-  other : 3 ≤ form o c → classKind ≤ kind o k → Fits o k c
+  other : form o c ≡ otherForm → classKind ≤ kind o k → Fits o k c
 
 pub fits-cases : (e : ℕ) (o : Objects) (k : ℕ) → T (fits e o k) → Fits o k (classWord o k)
 unfolding fits
-fits-cases e o k t = go (eqb (form o c) fixedForm) (eqb (form o c) indexedForm) (eqb (form o c) bytesForm) refl refl refl t
+fits-cases e o k t = go (eqb (form o c) fixedForm) (eqb (form o c) indexedForm) (eqb (form o c) bytesForm) (eqb (form o c) otherForm) refl refl refl refl t
   where
     c : ℕ
     c = classWord o k
 
-    go : (x y z : Bool) → eqb (form o c) fixedForm ≡ x → eqb (form o c) indexedForm ≡ y → eqb (form o c) bytesForm ≡ z
+    go : (x y z v : Bool) → eqb (form o c) fixedForm ≡ x → eqb (form o c) indexedForm ≡ y → eqb (form o c) bytesForm ≡ z → eqb (form o c) otherForm ≡ v
         → T (if x then eqb (kind o k) fieldsKind && eqb (size o k) (fieldCount o c) else
         if y then eqb (kind o k) fieldsKind && leb (fieldCount o c) (size o k) else
         if z then eqb (kind o k) bytesKind else
-        leb classKind (kind o k) && leb (kind o k) methodKind) → Fits o k c
-    go true y z p q r s =
+        if v then leb classKind (kind o k) && leb (kind o k) methodKind else false) → Fits o k c
+    go true y z v p q r m s =
         fixed (eqb-true (form o c) fixedForm p) (eqb→eq (kind o k) fieldsKind (and-left (eqb (kind o k) fieldsKind) (eqb (size o k) (fieldCount o c)) (subst T (if-yes _ _ refl) s)))
         (eqb→eq (size o k) (fieldCount o c) (and-right (eqb (kind o k) fieldsKind) (eqb (size o k) (fieldCount o c)) (subst T (if-yes _ _ refl) s)))
-    go false true z p q r s =
+    go false true z v p q r m s =
         let s′ : T (eqb (kind o k) fieldsKind && leb (fieldCount o c) (size o k)) = subst T (if-no _ _ refl ∙ if-yes _ _ refl) s in
         indexed (eqb-true (form o c) indexedForm q) (eqb→eq (kind o k) fieldsKind (and-left (eqb (kind o k) fieldsKind) (leb (fieldCount o c) (size o k)) s′))
         (leb→le (fieldCount o c) (size o k) (and-right (eqb (kind o k) fieldsKind) (leb (fieldCount o c) (size o k)) s′))
-    go false false true p q r s =
+    go false false true v p q r m s =
         bytes (eqb-true (form o c) bytesForm r) (eqb→eq (kind o k) bytesKind (subst T (if-no _ _ refl ∙ if-no _ _ refl ∙ if-yes _ _ refl) s))
-    go false false false p q r s =
-        let a = eqb-false (form o c) fixedForm p in
-        let b = eqb-false (form o c) indexedForm q in
-        let d = eqb-false (form o c) bytesForm r in
-        other (omega arith) (leb→le classKind (kind o k) (and-left (leb classKind (kind o k)) (leb (kind o k) methodKind) (subst T (if-no _ _ refl ∙ if-no _ _ refl ∙ if-no _ _ refl) s)))
+    go false false false true p q r m s =
+        other (eqb-true (form o c) otherForm m)
+        (leb→le classKind (kind o k) (and-left (leb classKind (kind o k)) (leb (kind o k) methodKind)
+        (subst T (if-no _ _ refl ∙ if-no _ _ refl ∙ if-no _ _ refl ∙ if-yes _ _ refl) s)))
+    go false false false false p q r m s = absurd (subst T (if-no _ _ refl ∙ if-no _ _ refl ∙ if-no _ _ refl ∙ if-no _ _ refl) s)
 
 pub fits-rule : (e : ℕ) (o : Objects) (k : ℕ) → kind o k ≤ methodKind → Fits o k (classWord o k) → T (fits e o k)
 unfolding fits
@@ -202,7 +202,7 @@ fits-rule e o k h (bytes a b) =
     (true→T (eq-eqb (kind o k) bytesKind b))
 fits-rule e o k h (other a b) =
     subst T (sym (if-no _ _ (ne-eqb (form o (classWord o k)) fixedForm (omega arith)) ∙ if-no _ _ (ne-eqb (form o (classWord o k)) indexedForm (omega arith))
-    ∙ if-no _ _ (ne-eqb (form o (classWord o k)) bytesForm (omega arith))))
+    ∙ if-no _ _ (ne-eqb (form o (classWord o k)) bytesForm (omega arith)) ∙ if-yes _ _ (eq-eqb (form o (classWord o k)) otherForm a)))
     (and-both (leb classKind (kind o k)) (leb (kind o k) methodKind) (le→leb classKind (kind o k) b) (le→leb (kind o k) methodKind h))
 
 -- Rule 6: a pair of a dictionary, a class, the known objects

@@ -64,7 +64,8 @@ fits e o k =
     if eqb (form o (classWord o k)) fixedForm then eqb (kind o k) fieldsKind && eqb (size o k) (fieldCount o (classWord o k)) else
     if eqb (form o (classWord o k)) indexedForm then eqb (kind o k) fieldsKind && leb (fieldCount o (classWord o k)) (size o k) else
     if eqb (form o (classWord o k)) bytesForm then eqb (kind o k) bytesKind else
-    leb classKind (kind o k) && leb (kind o k) methodKind
+    if eqb (form o (classWord o k)) otherForm then leb classKind (kind o k) && leb (kind o k) methodKind else
+    false
 
 unfoldable pub entryFine : ℕ → Objects → ℕ → Bool
 entryFine e o k = isKind o classKind (classWord o k) && fits e o k

@@ -1,12 +1,12 @@
 -- Rule 6 in the order in which it is tested: first all of it but that superclass chains end, object by object; then the chains, which by
 -- then lead from class to class.
 use Prim.Native.Nat.{ℕ, _/_}
-use mathlib.Core.Bool.{Bool, _&&_, not}
+use mathlib.Core.Bool.{Bool, false, _&&_, not}
 use mathlib.Core.List.{List, [], _∷_}
 use lib.Dec.{leb, eqb}
 use Rattle.bytecode.specs.Test.{if_then_else_, implies, every, allOf}
 use Rattle.bytecode.specs.Constant.{nilWord}
-use Rattle.model.specs.Limits.{fieldsKind, bytesKind, classKind, listKind, methodKind, fixedForm, indexedForm, bytesForm, lastForm, mostFields, nilObject, falseObject, trueObject, integerClassObject, selectorsObject, specialSelectors}
+use Rattle.model.specs.Limits.{fieldsKind, bytesKind, classKind, listKind, methodKind, fixedForm, indexedForm, bytesForm, otherForm, lastForm, mostFields, nilObject, falseObject, trueObject, integerClassObject, selectorsObject, specialSelectors}
 use Rattle.model.specs.Word.{isNatural, pointer}
 use Rattle.model.specs.Objects.{Objects, kind, size, bodyOf, isKind, isNilOr, superclassWord, dictionaryWord, fieldsWord, formWord, fieldCount}
 use Rattle.model.specs.Lookup.{endsWithin}
@@ -18,7 +18,8 @@ fitsForm form fields kind size =
     if eqb form fixedForm then eqb kind fieldsKind && eqb size fields else
     if eqb form indexedForm then eqb kind fieldsKind && leb fields size else
     if eqb form bytesForm then eqb kind bytesKind else
-    leb classKind kind && leb kind methodKind
+    if eqb form otherForm then leb classKind kind && leb kind methodKind else
+    false
 
 -- F and form of a class, given by their words
 unfoldable pub numbersFine : ℕ → ℕ → Bool

@@ -78,10 +78,13 @@ fn fits_form(form: u16, fields: u16, of: u16, words: u16) -> bool
     if form == OF_BYTES {
         return of == BYTES;
     }
-    if of < CLASS {
-        return false;
+    if form == OTHER {
+        if of < CLASS {
+            return false;
+        }
+        return of <= METHOD;
     }
-    of <= METHOD
+    false
 }
 
 // The class of object k is one, and the object fits its form.

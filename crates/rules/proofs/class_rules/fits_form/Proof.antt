@@ -27,12 +27,22 @@ returns-5 c = simp (ne-eqb _ _ (c .before .before .if1 .left), ne-eqb _ _ (c .be
 
 returns-6 : tie.Need-returns-6
 unfolding fitsForm if_then_else_
-returns-6 c = simp (ne-eqb _ _ (c .before .before .before .if1 .left), ne-eqb _ _ (c .before .before .if3 .left), ne-eqb _ _ (c .before .if5 .left), lt-leb _ _ (c .if6 .taken))
+returns-6 c =
+    let at-if5 = c .before .before in
+    simp (ne-eqb _ _ (at-if5 .before .before .if1 .left), ne-eqb _ _ (at-if5 .before .if3 .left), ne-eqb _ _ (at-if5 .if5 .left), eq-eqb _ _ (c .before .if6 .taken), lt-leb _ _ (c .if7 .taken))
 
 returns-7 : tie.Need-returns-7
 unfolding fitsForm if_then_else_
-returns-7 c = simp (ne-eqb _ _ (c .before .before .before .if1 .left), ne-eqb _ _ (c .before .before .if3 .left), ne-eqb _ _ (c .before .if5 .left), le-leb _ _ (c .if6 .left))
+returns-7 c =
+    let at-if5 = c .before .before in
+    simp (ne-eqb _ _ (at-if5 .before .before .if1 .left), ne-eqb _ _ (at-if5 .before .if3 .left), ne-eqb _ _ (at-if5 .if5 .left), eq-eqb _ _ (c .before .if6 .taken), le-leb _ _ (c .if7 .left))
+
+returns-8 : tie.Need-returns-8
+unfolding fitsForm if_then_else_
+returns-8 c =
+    let at-if5 = c .before in
+    simp (ne-eqb _ _ (at-if5 .before .before .if1 .left), ne-eqb _ _ (at-if5 .before .if3 .left), ne-eqb _ _ (at-if5 .if5 .left), ne-eqb _ _ (c .if6 .left))
 
 pub fits-form-spec : {M : Type 1} → statement M
 fits-form-spec =
-    tie.close (tie.spec returns returns-2 returns-3 returns-4 returns-5 returns-6 returns-7)
+    tie.close (tie.spec returns returns-2 returns-3 returns-4 returns-5 returns-6 returns-7 returns-8)
