@@ -1,19 +1,19 @@
 //! Runs an image on the proved library and on the plain machine, and shows what came of it.
 
+mod both;
 mod halts;
 mod names;
 mod options;
 mod out;
 mod sends;
-mod session;
 // `compare` uses another part of it.
 #[allow(dead_code)]
 #[path = "../../sides.rs"]
 mod sides;
 mod trace;
 
+use both::{Both, End};
 use out::Out;
-use session::{End, Session};
 use std::ffi::{OsStr, OsString};
 use std::io::{Read, Write};
 use std::process::exit;
@@ -50,7 +50,7 @@ fn main() {
     let options = options::options(given).unwrap_or_else(|what| wrong(&format!("{what} (--help says more)")));
     let image = read(&options.image);
     let names = options.names.as_ref().map_or(String::new(), |file| String::from_utf8_lossy(&read(file)).into_owned());
-    let ended = Session::new(&options, &mut out).all(image, &names);
+    let ended = Both::new(&options, &mut out).all(image, &names);
     // What was found comes before what is wrong.
     if let Some(error) = out.end() {
         wrong(&format!("standard output: {error}"));

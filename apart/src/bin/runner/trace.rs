@@ -1,9 +1,9 @@
 //! A line for each bytecode.
 
+use crate::both::PHASES;
 use crate::names::Names;
 use crate::out::Out;
 use crate::sends::*;
-use crate::session::PHASES;
 use apart::code::*;
 use apart::machine::*;
 use apart::words::*;

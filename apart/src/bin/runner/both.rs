@@ -44,7 +44,8 @@ pub enum End {
     Wrong(String),
 }
 
-pub struct Session<'a> {
+/// The two machines, and what was said of them.
+pub struct Both<'a> {
     options: &'a Options,
     out: &'a mut Out,
     plain: Buffers,
@@ -58,13 +59,13 @@ pub struct Session<'a> {
 /// What is begun: receiver, selector, arguments.
 struct Begun(u16, u16, Vec<u16>);
 
-impl<'a> Session<'a> {
-    pub fn new(options: &'a Options, out: &'a mut Out) -> Session<'a> {
+impl<'a> Both<'a> {
+    pub fn new(options: &'a Options, out: &'a mut Out) -> Both<'a> {
         let [contents, bodies, stack] = options.lengths;
         let lengths = [contents, bodies, stack, CACHE_WORDS];
         let buffers = Buffers { words: lengths.map(|length| vec![0; length + GUARD]), lengths, registers: [0; 7] };
         let names = Names::new(&Objects::default(), "");
-        Session { options, out, plain: buffers.clone(), proved: buffers, counts: Counts::default(), names, refused: false, halted: false }
+        Both { options, out, plain: buffers.clone(), proved: buffers, counts: Counts::default(), names, refused: false, halted: false }
     }
 
     /// Everything that the options ask for; the status.
@@ -106,7 +107,7 @@ impl<'a> Session<'a> {
     }
 
     /// A call on both machines. The line has what the library gave.
-    fn call(&mut self, call: &Call, traced: Option<u64>, line: impl FnOnce(&Session, &Outcome, Option<Refusal>) -> String) -> Result<Outcome, End> {
+    fn call(&mut self, call: &Call, traced: Option<u64>, line: impl FnOnce(&Both, &Outcome, Option<Refusal>) -> String) -> Result<Outcome, End> {
         let proved = library(call, &mut self.proved);
         let plain = match traced {
             Some(made) => plain_watched(call, &mut self.plain, &mut self.counts, &mut Trace::new(self.out, &mut self.names, made)),
@@ -151,8 +152,8 @@ impl<'a> Session<'a> {
     }
 
     fn load(&mut self, image: Vec<u8>, names: &str) -> Result<bool, End> {
-        let loaded = self.call(&Call::Load(image), None, |session, outcome, refusal| match outcome.number {
-            0 => format!("load: objects {}, body words {}", session.proved.registers[0], session.proved.registers[1]),
+        let loaded = self.call(&Call::Load(image), None, |both, outcome, refusal| match outcome.number {
+            0 => format!("load: objects {}, body words {}", both.proved.registers[0], both.proved.registers[1]),
             number => format!("load: {}", refused(number, refusal)),
         })?;
         if let Ok((world, _)) = self.opened() {
@@ -164,7 +165,7 @@ impl<'a> Session<'a> {
     /// One message from begin to its last run.
     fn handler(&mut self, begun: Begun) -> Result<(), End> {
         if self.phase() == RUNNING {
-            self.call(&Call::Drop, None, |session, _, _| format!("drop: {}, the handler was not done", session.phase_words("")))?;
+            self.call(&Call::Drop, None, |both, _, _| format!("drop: {}, the handler was not done", both.phase_words("")))?;
         }
         // A refused begin leaves the frames of a handler that halted before.
         if !self.begin(begun)? {
@@ -176,10 +177,10 @@ impl<'a> Session<'a> {
                 break;
             }
             let traced = if self.options.trace { Some(made) } else { None };
-            let ran = self.call(&Call::Run(self.options.grant), traced, |session, outcome, refusal| {
+            let ran = self.call(&Call::Run(self.options.grant), traced, |both, outcome, refusal| {
                 let between = format!(", count {}, reach {}", outcome.count, outcome.reach);
-                let what = if outcome.number == 0 { session.phase_words(&between) } else { refused(outcome.number, refusal) };
-                format!("run {}: {what}", session.options.grant)
+                let what = if outcome.number == 0 { both.phase_words(&between) } else { refused(outcome.number, refusal) };
+                format!("run {}: {what}", both.options.grant)
             })?;
             if ran.number != 0 {
                 break;
@@ -198,12 +199,12 @@ impl<'a> Session<'a> {
     fn begin(&mut self, Begun(receiver, selector, arguments): Begun) -> Result<bool, End> {
         let opened = self.opened().ok();
         let call = Call::Begin { receiver, selector, arguments: arguments.clone() };
-        let began = self.call(&call, None, |session, outcome, refusal| {
-            let with = if arguments.is_empty() { String::new() } else { format!(" with {}", session.names.list(&arguments)) };
-            let sent = format!("begin: {} is sent {}{with}", session.names.name(receiver), session.names.name(selector));
+        let began = self.call(&call, None, |both, outcome, refusal| {
+            let with = if arguments.is_empty() { String::new() } else { format!(" with {}", both.names.list(&arguments)) };
+            let sent = format!("begin: {} is sent {}{with}", both.names.name(receiver), both.names.name(selector));
             let what = match (outcome.number, &opened) {
-                (0, _) => session.phase_words(""),
-                (number @ (9 | 10 | 13), Some((world, _))) => session.begin_refused(number, world, receiver, selector, arguments.len()),
+                (0, _) => both.phase_words(""),
+                (number @ (9 | 10 | 13), Some((world, _))) => both.begin_refused(number, world, receiver, selector, arguments.len()),
                 (number, _) => refused(number, refusal),
             };
             format!("{sent}: {what}")
