@@ -85,7 +85,7 @@ proved() {
   if [ "$new" -gt 0 ]; then
     echo "proving $2: $new of $all crates are not proved here yet; all $all take about 8 minutes on two cores" >&2
   elif [ "$1" = staticlib ]; then
-    echo "building lib$2.a, half a minute" >&2
+    echo "building lib$2.a: half a minute, and what its crates take that changed" >&2
   fi
   rm -f "target/progress/$2.failed"
   { rt "$1" "$2" 2>&1 || touch "target/progress/$2.failed"; } | tee "target/progress/$2" | awk -v all="$all" '
