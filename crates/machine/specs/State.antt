@@ -36,10 +36,10 @@ registersOf r =
 abbrev pub state : Registers → List ℕ → List ℕ → List ℕ → List ℕ → Flat
 state r contents bodies stack cache = flat (registersOf r) contents bodies stack cache
 
--- Load: accepted, it gives the registers; refused, 01's number and registers all zero.
+-- Load: the registers of the image, or 01's number and registers (all zero).
 unfoldable pub loadGives : Loaded → List ℕ → List ℕ → List ℕ → List ℕ → Given
 loadGives (L.Accepted r) contents bodies stack cache = gives done (state r contents bodies stack cache)
-loadGives (L.Refused k) contents bodies stack cache = gives (refusedBy k) (flat R.noRegisters contents bodies stack cache)
+loadGives (L.Refused k r) contents bodies stack cache = gives (refusedBy k) (state r contents bodies stack cache)
 
 -- Check: yes, 3 or 11
 unfoldable pub checkGives : Checked → Verdict

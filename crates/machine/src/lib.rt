@@ -11,7 +11,7 @@ ghost use Rattle.plain.specs.Registers as R;
 ghost use Rattle.plain.specs.Flat.{flat};
 ghost use Rattle.plain.specs.Check as K;
 ghost use Rattle.plain.specs.FlatCalls.{flatLoad, flatBegin, flatRun, flatDrop, flatForget, flatSave};
-ghost use Rattle.machine.specs.State.{state, loadGives, checkGives, beginGives, runGives, dropGives, raisedTo, RunsTo, ReachIs, forgetGives, saveGives};
+ghost use Rattle.machine.specs.State.{registersOf, state, loadGives, checkGives, beginGives, runGives, dropGives, raisedTo, RunsTo, ReachIs, forgetGives, saveGives};
 use begins::Beginning;
 use image::Header;
 use interpreter::Advanced;
@@ -30,10 +30,10 @@ pub struct Registers {
     pub value: u16,
 }
 
-// The answer of load.
+// The answer of load. Refused, the registers are all zero.
 pub enum Loaded {
     Accepted(Registers),
-    Refused(u32),
+    Refused(u32, Registers),
 }
 
 // An image put in place and the cache emptied, or nothing but zeros where it is refused by 4 to 8.
@@ -58,7 +58,7 @@ pub fn load(image: &[u8], contents: &mut [u16], bodies: &mut [u16], cache: &mut 
                 value: 0,
             })
         }
-        Reading::Refused(k) => Loaded::Refused(k),
+        Reading::Refused(k) => Loaded::Refused(k, Registers::none()),
     }
 }
 
@@ -236,6 +236,21 @@ fn raised(
 }
 
 impl Registers {
+    // Of no image.
+    fn none() -> Registers
+        ensures { λ r. ⌜ registersOf r ≡ R.noRegisters ⌝ }
+    {
+        Registers {
+            n: 0,
+            b: 0,
+            receiver: 0,
+            selector: 0,
+            phase: 0,
+            top: 0,
+            value: 0,
+        }
+    }
+
     // A send from no frame, all frames removed: 12 in phase 1, then 8, 9, 10, 13.
     pub fn begin(
         self,
