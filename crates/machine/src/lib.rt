@@ -251,6 +251,36 @@ impl Registers {
         }
     }
 
+    // The same but for phase, top and value.
+    fn with_phase(self, phase: u16, top: u16, value: u16) -> Registers
+        ensures { λ r. ⌜ registersOf r ≡ R.withPhase (registersOf self) phase top value ⌝ }
+    {
+        Registers {
+            n: self.n,
+            b: self.b,
+            receiver: self.receiver,
+            selector: self.selector,
+            phase: phase,
+            top: top,
+            value: value,
+        }
+    }
+
+    // The same but for N and B.
+    fn with_sizes(self, n: u16, b: u16) -> Registers
+        ensures { λ r. ⌜ registersOf r ≡ R.withSizes (registersOf self) n b ⌝ }
+    {
+        Registers {
+            n: n,
+            b: b,
+            receiver: self.receiver,
+            selector: self.selector,
+            phase: self.phase,
+            top: self.top,
+            value: self.value,
+        }
+    }
+
     // A send from no frame, all frames removed: 12 in phase 1, then 8, 9, 10, 13.
     pub fn begin(
         self,
@@ -280,24 +310,11 @@ impl Registers {
                     selector,
                     arguments,
                 ) {
-                    Beginning::Answered { word, n, b } => Begun::Started(Registers {
-                        n: n as u16,
-                        b: b as u16,
-                        receiver: self.receiver,
-                        selector: self.selector,
-                        phase: 2,
-                        top: 0,
-                        value: word,
-                    }),
-                    Beginning::Entered => Begun::Started(Registers {
-                        n: self.n,
-                        b: self.b,
-                        receiver: self.receiver,
-                        selector: self.selector,
-                        phase: 1,
-                        top: 0,
-                        value: 0,
-                    }),
+                    Beginning::Answered { word, n, b } => {
+                        let grown = self.with_sizes(n as u16, b as u16);
+                        Begun::Started(grown.with_phase(2, 0, word))
+                    }
+                    Beginning::Entered => Begun::Started(self.with_phase(1, 0, 0)),
                     Beginning::Refused(k) => Begun::Refused(k, self),
                 }
             }
@@ -428,15 +445,7 @@ impl Registers {
     {
         match check(self, contents, bodies, stack, cache) {
             Checked::Refused(k) => Dropped::Refused(k, self),
-            Checked::Right => Dropped::Dropped(Registers {
-                n: self.n,
-                b: self.b,
-                receiver: self.receiver,
-                selector: self.selector,
-                phase: 0, // idle
-                top: 0,
-                value: 0,
-            }),
+            Checked::Right => Dropped::Dropped(self.with_phase(0, 0, 0)),
         }
     }
 }
