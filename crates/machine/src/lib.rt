@@ -1,22 +1,14 @@
 // The calls. Each promise is an equation with the flat calls of plain's specs/FlatCalls.antt, through the definitions of specs/State.antt.
 ghost use mathlib.Core.Path.{_≡_};
 ghost use mathlib.Core.List.{List};
-ghost use Prim.Native.Nat.{ℕ, _+_, _≤_};
-ghost use Rattle.model.specs.Image.{accepted};
-ghost use Rattle.model.specs.Objects.{objectsAt};
-ghost use Rattle.model.specs.Method.{frameSize};
-ghost use Rattle.plain.specs.Flat.{frameMethod};
-ghost use Rattle.plain.specs.Running.{Runs};
+ghost use Prim.Native.Nat.{ℕ};
 ghost use Rattle.plain.specs.Registers as R;
 ghost use Rattle.plain.specs.Flat.{flat};
 ghost use Rattle.plain.specs.Check as K;
 ghost use Rattle.plain.specs.FlatCalls.{flatLoad, flatBegin, flatRun, flatDrop, flatForget, flatSave};
-ghost use Rattle.machine.specs.State.{registersOf, state, loadGives, checkGives, beginGives, runGives, dropGives, raisedTo, RunsTo, ReachIs, forgetGives, saveGives};
+ghost use Rattle.machine.specs.State.{registersOf, state, loadGives, checkGives, beginGives, runGives, dropGives, ReachIs, forgetGives, saveGives};
 use begins::Beginning;
 use image::Header;
-use interpreter::Advanced;
-use model::Pointer;
-use model::StackPosition;
 use store::Reading;
 
 // `receiver` and `selector` are the start words.
@@ -186,55 +178,6 @@ pub fn save(
     }
 }
 
-// How a run ended: the registers, the bytecodes made, the highest end of a frame that stood in it.
-struct Outcome {
-    registers: Registers,
-    count: u32,
-    reach: usize,
-}
-
-// Where the top frame ends.
-fn frame_end(
-    contents: &[u16],
-    bodies: &[u16],
-    stack: &[u16],
-    n: usize,
-    b: usize,
-    top: StackPosition,
-) -> usize
-    requires { ⌜ Runs n b (top .0) (now contents) (now bodies) (now stack) ⌝ }
-    ensures { λ r. ⌜ (r ≡ top .0 + frameSize (objectsAt n b (now (contents .entry)) (now (bodies .entry))) (frameMethod (now (stack .entry)) (top .0))) × (r ≤ 65536) ⌝ }
-{
-    let base = top.0;
-    let method = Pointer(stack[base + 3]);
-    let words = objects::frame_words(objects::header(contents, bodies, n, b, method));
-    base + (6 + words)
-}
-
-// The highest end once the top frame is another one: where it is the same, no frame ends higher.
-fn raised(
-    contents: &[u16],
-    bodies: &[u16],
-    stack: &[u16],
-    n: usize,
-    b: usize,
-    before: usize,
-    top: usize,
-    reach: usize,
-) -> usize
-    requires { ⌜ Runs n b top (now contents) (now bodies) (now stack) × (reach ≤ 65536) ⌝ }
-    ensures { λ r. ⌜ (r ≡ raisedTo before top reach (top + frameSize (objectsAt n b (now (contents .entry)) (now (bodies .entry))) (frameMethod (now (stack .entry)) top))) × (r ≤ 65536) ⌝ }
-{
-    if before == top {
-        return reach;
-    }
-    let end = frame_end(contents, bodies, stack, n, b, StackPosition(top));
-    if reach < end {
-        return end;
-    }
-    reach
-}
-
 impl Registers {
     // Of no image.
     fn none() -> Registers
@@ -321,94 +264,6 @@ impl Registers {
         }
     }
 
-    // A run of so many bytecodes, from a state that was checked and runs.
-    fn run_on(
-        self,
-        contents: &mut [u16],
-        bodies: &mut [u16],
-        stack: &mut [u16],
-        cache: &mut [u16],
-        grant: u32,
-    ) -> Outcome
-        requires { ⌜ (K.check (state self (now contents) (now bodies) (now stack) (now cache)) ≡ accepted) × (self .phase ≡ 1) ⌝ }
-        ensures { λ r. ⌜ RunsTo (state self (now (contents .entry)) (now (bodies .entry)) (now (stack .entry)) (now (cache .entry))) grant (now (contents .exit)) (now (bodies .exit)) (now (stack .exit)) (now (cache .exit)) r ⌝ }
-    {
-        let start = StackPosition(self.top as usize);
-        let mut n = self.n as usize;
-        let mut b = self.b as usize;
-        let mut count: u32 = 0;
-        let mut reach = frame_end(contents, bodies, stack, n, b, start);
-        let mut active = steps::enter(contents, bodies, stack, n, b, start);
-        while count < grant {
-            match interpreter::advance(contents, bodies, stack, cache, n, b, active) {
-                Advanced::Next { position, end } => {
-                    active.position = position;
-                    active.end = end;
-                    count += 1;
-                }
-                Advanced::Top {
-                    n: objects,
-                    b: words,
-                    top,
-                } => {
-                    n = objects;
-                    b = words;
-                    reach = raised(contents, bodies, stack, n, b, active.base.0, top.0, reach);
-                    active = steps::enter(contents, bodies, stack, n, b, top);
-                    count += 1;
-                }
-                Advanced::Below(top) => {
-                    active = steps::enter(contents, bodies, stack, n, b, top);
-                    count += 1;
-                }
-                Advanced::Finished(w) => {
-                    return Outcome {
-                        registers: Registers {
-                            n: n as u16,
-                            b: b as u16,
-                            receiver: self.receiver,
-                            selector: self.selector,
-                            phase: 2,
-                            top: 0,
-                            value: w,
-                        },
-                        count: count + 1,
-                        reach: reach,
-                    };
-                }
-                Advanced::Halted(k) => {
-                    return Outcome {
-                        registers: Registers {
-                            n: n as u16,
-                            b: b as u16,
-                            receiver: self.receiver,
-                            selector: self.selector,
-                            phase: k,
-                            top: active.base.0 as u16,
-                            value: 0,
-                        },
-                        count: count,
-                        reach: reach,
-                    };
-                }
-            }
-        }
-        steps::leave(stack, active);
-        Outcome {
-            registers: Registers {
-                n: n as u16,
-                b: b as u16,
-                receiver: self.receiver,
-                selector: self.selector,
-                phase: 1,
-                top: active.base.0 as u16,
-                value: 0,
-            },
-            count: count,
-            reach: reach,
-        }
-    }
-
     // At most n bytecodes; 12 outside phase 1.
     pub fn run(
         self,
@@ -426,14 +281,22 @@ impl Registers {
                 if self.phase != 1 {
                     return Ran::Refused(12, self);
                 }
-                let outcome = self.run_on(contents, bodies, stack, cache, n);
-                let registers = outcome.registers;
-                let count = outcome.count;
-                let reach = outcome.reach as u32;
+                let ended = runs::run(
+                    contents,
+                    bodies,
+                    stack,
+                    cache,
+                    self.n as usize,
+                    self.b as usize,
+                    self.top as usize,
+                    n,
+                );
+                let grown = self.with_sizes(ended.n, ended.b);
+                let registers = grown.with_phase(ended.phase, ended.top, ended.value);
                 Ran::Done {
                     registers: registers,
-                    count: count,
-                    reach: reach,
+                    count: ended.count,
+                    reach: ended.reach as u32,
                 }
             }
         }
