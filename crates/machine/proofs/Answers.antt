@@ -10,9 +10,11 @@ use Rattle.model.specs.Limits.{entryWords}
 use Rattle.model.specs.Objects.{objectsAt}
 use Rattle.model.specs.Image.{Verdict, accepted, refused, buffersFine, imageBytes, imageOf}
 use Rattle.store.specs.Answer.{roomFor}
-use Rattle.plain.specs.Flat.{roomOf}
+use Rattle.plain.specs.Registers.{withPhase}
+use Rattle.plain.specs.Flat.{flat, roomOf}
+use Rattle.plain.specs.Calls.{done}
 use Rattle.plain.specs.Check.{check, stateFine}
-use Rattle.plain.specs.FlatCalls.{flatDrop, flatForget, flatSave}
+use Rattle.plain.specs.FlatCalls.{gives, flatDrop, flatForget, flatSave}
 use Rattle.plain.specs.Running.{roomAt}
 use Rattle.machine.specs.declared.Registers.{Registers}
 use Rattle.machine.specs.declared.Checked.{Checked}
@@ -60,10 +62,9 @@ module _ (r : Registers) (contents bodies stack cache : List ℕ) where
     unfolding dropGives
     drops-not k q = drop-refused (state r contents bodies stack cache) k (was-refused k q)
 
-    pub drops : x ≡ C.Right
-        → dropGives (D.Dropped (record { n = r .n; b = r .b; receiver = r .receiver; selector = r .selector; phase = 0; top = 0; value = 0 })) contents bodies stack cache ≡ flatDrop (state r contents bodies stack cache)
+    pub drops : (r′ : Registers) → registersOf r′ ≡ withPhase (registersOf r) 0 0 0 → x ≡ C.Right → dropGives (D.Dropped r′) contents bodies stack cache ≡ flatDrop (state r contents bodies stack cache)
     unfolding dropGives
-    drops q = drop-done (registersOf r) contents bodies stack cache (was-right q)
+    drops r′ z q = (λ i. gives done (flat (z i) contents bodies stack cache)) ∙ drop-done (registersOf r) contents bodies stack cache (was-right q)
 
     pub forgets-not : (k : ℕ) → x ≡ C.Refused k → forgetGives (F.Refused k) r contents bodies stack cache ≡ flatForget (state r contents bodies stack cache)
     unfolding forgetGives

@@ -13,7 +13,8 @@ use Rattle.model.specs.Objects.{Objects, objectsAt}
 use Rattle.model.specs.Rules.{Right}
 use Rattle.model.specs.Image.{Room, Verdict, accepted, refused}
 use Rattle.model.proofs.Facts.{most, most-words}
-use Rattle.plain.specs.Registers.{running, finished, hasFrames}
+use Rattle.plain.specs.Registers as R
+use Rattle.plain.specs.Registers.{running, finished, hasFrames, withPhase, withSizes}
 use Rattle.plain.specs.State.{Frame, Plain, withObjects, withFrames}
 use Rattle.plain.specs.Flat.{Flat, flat, roomOf, flatObjects, framesFrom, ifFrames, plainOf}
 use Rattle.plain.specs.Check.{check}
@@ -81,12 +82,12 @@ module _ (r : Registers) (contents bodies stack cache : List ℕ) (w selector : 
             let v = own (Rattle.begins.specs.declared.Beginning.the-variants.Refused k) p in
             (λ i. gives (P.refusedBy k) (state r (v .entries i) (v .words i) (v .frames i) cache)) ∙ begun-is (P.declined k) (v .leads)
 
-        pub begins-entered : y ≡ Rattle.begins.specs.declared.Beginning.the-variants.Entered
-            → beginGives (B.Started (record { n = r .n; b = r .b; receiver = r .receiver; selector = r .selector; phase = 1; top = 0; value = 0 })) contents′ bodies′ stack′ cache ≡ flatBegin s w selector arguments
+        pub begins-entered : (r′ : Registers) → registersOf r′ ≡ withPhase (registersOf r) 1 0 0 → y ≡ Rattle.begins.specs.declared.Beginning.the-variants.Entered
+            → beginGives (B.Started r′) contents′ bodies′ stack′ cache ≡ flatBegin s w selector arguments
         unfolding beginGives plainOf
-        begins-entered p =
+        begins-entered r′ e p =
             let v = own Rattle.begins.specs.declared.Beginning.the-variants.Entered p in
-            (λ i. gives P.done (state (record { n = r .n; b = r .b; receiver = r .receiver; selector = r .selector; phase = 1; top = 0; value = 0 }) ((v .entries ∙ sym (front-same (entryWords * r .n) contents (right .contents))) i) ((v .words ∙ sym (front-same (r .b) bodies (right .bodies))) i) (v .frames i) cache))
+            (λ i. gives P.done (flat (e i) ((v .entries ∙ sym (front-same (entryWords * r .n) contents (right .contents))) i) ((v .words ∙ sym (front-same (r .b) bodies (right .bodies))) i) (v .frames i) cache))
             ∙ begun-is (P.begun (withFrames (plainOf s) (v .first ∷ []) running 0 0)) (v .leads)
 
         module _ (u n b : ℕ) (p : y ≡ Rattle.begins.specs.declared.Beginning.the-variants.Answered u n b) where
@@ -104,8 +105,10 @@ module _ (r : Registers) (contents bodies stack cache : List ℕ) (w selector : 
               let f = v .size in
               (omega arith, omega arith)
 
-          pub begins-answered : beginGives (B.Started (record { n = n; b = b; receiver = r .receiver; selector = r .selector; phase = 2; top = 0; value = u })) contents′ bodies′ stack′ cache ≡ flatBegin s w selector arguments
+          pub begins-answered : (r₁ r₂ : Registers) → registersOf r₁ ≡ withSizes (registersOf r) n b → registersOf r₂ ≡ withPhase (registersOf r₁) 2 0 u → beginGives (B.Started r₂) contents′ bodies′ stack′ cache ≡ flatBegin s w selector arguments
           unfolding beginGives laid plainOf
-          begins-answered =
-              (λ i. gives P.done (flat (record { n = sym (v .count) i; b = sym (v .size) i; startReceiver = r .receiver; startSelector = r .selector; phase = 2; top = 0; value = u }) (v .entries i) (v .words i) (v .frames i) cache))
+          begins-answered r₁ r₂ d e =
+              let z : registersOf r₂ ≡ withPhase (withSizes (registersOf r) (v .after .n) (v .after .b)) 2 0 u =
+              e ∙ ap (λ (x : R.Registers). withPhase x 2 0 u) (d ∙ ap₂ (withSizes (registersOf r)) (sym (v .count)) (sym (v .size))) in
+              (λ i. gives P.done (flat (z i) (v .entries i) (v .words i) (v .frames i) cache))
               ∙ begun-is (P.begun (withFrames (withObjects (plainOf s) (v .after)) [] finished 0 u)) (v .leads)

@@ -2,6 +2,5 @@ pub mod Loading
 pub mod Calling
 pub mod Answers
 pub mod Beginning
-pub mod Looping
 pub mod RunCalls
 pub mod SavedLoaded

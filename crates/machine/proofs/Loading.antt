@@ -18,13 +18,13 @@ use Rattle.store.specs.Answer.{roomFor, Stored, stored, inFront, storedBy}
 use Rattle.store.specs.Readings.{readingNumber, readingOf}
 use Rattle.plain.specs.Registers as R
 use Rattle.plain.specs.Flat.{Flat, flat, roomOf}
-use Rattle.plain.specs.Calls.{loaded, done, refusedBy}
-use Rattle.plain.specs.FlatCalls.{Given, gives, atFront, withPlain, withRegisters, zeroed, afterLoad, flatLoad}
+use Rattle.plain.specs.Calls.{loaded, done, refusedBy, result, wrote}
+use Rattle.plain.specs.FlatCalls.{Given, gives, noAnswer, atFront, withPlain, withRegisters, zeroed, afterLoad, flatLoad}
 use Rattle.plain.specs.Cache.{emptyCache}
 use Rattle.plain.proofs.LoadLaws.{accepts}
 use Rattle.machine.specs.declared.Registers.{Registers}
 use Rattle.machine.specs.declared.Loaded.the-variants as L
-use Rattle.machine.specs.State.{loadGives}
+use Rattle.machine.specs.State.{registersOf, loadGives}
 use Rattle.machine.proofs.Calling.{emptied}
 
 -- parts of a reading
@@ -86,9 +86,9 @@ module _ (image contents bodies cache contents′ bodies′ : List ℕ) where
             refl (c ∙ emptied cache (a .cache))
             ∙ sym (load-is accepted p))
 
-    load-refused : (k : ℕ) → Refused k ≡ readingOf verdict h → stored k contents′ bodies′ ≡ storedBy verdict image contents bodies
-        → loadGives (L.Refused k) contents′ bodies′ stack cache ≡ flatLoad s image
-    load-refused k e q = go verdict refl e q
+    load-refused : (k : ℕ) (r : Registers) → registersOf r ≡ R.noRegisters → Refused k ≡ readingOf verdict h → stored k contents′ bodies′ ≡ storedBy verdict image contents bodies
+        → loadGives (L.Refused k r) contents′ bodies′ stack cache ≡ flatLoad s image
+    load-refused k r z e q = go verdict refl e q
       where
         by-number : (j : ℕ) (b : Bool) → stored k contents′ bodies′ ≡ (if b then stored j contents bodies else inFront j (h .n) (h .b) (replicate (entryWords * h .n) 0) (replicate (h .b) 0) contents bodies)
             → gives (refusedBy k) (flat R.noRegisters contents′ bodies′ stack cache) ≡ gives (refusedBy j) (if b then withRegisters s R.noRegisters else zeroed s (h .n) (h .b))
@@ -99,9 +99,9 @@ module _ (image contents bodies cache contents′ bodies′ : List ℕ) where
             (ap (λ (z : Stored). z .bodies) q ∙ ap (λ (l : ℕ). replicate (h .b) 0 ++ drop l bodies) (sym (length-replicate {A = ℕ} (h .b) 0))) refl refl
 
         go : (v : Verdict) → verdict ≡ v → Refused k ≡ readingOf v h → stored k contents′ bodies′ ≡ storedBy v image contents bodies
-            → loadGives (L.Refused k) contents′ bodies′ stack cache ≡ flatLoad s image
+            → loadGives (L.Refused k r) contents′ bodies′ stack cache ≡ flatLoad s image
         go accepted p e q = absurd (unfold readingOf in subst is-accepted (sym e) tt)
-        go (refused j) p e q = unfold loadGives storedBy in (by-number j (leb j 3) q ∙ sym (load-is (refused j) p))
+        go (refused j) p e q = unfold loadGives storedBy in ((λ i. gives (refusedBy k) (flat (z i) contents′ bodies′ stack cache)) ∙ by-number j (leb j 3) q ∙ sym (load-is (refused j) p))
 
     -- as the reading gives it
     pub read-accepted : (r : Reading) (n b receiver selector : ℕ) (cache′ : List ℕ) → r ≡ Accepted n b receiver selector → r ≡ readingOf verdict h
@@ -111,7 +111,31 @@ module _ (image contents bodies cache contents′ bodies′ : List ℕ) where
     read-accepted r n b receiver selector cache′ x e q c =
         load-accepted n b receiver selector cache′ (sym x ∙ e) (ap (λ (y : Reading). stored (readingNumber y) contents′ bodies′) (sym x) ∙ q) c
 
-    pub read-refused : (r : Reading) (k : ℕ) → r ≡ Refused k → r ≡ readingOf verdict h → stored (readingNumber r) contents′ bodies′ ≡ storedBy verdict image contents bodies
-        → loadGives (L.Refused k) contents′ bodies′ stack cache ≡ flatLoad s image
+    pub read-refused : (y : Reading) (k : ℕ) (r : Registers) → registersOf r ≡ R.noRegisters → y ≡ Refused k → y ≡ readingOf verdict h → stored (readingNumber y) contents′ bodies′ ≡ storedBy verdict image contents bodies
+        → loadGives (L.Refused k r) contents′ bodies′ stack cache ≡ flatLoad s image
     unfolding readingNumber
-    read-refused r k x e q = load-refused k (sym x ∙ e) (ap (λ (y : Reading). stored (readingNumber y) contents′ bodies′) (sym x) ∙ q)
+    read-refused y k r z x e q = load-refused k r z (sym x ∙ e) (ap (λ (w : Reading). stored (readingNumber w) contents′ bodies′) (sym x) ∙ q)
+
+-- A refused load gives no registers.
+pub none-given : (s : Flat) (image : List ℕ) (k : ℕ) (t : Flat) → gives (refusedBy k) t ≡ flatLoad s image → t .registers ≡ R.noRegisters
+unfolding flatLoad
+none-given s image k t e = go (loadVerdict (roomOf s) image) e
+  where
+    registers : Given → R.Registers
+    registers (gives a x) = x .registers
+    registers noAnswer = R.noRegisters
+
+    is-refused : Given → Type 0
+    is-refused (gives (refusedBy i) x) = Unit {0}
+    is-refused (gives (wrote i) x) = ⊥
+    is-refused (gives (result p i v) x) = ⊥
+    is-refused (gives done x) = ⊥
+    is-refused noAnswer = ⊥
+
+    either : (b : Bool) (n m : ℕ) → (if b then withRegisters s R.noRegisters else zeroed s n m) .registers ≡ R.noRegisters
+    either true n m = unfold if_then_else_ in refl
+    either false n m = unfold if_then_else_ zeroed in refl
+
+    go : (v : Verdict) → gives (refusedBy k) t ≡ afterLoad s image v → t .registers ≡ R.noRegisters
+    go accepted e = absurd (subst is-refused e tt)
+    go (refused j) e = ap registers e ∙ either (leb j 3) (imageHeader image .n) (imageHeader image .b)

@@ -4,21 +4,39 @@ use mathlib.Core.Path.{_≡_, refl, sym, ap, ap₂, _∙_, subst}
 use mathlib.Core.Bool.{Bool, true, false}
 use mathlib.Core.List.{List}
 use borrow.Author.Tests.{eq-eqb, ne-eqb}
+use native.Mathlib.Omega.{arith}
 use lib.Dec.{eqb}
+use lib.ListN.{length}
 use Rattle.model.specs.Image.{Verdict, accepted, refused}
-use Rattle.plain.specs.Registers.{running}
-use Rattle.plain.specs.Flat.{Flat}
+use Rattle.plain.specs.Registers as R
+use Rattle.plain.specs.Registers.{running, withPhase, withSizes}
+use Rattle.plain.specs.Flat.{Flat, flat, plainOf}
+use Rattle.plain.specs.Calls.{result}
 use Rattle.plain.specs.Check.{check}
-use Rattle.plain.specs.FlatCalls.{Given, gives, checked, runIf, flatRun, reachFine}
+use Rattle.plain.specs.FlatCalls.{Given, gives, checked, runIf, flatRun, reachFine, runsFrom, endsFrom}
+use Rattle.plain.proofs.Preserve.{runs, ends}
+use Rattle.plain.proofs.StateLaws.{Stands, goes, rests, waits}
+use Rattle.plain.proofs.FlatLaws.{FlatRight, check-right}
 use Rattle.plain.proofs.TurnLaws.{whole-run}
 use Rattle.plain.proofs.ReachLaws.{reach-fine}
 use Rattle.machine.specs.declared.Registers.{Registers}
 use Rattle.machine.specs.declared.Checked.{Checked}
-use Rattle.machine.specs.declared.Outcome.{Outcome}
-use Rattle.machine.specs.State.{state, checkGives, runGives, ReachIs, RunsTo}
+use Rattle.runs.specs.declared.Ended.{Ended}
+use Rattle.runs.specs.Ends.{startOf, endedWith, Goes, RunsTo, RunsOn}
+use Rattle.machine.specs.State.{registersOf, state, checkGives, runGives, ReachIs}
 use Rattle.machine.proofs.Answers.{was-refused, was-right}
 use Rattle.machine.specs.declared.Checked.the-variants as C
 use Rattle.machine.specs.declared.Ran.the-variants as N
+
+value-none : (s : Flat) → FlatRight s → s .registers .phase ≡ running → s .registers .value ≡ 0
+unfolding plainOf
+value-none s r e = go (r .plain .stands)
+  where
+    go : Stands (length (s .stack)) (plainOf s) → s .registers .value ≡ 0
+    go (goes (runs a v f)) = v
+    go (goes (ends a v t f)) = absurd (omega arith)
+    go (rests a v t f) = absurd (omega arith)
+    go (waits a c v f) = absurd (omega arith)
 
 module _ (r : Registers) (contents bodies stack cache : List ℕ) (n : ℕ) (x : Checked) (e : checkGives x ≡ check (state r contents bodies stack cache)) where
   abbrev s : Flat
@@ -40,8 +58,32 @@ module _ (r : Registers) (contents bodies stack cache : List ℕ) (n : ℕ) (x :
     unfolding runGives
     runs-12 p = (passes false (ne-eqb (r .phase) running p), tt)
 
-    pub runs-done : r .phase ≡ 1 → (contents′ bodies′ stack′ cache′ : List ℕ) (z : Outcome) → RunsTo s n contents′ bodies′ stack′ cache′ z
-        → (runGives (N.Done (z .registers) (z .count) (z .reach)) contents′ bodies′ stack′ cache′ ≡ flatRun s n) × ReachIs s n (N.Done (z .registers) (z .count) (z .reach))
-    unfolding runGives
-    runs-done p contents′ bodies′ stack′ cache′ z t =
-        (t .gave ∙ whole-run n s ∙ passes true (eq-eqb (r .phase) running p), reach-fine s n (z .reach) (sym yes) (t .ends))
+    module _ (p : r .phase ≡ 1) where
+      -- in phase 1 value is 0
+      start-is : s ≡ startOf (r .receiver) (r .selector) (r .n) (r .b) (r .top) contents bodies stack cache
+      start-is =
+          let v = value-none s (check-right s (sym yes)) p in
+          λ i. flat (record { n = r .n; b = r .b; startReceiver = r .receiver; startSelector = r .selector; phase = p i; top = r .top; value = v i }) contents bodies stack cache
+
+      goes-checked : check (startOf (r .receiver) (r .selector) (r .n) (r .b) (r .top) contents bodies stack cache) ≡ accepted
+      goes-checked = sym (ap check start-is) ∙ sym yes
+
+      pub runs-goes : Goes (r .n) (r .b) (r .top) contents bodies stack cache
+      runs-goes = record { receiver = r .receiver; selector = r .selector; checks = goes-checked }
+
+      module _ (contents′ bodies′ stack′ cache′ : List ℕ) (z : Ended) (on : RunsOn (r .n) (r .b) (r .top) contents bodies stack cache n contents′ bodies′ stack′ cache′ z) where
+        ran : RunsTo (startOf (r .receiver) (r .selector) (r .n) (r .b) (r .top) contents bodies stack cache) n (r .receiver) (r .selector) contents′ bodies′ stack′ cache′ z
+        ran = on (r .receiver) (r .selector) goes-checked
+
+        pub runs-small : z .reach ≤ 65536
+        runs-small = ran .small
+
+        pub runs-done : (r₁ r₂ : Registers) → registersOf r₁ ≡ withSizes (registersOf r) (z .n) (z .b) → registersOf r₂ ≡ withPhase (registersOf r₁) (z .phase) (z .top) (z .value)
+            → (runGives (N.Done r₂ (z .count) (z .reach)) contents′ bodies′ stack′ cache′ ≡ flatRun s n) × ReachIs s n (N.Done r₂ (z .count) (z .reach))
+        unfolding runGives
+        runs-done r₁ r₂ d f =
+            let e : registersOf r₂ ≡ endedWith (r .receiver) (r .selector) z = f ∙ ap (λ (x : R.Registers). withPhase x (z .phase) (z .top) (z .value)) d in (
+              (λ i. gives (result (e i .phase) (z .count) (e i .value)) (flat (e i) contents′ bodies′ stack′ cache′))
+                  ∙ ran .gave ∙ ap (runsFrom n 0) (sym start-is) ∙ whole-run n s ∙ passes true (eq-eqb (r .phase) running p),
+              reach-fine s n (z .reach) (sym yes) (ran .ends ∙ ap (endsFrom n 0) (sym start-is)),
+            )

@@ -196,7 +196,7 @@ loads-as : (a : Loaded) (contents bodies stack cache : List ℕ) (t : Flat) → 
     → (r : Registers) × (a ≡ L.Accepted r) × (state r contents bodies stack cache ≡ t)
 unfolding loadGives
 loads-as (L.Accepted r) contents bodies stack cache t e = (r, refl, ap (nextState t) e)
-loads-as (L.Refused k) contents bodies stack cache t e = absurd (subst is-refused e tt)
+loads-as (L.Refused k r) contents bodies stack cache t e = absurd (subst is-refused e tt)
   where
     is-refused : Given → Type 0
     is-refused (gives (refusedBy i) x) = Unit {0}

@@ -1,19 +1,16 @@
 -- The registers as the code holds them, and the answers of the calls as 01's numbers and values.
-use Prim.Native.Nat.{ℕ, max, _≤_}
+use Prim.Native.Nat.{ℕ}
 use mathlib.Core.Path.{_≡_}
 use mathlib.Core.Bool.{true}
-use lib.Dec.{eqb}
-use Rattle.bytecode.specs.Test.{if_then_else_}
 use mathlib.Core.List.{List}
 use Rattle.plain.specs.Flat.{Flat, flat}
 use Rattle.plain.specs.Calls.{Answer, done, refusedBy, result, wrote}
-use Rattle.plain.specs.FlatCalls.{Given, gives, runsFrom, endsFrom, reachFine}
+use Rattle.plain.specs.FlatCalls.{Given, gives, reachFine}
 use Rattle.machine.specs.declared.Registers.{Registers}
 use Rattle.machine.specs.declared.Loaded.{Loaded}
 use Rattle.machine.specs.declared.Checked.{Checked}
 use Rattle.machine.specs.declared.Begun.{Begun}
 use Rattle.machine.specs.declared.Ran.{Ran}
-use Rattle.machine.specs.declared.Outcome.{Outcome}
 use Rattle.machine.specs.declared.Dropped.{Dropped}
 use Rattle.machine.specs.declared.Forgotten.{Forgotten}
 use Rattle.machine.specs.declared.Saved.{Saved}
@@ -36,10 +33,10 @@ registersOf r =
 abbrev pub state : Registers → List ℕ → List ℕ → List ℕ → List ℕ → Flat
 state r contents bodies stack cache = flat (registersOf r) contents bodies stack cache
 
--- Load: accepted, it gives the registers; refused, 01's number and registers all zero.
+-- Load: the registers of the image, or 01's number and registers (all zero).
 unfoldable pub loadGives : Loaded → List ℕ → List ℕ → List ℕ → List ℕ → Given
 loadGives (L.Accepted r) contents bodies stack cache = gives done (state r contents bodies stack cache)
-loadGives (L.Refused k) contents bodies stack cache = gives (refusedBy k) (flat R.noRegisters contents bodies stack cache)
+loadGives (L.Refused k r) contents bodies stack cache = gives (refusedBy k) (state r contents bodies stack cache)
 
 -- Check: yes, 3 or 11
 unfoldable pub checkGives : Checked → Verdict
@@ -59,15 +56,6 @@ runGives (N.Refused k r) contents bodies stack cache = gives (refusedBy k) (stat
 abbrev pub ReachIs : Flat → ℕ → Ran → Type 0
 ReachIs s n (N.Done r count reach) = reachFine s n reach ≡ true
 ReachIs s n (N.Refused k r) = Unit {0}
-
--- How the run loop ends, from a state that was checked and runs
-pub record RunsTo (s : Flat) (grant : ℕ) (contents bodies stack cache : List ℕ) (r : Outcome) : Type 0 where
-  pub gave : gives (result (r .registers .phase) (r .count) (r .registers .value)) (state (r .registers) contents bodies stack cache) ≡ runsFrom grant 0 s
-  pub ends : r .reach ≡ endsFrom grant 0 s
-  pub small : r .reach ≤ 65536
-
-unfoldable pub raisedTo : ℕ → ℕ → ℕ → ℕ → ℕ
-raisedTo before top reach end = if eqb before top then reach else max reach end
 
 -- Drop: the registers come back, changed or as they were.
 unfoldable pub dropGives : Dropped → List ℕ → List ℕ → List ℕ → List ℕ → Given

@@ -1,22 +1,14 @@
 // The calls. Each promise is an equation with the flat calls of plain's specs/FlatCalls.antt, through the definitions of specs/State.antt.
 ghost use mathlib.Core.Path.{_≡_};
 ghost use mathlib.Core.List.{List};
-ghost use Prim.Native.Nat.{ℕ, _+_, _≤_};
-ghost use Rattle.model.specs.Image.{accepted};
-ghost use Rattle.model.specs.Objects.{objectsAt};
-ghost use Rattle.model.specs.Method.{frameSize};
-ghost use Rattle.plain.specs.Flat.{frameMethod};
-ghost use Rattle.plain.specs.Running.{Runs};
+ghost use Prim.Native.Nat.{ℕ};
 ghost use Rattle.plain.specs.Registers as R;
 ghost use Rattle.plain.specs.Flat.{flat};
 ghost use Rattle.plain.specs.Check as K;
 ghost use Rattle.plain.specs.FlatCalls.{flatLoad, flatBegin, flatRun, flatDrop, flatForget, flatSave};
-ghost use Rattle.machine.specs.State.{state, loadGives, checkGives, beginGives, runGives, dropGives, raisedTo, RunsTo, ReachIs, forgetGives, saveGives};
+ghost use Rattle.machine.specs.State.{registersOf, state, loadGives, checkGives, beginGives, runGives, dropGives, ReachIs, forgetGives, saveGives};
 use begins::Beginning;
 use image::Header;
-use interpreter::Advanced;
-use model::Pointer;
-use model::StackPosition;
 use store::Reading;
 
 // `receiver` and `selector` are the start words.
@@ -30,10 +22,10 @@ pub struct Registers {
     pub value: u16,
 }
 
-// The answer of load.
+// The answer of load. Refused, the registers are all zero.
 pub enum Loaded {
     Accepted(Registers),
-    Refused(u32),
+    Refused(u32, Registers),
 }
 
 // An image put in place and the cache emptied, or nothing but zeros where it is refused by 4 to 8.
@@ -58,7 +50,7 @@ pub fn load(image: &[u8], contents: &mut [u16], bodies: &mut [u16], cache: &mut 
                 value: 0,
             })
         }
-        Reading::Refused(k) => Loaded::Refused(k),
+        Reading::Refused(k) => Loaded::Refused(k, Registers::none()),
     }
 }
 
@@ -186,56 +178,52 @@ pub fn save(
     }
 }
 
-// How a run ended: the registers, the bytecodes made, the highest end of a frame that stood in it.
-struct Outcome {
-    registers: Registers,
-    count: u32,
-    reach: usize,
-}
-
-// Where the top frame ends.
-fn frame_end(
-    contents: &[u16],
-    bodies: &[u16],
-    stack: &[u16],
-    n: usize,
-    b: usize,
-    top: StackPosition,
-) -> usize
-    requires { ⌜ Runs n b (top .0) (now contents) (now bodies) (now stack) ⌝ }
-    ensures { λ r. ⌜ (r ≡ top .0 + frameSize (objectsAt n b (now (contents .entry)) (now (bodies .entry))) (frameMethod (now (stack .entry)) (top .0))) × (r ≤ 65536) ⌝ }
-{
-    let base = top.0;
-    let method = Pointer(stack[base + 3]);
-    let words = objects::frame_words(objects::header(contents, bodies, n, b, method));
-    base + (6 + words)
-}
-
-// The highest end once the top frame is another one: where it is the same, no frame ends higher.
-fn raised(
-    contents: &[u16],
-    bodies: &[u16],
-    stack: &[u16],
-    n: usize,
-    b: usize,
-    before: usize,
-    top: usize,
-    reach: usize,
-) -> usize
-    requires { ⌜ Runs n b top (now contents) (now bodies) (now stack) × (reach ≤ 65536) ⌝ }
-    ensures { λ r. ⌜ (r ≡ raisedTo before top reach (top + frameSize (objectsAt n b (now (contents .entry)) (now (bodies .entry))) (frameMethod (now (stack .entry)) top))) × (r ≤ 65536) ⌝ }
-{
-    if before == top {
-        return reach;
-    }
-    let end = frame_end(contents, bodies, stack, n, b, StackPosition(top));
-    if reach < end {
-        return end;
-    }
-    reach
-}
-
 impl Registers {
+    // Of no image.
+    fn none() -> Registers
+        ensures { λ r. ⌜ registersOf r ≡ R.noRegisters ⌝ }
+    {
+        Registers {
+            n: 0,
+            b: 0,
+            receiver: 0,
+            selector: 0,
+            phase: 0,
+            top: 0,
+            value: 0,
+        }
+    }
+
+    // The same but for phase, top and value.
+    fn with_phase(self, phase: u16, top: u16, value: u16) -> Registers
+        ensures { λ r. ⌜ registersOf r ≡ R.withPhase (registersOf self) phase top value ⌝ }
+    {
+        Registers {
+            n: self.n,
+            b: self.b,
+            receiver: self.receiver,
+            selector: self.selector,
+            phase: phase,
+            top: top,
+            value: value,
+        }
+    }
+
+    // The same but for N and B.
+    fn with_sizes(self, n: u16, b: u16) -> Registers
+        ensures { λ r. ⌜ registersOf r ≡ R.withSizes (registersOf self) n b ⌝ }
+    {
+        Registers {
+            n: n,
+            b: b,
+            receiver: self.receiver,
+            selector: self.selector,
+            phase: self.phase,
+            top: self.top,
+            value: self.value,
+        }
+    }
+
     // A send from no frame, all frames removed: 12 in phase 1, then 8, 9, 10, 13.
     pub fn begin(
         self,
@@ -265,115 +253,14 @@ impl Registers {
                     selector,
                     arguments,
                 ) {
-                    Beginning::Answered { word, n, b } => Begun::Started(Registers {
-                        n: n as u16,
-                        b: b as u16,
-                        receiver: self.receiver,
-                        selector: self.selector,
-                        phase: 2,
-                        top: 0,
-                        value: word,
-                    }),
-                    Beginning::Entered => Begun::Started(Registers {
-                        n: self.n,
-                        b: self.b,
-                        receiver: self.receiver,
-                        selector: self.selector,
-                        phase: 1,
-                        top: 0,
-                        value: 0,
-                    }),
+                    Beginning::Answered { word, n, b } => {
+                        let grown = self.with_sizes(n as u16, b as u16);
+                        Begun::Started(grown.with_phase(2, 0, word))
+                    }
+                    Beginning::Entered => Begun::Started(self.with_phase(1, 0, 0)),
                     Beginning::Refused(k) => Begun::Refused(k, self),
                 }
             }
-        }
-    }
-
-    // A run of so many bytecodes, from a state that was checked and runs.
-    fn run_on(
-        self,
-        contents: &mut [u16],
-        bodies: &mut [u16],
-        stack: &mut [u16],
-        cache: &mut [u16],
-        grant: u32,
-    ) -> Outcome
-        requires { ⌜ (K.check (state self (now contents) (now bodies) (now stack) (now cache)) ≡ accepted) × (self .phase ≡ 1) ⌝ }
-        ensures { λ r. ⌜ RunsTo (state self (now (contents .entry)) (now (bodies .entry)) (now (stack .entry)) (now (cache .entry))) grant (now (contents .exit)) (now (bodies .exit)) (now (stack .exit)) (now (cache .exit)) r ⌝ }
-    {
-        let start = StackPosition(self.top as usize);
-        let mut n = self.n as usize;
-        let mut b = self.b as usize;
-        let mut count: u32 = 0;
-        let mut reach = frame_end(contents, bodies, stack, n, b, start);
-        let mut active = steps::enter(contents, bodies, stack, n, b, start);
-        while count < grant {
-            match interpreter::advance(contents, bodies, stack, cache, n, b, active) {
-                Advanced::Next { position, end } => {
-                    active.position = position;
-                    active.end = end;
-                    count += 1;
-                }
-                Advanced::Top {
-                    n: objects,
-                    b: words,
-                    top,
-                } => {
-                    n = objects;
-                    b = words;
-                    reach = raised(contents, bodies, stack, n, b, active.base.0, top.0, reach);
-                    active = steps::enter(contents, bodies, stack, n, b, top);
-                    count += 1;
-                }
-                Advanced::Below(top) => {
-                    active = steps::enter(contents, bodies, stack, n, b, top);
-                    count += 1;
-                }
-                Advanced::Finished(w) => {
-                    return Outcome {
-                        registers: Registers {
-                            n: n as u16,
-                            b: b as u16,
-                            receiver: self.receiver,
-                            selector: self.selector,
-                            phase: 2,
-                            top: 0,
-                            value: w,
-                        },
-                        count: count + 1,
-                        reach: reach,
-                    };
-                }
-                Advanced::Halted(k) => {
-                    return Outcome {
-                        registers: Registers {
-                            n: n as u16,
-                            b: b as u16,
-                            receiver: self.receiver,
-                            selector: self.selector,
-                            phase: k,
-                            top: active.base.0 as u16,
-                            value: 0,
-                        },
-                        count: count,
-                        reach: reach,
-                    };
-                }
-            }
-        }
-        steps::leave(stack, active);
-        Outcome {
-            registers: Registers {
-                n: n as u16,
-                b: b as u16,
-                receiver: self.receiver,
-                selector: self.selector,
-                phase: 1,
-                top: active.base.0 as u16,
-                value: 0,
-            },
-            count: count,
-            reach: reach,
         }
     }
 
@@ -394,14 +281,22 @@ impl Registers {
                 if self.phase != 1 {
                     return Ran::Refused(12, self);
                 }
-                let outcome = self.run_on(contents, bodies, stack, cache, n);
-                let registers = outcome.registers;
-                let count = outcome.count;
-                let reach = outcome.reach as u32;
+                let ended = runs::run(
+                    contents,
+                    bodies,
+                    stack,
+                    cache,
+                    self.n as usize,
+                    self.b as usize,
+                    self.top as usize,
+                    n,
+                );
+                let grown = self.with_sizes(ended.n, ended.b);
+                let registers = grown.with_phase(ended.phase, ended.top, ended.value);
                 Ran::Done {
                     registers: registers,
-                    count: count,
-                    reach: reach,
+                    count: ended.count,
+                    reach: ended.reach as u32,
                 }
             }
         }
@@ -413,15 +308,7 @@ impl Registers {
     {
         match check(self, contents, bodies, stack, cache) {
             Checked::Refused(k) => Dropped::Refused(k, self),
-            Checked::Right => Dropped::Dropped(Registers {
-                n: self.n,
-                b: self.b,
-                receiver: self.receiver,
-                selector: self.selector,
-                phase: 0, // idle
-                top: 0,
-                value: 0,
-            }),
+            Checked::Right => Dropped::Dropped(self.with_phase(0, 0, 0)),
         }
     }
 }

@@ -17,6 +17,7 @@ use Rattle.plain.proofs.Theorem.{from-load}
 use Rattle.machine.specs.declared.Registers.{Registers}
 use Rattle.machine.specs.declared.Loaded.{Loaded}
 use Rattle.machine.specs.State.{state, loadGives}
+use Rattle.machine.proofs.Loading.{none-given}
 use Rattle.replay.specs.declared.Performed.{Performed}
 use Rattle.replay.specs.Encoding.{sizeAt, callAt, callsOf, answerWords, allWords}
 use Rattle.replay.specs.Replays.{registersIn, answerIn, performGives, answersOf, callsMade, Plays, Makes, Declines}
@@ -168,9 +169,13 @@ module _ (g : R.Registers) (image calls answers contents bodies stack cache cont
   s = flat g contents bodies stack cache
 
   module _ (x : Loaded) (e : loadGives x contents₁ bodies₁ stack cache₁ ≡ flatLoad s image) where
-    pub declines : (k : ℕ) → x ≡ L.Refused k → Declines s image answers k (flat R.noRegisters contents₁ bodies₁ stack cache₁) answers
+    pub declines : (k : ℕ) (r : Registers) → x ≡ L.Refused k r → Declines s image answers k (flat R.noRegisters contents₁ bodies₁ stack cache₁) answers
     unfolding loadGives
-    declines k q = record { load = sym e ∙ ap (λ (y : Loaded). loadGives y contents₁ bodies₁ stack cache₁) q; unwritten = refl }
+    declines k r q =
+        let t = state r contents₁ bodies₁ stack cache₁ in
+        let given : flatLoad s image ≡ gives (refusedBy k) t = sym e ∙ ap (λ (y : Loaded). loadGives y contents₁ bodies₁ stack cache₁) q in
+        let z = none-given s image k t (sym given) in
+        record { load = given ∙ (λ i. gives (refusedBy k) (flat (z i) contents₁ bodies₁ stack cache₁)); unwritten = refl }
 
     module _ (r : Registers) (q : x ≡ L.Accepted r) where
       abbrev start : Flat

@@ -282,6 +282,6 @@ pub fn replay(
                 calls: made,
             }
         }
-        Loaded::Refused(k) => Replayed::Refused(k),
+        Loaded::Refused(k, _) => Replayed::Refused(k),
     }
 }

@@ -57,12 +57,12 @@ module _ (image contents bodies cache contents′ bodies′ cache′ : List ℕ)
   unfolding loadGives
   load-done r q p g stack = placed contents′ bodies′ stack cache′ p ∙ ap (λ (y : Loaded). loadGives y contents′ bodies′ stack cache′) (sym q) ∙ e g stack
 
-  pub load-refused : (k : ℕ) (r : Registers) → x ≡ L.Refused k → sevenWords words′ ≡ registersOf r → registersOf r ≡ R.noRegisters
+  pub load-refused : (k : ℕ) (r : Registers) → x ≡ L.Refused k r → sevenWords words′ ≡ registersOf r
       → (g : R.Registers) (stack : List ℕ) → gives (answerOf k) (stateOf words′ contents′ bodies′ stack cache′) ≡ flatLoad (flat g contents bodies stack cache) image
   unfolding loadGives
-  load-refused k r q p z g stack =
+  load-refused k r q p g stack =
       numbered k (stateOf words′ contents′ bodies′ stack cache′) (flatLoad (flat g contents bodies stack cache) image)
-      (placed contents′ bodies′ stack cache′ (p ∙ z) ∙ ap (λ (y : Loaded). loadGives y contents′ bodies′ stack cache′) (sym q) ∙ e g stack)
+      (placed contents′ bodies′ stack cache′ p ∙ ap (λ (y : Loaded). loadGives y contents′ bodies′ stack cache′) (sym q) ∙ e g stack)
       (load-number (flat g contents bodies stack cache) image)
 
 -- ---- the other calls, from registers in seven words

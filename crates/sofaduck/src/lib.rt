@@ -38,20 +38,6 @@ fn taken(registers: &[u16; 7]) -> Registers
     }
 }
 
-fn none() -> Registers
-    ensures { λ r. ⌜ registersOf r ≡ R.noRegisters ⌝ }
-{
-    Registers {
-        n: 0,
-        b: 0,
-        receiver: 0,
-        selector: 0,
-        phase: 0,
-        top: 0,
-        value: 0,
-    }
-}
-
 #[no_mangle]
 pub extern "C" fn sofaduck_load(
     image: &[u8],
@@ -67,8 +53,8 @@ pub extern "C" fn sofaduck_load(
             put(registers, r);
             0
         }
-        Loaded::Refused(k) => {
-            put(registers, none());
+        Loaded::Refused(k, r) => {
+            put(registers, r);
             k
         }
     }

@@ -34,10 +34,10 @@ module _ (image contents bodies stack cache : List ℕ) (lengths : (length conte
   room = λ i. record { contents = lengths .0 i; bodies = lengths .1 i; stack = lengths .2 i; cache = lengths .3 i }
 
   module _ (x : Loaded) (contents₁ bodies₁ cache₁ : List ℕ) (l : (g : R.Registers) (stack : List ℕ) → loadGives x contents₁ bodies₁ stack cache₁ ≡ flatLoad (flat g contents bodies stack cache) image) where
-    pub of-load : (k : ℕ) → x ≡ L.Refused k → refusal k ≡ step80 image
+    pub of-load : (k : ℕ) (r : Registers) → x ≡ L.Refused k r → refusal k ≡ step80 image
     unfolding loadGives
-    of-load k q =
-        load-refused s image room k (flat R.noRegisters contents₁ bodies₁ stack cache₁) (ap (λ (y : Loaded). loadGives y contents₁ bodies₁ stack cache₁) (sym q) ∙ l R.noRegisters stack)
+    of-load k r q =
+        load-refused s image room k (state r contents₁ bodies₁ stack cache₁) (ap (λ (y : Loaded). loadGives y contents₁ bodies₁ stack cache₁) (sym q) ∙ l R.noRegisters stack)
 
     module _ (r : Registers) (q : x ≡ L.Accepted r) where
       abbrev s₁ : Flat

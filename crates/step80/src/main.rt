@@ -52,7 +52,7 @@ fn answer(
     ensures { λ r. ⌜ (r ≡ length (lineBytes (step80 (now (image .entry))))) × (now (out .exit) ≡ lineBytes (step80 (now (image .entry))) ++ drop r (now (out .entry))) ⌝ }
 {
     match machine::load(image, contents, bodies, cache) {
-        Loaded::Refused(k) => lines::write_refusal(out, k),
+        Loaded::Refused(k, _) => lines::write_refusal(out, k),
         Loaded::Accepted(loaded) => {
             let receiver = loaded.receiver;
             let selector = loaded.selector;

@@ -5,6 +5,7 @@ use Rattle.machine.proofs.load.Tie as tie
 use Rattle.machine.proofs.load.Reads as reads
 use Rattle.machine.proofs.load.Lts as lts
 use Rattle.image.proofs.clear.Reads as clear-reads
+use Rattle.machine.proofs.Registers.none.Reads as none-reads
 use Rattle.store.proofs.read.Reads as read-reads
 
 read-requires : tie.Need-read-requires
@@ -19,6 +20,9 @@ clear-requires c κs = search needs
 enum-known-k : tie.Need-enum-known-k
 enum-known-k c = search needs
 
+none-requires : tie.Need-none-requires
+none-requires c κs = search needs
+
 same-length : tie.Need-same-length
 same-length c = search needs
 
@@ -29,7 +33,10 @@ same-length-3 : tie.Need-same-length-3
 same-length-3 c = search needs
 
 returns : tie.Need-returns
-returns c = λ g stack. read-accepted (c .before .before .before .before .before .before .before .before .before .before .before .before .before .before .before .before .before .before .args .image .now) (c .before .before .before .before .before .before .before .before .before .before .before .before .before .before .before .before .before .before .args .contents .now) (c .before .before .before .before .before .before .before .before .before .before .before .before .before .before .before .before .before .before .args .bodies .now) (c .before .before .before .before .before .before .before .before .before .before .before .before .before .before .before .before .before .before .args .cache .now) _ _ g stack _ _ _ _ _ _ (c .before .before .before .before .before .n .given .1) (c .before .before .before .before .before .before .before .before .before .before .before .read .ensures .0) (c .before .before .before .before .before .before .before .before .before .before .before .read .ensures .1) (c .before .before .clear .ensures)
+returns c =
+    let a = c .before .before .before .before .before .before .before .before .before .before .before .before .before .before .before .before .before .before .args in
+    let read = c .before .before .before .before .before .before .before .before .before .before .before .read .ensures in
+    λ g stack. read-accepted (a .image .now) (a .contents .now) (a .bodies .now) (a .cache .now) _ _ g stack _ _ _ _ _ _ (c .before .before .before .before .before .n .given .1) (read .0) (read .1) (c .before .before .clear .ensures)
 
 same-length-4 : tie.Need-same-length-4
 same-length-4 c = search needs
@@ -38,7 +45,10 @@ same-length-5 : tie.Need-same-length-5
 same-length-5 c = search needs
 
 returns-2 : tie.Need-returns-2
-returns-2 c = λ g stack. read-refused (c .before .before .before .before .before .before .before .before .before .before .before .before .before .before .args .image .now) (c .before .before .before .before .before .before .before .before .before .before .before .before .before .before .args .contents .now) (c .before .before .before .before .before .before .before .before .before .before .before .before .before .before .args .bodies .now) (c .before .before .before .before .before .before .before .before .before .before .before .before .before .before .args .cache .now) _ _ g stack _ _ (c .before .k .given .1) (c .before .before .before .before .before .before .before .read .ensures .0) (c .before .before .before .before .before .before .before .read .ensures .1)
+returns-2 c =
+    let a = c .before .before .before .before .before .before .before .before .before .before .before .before .before .before .before .args in
+    let read = c .before .before .before .before .before .before .before .before .read .ensures in
+    λ g stack. read-refused (a .image .now) (a .contents .now) (a .bodies .now) (a .cache .now) _ _ g stack _ _ _ (c .none .ensures) (c .before .before .k .given .1) (read .0) (read .1)
 
 pub load-spec : {M : Type 1} → statement M
 load-spec =
@@ -48,6 +58,7 @@ load-spec =
     enum-known-n
     clear-requires
     enum-known-k
+    none-requires
     same-length
     same-length-2
     same-length-3

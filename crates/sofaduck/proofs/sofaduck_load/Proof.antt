@@ -5,7 +5,6 @@ use Rattle.sofaduck.proofs.sofaduck_load.Tie as tie
 use Rattle.sofaduck.proofs.sofaduck_load.Reads as reads
 use Rattle.sofaduck.proofs.sofaduck_load.Lts as lts
 use Rattle.machine.proofs.load.Reads as load-reads
-use Rattle.sofaduck.proofs.none.Reads as none-reads
 use Rattle.sofaduck.proofs.put.Reads as put-reads
 
 load-requires : tie.Need-load-requires
@@ -20,9 +19,6 @@ put-requires c κs = search needs
 enum-known-k : tie.Need-enum-known-k
 enum-known-k c = search needs
 
-none-requires : tie.Need-none-requires
-none-requires c κs = search needs
-
 put-requires-2 : tie.Need-put-requires-2
 put-requires-2 c κs = search needs
 
@@ -36,7 +32,10 @@ same-length-3 : tie.Need-same-length-3
 same-length-3 c = search needs
 
 returns : tie.Need-returns
-returns c = load-done (c .before .before .before .before .before .before .before .before .before .before .before .before .before .before .before .before .before .before .before .args .image .now) (c .before .before .before .before .before .before .before .before .before .before .before .before .before .before .before .before .before .before .before .args .contents .now) (c .before .before .before .before .before .before .before .before .before .before .before .before .before .before .before .before .before .before .before .args .bodies .now) (c .before .before .before .before .before .before .before .before .before .before .before .before .before .before .before .before .before .before .before .args .cache .now) _ _ _ (c .before .before .before .before .before .before .before .before .before .before .before .load .result) (c .before .before .before .before .before .before .before .before .before .before .before .load .ensures) _ _ (c .before .before .before .r .given .1) (c .put .ensures)
+returns c =
+    let a = c .before .before .before .before .before .before .before .before .before .before .before .before .before .before .before .before .before .before .before .args in
+    let load = c .before .before .before .before .before .before .before .before .before .before .before .load in
+    load-done (a .image .now) (a .contents .now) (a .bodies .now) (a .cache .now) _ _ _ (load .result) (load .ensures) _ _ (c .before .before .before .r .given .1) (c .put .ensures)
 
 same-length-4 : tie.Need-same-length-4
 same-length-4 c = search needs
@@ -48,7 +47,10 @@ same-length-6 : tie.Need-same-length-6
 same-length-6 c = search needs
 
 returns-2 : tie.Need-returns-2
-returns-2 c = load-refused (c .before .before .before .before .before .before .before .before .before .before .before .before .before .before .before .before .before .before .before .before .args .image .now) (c .before .before .before .before .before .before .before .before .before .before .before .before .before .before .before .before .before .before .before .before .args .contents .now) (c .before .before .before .before .before .before .before .before .before .before .before .before .before .before .before .before .before .before .before .before .args .bodies .now) (c .before .before .before .before .before .before .before .before .before .before .before .before .before .before .before .before .before .before .before .before .args .cache .now) _ _ _ (c .before .before .before .before .before .before .before .before .before .before .before .before .load .result) (c .before .before .before .before .before .before .before .before .before .before .before .before .load .ensures) _ _ _ (c .before .before .before .before .k .given .1) (c .put2 .ensures) (c .before .none .ensures)
+returns-2 c =
+    let a = c .before .before .before .before .before .before .before .before .before .before .before .before .before .before .before .before .before .before .before .args in
+    let load = c .before .before .before .before .before .before .before .before .before .before .before .load in
+    load-refused (a .image .now) (a .contents .now) (a .bodies .now) (a .cache .now) _ _ _ (load .result) (load .ensures) _ _ _ (c .before .before .before .k .given .1) (c .put2 .ensures)
 
 pub sofaduck-load-spec : {M : Type 1} → statement M
 sofaduck-load-spec =
@@ -58,7 +60,6 @@ sofaduck-load-spec =
     enum-known-r
     put-requires
     enum-known-k
-    none-requires
     put-requires-2
     same-length
     same-length-2

@@ -4,6 +4,7 @@ use Rattle.machine.proofs.Registers.drop.Statement.{statement}
 use Rattle.machine.proofs.Registers.drop.Tie as tie
 use Rattle.machine.proofs.Registers.drop.Reads as reads
 use Rattle.machine.proofs.Registers.drop.Lts as lts
+use Rattle.machine.proofs.Registers.with_phase.Reads as with-phase-reads
 use Rattle.machine.proofs.check.Reads as check-reads
 
 check-requires : tie.Need-check-requires
@@ -15,11 +16,20 @@ enum-known-k c = search needs
 enum-told : tie.Need-enum-told
 enum-told c = search needs
 
+with-phase-requires : tie.Need-with-phase-requires
+with-phase-requires c κs = search needs
+
 returns : tie.Need-returns
-returns c = drops-not (c .before .before .before .before .before .before .before .before .args .self) (c .before .before .before .before .before .before .before .before .args .contents .now) (c .before .before .before .before .before .before .before .before .args .bodies .now) (c .before .before .before .before .before .before .before .before .args .stack .now) (c .before .before .before .before .before .before .before .before .args .cache .now) (c .before .before .before .check .result) (c .before .before .before .check .ensures) _ (c .before .k .given .1)
+returns c =
+    let a = c .before .before .before .before .before .before .before .before .args in
+    let check = c .before .before .before .check in
+    drops-not (a .self) (a .contents .now) (a .bodies .now) (a .stack .now) (a .cache .now) (check .result) (check .ensures) _ (c .before .k .given .1)
 
 returns-2 : tie.Need-returns-2
-returns-2 c = drops (c .before .before .before .before .before .before .before .args .self) (c .before .before .before .before .before .before .before .args .contents .now) (c .before .before .before .before .before .before .before .args .bodies .now) (c .before .before .before .before .before .before .before .args .stack .now) (c .before .before .before .before .before .before .before .args .cache .now) (c .before .before .check .result) (c .before .before .check .ensures) (c .enum-told .given .1)
+returns-2 c =
+    let a = c .before .before .before .before .before .before .before .before .args in
+    let check = c .before .before .before .check in
+    drops (a .self) (a .contents .now) (a .bodies .now) (a .stack .now) (a .cache .now) (check .result) (check .ensures) _ (c .with-phase .ensures) (c .before .enum-told .given .1)
 
 pub drop-spec : {M : Type 1} → statement M
-drop-spec = tie.close (tie.spec check-requires enum-known-k enum-told returns returns-2)
+drop-spec = tie.close (tie.spec check-requires enum-known-k enum-told with-phase-requires returns returns-2)

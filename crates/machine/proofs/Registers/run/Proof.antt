@@ -1,13 +1,14 @@
-use mathlib.Core.Path.{sym}
-use Rattle.machine.proofs.Answers.{was-right}
-use Rattle.machine.proofs.RunCalls.{runs-not, runs-12, runs-done}
+use Rattle.machine.proofs.RunCalls.{runs-not, runs-12, runs-goes, runs-small, runs-done}
+use native.Mathlib.Omega.{arith}
 use borrow.Author.Needs.{needs}
 use Rattle.machine.proofs.Registers.run.Statement.{statement}
 use Rattle.machine.proofs.Registers.run.Tie as tie
 use Rattle.machine.proofs.Registers.run.Reads as reads
 use Rattle.machine.proofs.Registers.run.Lts as lts
-use Rattle.machine.proofs.Registers.run_on.Reads as run-on-reads
+use Rattle.machine.proofs.Registers.with_phase.Reads as with-phase-reads
+use Rattle.machine.proofs.Registers.with_sizes.Reads as with-sizes-reads
 use Rattle.machine.proofs.check.Reads as check-reads
+use Rattle.runs.proofs.run.Reads as run-reads
 
 check-requires : tie.Need-check-requires
 check-requires c κs = search needs
@@ -31,13 +32,39 @@ same-length-4 : tie.Need-same-length-4
 same-length-4 c = search needs
 
 returns : tie.Need-returns
-returns c = runs-12 (c .before .before .before .before .before .before .before .before .before .before .before .before .before .args .self) (c .before .before .before .before .before .before .before .before .before .before .before .before .before .args .contents .now) (c .before .before .before .before .before .before .before .before .before .before .before .before .before .args .bodies .now) (c .before .before .before .before .before .before .before .before .before .before .before .before .before .args .stack .now) (c .before .before .before .before .before .before .before .before .before .before .before .before .before .args .cache .now) (c .before .before .before .before .before .before .before .before .before .before .before .before .before .args .n) (c .before .before .before .before .check .result) (c .before .before .before .before .check .ensures) (c .before .before .enum-told .given .1) (c .if1 .taken)
+returns c =
+    let a = c .before .before .before .before .before .before .before .before .before .before .before .before .before .args in
+    let check = c .before .before .before .before .check in
+    runs-12 (a .self) (a .contents .now) (a .bodies .now) (a .stack .now) (a .cache .now) (a .n) (check .result) (check .ensures) (c .before .before .enum-told .given .1) (c .if1 .taken)
 
-run-on-requires : tie.Need-run-on-requires
-run-on-requires c κs = (sym (was-right (c .before .before .before .before .before .before .before .before .before .before .before .before .before .before .before .before .before .args .self) (c .before .before .before .before .before .before .before .before .before .before .before .before .before .before .before .before .before .args .contents .now) (c .before .before .before .before .before .before .before .before .before .before .before .before .before .before .before .before .before .args .bodies .now) (c .before .before .before .before .before .before .before .before .before .before .before .before .before .before .before .before .before .args .stack .now) (c .before .before .before .before .before .before .before .before .before .before .before .before .before .before .before .before .before .args .cache .now) (c .before .before .before .before .before .before .before .before .check .result) (c .before .before .before .before .before .before .before .before .check .ensures) (c .before .before .before .before .before .before .enum-told .given .1)), c .before .before .before .before .if1 .left)
+cast-run : tie.Need-cast-run
+cast-run c = search needs
 
-cast-reach : tie.Need-cast-reach
-cast-reach c = search needs
+cast-run-2 : tie.Need-cast-run-2
+cast-run-2 c = search needs
+
+cast-run-3 : tie.Need-cast-run-3
+cast-run-3 c = search needs
+
+run-requires : tie.Need-run-requires
+run-requires c κs =
+    let a = c .before .before .before .before .before .before .before .before .before .before .before .before .before .before .before .before .before .before .before .before .args in
+    let check = c .before .before .before .before .before .before .before .before .before .before .before .check in
+    runs-goes (a .self) (a .contents .now) (a .bodies .now) (a .stack .now) (a .cache .now) (a .n) (check .result) (check .ensures) (c .before .before .before .before .before .before .before .before .before .enum-told .given .1) (c .before .before .before .before .before .before .before .if1 .left)
+
+with-sizes-requires : tie.Need-with-sizes-requires
+with-sizes-requires c κs = search needs
+
+with-phase-requires : tie.Need-with-phase-requires
+with-phase-requires c κs = search needs
+
+cast-t33 : tie.Need-cast-t33
+cast-t33 c =
+    let a = c .before .before .before .before .before .before .before .before .before .before .before .before .before .before .before .before .before .before .before .before .before .before .before .before .before .before .before .before .before .before .before .before .args in
+    let check = c .before .before .before .before .before .before .before .before .before .before .before .before .before .before .before .before .before .before .before .before .before .before .before .check in
+    let run = c .before .before .before .before .before .before .before .before .before .before .before .run in
+    let k = runs-small (a .self) (a .contents .now) (a .bodies .now) (a .stack .now) (a .cache .now) (a .n) (check .result) (check .ensures) (c .before .before .before .before .before .before .before .before .before .before .before .before .before .before .before .before .before .before .before .before .before .enum-told .given .1) (c .before .before .before .before .before .before .before .before .before .before .before .before .before .before .before .before .before .before .before .if1 .left) _ _ _ _ (run .result) (run .ensures) in
+    omega arith
 
 same-length-5 : tie.Need-same-length-5
 same-length-5 c = search needs
@@ -52,7 +79,10 @@ same-length-8 : tie.Need-same-length-8
 same-length-8 c = search needs
 
 returns-2 : tie.Need-returns-2
-returns-2 c = runs-not (c .before .before .before .before .before .before .before .before .before .before .before .before .args .self) (c .before .before .before .before .before .before .before .before .before .before .before .before .args .contents .now) (c .before .before .before .before .before .before .before .before .before .before .before .before .args .bodies .now) (c .before .before .before .before .before .before .before .before .before .before .before .before .args .stack .now) (c .before .before .before .before .before .before .before .before .before .before .before .before .args .cache .now) (c .before .before .before .before .before .before .before .before .before .before .before .before .args .n) (c .before .before .before .check .result) (c .before .before .before .check .ensures) _ (c .before .k .given .1)
+returns-2 c =
+    let a = c .before .before .before .before .before .before .before .before .before .before .before .before .args in
+    let check = c .before .before .before .check in
+    runs-not (a .self) (a .contents .now) (a .bodies .now) (a .stack .now) (a .cache .now) (a .n) (check .result) (check .ensures) _ (c .before .k .given .1)
 
 same-length-9 : tie.Need-same-length-9
 same-length-9 c = search needs
@@ -67,7 +97,11 @@ same-length-12 : tie.Need-same-length-12
 same-length-12 c = search needs
 
 returns-3 : tie.Need-returns-3
-returns-3 c = runs-done (c .before .before .before .before .before .before .before .before .before .before .before .before .before .before .before .before .before .before .before .before .before .before .before .before .before .before .before .before .args .self) (c .before .before .before .before .before .before .before .before .before .before .before .before .before .before .before .before .before .before .before .before .before .before .before .before .before .before .before .before .args .contents .now) (c .before .before .before .before .before .before .before .before .before .before .before .before .before .before .before .before .before .before .before .before .before .before .before .before .before .before .before .before .args .bodies .now) (c .before .before .before .before .before .before .before .before .before .before .before .before .before .before .before .before .before .before .before .before .before .before .before .before .before .before .before .before .args .stack .now) (c .before .before .before .before .before .before .before .before .before .before .before .before .before .before .before .before .before .before .before .before .before .before .before .before .before .before .before .before .args .cache .now) (c .before .before .before .before .before .before .before .before .before .before .before .before .before .before .before .before .before .before .before .before .before .before .before .before .before .before .before .before .args .n) (c .before .before .before .before .before .before .before .before .before .before .before .before .before .before .before .before .before .before .before .check .result) (c .before .before .before .before .before .before .before .before .before .before .before .before .before .before .before .before .before .before .before .check .ensures) (c .before .before .before .before .before .before .before .before .before .before .before .before .before .before .before .before .before .enum-told .given .1) (c .before .before .before .before .before .before .before .before .before .before .before .before .before .before .before .if1 .left) _ _ _ _ (c .before .before .before .before .before .before .before .before .before .before .run-on .result) (c .before .before .before .before .before .before .before .before .before .before .run-on .ensures)
+returns-3 c =
+    let a = c .before .before .before .before .before .before .before .before .before .before .before .before .before .before .before .before .before .before .before .before .before .before .before .before .before .before .before .before .before .before .before .before .args in
+    let check = c .before .before .before .before .before .before .before .before .before .before .before .before .before .before .before .before .before .before .before .before .before .before .before .check in
+    let run = c .before .before .before .before .before .before .before .before .before .before .before .run in
+    runs-done (a .self) (a .contents .now) (a .bodies .now) (a .stack .now) (a .cache .now) (a .n) (check .result) (check .ensures) (c .before .before .before .before .before .before .before .before .before .before .before .before .before .before .before .before .before .before .before .before .before .enum-told .given .1) (c .before .before .before .before .before .before .before .before .before .before .before .before .before .before .before .before .before .before .before .if1 .left) _ _ _ _ (run .result) (run .ensures) _ _ (c .before .before .with-sizes .ensures) (c .before .with-phase .ensures)
 
 pub run-spec : {M : Type 1} → statement M
 run-spec =
@@ -81,8 +115,13 @@ run-spec =
     same-length-3
     same-length-4
     returns
-    run-on-requires
-    cast-reach
+    cast-run
+    cast-run-2
+    cast-run-3
+    run-requires
+    with-sizes-requires
+    with-phase-requires
+    cast-t33
     same-length-5
     same-length-6
     same-length-7

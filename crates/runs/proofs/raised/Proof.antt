@@ -1,12 +1,12 @@
 use native.Mathlib.Omega.{arith}
 use mathlib.Core.Path.{ap, _∙_, sym}
-use Rattle.machine.proofs.Looping.{raised-same, raised-other}
+use Rattle.runs.proofs.Looping.{raised-same, raised-other}
 use borrow.Author.Needs.{needs}
-use Rattle.machine.proofs.raised.Statement.{statement}
-use Rattle.machine.proofs.raised.Tie as tie
-use Rattle.machine.proofs.raised.Reads as reads
-use Rattle.machine.proofs.raised.Lts as lts
-use Rattle.machine.proofs.frame_end.Reads as frame-end-reads
+use Rattle.runs.proofs.raised.Statement.{statement}
+use Rattle.runs.proofs.raised.Tie as tie
+use Rattle.runs.proofs.raised.Reads as reads
+use Rattle.runs.proofs.raised.Lts as lts
+use Rattle.runs.proofs.frame_end.Reads as frame-end-reads
 
 returns : tie.Need-returns
 returns c = (raised-same (c .before .before .before .before .args .before) (c .before .before .before .before .args .top) (c .before .before .before .before .args .reach) _ (c .if1 .taken), (c .before .before .before .before .pre) .1)

@@ -11,15 +11,12 @@ use Rattle.model.specs.Objects.{objectsAt}
 use Rattle.model.specs.Method.{frameSize}
 use Rattle.model.specs.Image.{Room, accepted}
 use Rattle.model.proofs.Facts.{most, most-words}
-use Rattle.plain.specs.Registers.{running}
 use Rattle.plain.specs.Step.{Stepped, step}
 use Rattle.plain.specs.Flat.{Flat, flat, roomOf, plainOf, frameMethod}
 use Rattle.plain.specs.Check.{check}
 use Rattle.plain.specs.FlatCalls.{topEnd}
 use Rattle.plain.specs.Running.{Runs, runningWith, finishedWith, runningAt, roomAt, Made}
 use Rattle.plain.specs.RunLoop.{Turn}
-use Rattle.plain.proofs.Preserve.{runs, ends}
-use Rattle.plain.proofs.StateLaws.{Stands as Shaped, goes, rests, waits}
 use Rattle.plain.proofs.FlatLaws.{FlatRight, check-right}
 use Rattle.plain.proofs.RunningLaws.{top-bounds}
 use Rattle.plain.proofs.MadeLaws.{made-as, running-is, running-runs}
@@ -32,8 +29,7 @@ use Rattle.steps.specs.Events.{written, movedOn, Stands, IsActive, Leaving}
 use Rattle.steps.proofs.ActiveLaws.{length-written, leaving}
 use Rattle.interpreter.specs.declared.Advanced.{Advanced}
 use Rattle.interpreter.specs.Advances.{Stops, AdvancedIs}
-use Rattle.machine.specs.declared.Registers.{Registers}
-use Rattle.machine.specs.State.{state, raisedTo, RunsTo}
+use Rattle.runs.specs.Ends.{startOf, raisedTo, RunsTo}
 use Rattle.interpreter.specs.declared.Advanced.the-variants as A
 
 -- The state of the loop: from s₀ the run came to a running state, and the highest end fits a word and one.
@@ -42,35 +38,17 @@ pub record LoopAt (s₀ : Flat) (grant receiver selector n b top : ℕ) (content
   pub low : reach ≤ 65536
 
 -- ---- the start
-value-none : (s : Flat) → FlatRight s → s .registers .phase ≡ running → s .registers .value ≡ 0
-unfolding plainOf
-value-none s r e = go (r .plain .stands)
-  where
-    go : Shaped (length (s .stack)) (plainOf s) → s .registers .value ≡ 0
-    go (goes (runs a v f)) = v
-    go (goes (ends a v t f)) = absurd (omega arith)
-    go (rests a v t f) = absurd (omega arith)
-    go (waits a c v f) = absurd (omega arith)
-
-module _ (r : Registers) (contents bodies stack cache : List ℕ) (c : check (state r contents bodies stack cache) ≡ accepted) (e : r .phase ≡ 1) where
+module _ (receiver selector n b top : ℕ) (contents bodies stack cache : List ℕ) (c : check (startOf receiver selector n b top contents bodies stack cache) ≡ accepted) where
   abbrev s : Flat
-  s = flat (runningWith (r .receiver) (r .selector) (r .n) (r .b) (r .top)) contents bodies stack cache
+  s = startOf receiver selector n b top contents bodies stack cache
 
-  start-is : state r contents bodies stack cache ≡ s
-  start-is =
-      let v = value-none (state r contents bodies stack cache) (check-right (state r contents bodies stack cache) c) e in
-      λ i. flat (record { n = r .n; b = r .b; startReceiver = r .receiver; startSelector = r .selector; phase = e i; top = r .top; value = v i }) contents bodies stack cache
+  pub start-runs : Runs n b top contents bodies stack
+  start-runs = running-runs receiver selector n b top contents bodies stack cache (check-right s c)
 
-  checked : check s ≡ accepted
-  checked = sym (ap check start-is) ∙ c
-
-  pub start-runs : Runs (r .n) (r .b) (r .top) contents bodies stack
-  start-runs = running-runs (r .receiver) (r .selector) (r .n) (r .b) (r .top) contents bodies stack cache (check-right s checked)
-
-  pub loop-start : (grant reach : ℕ) → reach ≡ r .top + frameSize (objectsAt (r .n) (r .b) contents bodies) (frameMethod stack (r .top)) → reach ≤ 65536
-      → LoopAt (state r contents bodies stack cache) grant (r .receiver) (r .selector) (r .n) (r .b) (r .top) contents bodies stack cache 0 reach
+  pub loop-start : (grant reach : ℕ) → reach ≡ top + frameSize (objectsAt n b contents bodies) (frameMethod stack top) → reach ≤ 65536
+      → LoopAt s grant receiver selector n b top contents bodies stack cache 0 reach
   loop-start grant reach h l =
-      record { turn = subst (λ (x : Flat). Turn x grant s 0 reach) (sym start-is) (turn-start s grant reach checked refl (h ∙ sym (top-end-is (r .receiver) (r .selector) (r .n) (r .b) (r .top) contents bodies stack cache))); low = l }
+      record { turn = turn-start s grant reach c refl (h ∙ sym (top-end-is receiver selector n b top contents bodies stack cache)); low = l }
 
 module _ (s₀ : Flat) (grant receiver selector n b top : ℕ) (contents bodies stack cache : List ℕ) (count reach : ℕ) (l : LoopAt s₀ grant receiver selector n b top contents bodies stack cache count reach) where
   abbrev sₗ : Flat
@@ -98,7 +76,7 @@ module _ (s₀ : Flat) (grant receiver selector n b top : ℕ) (contents bodies 
       (ap (λ (x : Room). x .contents) e, ap (λ (x : Room). x .bodies) e, ap (λ (x : Room). x .stack) e, ap (λ (x : Room). x .cache) e)
 
   -- the grant is used up
-  ends-at : grant ≤ count → RunsTo s₀ grant contents bodies stack cache (record { registers = record { n = n; b = b; receiver = receiver; selector = selector; phase = 1; top = top; value = 0 }; count = count; reach = reach })
+  ends-at : grant ≤ count → RunsTo s₀ grant receiver selector contents bodies stack cache (record { n = n; b = b; phase = 1; top = top; value = 0; count = count; reach = reach })
   ends-at h = record { gave = loop-out s₀ grant sₗ count reach (l .turn) h; ends = loop-out-ends s₀ grant sₗ count reach (l .turn) h; small = l .low }
 
   module _ (more : count < grant) (contents′ bodies′ stack′ cache′ : List ℕ) where
@@ -110,14 +88,14 @@ module _ (s₀ : Flat) (grant receiver selector n b top : ℕ) (contents bodies 
     same-step = ap (step (roomOf sₗ)) (running-is receiver selector n b top contents bodies stack cache)
 
     finished-at : (w : ℕ) → Made x (finishedWith receiver selector n b w) contents bodies stack cache contents′ bodies′ stack′ cache′
-        → RunsTo s₀ grant contents′ bodies′ stack′ cache′ (record { registers = record { n = n; b = b; receiver = receiver; selector = selector; phase = 2; top = 0; value = w }; count = count + 1; reach = reach })
+        → RunsTo s₀ grant receiver selector contents′ bodies′ stack′ cache′ (record { n = n; b = b; phase = 2; top = 0; value = w; count = count + 1; reach = reach })
     finished-at w e =
         let m = made-as same-step e in
         let z : topEnd (plainOf (flat (finishedWith receiver selector n b w) contents′ bodies′ stack′ cache′)) ≡ 0 = unfold plainOf topEnd in refl in
         record { gave = loop-over s₀ grant sₗ count reach (l .turn) more (finishedWith receiver selector n b w) contents′ bodies′ stack′ cache′ m refl; ends = loop-over-ends s₀ grant sₗ count reach (l .turn) more (finishedWith receiver selector n b w) contents′ bodies′ stack′ cache′ m refl z; small = l .low }
 
     halted-at : (k : ℕ) → Stops x k contents bodies stack cache contents′ bodies′ stack′ cache′
-        → RunsTo s₀ grant contents′ bodies′ stack′ cache′ (record { registers = record { n = n; b = b; receiver = receiver; selector = selector; phase = k; top = top; value = 0 }; count = count; reach = reach })
+        → RunsTo s₀ grant receiver selector contents′ bodies′ stack′ cache′ (record { n = n; b = b; phase = k; top = top; value = 0; count = count; reach = reach })
     halted-at k h =
         let u = h .stays in
         record {
@@ -204,9 +182,9 @@ module _ {s₀ : Flat} {grant receiver selector n b : ℕ} {a : Active} {content
 
   -- the grant is used up, and the frame's words are written
   pub loop-ends : (stack′ : List ℕ) → stack′ ≡ written a stack → grant ≤ count
-      → RunsTo s₀ grant contents bodies stack′ cache (record { registers = record { n = n; b = b; receiver = receiver; selector = selector; phase = 1; top = a .base .0; value = 0 }; count = count; reach = reach })
+      → RunsTo s₀ grant receiver selector contents bodies stack′ cache (record { n = n; b = b; phase = 1; top = a .base .0; value = 0; count = count; reach = reach })
   loop-ends stack′ e h =
-      subst (λ (s : List ℕ). RunsTo s₀ grant contents bodies s cache (record { registers = record { n = n; b = b; receiver = receiver; selector = selector; phase = 1; top = a .base .0; value = 0 }; count = count; reach = reach })) (sym e)
+      subst (λ (s : List ℕ). RunsTo s₀ grant receiver selector contents bodies s cache (record { n = n; b = b; phase = 1; top = a .base .0; value = 0; count = count; reach = reach })) (sym e)
       (ends-at s₀ grant receiver selector n b (a .base .0) contents bodies (written a stack) cache count reach (l .at) h)
 
   module _ (more : count < grant) (contents′ bodies′ stack′ cache′ : List ℕ) (y : Advanced) (z : AdvancedIs receiver selector n b a contents bodies stack cache contents′ bodies′ stack′ cache′ y) where
@@ -214,11 +192,11 @@ module _ {s₀ : Flat} {grant receiver selector n b : ℕ} {a : Active} {content
     told y′ e = subst (AdvancedIs receiver selector n b a contents bodies stack cache contents′ bodies′ stack′ cache′) e z
 
     pub loop-finished : (w : ℕ) → y ≡ A.Finished w
-        → RunsTo s₀ grant contents′ bodies′ stack′ cache′ (record { registers = record { n = n; b = b; receiver = receiver; selector = selector; phase = 2; top = 0; value = w }; count = count + 1; reach = reach })
+        → RunsTo s₀ grant receiver selector contents′ bodies′ stack′ cache′ (record { n = n; b = b; phase = 2; top = 0; value = w; count = count + 1; reach = reach })
     loop-finished w e = finished-at s₀ grant receiver selector n b (a .base .0) contents bodies (written a stack) cache count reach (l .at) more contents′ bodies′ stack′ cache′ w (told (A.Finished w) e)
 
     pub loop-halted : (k : ℕ) → y ≡ A.Halted k
-        → RunsTo s₀ grant contents′ bodies′ stack′ cache′ (record { registers = record { n = n; b = b; receiver = receiver; selector = selector; phase = k; top = a .base .0; value = 0 }; count = count; reach = reach })
+        → RunsTo s₀ grant receiver selector contents′ bodies′ stack′ cache′ (record { n = n; b = b; phase = k; top = a .base .0; value = 0; count = count; reach = reach })
     loop-halted k e = halted-at s₀ grant receiver selector n b (a .base .0) contents bodies (written a stack) cache count reach (l .at) more contents′ bodies′ stack′ cache′ k (told (A.Halted k) e)
 
     -- the frame goes on

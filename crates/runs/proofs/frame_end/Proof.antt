@@ -5,10 +5,10 @@ use Rattle.model.specs.Objects.{objectsAt}
 use Rattle.plain.proofs.RunningLaws.{top-bounds, is-method}
 use Rattle.objects.proofs.Methods.{frame-is, small-frame}
 use borrow.Author.Needs.{needs}
-use Rattle.machine.proofs.frame_end.Statement.{statement}
-use Rattle.machine.proofs.frame_end.Tie as tie
-use Rattle.machine.proofs.frame_end.Reads as reads
-use Rattle.machine.proofs.frame_end.Lts as lts
+use Rattle.runs.proofs.frame_end.Statement.{statement}
+use Rattle.runs.proofs.frame_end.Tie as tie
+use Rattle.runs.proofs.frame_end.Reads as reads
+use Rattle.runs.proofs.frame_end.Lts as lts
 use Rattle.objects.proofs.frame_words.Reads as frame-words-reads
 use Rattle.objects.proofs.header.Reads as header-reads
 

@@ -1,0 +1,43 @@
+-- How the run loop ends, from a state in phase 1 given by N, B, top and the lent words.
+use Prim.Native.Nat.{ℕ, max, _≤_}
+use mathlib.Core.Path.{_≡_}
+use mathlib.Core.List.{List}
+use lib.Dec.{eqb}
+use Rattle.bytecode.specs.Test.{if_then_else_}
+use Rattle.model.specs.Image.{accepted}
+use Rattle.plain.specs.Flat.{Flat, flat}
+use Rattle.plain.specs.Check.{check}
+use Rattle.plain.specs.Calls.{result}
+use Rattle.plain.specs.FlatCalls.{gives, runsFrom, endsFrom}
+use Rattle.plain.specs.Running.{runningWith}
+use Rattle.plain.specs.Registers as R
+use Rattle.runs.specs.declared.Ended.{Ended}
+
+abbrev pub startOf : (receiver selector n b top : ℕ) → List ℕ → List ℕ → List ℕ → List ℕ → Flat
+startOf receiver selector n b top contents bodies stack cache = flat (runningWith receiver selector n b top) contents bodies stack cache
+
+abbrev pub endedWith : (receiver selector : ℕ) → Ended → R.Registers
+endedWith receiver selector r =
+    record { n = r .n; b = r .b; startReceiver = receiver; startSelector = selector; phase = r .phase; top = r .top; value = r .value }
+
+-- Check accepts the state, with some start words.
+pub record Goes (n b top : ℕ) (contents bodies stack cache : List ℕ) : Type 0 where
+  pub receiver : ℕ
+  pub selector : ℕ
+  pub checks : check (startOf receiver selector n b top contents bodies stack cache) ≡ accepted
+
+-- The run from s ended so.
+pub record RunsTo (s : Flat) (grant receiver selector : ℕ) (contents bodies stack cache : List ℕ) (r : Ended) : Type 0 where
+  pub gave : gives (result (r .phase) (r .count) (r .value)) (flat (endedWith receiver selector r) contents bodies stack cache) ≡ runsFrom grant 0 s
+  pub ends : r .reach ≡ endsFrom grant 0 s
+  pub small : r .reach ≤ 65536
+
+-- With all start words that check accepts
+abbrev pub RunsOn : (n b top : ℕ) (contents bodies stack cache : List ℕ) (grant : ℕ) (contents′ bodies′ stack′ cache′ : List ℕ) → Ended → Type 0
+RunsOn n b top contents bodies stack cache grant contents′ bodies′ stack′ cache′ r =
+    (receiver selector : ℕ) → check (startOf receiver selector n b top contents bodies stack cache) ≡ accepted
+    → RunsTo (startOf receiver selector n b top contents bodies stack cache) grant receiver selector contents′ bodies′ stack′ cache′ r
+
+-- The highest end once `top` is the top frame: where it is the same, no frame ends higher.
+unfoldable pub raisedTo : ℕ → ℕ → ℕ → ℕ → ℕ
+raisedTo before top reach end = if eqb before top then reach else max reach end
