@@ -1,4 +1,3 @@
 pub mod Standing
 pub mod Headers
 pub mod Walking
-pub mod Entries

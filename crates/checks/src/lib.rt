@@ -1,8 +1,8 @@
 // The frames' and the cache's part of check.
 ghost use mathlib.Core.Path.{_≡_};
-ghost use mathlib.Core.Bool.{true, _&&_};
+ghost use mathlib.Core.Bool.{true};
 ghost use Prim.Native.Nat.{suc};
-ghost use lib.Dec.{T, eqb};
+ghost use lib.Dec.{T};
 ghost use lib.ListN.{length};
 ghost use Rattle.bytecode.specs.Test.{allOf};
 ghost use Rattle.model.specs.Limits.{methodKind, cacheWords};
@@ -11,10 +11,9 @@ ghost use Rattle.model.specs.Depth.{noteAt};
 ghost use Rattle.model.specs.Rules.{Right, methodTable};
 ghost use Rattle.plain.specs.Flat.{frameAt, framesFrom};
 ghost use Rattle.plain.specs.Check.{frameRules, framesFine};
-ghost use Rattle.plain.specs.Cache.{entryFine, cacheFine};
+ghost use Rattle.plain.specs.Cache.{cacheFine};
 ghost use Rattle.checks.specs.Frame.{frameEnd, headerFine, Noted, Stands};
 use model::CodePosition;
-use model::Found;
 use model::Pointer;
 use model::StackPosition;
 
@@ -183,63 +182,10 @@ pub fn frames_fine(
     }
 }
 
-fn is_empty(s: u16, class: u16, m: u16) -> bool
-    ensures { λ r. ⌜ r ≡ (eqb s 0 && (eqb class 0 && eqb m 0)) ⌝ }
-{
-    if s != 0 {
-        return false;
-    }
-    if class != 0 {
-        return false;
-    }
-    m == 0
-}
-
-// An entry of the cache: selector, class, method.
-fn entry_fine(
-    contents: &[u16],
-    bodies: &[u16],
-    n: usize,
-    b: usize,
-    s: u16,
-    class: u16,
-    m: u16,
-) -> bool
-    requires { ⌜ Right 1 (objectsAt n b (now contents) (now bodies)) ⌝ }
-    ensures { λ r. ⌜ r ≡ entryFine (objectsAt n b (now (contents .entry)) (now (bodies .entry))) s class m ⌝ }
-{
-    if is_empty(s, class, m) {
-        return true;
-    }
-    if !objects::is_kind(contents, n, 2, class) {
-        return false;
-    }
-    match objects::lookup(contents, bodies, n, b, s, Pointer(class)) {
-        Found::Method(k) => k.0 == m,
-        Found::Nothing => false,
-    }
-}
-
 // Every entry of the cache is empty or what lookup finds.
 pub fn cache_fine(contents: &[u16], bodies: &[u16], cache: &[u16], n: usize, b: usize) -> bool
     requires { ⌜ Right 1 (objectsAt n b (now contents) (now bodies)) × (length (now cache) ≡ cacheWords) ⌝ }
     ensures { λ r. ⌜ r ≡ cacheFine (objectsAt n b (now (contents .entry)) (now (bodies .entry))) (now (cache .entry)) ⌝ }
 {
-    let mut i = 0;
-    while i < 64 {
-        let at = 3 * i;
-        if !entry_fine(
-            contents,
-            bodies,
-            n,
-            b,
-            cache[at],
-            cache[at + 1],
-            cache[at + 2],
-        ) {
-            return false;
-        }
-        i += 1;
-    }
-    true
+    cache::cache_fine(contents, bodies, cache, n, b)
 }

@@ -24,9 +24,10 @@ use Rattle.steps.specs.declared.Active.{Active}
 use Rattle.steps.specs.Events.{Says, Becomes, IsActive, Leaving, written, movedOn}
 use Rattle.steps.proofs.HereLaws.{noted-small}
 use Rattle.steps.proofs.ActiveLaws.{length-written, depth-read, operands-read, leaving}
+use Rattle.cache.specs.Caches.{Caches}
 use Rattle.sends.specs.declared.Sent.{Sent}
 use Rattle.sends.specs.declared.Sent.the-variants.{Answered, Entered, NotUnderstood, NoRoom}
-use Rattle.sends.specs.Sends.{Caches, OperandsAt, SentIs}
+use Rattle.sends.specs.Sends.{OperandsAt, SentIs}
 use Rattle.interpreter.specs.Advances.{Stops, AdvancedIs, stepOf}
 use Rattle.interpreter.specs.declared.Advanced.the-variants as A
 

@@ -6,7 +6,7 @@ ghost use Rattle.model.specs.Objects.{objectsAt};
 ghost use Rattle.model.specs.Method.{temporaryCount};
 ghost use Rattle.plain.specs.Flat.{frameSender, frameDepth, frameMethod};
 ghost use Rattle.plain.specs.Running.{Runs};
-ghost use Rattle.sends.specs.Sends.{Caches};
+ghost use Rattle.cache.specs.Caches.{Caches};
 ghost use Rattle.steps.specs.Events.{IsActive};
 ghost use Rattle.interpreter.specs.Advances.{AdvancedIs};
 use model::CodePosition;

@@ -18,10 +18,14 @@ use Rattle.plain.specs.Step.{Looked, noLookup, looked}
 unfoldable pub cacheEntryOf : ℕ → ℕ → ℕ
 cacheEntryOf s c = bitAnd s c / 2 % cacheEntries
 
+-- The place of entry i
+abbrev pub cachePlace : ℕ → ℕ
+cachePlace i = cacheEntryWords * i
+
 -- Run writes selector, class and method of a lookup that missed and found. Where the entry already held them this writes what stands there.
 unfoldable pub filled : List ℕ → Looked → List ℕ
 filled cache noLookup = cache
-filled cache (looked s c m) = sets cache (cacheEntryWords * cacheEntryOf s c) (s ∷ c ∷ m ∷ [])
+filled cache (looked s c m) = sets cache (cachePlace (cacheEntryOf s c)) (s ∷ c ∷ m ∷ [])
 
 abbrev pub emptyCache : List ℕ
 emptyCache = replicate cacheWords 0
@@ -35,10 +39,11 @@ abbrev pub emptyOr : Bool → Bool → Bool
 emptyOr true b = true
 emptyOr false b = b
 
-unfoldable pub entryFine : Objects → ℕ → ℕ → ℕ → Bool
-entryFine o s c m = emptyOr (eqb s 0 && (eqb c 0 && eqb m 0)) (finds (lookup o s c) m)
+unfoldable pub cachedRight : Objects → ℕ → ℕ → ℕ → Bool
+cachedRight o s c m = emptyOr (eqb s 0 && (eqb c 0 && eqb m 0)) (finds (lookup o s c) m)
+
+abbrev pub cachedRightAt : Objects → List ℕ → ℕ → Bool
+cachedRightAt o cache i = cachedRight o (getD cache (cachePlace i) 0) (getD cache (cachePlace i + 1) 0) (getD cache (cachePlace i + 2) 0)
 
 unfoldable pub cacheFine : Objects → List ℕ → Bool
-cacheFine o cache =
-    below cacheEntries (λ i.
-    entryFine o (getD cache (cacheEntryWords * i) 0) (getD cache (cacheEntryWords * i + 1) 0) (getD cache (cacheEntryWords * i + 2) 0))
+cacheFine o cache = below cacheEntries (cachedRightAt o cache)

@@ -1,3 +1,2 @@
-pub mod Caching
 pub mod Placing
 pub mod Sending

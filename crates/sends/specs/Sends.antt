@@ -5,9 +5,9 @@ use mathlib.Core.Bool.{Bool, true, false}
 use mathlib.Core.List.{List}
 use lib.Dec.{T}
 use lib.ListN.{length, getD}
-use Rattle.model.specs.Limits.{cacheWords, classKind, methodKind}
+use Rattle.model.specs.Limits.{methodKind}
 use Rattle.model.specs.Word.{isValid}
-use Rattle.model.specs.Objects.{Objects, objectsAt, classOf, isKind, isNilOr, part}
+use Rattle.model.specs.Objects.{Objects, objectsAt, classOf, isKind, part}
 use Rattle.model.specs.Method.{home, temporaryCount, frameSize}
 use Rattle.model.specs.Lookup.{inChain}
 use Rattle.model.specs.Rules.{Right}
@@ -15,25 +15,13 @@ use Rattle.plain.specs.Registers.{notUnderstood, noStackRoom}
 use Rattle.plain.specs.State.{fitsStack}
 use Rattle.plain.specs.Step.{Stepped, halts}
 use Rattle.plain.specs.Flat.{frameDepth, frameMethod, operandsStart}
-use Rattle.plain.specs.Cache.{cacheFine}
-use Rattle.plain.specs.Running.{runningWith, Made, Stays, sentReceiver}
+use Rattle.plain.specs.Running.{runningWith, Made, Stays, sentReceiver, roomAt, sendStep}
+pub use Rattle.cache.specs.Caches.{Caches}
 use Rattle.sends.specs.declared.Message.{Message}
 use Rattle.sends.specs.declared.Base.{Base}
 use Rattle.sends.specs.declared.Base.the-variants.{At, Full, Unfit}
 use Rattle.sends.specs.declared.Sent.{Sent}
 use Rattle.sends.specs.declared.Sent.the-variants.{Answered, Entered, NotUnderstood, NoRoom}
-
--- A cache of the lookups of these objects
-pub record Caches (n b : ℕ) (contents bodies cache : List ℕ) : Type 0 where
-  pub long : length cache ≡ cacheWords
-  pub fine : T (cacheFine (objectsAt n b contents bodies) cache)
-
--- A lookup that can be asked for
-pub record Asks (n b : ℕ) (contents bodies cache : List ℕ) (selector class : ℕ) : Type 0 where
-  pub right : Right 1 (objectsAt n b contents bodies)
-  pub starts : T (isNilOr (objectsAt n b contents bodies) classKind class)
-  pub caches : Caches n b contents bodies cache
-  pub named : 1 ≤ selector
 
 -- The first operand of the top frame, and the place behind its last
 pub record OperandsAt (n b top : ℕ) (contents bodies stack : List ℕ) (operands end : ℕ) : Type 0 where
@@ -113,3 +101,10 @@ SentIs x receiver selector n b top contents bodies stack cache contents′ bodie
     (x ≡ halts notUnderstood) × Stays contents bodies stack cache contents′ bodies′ stack′ cache′
 SentIs x receiver selector n b top contents bodies stack cache contents′ bodies′ stack′ cache′ NoRoom =
     (x ≡ halts noStackRoom) × Stays contents bodies stack cache contents′ bodies′ stack′ cache′
+
+-- What `send` promises, with whatever receiver and selector the run began
+abbrev pub Sends : (n b top : ℕ) (contents bodies stack cache : List ℕ) (selector count class next : ℕ) (contents′ bodies′ stack′ cache′ : List ℕ) → Sent → Type 0
+Sends n b top contents bodies stack cache selector count class next contents′ bodies′ stack′ cache′ r =
+    (receiver startSelector : ℕ)
+    → SentIs (sendStep (roomAt contents bodies stack cache) receiver startSelector n b top contents bodies stack selector count class next)
+    receiver startSelector n b top contents bodies stack cache contents′ bodies′ stack′ cache′ r

@@ -1,18 +1,17 @@
 // A send: the method is sought through the cache, and answers without a frame or runs in a new one. The step is plain's specs/Step.antt.
 ghost use mathlib.Core.Path.{_≡_};
 ghost use mathlib.Core.Bool.{true};
-ghost use Prim.Native.Nat.{ℕ, _+_, _*_, _/_, _≤_, _<_};
+ghost use Prim.Native.Nat.{_+_, _≤_, _<_};
 ghost use lib.ListN.{length, getD, set, take};
 ghost use lib.Seq.{sets};
 ghost use Rattle.model.specs.Objects.{objectsAt, classOf, part};
 ghost use Rattle.model.specs.Method.{home};
-ghost use Rattle.model.specs.Lookup.{lookup, inChain};
-ghost use Rattle.plain.specs.Step.{looked};
-ghost use Rattle.plain.specs.Cache.{cacheEntryOf, filled};
-ghost use Rattle.plain.specs.Running.{Sending, roomAt, sendStep};
+ghost use Rattle.model.specs.Lookup.{inChain};
+ghost use Rattle.plain.specs.Running.{Sending};
+ghost use Rattle.cache.specs.Caches.{Caches};
 ghost use Rattle.frames.specs.Words.{newWords};
 ghost use Rattle.activation.specs.Activating.{Activable, Activates};
-ghost use Rattle.sends.specs.Sends.{Caches, Asks, OperandsAt, Readable, Reads, Guarded, Framing, BaseIs, Enters, SentIs};
+ghost use Rattle.sends.specs.Sends.{OperandsAt, Readable, Reads, Guarded, Framing, BaseIs, Enters, Sends};
 use activation::Activated;
 use model::CodePosition;
 use model::Found;
@@ -43,47 +42,6 @@ pub enum Sent {
     Entered(StackPosition),
     NotUnderstood,
     NoRoom,
-}
-
-// The cache's entry of a selector and the class where its lookup starts.
-fn entry(selector: u16, class: u16) -> usize
-    ensures { λ r. ⌜ (r ≡ cacheEntryOf selector class) × (r < 64) ⌝ }
-{
-    ((selector & class) / 2 % 64) as usize
-}
-
-// A lookup, by the cache where it has it.
-pub fn cached(
-    contents: &[u16],
-    bodies: &[u16],
-    cache: &[u16],
-    n: usize,
-    b: usize,
-    selector: u16,
-    class: Pointer,
-) -> Found
-    requires { ⌜ Asks n b (now contents) (now bodies) (now cache) selector (class .0) ⌝ }
-    ensures { λ r. ⌜ r ≡ lookup (objectsAt n b (now (contents .entry)) (now (bodies .entry))) selector (class .0) ⌝ }
-{
-    let at = 3 * entry(selector, class.0);
-    if cache[at] != selector {
-        return objects::lookup(contents, bodies, n, b, selector, class);
-    }
-    if cache[at + 1] != class.0 {
-        return objects::lookup(contents, bodies, n, b, selector, class);
-    }
-    Found::Method(Pointer(cache[at + 2]))
-}
-
-// A lookup that found is kept. Where it came from the cache, its words are written over themselves.
-pub fn fill(cache: &mut [u16], selector: u16, class: Pointer, method: Pointer)
-    requires { ⌜ length (now cache) ≡ 192 ⌝ }
-    ensures { λ _. ⌜ now (cache .exit) ≡ filled (now (cache .entry)) (looked selector (class .0) (method .0)) ⌝ }
-{
-    let at = 3 * entry(selector, class.0);
-    cache[at] = selector;
-    cache[at + 1] = class.0;
-    cache[at + 2] = method.0;
 }
 
 // Argument i of `count` in the stack, 0 where there is none.
@@ -270,9 +228,9 @@ pub fn send(
     sure: bool,
 ) -> Sent
     requires { ⌜ Sending n b (top .0) (now contents) (now bodies) (now stack) selector count (class .0) (next .0) sure × Caches n b (now contents) (now bodies) (now cache) × (next .0 < 65536) × OperandsAt n b (top .0) (now contents) (now bodies) (now stack) (operands .0) (end .0) ⌝ }
-    ensures { λ r. ⌜ ((receiver startSelector : ℕ) → SentIs (sendStep (roomAt (now (contents .entry)) (now (bodies .entry)) (now (stack .entry)) (now (cache .entry))) receiver startSelector n b (top .0) (now (contents .entry)) (now (bodies .entry)) (now (stack .entry)) selector count (class .0) (next .0)) receiver startSelector n b (top .0) (now (contents .entry)) (now (bodies .entry)) (now (stack .entry)) (now (cache .entry)) (now (contents .exit)) (now (bodies .exit)) (now (stack .exit)) (now (cache .exit)) r) ⌝ }
+    ensures { λ r. ⌜ Sends n b (top .0) (now (contents .entry)) (now (bodies .entry)) (now (stack .entry)) (now (cache .entry)) selector count (class .0) (next .0) (now (contents .exit)) (now (bodies .exit)) (now (stack .exit)) (now (cache .exit)) r ⌝ }
 {
-    let found = cached(contents, bodies, cache, n, b, selector, class);
+    let found = cache::cached(contents, bodies, cache, n, b, selector, class);
     let Found::Method(method) = found else {
         return Sent::NotUnderstood;
     };
@@ -298,7 +256,7 @@ pub fn send(
             b: words,
         } => {
             frames::push(stack, top, StackPosition(place), next, left + 1, word);
-            fill(cache, selector, class, method);
+            cache::fill(cache, selector, class, method);
             Sent::Answered {
                 n: objects,
                 b: words,
@@ -336,7 +294,7 @@ pub fn send(
                         place + 1,
                         count,
                     );
-                    fill(cache, selector, class, method);
+                    cache::fill(cache, selector, class, method);
                     Sent::Entered(StackPosition(base))
                 }
                 Base::Full => Sent::NoRoom,

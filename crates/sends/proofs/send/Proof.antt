@@ -63,7 +63,14 @@ push-requires c κs =
     (at-received .received .ensures) in let p = g .place in let l = g .left in let x = at-start .pre .2 in (omega arith, omega arith, x, omega arith)
 
 fill-requires : tie.Need-fill-requires
-fill-requires c κs = c .before .before .before .before .before .before .before .before .before .before .before .before .before .before .before .before .before .before .before .before .before .before .before .before .before .before .before .before .pre .1 .long
+fill-requires c κs =
+    let at-done = c .before .before .before .before .before .before in
+    let at-acted = at-done .before .before .before .before .before .before in
+    let at-received = at-acted .before .before .before in
+    let at-found = at-received .before .before .before in
+    let at-cached = at-found .before .before in
+    let at-start = at-cached .before .before .before .before .before .before .before .before in
+    at-start .pre .1 .long
 
 enum-told-2 : tie.Need-enum-told-2
 enum-told-2 c = search needs
@@ -107,7 +114,16 @@ enter-requires c κs =
     (c .before .before .fit .given .1) (at-start .pre .2)
 
 fill-requires-2 : tie.Need-fill-requires-2
-fill-requires-2 c κs = c .before .before .before .before .before .before .before .before .before .before .before .before .before .before .before .before .before .before .before .before .before .before .before .before .before .before .before .before .before .before .before .before .before .pre .1 .long
+fill-requires-2 c κs =
+    let at-fit = c .before .before .before .before .before .before in
+    let at-new-base = at-fit .before .before in
+    let at-enum-told3 = at-new-base .before .before .before in
+    let at-acted = at-enum-told3 .before .before .before .before .before .before in
+    let at-received = at-acted .before .before .before in
+    let at-found = at-received .before .before .before in
+    let at-cached = at-found .before .before in
+    let at-start = at-cached .before .before .before .before .before .before .before .before in
+    at-start .pre .1 .long
 
 enum-told-4 : tie.Need-enum-told-4
 enum-told-4 c = search needs

@@ -1,9 +1,9 @@
 use native.Mathlib.Omega.{arith}
 use lib.ListN.{length-set}
-use Rattle.sends.proofs.Caching.{entry-filled}
+use Rattle.cache.proofs.Caching.{entry-filled}
 use borrow.Author.Needs.{needs}
-use Rattle.sends.proofs.fill.Statement.{statement}
-use Rattle.sends.proofs.fill.Tie as tie
+use Rattle.cache.proofs.fill.Statement.{statement}
+use Rattle.cache.proofs.fill.Tie as tie
 
 entry-requires : tie.Need-entry-requires
 entry-requires c κs = search needs

@@ -1,7 +1,7 @@
-use Rattle.sends.proofs.Caching.{entry-found}
+use Rattle.cache.proofs.Caching.{cached-found}
 use borrow.Author.Needs.{needs}
-use Rattle.sends.proofs.cached.Statement.{statement}
-use Rattle.sends.proofs.cached.Tie as tie
+use Rattle.cache.proofs.cached.Statement.{statement}
+use Rattle.cache.proofs.cached.Tie as tie
 
 entry-requires : tie.Need-entry-requires
 entry-requires c κs = search needs
@@ -50,7 +50,7 @@ returns-3 c =
     let at-if1 = c .before .before .before .before in
     let at-entry = at-if1 .before .before in
     let at-start = at-entry .before .before .before .before in
-    entry-found _ _ _ _ _ (at-start .pre .caches .fine) (at-start .pre .named) (at-entry .entry .ensures .1) (at-if1 .if1 .left) (c .before .if2 .left)
+    cached-found _ _ _ _ _ (at-start .pre .caches .fine) (at-start .pre .named) (at-entry .entry .ensures .1) (at-if1 .if1 .left) (c .before .if2 .left)
 
 pub cached-spec : {M : Type 1} → statement M
 cached-spec =

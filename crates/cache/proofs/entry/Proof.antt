@@ -1,11 +1,12 @@
 use native.Mathlib.Omega.{arith}
-use Rattle.sends.proofs.Caching.{entry-is}
+use lib.Bits.{and-le-l}
+use Rattle.cache.proofs.Caching.{entry-is}
 use borrow.Author.Needs.{needs}
-use Rattle.sends.proofs.entry.Statement.{statement}
-use Rattle.sends.proofs.entry.Tie as tie
+use Rattle.cache.proofs.entry.Statement.{statement}
+use Rattle.cache.proofs.entry.Tie as tie
 
 cast-result : tie.Need-cast-result
-cast-result c = search needs
+cast-result c = omega (arith, and-le-l (c .args .selector) (c .args .class))
 
 returns : tie.Need-returns
 returns c = (entry-is _ _, omega arith)

@@ -1,20 +1,22 @@
-use Rattle.checks.proofs.Entries.{entryAt, cache-no, cache-more, cache-all}
 -- Every entry before i passed.
 use Prim.Native.Nat.{_-_, _≤_}
 use native.Mathlib.Omega.{arith}
+use Rattle.model.specs.Limits.{cacheEntries}
 use Rattle.model.specs.Objects.{objectsAt}
+use Rattle.plain.specs.Cache.{cachedRightAt}
 use Rattle.rules.proofs.Loops.{Before, before-none}
-use Rattle.checks.proofs.cache_fine.Statement.{statement}
-use Rattle.checks.proofs.cache_fine.Tie as tie
+use Rattle.cache.proofs.Entries.{cache-no, cache-more, cache-all}
+use Rattle.cache.proofs.cache_fine.Statement.{statement}
+use Rattle.cache.proofs.cache_fine.Tie as tie
 
 abbrev Inv-loop : tie.InvT-loop
-Inv-loop contents bodies cache n b i₀ i = (i ≤ 64) × Before (entryAt (objectsAt n b contents bodies) cache) i
+Inv-loop contents bodies cache n b i₀ i = (i ≤ cacheEntries) × Before (cachedRightAt (objectsAt n b contents bodies) cache) i
 
 abbrev μ-loop : tie.MeasureT-loop
-μ-loop contents bodies cache n b i₀ i = 64 - i
+μ-loop contents bodies cache n b i₀ i = cacheEntries - i
 
 loop-holds : tie.Need-loop-holds Inv-loop μ-loop
-loop-holds c = let a = c .before .before .before .args in (omega arith, before-none (entryAt (objectsAt (a .n) (a .b) (a .contents .now) (a .bodies .now)) (a .cache .now)))
+loop-holds c = let a = c .before .before .before .args in (omega arith, before-none (cachedRightAt (objectsAt (a .n) (a .b) (a .contents .now) (a .bodies .now)) (a .cache .now)))
 
 mul-at : tie.Need-mul-at Inv-loop μ-loop
 mul-at c = omega arith

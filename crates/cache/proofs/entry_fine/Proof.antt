@@ -7,10 +7,10 @@ use Rattle.model.specs.Limits.{classKind}
 use Rattle.model.specs.Objects.{objectsAt, isKind}
 use Rattle.model.proofs.Parts.{or-right}
 use Rattle.objects.proofs.Buffers.{contents-room}
-use Rattle.checks.proofs.Entries.{entry-empty, entry-other, entry-found, entry-nothing}
+use Rattle.cache.proofs.Entries.{entry-empty, entry-other, entry-found, entry-nothing}
 use borrow.Author.Needs.{needs}
-use Rattle.checks.proofs.entry_fine.Statement.{statement}
-use Rattle.checks.proofs.entry_fine.Tie as tie
+use Rattle.cache.proofs.entry_fine.Statement.{statement}
+use Rattle.cache.proofs.entry_fine.Tie as tie
 
 is-empty-requires : tie.Need-is-empty-requires
 is-empty-requires c κs = search needs

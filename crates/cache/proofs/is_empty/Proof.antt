@@ -1,6 +1,6 @@
-use Rattle.checks.proofs.Entries.{empty-selector, empty-class, empty-method}
-use Rattle.checks.proofs.is_empty.Statement.{statement}
-use Rattle.checks.proofs.is_empty.Tie as tie
+use Rattle.cache.proofs.Entries.{empty-selector, empty-class, empty-method}
+use Rattle.cache.proofs.is_empty.Statement.{statement}
+use Rattle.cache.proofs.is_empty.Tie as tie
 
 returns : tie.Need-returns
 returns c = empty-selector (c .before .args .s) (c .before .args .class) (c .before .args .m) (c .if1 .taken)

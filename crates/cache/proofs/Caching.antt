@@ -1,0 +1,56 @@
+-- An entry of the cache that has a selector and a class, and one that is written.
+use Prim.Native.Nat.{ℕ, suc, _+_, _/_, _%_, _≤_, _<_}
+use mathlib.Core.Path.{_≡_, refl, sym, ap, ap₂, _∙_, subst}
+use mathlib.Core.Bool.{Bool, _&&_}
+use mathlib.Core.List.{List}
+use native.Mathlib.Omega.{arith}
+use borrow.Author.Tests.{ne-eqb}
+use lib.Dec.{T, eqb, eqb→eq}
+use lib.ListN.{getD, set}
+use lib.Bits.{bitAnd}
+use Rattle.bytecode.proofs.TestLaws.{below-at}
+use Rattle.model.specs.declared.Found.{Found}
+use Rattle.model.specs.declared.Found.the-variants.{Method, Nothing}
+use Rattle.model.specs.Limits.{cacheEntries}
+use Rattle.model.specs.Objects.{Objects}
+use Rattle.model.specs.Lookup.{found, lookup}
+use Rattle.plain.specs.Step.{looked}
+use Rattle.plain.specs.Cache.{cacheEntryOf, cachePlace, filled, finds, emptyOr, cachedRight, cachedRightAt, cacheFine}
+
+pub entry-is : (s c : ℕ) → bitAnd s c / 2 % cacheEntries ≡ cacheEntryOf s c
+unfolding cacheEntryOf
+entry-is s c = refl
+
+module _ (o : Objects) where
+  found-is : (x : Found) (m : ℕ) → T (finds x m) → found m ≡ x
+  found-is (Method k) m t = ap found (sym (eqb→eq (k .0) m t))
+  found-is Nothing m t = absurd t
+
+  -- no selector is 0, so the entry is not an empty one
+  fine-found : (s c m : ℕ) → 1 ≤ s → T (cachedRight o s c m) → found m ≡ lookup o s c
+  unfolding cachedRight
+  fine-found s c m h t =
+      found-is (lookup o s c) m (subst (λ (b : Bool). T (emptyOr (b && (eqb c 0 && eqb m 0)) (finds (lookup o s c) m))) (ne-eqb s 0 (λ q. omega arith)) t)
+
+  pub cached-found : (cache : List ℕ) (s c e : ℕ) → T (cacheFine o cache) → 1 ≤ s → e < cacheEntries → getD cache (cachePlace e) 0 ≡ s → getD cache (cachePlace e + 1) 0 ≡ c
+      → found (getD cache (cachePlace e + 2) 0) ≡ lookup o s c
+  unfolding cacheFine
+  cached-found cache s c e t h l p q =
+      fine-found s c (getD cache (cachePlace e + 2) 0) h
+      (subst (λ (y : ℕ). T (cachedRight o s y (getD cache (cachePlace e + 2) 0))) q
+      (subst (λ (x : ℕ). T (cachedRight o x (getD cache (cachePlace e + 1) 0) (getD cache (cachePlace e + 2) 0))) p
+      (below-at cacheEntries (cachedRightAt o cache) t e l)))
+
+-- three words of an entry
+pub entry-filled : (cache : List ℕ) (s c m e : ℕ) → e ≡ cacheEntryOf s c
+    → set (set (set cache (cachePlace e) s) (cachePlace e + 1) c) (cachePlace e + 2) m ≡ filled cache (looked s c m)
+unfolding filled
+entry-filled cache s c m e p =
+    ap₂ (λ (i j : ℕ). set (set (set cache (cachePlace e) s) i c) j m) (one (cachePlace e)) (two (cachePlace e))
+    ∙ ap (λ (k : ℕ). set (set (set cache (cachePlace k) s) (suc (cachePlace k)) c) (suc (suc (cachePlace k))) m) p
+  where
+    one : (k : ℕ) → k + 1 ≡ suc k
+    one k = omega arith
+
+    two : (k : ℕ) → k + 2 ≡ suc (suc k)
+    two k = omega arith

@@ -1,0 +1,121 @@
+// The cache of lookups: an entry's place, a lookup through it, how it is filled, what is right of it. No other code knows the words of an entry.
+ghost use mathlib.Core.Path.{_≡_};
+ghost use mathlib.Core.Bool.{_&&_};
+ghost use Prim.Native.Nat.{_<_};
+ghost use lib.Dec.{eqb};
+ghost use lib.ListN.{length};
+ghost use Rattle.model.specs.Limits.{cacheEntries, cacheWords};
+ghost use Rattle.model.specs.Objects.{objectsAt};
+ghost use Rattle.model.specs.Lookup.{lookup};
+ghost use Rattle.model.specs.Rules.{Right};
+ghost use Rattle.plain.specs.Step.{looked};
+ghost use Rattle.plain.specs.Cache.{cacheEntryOf, filled, cachedRight, cacheFine};
+ghost use Rattle.cache.specs.Caches.{Asks};
+use model::Found;
+use model::Pointer;
+
+const CACHE_ENTRIES: usize = 64;
+// selector, class, method
+const CACHE_ENTRY_WORDS: usize = 3;
+
+// The cache's entry of a selector and the class where its lookup starts.
+fn entry(selector: u16, class: u16) -> usize
+    ensures { λ r. ⌜ (r ≡ cacheEntryOf selector class) × (r < cacheEntries) ⌝ }
+{
+    ((selector & class) / 2) as usize % CACHE_ENTRIES
+}
+
+// A lookup, by the cache where it has it.
+pub fn cached(
+    contents: &[u16],
+    bodies: &[u16],
+    cache: &[u16],
+    n: usize,
+    b: usize,
+    selector: u16,
+    class: Pointer,
+) -> Found
+    requires { ⌜ Asks n b (now contents) (now bodies) (now cache) selector (class .0) ⌝ }
+    ensures { λ r. ⌜ r ≡ lookup (objectsAt n b (now (contents .entry)) (now (bodies .entry))) selector (class .0) ⌝ }
+{
+    let at = CACHE_ENTRY_WORDS * entry(selector, class.0);
+    if cache[at] != selector {
+        return objects::lookup(contents, bodies, n, b, selector, class);
+    }
+    if cache[at + 1] != class.0 {
+        return objects::lookup(contents, bodies, n, b, selector, class);
+    }
+    Found::Method(Pointer(cache[at + 2]))
+}
+
+// A lookup that found is kept. Where it came from the cache, its words are written over themselves.
+pub fn fill(cache: &mut [u16], selector: u16, class: Pointer, method: Pointer)
+    requires { ⌜ length (now cache) ≡ cacheWords ⌝ }
+    ensures { λ _. ⌜ now (cache .exit) ≡ filled (now (cache .entry)) (looked selector (class .0) (method .0)) ⌝ }
+{
+    let at = CACHE_ENTRY_WORDS * entry(selector, class.0);
+    cache[at] = selector;
+    cache[at + 1] = class.0;
+    cache[at + 2] = method.0;
+}
+
+fn is_empty(s: u16, class: u16, m: u16) -> bool
+    ensures { λ r. ⌜ r ≡ (eqb s 0 && (eqb class 0 && eqb m 0)) ⌝ }
+{
+    if s != 0 {
+        return false;
+    }
+    if class != 0 {
+        return false;
+    }
+    m == 0
+}
+
+// An entry of the cache: selector, class, method.
+fn entry_fine(
+    contents: &[u16],
+    bodies: &[u16],
+    n: usize,
+    b: usize,
+    s: u16,
+    class: u16,
+    m: u16,
+) -> bool
+    requires { ⌜ Right 1 (objectsAt n b (now contents) (now bodies)) ⌝ }
+    ensures { λ r. ⌜ r ≡ cachedRight (objectsAt n b (now (contents .entry)) (now (bodies .entry))) s class m ⌝ }
+{
+    if is_empty(s, class, m) {
+        return true;
+    }
+    if !objects::is_kind(contents, n, 2, class) {
+        return false;
+    }
+    match objects::lookup(contents, bodies, n, b, s, Pointer(class)) {
+        Found::Method(k) => k.0 == m,
+        Found::Nothing => false,
+    }
+}
+
+// Every entry of the cache is empty or what lookup finds.
+pub fn cache_fine(contents: &[u16], bodies: &[u16], cache: &[u16], n: usize, b: usize) -> bool
+    requires { ⌜ Right 1 (objectsAt n b (now contents) (now bodies)) × (length (now cache) ≡ cacheWords) ⌝ }
+    ensures { λ r. ⌜ r ≡ cacheFine (objectsAt n b (now (contents .entry)) (now (bodies .entry))) (now (cache .entry)) ⌝ }
+{
+    let mut i = 0;
+    while i < CACHE_ENTRIES {
+        let at = CACHE_ENTRY_WORDS * i;
+        if !entry_fine(
+            contents,
+            bodies,
+            n,
+            b,
+            cache[at],
+            cache[at + 1],
+            cache[at + 2],
+        ) {
+            return false;
+        }
+        i += 1;
+    }
+    true
+}
