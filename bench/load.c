@@ -1,22 +1,18 @@
-// Times reading and checking images, ours and C's by turns; the least of all runs counts. Both have to answer and leave the same.
+// Times load, and check of a state with no handler, ours and C's by turns; the least of all runs counts. Both have to answer and leave the same.
 #include "image.h"
 #include "images.h"
+#include "machine.h"
 #include "measure.h"
-#include "walk.h"
 #include <stdio.h>
 #include <string.h>
 
-enum { CONTENTS = 4 * 2047, BODIES = 24000, NOTES = 48000, EDITS = 100000 };
+enum { CONTENTS = 4 * 2047, BODIES = 24000, CACHE = 192, MOST_CACHE = 400, EDITS = 100000 };
 
 void bench_table(uint16_t *table);
-uint32_t bench_read(slice image, slice contents, slice bodies, size_t cache);
-void bench_place(slice image, size_t n, size_t b, slice contents, slice bodies);
-uint32_t bench_judge(slice contents, slice bodies, size_t n, size_t b, uint16_t receiver, uint16_t selector, slice notes);
 
 static uint16_t entries[256];
 static uint8_t image[MOST_IMAGE], edited[10 + 8 * 65536 + 2 * 65536];
-static uint16_t contents[2][CONTENTS], bodies[2][BODIES];
-static uint8_t notes[2][NOTES];
+static uint16_t contents[2][CONTENTS], bodies[2][BODIES], cache[MOST_CACHE];
 static uint64_t seed = 7;
 
 static unsigned below(unsigned n) { return random_below(&seed, n); }
@@ -37,54 +33,59 @@ static void fill(void) {
     memset(bodies, 0x5a, sizeof bodies);
 }
 
-// The times of one image: putting words in place, the check, all of it.
+// One side's buffers, with these lengths.
+static machine on(int side, size_t room, size_t space, size_t cached) {
+    return (machine){{contents[side], room}, {bodies[side], space}, {NULL, 0}, {cache, cached}, {0}};
+}
+
+// The objects of an image as a state that nothing has judged yet.
+static machine unjudged(int side) {
+    machine m = on(side, CONTENTS, BODIES, CACHE);
+    m.registers[N] = word(image, 1), m.registers[B] = word(image, 2);
+    m.registers[START_RECEIVER] = word(image, 3), m.registers[START_SELECTOR] = word(image, 4);
+    c_place(image, m.registers[N], m.registers[B], contents[side], bodies[side]);
+    return m;
+}
+
+// The times of one image: check, load.
 typedef struct {
-    double ours[3], c[3];
+    double ours[2], c[2];
 } times;
 
 static void least(double *of, double t) {
     if (t < *of) *of = t;
 }
 
-// `number` is what both have to answer.
+// `number` is what both loads have to answer; check has one number for all of these.
 static bool measure(const char *name, size_t length, uint32_t number, int runs, times *t) {
-    const size_t n = word(image, 1), b = word(image, 2);
-    const uint16_t receiver = word(image, 3), selector = word(image, 4);
-    const slice i = {image, length}, c = {contents[0], CONTENTS}, w = {bodies[0], BODIES}, o = {notes[0], NOTES};
-    for (int k = 0; k < 3; k++) t->ours[k] = t->c[k] = 1e18;
+    for (int k = 0; k < 2; k++) t->ours[k] = t->c[k] = 1e18;
     for (int run = 0; run < runs; run++) {
         double t0, t1, t2;
         uint32_t r, s;
         fill();
+        memset(cache, 0, sizeof cache);
+        const machine first = unjudged(0), second = unjudged(1);
         t0 = now();
-        bench_place(i, n, b, c, w);
+        r = our_check(&first);
         t1 = now();
-        c_place(image, n, b, contents[1], bodies[1]);
+        s = c_check(entries, &second);
         t2 = now();
         least(t->ours, t1 - t0), least(t->c, t2 - t1);
-        if (!alike()) return printf("%s: the words put in place differ\n", name), false;
-        memset(notes, 0, sizeof notes);
+        if (r != (number == 0 ? 0 : 11) || r != s || !alike()) return printf("%s: the checks answer %u and %u\n", name, r, s), false;
+        fill();
+        machine m = on(0, CONTENTS, BODIES, CACHE);
         t0 = now();
-        r = bench_judge(c, w, n, b, receiver, selector, o);
+        r = our_load(&m, image, length);
         t1 = now();
-        s = c_judge(entries, contents[1], bodies[1], n, b, receiver, selector, notes[1]);
+        s = c_read(entries, image, length, contents[1], CONTENTS, bodies[1], BODIES, CACHE);
         t2 = now();
         least(t->ours + 1, t1 - t0), least(t->c + 1, t2 - t1);
-        if (r != number || s != number || !alike()) return printf("%s: the checks answer %u and %u\n", name, r, s), false;
-        if (r == 0 && memcmp(notes[0], notes[1], NOTES) != 0) return printf("%s: the depth notes differ\n", name), false;
-        fill();
-        t0 = now();
-        r = bench_read(i, c, w, 192);
-        t1 = now();
-        s = c_read(entries, image, length, contents[1], CONTENTS, bodies[1], BODIES, 192);
-        t2 = now();
-        least(t->ours + 2, t1 - t0), least(t->c + 2, t2 - t1);
-        if (r != number || s != number || !alike()) return printf("%s: the readings answer %u and %u\n", name, r, s), false;
+        if (r != number || s != number || !alike()) return printf("%s: the loads answer %u and %u\n", name, r, s), false;
     }
     return true;
 }
 
-static const char *const parts[3] = {"place", "check", "read"};
+static const char *const parts[2] = {"check", "load"};
 
 static size_t usual(uint8_t *to, size_t b) { return ordinary(to, b, b); }
 
@@ -103,7 +104,7 @@ static bool report(const sample *samples, size_t count) {
         const sample *s = samples + i;
         times *new = t + i % 2, *old = t + (i + 1) % 2;
         if (!measure(s->name, s->make(image, s->size), s->number, s->runs, new)) return false;
-        for (int k = 0; k < 3; k++) {
+        for (int k = 0; k < 2; k++) {
             printf("load %-7s %5zu %-5s   ours %8.2f us   C %8.2f us   speed relative to C: %.2f", s->name, s->size, parts[k],
                    new->ours[k] / 1e3, new->c[k] / 1e3, new->c[k] / new->ours[k]);
             if (i > 0 && s[-1].make == s->make && 2 * s[-1].size == s->size)
@@ -197,16 +198,16 @@ static bool heads(void) {
         const size_t length = lengths[x / 3 % 5];
         x /= 15;
         const size_t room = x % 3 == 0 ? CONTENTS : 4 * n < CONTENTS ? 4 * n + 1 - x % 3 : 0;
-        const size_t space = x / 3 % 3 == 0 ? BODIES : b < BODIES ? b + 1 - x / 3 % 3 : 0, cache = 191 + x / 9;
-        const slice c = {contents[0], room}, w = {bodies[0], space};
+        const size_t space = x / 3 % 3 == 0 ? BODIES : b < BODIES ? b + 1 - x / 3 % 3 : 0, cached = 191 + x / 9;
         if (room > CONTENTS || space > BODIES) continue;
         fill();
-        const uint32_t r = bench_read((slice){edited, length}, c, w, cache);
-        const uint32_t s = c_read(entries, edited, length, contents[1], room, bodies[1], space, cache);
-        if (r != s || !alike()) return printf("header %u %u: the readings answer %u and %u\n", n, b, r, s), false;
+        machine m = on(0, room, space, cached);
+        const uint32_t r = our_load(&m, edited, length);
+        const uint32_t s = c_read(entries, edited, length, contents[1], room, bodies[1], space, cached);
+        if (r != s || !alike()) return printf("header %u %u: the loads answer %u and %u\n", n, b, r, s), false;
         count++;
     }
-    printf("%zu headers read alike\n", count);
+    printf("%zu headers loaded alike\n", count);
     return true;
 }
 
@@ -223,17 +224,18 @@ static bool spoil(void) {
         else if (how > 1) for (unsigned k = 1 + below(2); k > 0; k--) edit_word(words);
         const size_t given = below(200) == 0 ? below(below(2) == 0 ? 12 : now) : now;
         const size_t room = below(200) == 0 ? below(4 * n + 1) : CONTENTS, space = below(200) == 0 ? below(1000) : BODIES;
-        const size_t cache = below(400) == 0 ? below(400) : 192;
+        const size_t cached = below(400) == 0 ? below(MOST_CACHE) : CACHE;
         fill();
-        const uint32_t r = bench_read((slice){edited, given}, (slice){contents[0], room}, (slice){bodies[0], space}, cache);
-        const uint32_t s = c_read(entries, edited, given, contents[1], room, bodies[1], space, cache);
+        machine m = on(0, room, space, cached);
+        const uint32_t r = our_load(&m, edited, given);
+        const uint32_t s = c_read(entries, edited, given, contents[1], room, bodies[1], space, cached);
         if (r != s || r > 8 || !alike()) {
-            printf("edit %d: the readings answer %u and %u%s\n", edit, r, s, r == s ? " and leave different words" : "");
+            printf("edit %d: the loads answer %u and %u%s\n", edit, r, s, r == s ? " and leave different words" : "");
             return false;
         }
         seen[r]++;
     }
-    printf("%d edited images read alike: %zu accepted", EDITS, seen[0]);
+    printf("%d edited images loaded alike: %zu accepted", EDITS, seen[0]);
     for (int k = 1; k < 9; k++) printf(", %zu refused by %d", seen[k], k);
     printf("\n");
     return true;

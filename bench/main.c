@@ -7,7 +7,7 @@
 
 enum { SIZE = 48000, RUNS = 400 };
 
-bool bench_walk(slice words, uint8_t fields, uint8_t temporaries, uint8_t literals, size_t limit, slice notes, slice pending);
+bool bench_walk(slice words, uint8_t fields, uint8_t temporaries, uint8_t literals, size_t limit, slice notes);
 void bench_table(uint16_t *table);
 
 static uint16_t entries[256], words[SIZE / 2], pending[SIZE];
@@ -16,12 +16,12 @@ static uint8_t ours[SIZE], theirs[SIZE];
 static double now(void) { return nanoseconds(CLOCK_MONOTONIC); }
 
 static int measure(const char *name) {
-    const slice w = {words, SIZE / 2}, n = {ours, SIZE}, p = {pending, SIZE};
+    const slice w = {words, SIZE / 2}, n = {ours, SIZE};
     double a = 1e18, b = 1e18;
     bool r = false, s = false;
     for (int i = 0; i < RUNS; i++) {
         const double t0 = now();
-        r = bench_walk(w, 8, 8, 8, 32, n, p);
+        r = bench_walk(w, 8, 8, 8, 32, n);
         const double t1 = now();
         s = c_walk(entries, words, 8, 8, 8, 32, theirs, SIZE, pending);
         const double t2 = now();

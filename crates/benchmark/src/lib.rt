@@ -1,19 +1,18 @@
-// The proved functions that bench/ times, as C calls them.
+// What bench/ takes from the proved side beside the calls: the table, and the depth walk, which no call makes alone.
 ghost use mathlib.Core.Path.{_≡_};
-ghost use mathlib.Core.List.{_++_};
-ghost use Prim.Native.Nat.{_*_, _≤_};
-ghost use lib.Dec.{T};
-ghost use lib.ListN.{length, drop};
+ghost use mathlib.Core.Bool.{_&&_};
+ghost use lib.ListN.{length};
+ghost use Rattle.bytecode.specs.Test.{if_then_else_};
 ghost use Rattle.bytecode.specs.Table.{IsTable};
-ghost use Rattle.model.specs.Limits.{entryWords};
-ghost use Rattle.model.specs.Depth.{depthTable};
-ghost use Rattle.model.specs.Objects.{objectsAt};
-ghost use Rattle.model.specs.Image.{imageHeader, imageObjects, lengthFine, loadVerdict};
+ghost use Rattle.model.specs.Depth.{depthTable, isSome};
 ghost use Rattle.flow.specs.Index.{indexed};
-ghost use Rattle.flow.specs.Walk.{Walked};
-ghost use Rattle.rules.specs.Lent.{Lent};
-ghost use Rattle.store.specs.Answer.{roomFor, stored, storedBy};
-ghost use Rattle.store.specs.Judged.{Judged};
+ghost use Rattle.flow.specs.Walk.{notesOf};
+ghost use Rattle.benchmark.specs.Fits.{fits};
+
+// Bytes of the longest code, and words of the largest frame.
+const MOST_CODE: usize = 48000;
+
+const MOST_DEPTH: usize = 32;
 
 // The entries, for the other side to walk by.
 #[no_mangle]
@@ -23,7 +22,8 @@ pub extern "C" fn bench_table(table: &mut [u16; 256])
     *table = bytecode::table();
 }
 
-// The depth walk.
+// The depth walk over code of as many bytes as there are notes. False, and nothing written, where the words do not hold so many or a limit
+// is passed.
 #[no_mangle]
 pub extern "C" fn bench_walk(
     words: &[u16],
@@ -32,12 +32,22 @@ pub extern "C" fn bench_walk(
     literals: u8,
     limit: usize,
     notes: &mut [u8],
-    pending: &mut [u16],
 ) -> bool
-    requires { ⌜ (length (now notes) ≤ 2 * length (now words)) × (length (now notes) ≤ length (now pending)) × (length (now notes) ≤ 48000) × (limit ≤ 32) ⌝ }
-    ensures { λ r. ⌜ Walked (depthTable (now (words .entry)) (length (now (notes .entry))) temporaries limit (indexed fields temporaries literals)) (length (now (notes .entry))) (now (notes .exit)) r ⌝ }
+    ensures { λ r. ⌜ r ≡ fits (length (now (notes .entry))) (length (now (words .entry))) limit && isSome (depthTable (now (words .entry)) (length (now (notes .entry))) temporaries limit (indexed fields temporaries literals)) ⌝ }
+    ensures { λ _. ⌜ now (notes .exit) ≡ (if fits (length (now (notes .entry))) (length (now (words .entry))) limit then notesOf (length (now (notes .entry))) (depthTable (now (words .entry)) (length (now (notes .entry))) temporaries limit (indexed fields temporaries literals)) else now (notes .entry)) ⌝ }
 {
+    let size = notes.len();
+    if MOST_CODE < size {
+        return false;
+    }
+    if words.len() < (size + 1) / 2 {
+        return false;
+    }
+    if MOST_DEPTH < limit {
+        return false;
+    }
     let table = bytecode::table();
+    let mut pending = [0u16; MOST_CODE];
     flow::walk(
         &table,
         words,
@@ -46,51 +56,6 @@ pub extern "C" fn bench_walk(
         literals,
         limit,
         notes,
-        pending,
+        &mut pending,
     )
-}
-
-// The words of an image put in place.
-#[no_mangle]
-pub extern "C" fn bench_place(
-    image: &[u8],
-    n: usize,
-    b: usize,
-    contents: &mut [u16],
-    bodies: &mut [u16],
-)
-    requires { ⌜ T (lengthFine (now image)) × (imageHeader (now image) .n ≡ n) × (imageHeader (now image) .b ≡ b) × (entryWords * n ≤ length (now contents)) × (b ≤ length (now bodies)) ⌝ }
-    ensures { λ _. ⌜ (now (contents .exit) ≡ imageObjects (now (image .entry)) .contents ++ drop (entryWords * n) (now (contents .entry))) × (now (bodies .exit) ≡ imageObjects (now (image .entry)) .bodies ++ drop b (now (bodies .entry))) ⌝ }
-{
-    image::place(image, n, b, contents, bodies);
-}
-
-// The image check, rules 4 to 8.
-#[no_mangle]
-pub extern "C" fn bench_judge(
-    contents: &[u16],
-    bodies: &[u16],
-    n: usize,
-    b: usize,
-    receiver: u16,
-    selector: u16,
-    notes: &mut [u8],
-) -> u32
-    requires { ⌜ Lent n b (now contents) (now bodies) × (2 * b ≤ length (now notes)) ⌝ }
-    ensures { λ r. ⌜ Judged (objectsAt n b (now (contents .entry)) (now (bodies .entry))) receiver selector (now (notes .exit)) r ⌝ }
-{
-    store::judge(contents, bodies, n, b, receiver, selector, notes)
-}
-
-// All of it, rules 1 to 8.
-#[no_mangle]
-pub extern "C" fn bench_read(
-    image: &[u8],
-    contents: &mut [u16],
-    bodies: &mut [u16],
-    cache: usize,
-) -> u32
-    ensures { λ r. ⌜ stored r (now (contents .exit)) (now (bodies .exit)) ≡ storedBy (loadVerdict (roomFor (length (now (contents .entry))) (length (now (bodies .entry))) cache) (now (image .entry))) (now (image .entry)) (now (contents .entry)) (now (bodies .entry)) ⌝ }
-{
-    store::read_number(image, contents, bodies, cache)
 }

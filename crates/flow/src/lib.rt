@@ -122,8 +122,8 @@ fn plain(
     requires { ⌜ (depth ≤ room) × (at ≤ 48000) ⌝ }
     ensures { λ r. ⌜ Step room (ltb (indexPart e) (getD (now (limits .entry)) (boundPart e) 0) && leb (needPart e) depth) ((at + 1) ∷ []) (alike (depth - needPart e + leavesPart e)) (now (notes .entry)) (now (pending .entry)) n (now (notes .exit)) (now (pending .exit)) r ⌝ }
 {
-    let bound = e / 32 % 4;
-    let index = (e % 32) as u8;
+    let bound = bytecode::entry_bound(e);
+    let index = bytecode::entry_index(e) as u8;
     if limits[bound] <= index {
         return Went::Stuck;
     }
@@ -133,8 +133,8 @@ fn plain(
         n,
         at + 1,
         depth,
-        e / 512 % 4,
-        e / 128 % 4,
+        bytecode::entry_need(e),
+        bytecode::entry_leaves(e),
         room,
     )
 }
@@ -214,10 +214,10 @@ fn extended(
         notes,
         pending,
         n,
-        at + e / 2048 % 4,
+        at + bytecode::entry_length(e),
         depth,
-        e / 512 % 4 + bytecode::extra(b, x),
-        e / 128 % 4,
+        bytecode::entry_need(e) + bytecode::extra(b, x),
+        bytecode::entry_leaves(e),
         room,
     )
 }
@@ -291,7 +291,7 @@ fn far(
     requires { ⌜ groupPart e ≡ 3 ⌝ }
     ensures { λ r. ⌜ Expand (now (limits .entry)) (now (words .entry)) (length (now (notes .entry))) room at depth (now (notes .entry)) (now (pending .entry)) n (now (notes .exit)) (now (pending .exit)) r ⌝ }
 {
-    if notes.len() < at + e / 2048 % 4 {
+    if notes.len() < at + bytecode::entry_length(e) {
         return Went::Stuck;
     }
     if b < 144 {
@@ -317,12 +317,12 @@ fn expand(
     requires { ⌜ Here (now limits) (now words) (length (now notes)) room at depth b e ⌝ }
     ensures { λ r. ⌜ Expand (now (limits .entry)) (now (words .entry)) (length (now (notes .entry))) room at depth (now (notes .entry)) (now (pending .entry)) n (now (notes .exit)) (now (pending .exit)) r ⌝ }
 {
-    let group = e / 8192;
+    let group = bytecode::entry_group(e);
     if group < 2 {
         return plain(limits, room, notes, pending, n, at, depth, e);
     }
     if group == 2 {
-        if depth < e / 512 % 4 {
+        if depth < bytecode::entry_need(e) {
             return Went::Stuck;
         }
         return Went::On(n);

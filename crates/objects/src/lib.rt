@@ -2,9 +2,10 @@
 // model's specs/, over the objects in the two buffers.
 ghost use mathlib.Core.Path.{_≡_};
 ghost use mathlib.Core.List.{List};
-ghost use Prim.Native.Nat.{ℕ, _*_, _/_, _<_, _≤_};
+ghost use Prim.Native.Nat.{ℕ, _+_, _-_, _*_, _/_, _<_, _≤_};
 ghost use lib.Dec.{T};
-ghost use lib.ListN.{length};
+ghost use lib.ListN.{length, take, drop};
+ghost use Rattle.bytecode.specs.Code.{byteAt};
 ghost use Rattle.model.specs.Limits.{entryWords, classKind, listKind, methodKind, primitiveFlag};
 ghost use Rattle.model.specs.Word.{isPointer, isValid, objectNumber};
 ghost use Rattle.model.specs.Objects.{objectsAt, classOf, isKind, isNilOr, kind, start, size, bodyWord, superclassWord, dictionaryWord, fieldCount, form};
@@ -275,6 +276,14 @@ pub fn code_of(contents: &[u16], bodies: &[u16], n: usize, b: usize, m: Pointer)
         end: start + (size + 1) / 2,
         size: size - 4 - 2 * count,
     }
+}
+
+// A byte of the code whose words stand from `from` up to `end`. The run loop knows both, and reads no method to fetch.
+pub fn code_byte(bodies: &[u16], from: usize, end: usize, at: usize) -> u8
+    requires { ⌜ (end ≤ length (now bodies)) × (from + at / 2 < end) ⌝ }
+    ensures { λ r. ⌜ r ≡ byteAt (take (end - from) (drop from (now (bodies .entry)))) at ⌝ }
+{
+    bytecode::fetch(&bodies[from..end], at)
 }
 
 // The method under a selector in a dictionary.

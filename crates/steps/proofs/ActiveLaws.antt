@@ -4,8 +4,8 @@ use mathlib.Core.Path.{_≡_, refl, sym, ap, _∙_, subst}
 use mathlib.Core.Logic.{_≢_}
 use mathlib.Core.List.{List, [], _∷_}
 use native.Mathlib.Omega.{arith}
-use lib.ListN.{length, getD, set, take, drop, length-set, length-drop}
-use lib.Seq.{getD-set-same, getD-set-other, length-take-le}
+use lib.ListN.{length, getD, set, take, drop, length-set}
+use lib.Seq.{getD-set-same, getD-set-other}
 use Rattle.bytecode.specs.Code.{byteAt, instructionOf, lengthOf, nextAt}
 use Rattle.bytecode.specs.declared.Instruction.{Instruction}
 use Rattle.bytecode.proofs.DecodeLaws.{next-is}
@@ -252,10 +252,10 @@ module _ {n b : ℕ} {contents bodies stack : List ℕ} {a : Active} {op : ℕ} 
 
 -- the code as it is lent
 module _ {n b : ℕ} {contents bodies stack : List ℕ} {a : Active} (r : IsActive n b contents bodies stack a) {c : Code} (q : CodeAt n b contents bodies (frameMethod stack (a .base .0)) c) where
-  pub from-is : a .code ≡ c .from
+  from-is : a .code ≡ c .from
   from-is = r .stands .code ∙ sym (q .from)
 
-  pub byte-inside : (k : ℕ) → k < codeSize (objectsAt n b contents bodies) (frameMethod stack (a .base .0)) → k / 2 < length (take (c .end - a .code) (drop (a .code) bodies))
+  pub byte-inside : (k : ℕ) → k < codeSize (objectsAt n b contents bodies) (frameMethod stack (a .base .0)) → (c .end ≤ length bodies) × (a .code + k / 2 < c .end)
   byte-inside k h =
       let m = frameMethod stack (a .base .0) in
       let o = objectsAt n b contents bodies in
@@ -264,10 +264,7 @@ module _ {n b : ℕ} {contents bodies stack : List ℕ} {a : Active} (r : IsActi
       let f = from-is in
       let x = q .from in
       let y = q .end in
-      let z = q .inside in
-      let d = length-drop (a .code) bodies in
-      let t = length-take-le (c .end - a .code) (drop (a .code) bodies) (omega arith) in
-      omega arith
+      (q .inside, omega arith)
 
   pub byte-is : (k x : ℕ) → x ≡ byteAt (take (c .end - a .code) (drop (a .code) bodies)) k → x ≡ byteAt (codeWords (objectsAt n b contents bodies) (frameMethod stack (a .base .0))) k
   byte-is k x e = e ∙ ap (λ (f : ℕ). byteAt (take (c .end - f) (drop f bodies)) k) from-is ∙ ap (λ (l : List ℕ). byteAt l k) (q .words)

@@ -103,7 +103,7 @@ fn code_byte(
     let from = active.code; // as code.from is, without reading the method
     let end = code.end;
     let at = active.position.0 + k;
-    bytecode::fetch(&bodies[from..end], at)
+    objects::code_byte(bodies, from, end, at)
 }
 
 // The word of a place.

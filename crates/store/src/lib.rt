@@ -135,26 +135,26 @@ fn settle(
     0
 }
 
-// Loading, but for the cache, of which the length is given: 0, or the number of the refusal.
-pub fn read_number(image: &[u8], contents: &mut [u16], bodies: &mut [u16], cache: usize) -> u32
-    ensures { λ r. ⌜ stored r (now (contents .exit)) (now (bodies .exit)) ≡ storedBy (loadVerdict (roomFor (length (now (contents .entry))) (length (now (bodies .entry))) cache) (now (image .entry))) (now (image .entry)) (now (contents .entry)) (now (bodies .entry)) ⌝ }
+// An image read into the front of contents and bodies. `cache` is the length of the cache, which 01 asks for here too.
+pub fn read(image: &[u8], contents: &mut [u16], bodies: &mut [u16], cache: usize) -> Reading
+    ensures { λ r. ⌜ (r ≡ readingOf (loadVerdict (roomFor (length (now (contents .entry))) (length (now (bodies .entry))) cache) (now (image .entry))) (imageHeader (now (image .entry)))) × (stored (readingNumber r) (now (contents .exit)) (now (bodies .exit)) ≡ storedBy (loadVerdict (roomFor (length (now (contents .entry))) (length (now (bodies .entry))) cache) (now (image .entry))) (now (image .entry)) (now (contents .entry)) (now (bodies .entry))) ⌝ }
 {
     if !image::length_fine(image) {
-        return 1;
+        return Reading::Refused(1);
     }
     let header = image::header_of(image);
     let edition = header.edition;
     let n = header.n;
     let b = header.b;
     if !header_fine(edition, n, b) {
-        return 2;
+        return Reading::Refused(2);
     }
     if !buffers_fine(contents.len(), bodies.len(), cache, n, b) {
-        return 3;
+        return Reading::Refused(3);
     }
     let receiver = header.receiver;
     let selector = header.selector;
-    settle(
+    let number = settle(
         image,
         n as usize,
         b as usize,
@@ -162,18 +162,10 @@ pub fn read_number(image: &[u8], contents: &mut [u16], bodies: &mut [u16], cache
         selector,
         contents,
         bodies,
-    )
-}
-
-// An image read into the front of contents and bodies. `cache` is the length of the cache, which 01 asks for here too.
-pub fn read(image: &[u8], contents: &mut [u16], bodies: &mut [u16], cache: usize) -> Reading
-    ensures { λ r. ⌜ (r ≡ readingOf (loadVerdict (roomFor (length (now (contents .entry))) (length (now (bodies .entry))) cache) (now (image .entry))) (imageHeader (now (image .entry)))) × (stored (readingNumber r) (now (contents .exit)) (now (bodies .exit)) ≡ storedBy (loadVerdict (roomFor (length (now (contents .entry))) (length (now (bodies .entry))) cache) (now (image .entry))) (now (image .entry)) (now (contents .entry)) (now (bodies .entry))) ⌝ }
-{
-    let number = read_number(image, contents, bodies, cache);
+    );
     if number != 0 {
         return Reading::Refused(number);
     }
-    let header = image::header_of(image);
     Reading::Accepted {
         n: header.n,
         b: header.b,

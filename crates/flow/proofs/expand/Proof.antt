@@ -7,6 +7,9 @@ use Rattle.flow.proofs.HereLaws.{expand-plain, expand-return, expand-un
 use Rattle.flow.proofs.expand.Statement.{statement}
 use Rattle.flow.proofs.expand.Tie as tie
 
+entry-group-requires : tie.Need-entry-group-requires
+entry-group-requires c κs = search needs
+
 plain-requires : tie.Need-plain-requires
 plain-requires c κs = search needs
 
@@ -20,19 +23,31 @@ returns : tie.Need-returns
 returns c =
     let at-plain = c .before .before .before .before in
     let at-if1 = at-plain .before .before .before in
-    let at-start = at-if1 .before .before .before .before in
-    expand-plain _ _ _ _ _ _ _ _ (omega arith) (at-start .pre .1) _ _ _ _ _ _ (at-if1 .if1 .taken) (at-plain .plain .ensures)
+    let at-start = at-if1 .before .before .before .before .before in
+    let group = rw (at-if1 .before .entry-group .ensures) at (at-if1 .if1 .taken) in
+    expand-plain _ _ _ _ _ _ _ _ (omega arith) (at-start .pre .1) _ _ _ _ _ _ group (at-plain .plain .ensures)
+
+entry-need-requires : tie.Need-entry-need-requires
+entry-need-requires c κs = search needs
 
 returns-2 : tie.Need-returns-2
-returns-2 c = expand-return _ _ _ _ _ _ _ _ (omega arith) (c .before .before .before .before .before .before .pre .1) _ _ _ _ _ _ (c .before .if2 .taken)
-    (step-no _ _ _ _ _ _ _ _ _ (lt-leb _ _ (c .if3 .taken)))
+returns-2 c =
+    let at-start = c .before .before .before .before .before .before .before .before in
+    let group = rw (c .before .before .before .before .entry-group .ensures) at (c .before .before .if2 .taken) in
+    expand-return _ _ _ _ _ _ _ _ (omega arith) (at-start .pre .1) _ _ _ _ _ _ group
+    (step-no _ _ _ _ _ _ _ _ _ (rw (c .before .entry-need .ensures) at (lt-leb _ _ (c .if3 .taken))))
 
 returns-3 : tie.Need-returns-3
-returns-3 c = expand-return _ _ _ _ _ _ _ _ (omega arith) (c .before .before .before .before .before .before .pre .1) _ _ _ _ _ _ (c .before .if2 .taken)
-    (step-none _ _ _ _ _ _ (le-leb _ _ (c .if3 .left)))
+returns-3 c =
+    let at-start = c .before .before .before .before .before .before .before .before in
+    let group = rw (c .before .before .before .before .entry-group .ensures) at (c .before .before .if2 .taken) in
+    expand-return _ _ _ _ _ _ _ _ (omega arith) (at-start .pre .1) _ _ _ _ _ _ group
+    (step-none _ _ _ _ _ _ (rw (c .before .entry-need .ensures) at (le-leb _ _ (c .if3 .left))))
 
 returns-4 : tie.Need-returns-4
-returns-4 c = expand-unused _ _ _ _ _ _ _ _ (omega arith) (c .before .before .before .before .before .before .pre .1) _ _ _ _ _ (c .if4 .taken)
+returns-4 c =
+    let group = rw (c .before .before .before .entry-group .ensures) at (c .if4 .taken) in
+    expand-unused _ _ _ _ _ _ _ _ (omega arith) (c .before .before .before .before .before .before .before .pre .1) _ _ _ _ _ group
 
 far-requires : tie.Need-far-requires
 far-requires c κs = search needs
@@ -50,10 +65,12 @@ pub expand-spec : {M : Type 1} → statement M
 expand-spec =
     tie.close
     (tie.spec
+    entry-group-requires
     plain-requires
     same-length
     same-length-2
     returns
+    entry-need-requires
     returns-2
     returns-3
     returns-4

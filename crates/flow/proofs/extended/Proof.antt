@@ -31,17 +31,26 @@ returns c =
     (step-no _ _ _ _ _ _ _ _ _ (and-no _ _ (sym (rw (c .before .before .before .byte .ensures, c .before .before .byte2 .ensures) at
     (c .before .extended-fits .ensures)) ∙ not-true _ (c .if1 .taken))))
 
+entry-length-requires : tie.Need-entry-length-requires
+entry-length-requires c κs = search needs
+
 add-onward : tie.Need-add-onward
 add-onward c = search needs
+
+entry-need-requires : tie.Need-entry-need-requires
+entry-need-requires c κs = search needs
 
 extra-requires : tie.Need-extra-requires
 extra-requires c κs = search needs
 
 add-onward-2 : tie.Need-add-onward-2
 add-onward-2 c =
-    let at-byte = c .before .before .before .before .before .before in
+    let at-byte = c .before .before .before .before .before .before .before .before in
     let at-start = at-byte .before .before .before .before in
-    omega (arith, c .extra .ensures, extra-small (at-start .args .b) (at-byte .byte .result))
+    omega (arith, c .extra .ensures, c .before .entry-need .ensures, extra-small (at-start .args .b) (at-byte .byte .result))
+
+entry-leaves-requires : tie.Need-entry-leaves-requires
+entry-leaves-requires c κs = search needs
 
 onward-requires : tie.Need-onward-requires
 onward-requires c κs = search needs
@@ -55,15 +64,24 @@ same-length-2 c = search needs
 returns-2 : tie.Need-returns-2
 returns-2 c =
     let at-onward = c .before .before .before .before in
-    let at-extra = at-onward .before in
-    let at-if1 = at-extra .before .before .before in
+    let at-leaves = at-onward .before in
+    let at-extra = at-leaves .before in
+    let at-need = at-extra .before in
+    let at-length = at-need .before in
+    let at-if1 = at-length .before .before .before in
     let at-extended-fits = at-if1 .before in
     let at-byte2 = at-extended-fits .before in
     let at-byte = at-byte2 .before in
     let at-start = at-byte .before .before .before .before in
     expand-extended _ _ _ _ _ _ _ _ (omega arith) (at-start .pre .1 .0) _ _ _ _ _ _ (at-start .pre .1 .1 .0) (at-start .pre .1 .1 .1) (at-start .pre .1 .1 .2)
     (step-and _ _ _ _ _ _ _ _ _ _ _ (sym (rw (at-byte .byte .ensures, at-byte2 .byte2 .ensures) at (at-extended-fits .extended-fits .ensures))
-    ∙ not-false _ (at-if1 .if1 .left)) (rw (at-extra .extra .ensures, at-byte .byte .ensures) at (at-onward .onward .ensures)))
+    ∙ not-false _ (at-if1 .if1 .left)) (rw (
+      at-extra .extra .ensures,
+      at-byte .byte .ensures,
+      at-length .entry-length .ensures,
+      at-need .entry-need .ensures,
+      at-leaves .entry-leaves .ensures,
+    ) at (at-onward .onward .ensures)))
 
 pub extended-spec : {M : Type 1} → statement M
 extended-spec =
@@ -75,9 +93,12 @@ extended-spec =
     byte-requires-2
     extended-fits-requires
     returns
+    entry-length-requires
     add-onward
+    entry-need-requires
     extra-requires
     add-onward-2
+    entry-leaves-requires
     onward-requires
     same-length
     same-length-2

@@ -1,8 +1,7 @@
 -- The code is where the frame's method has it.
 use native.Mathlib.Omega.{arith}
-use Rattle.steps.proofs.ActiveLaws.{ends, active-method, from-is, byte-inside, byte-is, code-small}
+use Rattle.steps.proofs.ActiveLaws.{ends, active-method, byte-inside, byte-is, code-small}
 use mathlib.Core.Path.{refl}
-use borrow.Author.Needs.{needs}
 use Rattle.steps.proofs.code_byte.Statement.{statement}
 use Rattle.steps.proofs.code_byte.Tie as tie
 
@@ -23,38 +22,14 @@ add-at c =
     let at-start = c .before .before .before .before .before .before in
     let k = code-small (at-start .pre .0) in omega (arith, at-start .pre .1)
 
-mul-fetch : tie.Need-mul-fetch
-mul-fetch c = let k = from-is (c .before .before .before .before .before .before .pre .0) (c .before .code-of .ensures) in search needs
-
-sub-fetch : tie.Need-sub-fetch
-sub-fetch c = search needs
-
-part-fetch-start : tie.Need-part-fetch-start
-part-fetch-start c = search needs
-
-part-fetch-end : tie.Need-part-fetch-end
-part-fetch-end c = search needs
-
-fetch-requires : tie.Need-fetch-requires
-fetch-requires c κs =
-    let at-start = c .before .before .before .before .before .before .before in
-    byte-inside (at-start .pre .0) (c .before .before .code-of .ensures) _ (at-start .pre .1)
+code-byte-requires : tie.Need-code-byte-requires
+code-byte-requires c κs =
+    let at-start = c .before .before .before .before .before .before in
+    byte-inside (at-start .pre .0) (c .before .code-of .ensures) _ (at-start .pre .1)
 
 returns : tie.Need-returns
-returns c = byte-is (c .before .before .before .before .before .before .before .before .pre .0) (c .before .before .before .code-of .ensures) _ _ (c .fetch .ensures)
+returns c = byte-is (c .before .before .before .before .before .before .before .pre .0) (c .before .before .code-of .ensures) _ _ (c .code-byte .ensures)
 
 pub code-byte-spec : {M : Type 1} → statement M
 code-byte-spec =
-    tie.close
-    (tie.spec
-    add-t14
-    mul-t15
-    shared-slice-read-t17
-    code-of-requires
-    add-at
-    mul-fetch
-    sub-fetch
-    part-fetch-start
-    part-fetch-end
-    fetch-requires
-    returns)
+    tie.close (tie.spec add-t14 mul-t15 shared-slice-read-t17 code-of-requires add-at code-byte-requires returns)
