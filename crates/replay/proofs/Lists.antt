@@ -212,7 +212,8 @@ puts l at a b c d = λ i. set (set (set (set l at a) (one at i) b) (two at i) c)
 
 -- ---- check, after a list of calls
 
-last-by : (room : Room) (c : Call) (cs : List Call) (p : Plain) (s : Flat) (g : Given) (h : Called) → ((s′ : Flat) (p′ : Plain) → Agrees room cs s′ p′ → check s′ ≡ accepted → check (lastState s′ cs) ≡ accepted)
+last-by : (room : Room) (c : Call) (cs : List Call) (p : Plain) (s : Flat) (g : Given) (h : Called) → ((s′ : Flat) (p′ : Plain) → Agrees room cs s′ p′
+    → check s′ ≡ accepted → check (lastState s′ cs) ≡ accepted)
     → Together room c p g h (Agrees room cs) → check (lastState (nextState s g) cs) ≡ accepted
 last-by room c cs p s (gives a s′) (called a′ p′ ts) again t = again s′ p′ (t .1) (t .0 .checks)
 last-by room c cs p s (gives a s′) impossible again t = absurd t

@@ -60,7 +60,8 @@ module _ (contents bodies stack cache : List ℕ) (g : Given) where
     forgotten-refused k q = ap (λ (y : Forgotten). forgetGives y r contents bodies stack cache) (sym q) ∙ e
 
 -- the words lent as arguments
-pub arguments-are : (s : Flat) (receiver selector : ℕ) (words : List ℕ) (from count : ℕ) → flatBegin s receiver selector (take (from + count - from) (drop from words)) ≡ flatBegin s receiver selector (take count (drop from words))
+pub arguments-are : (s : Flat) (receiver selector : ℕ) (words : List ℕ) (from count : ℕ) → flatBegin s receiver selector
+    (take (from + count - from) (drop from words)) ≡ flatBegin s receiver selector (take count (drop from words))
 arguments-are s receiver selector words from count = ap (λ (n : ℕ). flatBegin s receiver selector (take n (drop from words))) (back from count)
   where
     back : (x y : ℕ) → x + y - x ≡ y

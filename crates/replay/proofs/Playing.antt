@@ -44,7 +44,22 @@ pub record Inv (words answers₀ : List ℕ) (s₀ s : Flat) (answers : List ℕ
 pub starts : (words answers : List ℕ) (s : Flat) → Inv words answers s s answers 0 0
 unfolding callsMade callsOf
 starts words answers s =
-    record { room = omega arith; position = omega arith; inside = omega arith; last = ap (lastState s) all; made = ap (λ (cs : List Call). length cs) all ∙ zero-plus (length (left (length answers / 4 - 0) (length words - 0) 0 words)); written = ap (λ (cs : List Call). allWords (answersOf s cs)) all; behind = refl; long = refl; contents = refl; bodies = refl; stack = refl; cache = refl }
+    record {
+      room = omega arith;
+      position = omega arith;
+      inside = omega arith;
+      last = ap (lastState s) all;
+      made = ap (λ (cs : List Call). length cs) all
+          ∙ zero-plus (length (left (length answers / 4 - 0) (length words - 0) 0 words));
+      written = ap (λ (cs : List Call). allWords (answersOf s cs)) all;
+      behind =
+          refl;
+      long = refl;
+      contents = refl;
+      bodies = refl;
+      stack = refl;
+      cache = refl;
+    }
   where
     zero-plus : (x : ℕ) → x ≡ 0 + x
     zero-plus x = omega arith
@@ -145,7 +160,23 @@ module _ (words answers₀ : List ℕ) (s₀ s : Flat) (answers : List ℕ) (i k
         where
           again : Inv words answers₀ s₀ s′ answers′ (i + n) (k + 1)
           again =
-              record { room = let f = free in omega arith; position = let a = inv .position in let b = stands in let e = sized in omega arith; inside = ends-inside; last = inv .last ∙ last′; made = made′; written = written′; behind = behind′; long = ap (λ (l : List ℕ). length l) noted ∙ length-sets answers (4 * k) (answerWords (answerIn p)) ∙ inv .long; contents = lc ∙ inv .contents; bodies = lb ∙ inv .bodies; stack = ls ∙ inv .stack; cache = lk ∙ inv .cache }
+              record {
+                room = let f = free in omega arith;
+                position = let a = inv .position in let b = stands in let e = sized in omega arith;
+                inside =
+                    ends-inside;
+                last = inv .last ∙ last′;
+                made = made′;
+                written = written′;
+                behind = behind′;
+                long = ap (λ (l : List ℕ). length l) noted
+                    ∙ length-sets answers (4 * k) (answerWords (answerIn p)) ∙ inv .long;
+                contents = lc ∙ inv .contents;
+                bodies = lb ∙ inv .bodies;
+                stack = ls
+                    ∙ inv .stack;
+                cache = lk ∙ inv .cache;
+              }
 
 -- ---- from load on
 
@@ -192,4 +223,14 @@ module _ (g : R.Registers) (image calls answers contents bodies stack cache cont
 
       pub makes : (k : ℕ) (s′ : Flat) (answers′ : List ℕ) → Plays calls answers start k s′ answers′ → Makes s image calls answers k s′ answers′
       makes k s′ answers′ p =
-          record { start = start; load = loads; plain = from .start; agrees = from .agrees (callsMade calls answers); last = p .last; made = p .made; written = p .written; checks = ap check (p .last) ∙ last-checks (roomOf s) (callsMade calls answers) start (loaded image) (from .agrees (callsMade calls answers)) (from .checks) }
+          record {
+            start = start;
+            load = loads;
+            plain = from .start;
+            agrees = from .agrees (callsMade calls answers);
+            last = p .last;
+            made = p .made;
+            written =
+                p .written;
+            checks = ap check (p .last) ∙ last-checks (roomOf s) (callsMade calls answers) start (loaded image) (from .agrees (callsMade calls answers)) (from .checks);
+          }

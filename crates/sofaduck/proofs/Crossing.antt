@@ -87,14 +87,17 @@ module _ (words contents bodies stack cache : List ℕ) (b : Registers) (t : reg
         (begin-number (stateOf words contents bodies stack cache) w selector arguments)
 
   module _ (words′ : List ℕ) (x : Dropped) (e : dropGives x contents bodies stack cache ≡ flatDrop (state b contents bodies stack cache)) where
-    pub drop-done : (r : Registers) → x ≡ D.Dropped r → sevenWords words′ ≡ registersOf r → gives (answerOf 0) (stateOf words′ contents bodies stack cache) ≡ flatDrop (stateOf words contents bodies stack cache)
+    pub drop-done : (r : Registers) → x ≡ D.Dropped r → sevenWords words′ ≡ registersOf r → gives (answerOf 0) (stateOf words′ contents bodies stack cache) ≡
+        flatDrop (stateOf words contents bodies stack cache)
     unfolding dropGives
     drop-done r q p = placed contents bodies stack cache p ∙ ap (λ (y : Dropped). dropGives y contents bodies stack cache) (sym q) ∙ e ∙ ap flatDrop same
 
-    pub drop-refused : (k : ℕ) (r : Registers) → x ≡ D.Refused k r → sevenWords words′ ≡ registersOf r → gives (answerOf k) (stateOf words′ contents bodies stack cache) ≡ flatDrop (stateOf words contents bodies stack cache)
+    pub drop-refused : (k : ℕ) (r : Registers) → x ≡ D.Refused k r → sevenWords words′ ≡ registersOf r → gives (answerOf k)
+        (stateOf words′ contents bodies stack cache) ≡ flatDrop (stateOf words contents bodies stack cache)
     unfolding dropGives
     drop-refused k r q p =
-        numbered k (stateOf words′ contents bodies stack cache) _ (placed contents bodies stack cache p ∙ ap (λ (y : Dropped). dropGives y contents bodies stack cache) (sym q) ∙ e ∙ ap flatDrop same) (drop-number (stateOf words contents bodies stack cache))
+        numbered k (stateOf words′ contents bodies stack cache) _ (placed contents bodies stack cache p
+        ∙ ap (λ (y : Dropped). dropGives y contents bodies stack cache) (sym q) ∙ e ∙ ap flatDrop same) (drop-number (stateOf words contents bodies stack cache))
 
   module _ (cache′ : List ℕ) (x : Forgotten) (e : forgetGives x b contents bodies stack cache′ ≡ flatForget (state b contents bodies stack cache)) where
     pub forget-done : x ≡ F.Emptied → gives (answerOf 0) (stateOf words contents bodies stack cache′) ≡ flatForget (stateOf words contents bodies stack cache)
@@ -104,7 +107,8 @@ module _ (words contents bodies stack cache : List ℕ) (b : Registers) (t : reg
     pub forget-refused : (k : ℕ) → x ≡ F.Refused k → gives (answerOf k) (stateOf words contents bodies stack cache′) ≡ flatForget (stateOf words contents bodies stack cache)
     unfolding forgetGives
     forget-refused k q =
-        numbered k (stateOf words contents bodies stack cache′) _ (placed contents bodies stack cache′ (sym t) ∙ ap (λ (y : Forgotten). forgetGives y b contents bodies stack cache′) (sym q) ∙ e ∙ ap flatForget same) (forget-number (stateOf words contents bodies stack cache))
+        numbered k (stateOf words contents bodies stack cache′) _ (placed contents bodies stack cache′ (sym t)
+        ∙ ap (λ (y : Forgotten). forgetGives y b contents bodies stack cache′) (sym q) ∙ e ∙ ap flatForget same) (forget-number (stateOf words contents bodies stack cache))
 
   module _ (x : Checked) (e : checkGives x ≡ check (state b contents bodies stack cache)) where
     pub check-done : x ≡ C.Right → verdictOf 0 ≡ check (stateOf words contents bodies stack cache)
@@ -128,7 +132,8 @@ module _ (words contents bodies stack cache : List ℕ) (b : Registers) (t : reg
     unfolding saveGives
     save-refused k q = go k (ap (λ (y : Saved). saveGives y output′) (sym q) ∙ e ∙ ap (λ (s : Flat). flatSave s output) same)
       where
-        go : (k : ℕ) → saved (refusedBy k) output′ ≡ flatSave (stateOf words contents bodies stack cache) output → (saved (saveAnswer k before) output′ ≡ flatSave (stateOf words contents bodies stack cache) output) × SaveWrites k before before
+        go : (k : ℕ) → saved (refusedBy k) output′ ≡ flatSave (stateOf words contents bodies stack cache) output
+            → (saved (saveAnswer k before) output′ ≡ flatSave (stateOf words contents bodies stack cache) output) × SaveWrites k before before
         go zero p = absurd (let h : 1 ≤ 0 = subst NumberedSaved (sym p) (save-number (stateOf words contents bodies stack cache) output) in omega arith)
         go (suc k) p = (p, refl)
 
@@ -138,7 +143,8 @@ module _ (words contents bodies stack cache : List ℕ) (b : Registers) (t : reg
     e₀ = e .0 ∙ ap (λ (s : Flat). flatRun s n) same
 
     pub run-done : (r : Registers) (made highest : ℕ) → x ≡ N.Done r made highest → sevenWords words′ ≡ registersOf r
-        → (gives (runAnswer 0 (sevenWords words′) made) (stateOf words′ contents′ bodies′ stack′ cache′) ≡ flatRun (stateOf words contents bodies stack cache) n) × RunWrites 0 (stateOf words contents bodies stack cache) n count reach made highest
+        → (gives (runAnswer 0 (sevenWords words′) made) (stateOf words′ contents′ bodies′ stack′ cache′) ≡ flatRun (stateOf words contents bodies stack cache)
+        n) × RunWrites 0 (stateOf words contents bodies stack cache) n count reach made highest
     unfolding runGives
     run-done r made highest q p = (
       (λ i. gives (result (p i .phase) made (p i .value)) (flat (p i) contents′ bodies′ stack′ cache′)) ∙ ap (λ (y : Ran). runGives y contents′ bodies′ stack′ cache′) (sym q) ∙ e₀,
@@ -146,11 +152,13 @@ module _ (words contents bodies stack cache : List ℕ) (b : Registers) (t : reg
     )
 
     pub run-refused : (k : ℕ) (r : Registers) → x ≡ N.Refused k r → sevenWords words′ ≡ registersOf r
-        → (gives (runAnswer k (sevenWords words′) count) (stateOf words′ contents′ bodies′ stack′ cache′) ≡ flatRun (stateOf words contents bodies stack cache) n) × RunWrites k (stateOf words contents bodies stack cache) n count reach count reach
+        → (gives (runAnswer k (sevenWords words′) count) (stateOf words′ contents′ bodies′ stack′ cache′) ≡ flatRun (stateOf words contents bodies stack cache)
+        n) × RunWrites k (stateOf words contents bodies stack cache) n count reach count reach
     unfolding runGives
     run-refused k r q p = go k (placed contents′ bodies′ stack′ cache′ p ∙ ap (λ (y : Ran). runGives y contents′ bodies′ stack′ cache′) (sym q) ∙ e₀)
       where
         go : (k : ℕ) → gives (refusedBy k) (stateOf words′ contents′ bodies′ stack′ cache′) ≡ flatRun (stateOf words contents bodies stack cache) n
-            → (gives (runAnswer k (sevenWords words′) count) (stateOf words′ contents′ bodies′ stack′ cache′) ≡ flatRun (stateOf words contents bodies stack cache) n) × RunWrites k (stateOf words contents bodies stack cache) n count reach count reach
+            → (gives (runAnswer k (sevenWords words′) count) (stateOf words′ contents′ bodies′ stack′ cache′) ≡ flatRun
+            (stateOf words contents bodies stack cache) n) × RunWrites k (stateOf words contents bodies stack cache) n count reach count reach
         go zero g = absurd (let h : 1 ≤ 0 = subst NumberedIn (sym g) (run-number (stateOf words contents bodies stack cache) n) in omega arith)
         go (suc k) g = (g, (refl, refl))

@@ -52,7 +52,8 @@ check-numbered s = first (buffersFine (roomOf s) (s .registers .n) (s .registers
 save-numbered : (s : Flat) (output : List ℕ) → NumberedBy (saveVerdict s output)
 unfolding saveVerdict
 save-numbered s output =
-    first (buffersFine (roomOf s) (s .registers .n) (s .registers .b) && leb (imageBytes (s .registers .n) (s .registers .b)) (length output)) 3 (unless (stateFine s) 11) (omega arith) (only (stateFine s) 11 (omega arith))
+    first (buffersFine (roomOf s) (s .registers .n) (s .registers .b) && leb (imageBytes (s .registers .n) (s .registers .b)) (length output)) 3
+    (unless (stateFine s) 11) (omega arith) (only (stateFine s) 11 (omega arith))
 
 eight : (a b c d e f g h : Bool) → NumberedBy (unless a 1 then (unless b 2 then (unless c 3 then (unless d 4 then (unless e 5 then (unless f 6 then (unless g 7 then unless h 8)))))))
 eight false b c d e f g h = omega arith
@@ -70,7 +71,8 @@ unfolding loadVerdict objectsVerdict
 load-numbered room bytes =
     let h = imageHeader bytes in
     let o = imageObjects bytes in
-    eight (lengthFine bytes) (headerFine (h .edition) (h .n) (h .b)) (buffersFine room (h .n) (h .b)) (rule4 (h .edition) o) (rule5 (h .edition) o) (rule6 (h .edition) o) (rule7 (h .edition) o) (rule8 o (h .receiver) (h .selector) [])
+    eight (lengthFine bytes) (headerFine (h .edition) (h .n) (h .b)) (buffersFine room (h .n) (h .b)) (rule4 (h .edition) o) (rule5 (h .edition) o)
+    (rule6 (h .edition) o) (rule7 (h .edition) o) (rule8 o (h .receiver) (h .selector) [])
 
 -- ---- calls
 after-check : (s : Flat) (v : Verdict) (g : Given) → NumberedBy v → NumberedIn g → NumberedIn (checked s v g)

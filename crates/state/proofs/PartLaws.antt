@@ -133,7 +133,8 @@ module _ (n b receiver selector phase top value : ℕ) (contents bodies stack ca
 
     pub cache-long : length cache ≡ cacheWords
     unfolding buffersFine
-    cache-long = eqb→eq (length cache) cacheWords (and-right (leb b (length bodies)) (eqb (length cache) cacheWords) (and-right (leb (entryWords * n) (length contents)) (leb b (length bodies) && eqb (length cache) cacheWords) three))
+    cache-long = eqb→eq (length cache) cacheWords (and-right (leb b (length bodies)) (eqb (length cache) cacheWords)
+        (and-right (leb (entryWords * n) (length contents)) (leb b (length bodies) && eqb (length cache) cacheWords) three))
 
     pub notes-room : 2 * b ≤ 48000
     notes-room = let h = lent .most-words in omega arith

@@ -150,7 +150,8 @@ module _ (image : List ℕ) (s : Flat) (b : Began image s) where
     both-run : (g : Given) → g ≡ flatRun s 1000 → BothRun g (steps step80Room 1000 (b .plain))
     both-run g q =
         subst (λ (y : Given). BothRun y (steps step80Room 1000 (b .plain))) (sym q)
-        (subst (λ (x : Bool). Together step80Room (runCall 1000) (b .plain) (flatRun s 1000) (runIf step80Room 1000 (b .plain) x) (λ s′ p′. Agrees step80Room [] s′ p′)) (eq-eqb (b .plain .registers .phase) running (sym same-phase ∙ e))
+        (subst (λ (x : Bool). Together step80Room (runCall 1000) (b .plain) (flatRun s 1000) (runIf step80Room 1000 (b .plain) x)
+        (λ s′ p′. Agrees step80Room [] s′ p′)) (eq-eqb (b .plain .registers .phase) running (sym same-phase ∙ e))
         (unfold Agrees call flatCall in b .agrees))
 
     pub run-done : (phase count value : ℕ) (s′ : Flat) → gives (result phase count value) s′ ≡ flatRun s 1000 → line phase count value ≡ step80 image

@@ -77,7 +77,13 @@ same-length-3 : tie.Need-same-length-3
 same-length-3 c = search needs
 
 returns : tie.Need-returns
-returns c = begun-done _ _ _ _ _ (c .before .before .before .before .before .before .before .before .before .begin .result) (c .before .before .before .before .before .before .before .before .before .begin .ensures) _ (c .before .next .given .1) ∙ arguments-are (state (c .before .before .before .before .before .before .before .before .before .before .before .before .before .before .before .before .before .before .before .before .before .before .args .registers) (c .before .before .before .before .before .before .before .before .before .before .before .before .before .before .before .before .before .before .before .before .before .before .args .contents .now) (c .before .before .before .before .before .before .before .before .before .before .before .before .before .before .before .before .before .before .before .before .before .before .args .bodies .now) (c .before .before .before .before .before .before .before .before .before .before .before .before .before .before .before .before .before .before .before .before .before .before .args .stack .now) (c .before .before .before .before .before .before .before .before .before .before .before .before .before .before .before .before .before .before .before .before .before .before .args .cache .now)) _ _ (c .before .before .before .before .before .before .before .before .before .before .before .before .before .before .before .before .before .before .before .before .before .before .args .calls .now) (c .before .before .before .before .before .before .before .before .before .before .before .before .before .before .before .before .before .before .before .before .before .before .args .i + 4) (getD (c .before .before .before .before .before .before .before .before .before .before .before .before .before .before .before .before .before .before .before .before .before .before .args .calls .now) (c .before .before .before .before .before .before .before .before .before .before .before .before .before .before .before .before .before .before .before .before .before .before .args .i + 3) 0)
+returns c =
+    let at-begin = c .before .before .before .before .before .before .before .before .before in
+    let at-start = at-begin .before .before .before .before .before .before .before .before .before .before .before .before .before in
+    let args = at-start .args in
+    begun-done _ _ _ _ _ (at-begin .begin .result) (at-begin .begin .ensures) _ (c .before .next .given .1)
+    ∙ arguments-are (state (args .registers) (args .contents .now) (args .bodies .now) (args .stack .now) (args .cache .now)) _ _ (args .calls .now)
+    (args .i + 4) (getD (args .calls .now) (args .i + 3) 0)
 
 same-length-4 : tie.Need-same-length-4
 same-length-4 c = search needs
@@ -89,7 +95,13 @@ same-length-6 : tie.Need-same-length-6
 same-length-6 c = search needs
 
 returns-2 : tie.Need-returns-2
-returns-2 c = begun-refused _ _ _ _ _ (c .before .before .before .before .before .before .before .before .before .begin .result) (c .before .before .before .before .before .before .before .before .before .begin .ensures) _ _ (c .before .k .given .1) ∙ arguments-are (state (c .before .before .before .before .before .before .before .before .before .before .before .before .before .before .before .before .before .before .before .before .before .before .args .registers) (c .before .before .before .before .before .before .before .before .before .before .before .before .before .before .before .before .before .before .before .before .before .before .args .contents .now) (c .before .before .before .before .before .before .before .before .before .before .before .before .before .before .before .before .before .before .before .before .before .before .args .bodies .now) (c .before .before .before .before .before .before .before .before .before .before .before .before .before .before .before .before .before .before .before .before .before .before .args .stack .now) (c .before .before .before .before .before .before .before .before .before .before .before .before .before .before .before .before .before .before .before .before .before .before .args .cache .now)) _ _ (c .before .before .before .before .before .before .before .before .before .before .before .before .before .before .before .before .before .before .before .before .before .before .args .calls .now) (c .before .before .before .before .before .before .before .before .before .before .before .before .before .before .before .before .before .before .before .before .before .before .args .i + 4) (getD (c .before .before .before .before .before .before .before .before .before .before .before .before .before .before .before .before .before .before .before .before .before .before .args .calls .now) (c .before .before .before .before .before .before .before .before .before .before .before .before .before .before .before .before .before .before .before .before .before .before .args .i + 3) 0)
+returns-2 c =
+    let at-begin = c .before .before .before .before .before .before .before .before .before in
+    let at-start = at-begin .before .before .before .before .before .before .before .before .before .before .before .before .before in
+    let args = at-start .args in
+    begun-refused _ _ _ _ _ (at-begin .begin .result) (at-begin .begin .ensures) _ _ (c .before .k .given .1)
+    ∙ arguments-are (state (args .registers) (args .contents .now) (args .bodies .now) (args .stack .now) (args .cache .now)) _ _ (args .calls .now)
+    (args .i + 4) (getD (args .calls .now) (args .i + 3) 0)
 
 pub begin-call-spec : {M : Type 1} → statement M
 begin-call-spec =

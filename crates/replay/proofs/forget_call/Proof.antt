@@ -19,13 +19,19 @@ same-length : tie.Need-same-length
 same-length c = search needs
 
 returns : tie.Need-returns
-returns c = forgotten-done _ _ _ _ _ (c .before .before .before .before .before .before .before .before .before .before .args .registers) (c .before .before .before .before .forget .result) (c .before .before .before .before .forget .ensures) (c .enum-told .given .1)
+returns c =
+    let at-forget = c .before .before .before .before in
+    let at-start = at-forget .before .before .before .before .before .before in
+    forgotten-done _ _ _ _ _ (at-start .args .registers) (at-forget .forget .result) (at-forget .forget .ensures) (c .enum-told .given .1)
 
 same-length-2 : tie.Need-same-length-2
 same-length-2 c = search needs
 
 returns-2 : tie.Need-returns-2
-returns-2 c = forgotten-refused _ _ _ _ _ (c .before .before .before .before .before .before .before .before .before .before .before .args .registers) (c .before .before .before .before .before .forget .result) (c .before .before .before .before .before .forget .ensures) _ (c .before .k .given .1)
+returns-2 c =
+    let at-forget = c .before .before .before .before .before in
+    let at-start = at-forget .before .before .before .before .before .before in
+    forgotten-refused _ _ _ _ _ (at-start .args .registers) (at-forget .forget .result) (at-forget .forget .ensures) _ (c .before .k .given .1)
 
 pub forget-call-spec : {M : Type 1} → statement M
 forget-call-spec =

@@ -34,19 +34,31 @@ same-length : tie.Need-same-length
 same-length c = search needs
 
 returns : tie.Need-returns
-returns c = noted-done (c .before .before .before .before .before .before .before .before .args .performed) (c .before .before .before .before .before .before .before .before .args .answers .now) _ (c .before .before .before .before .before .before .before .before .args .at) _ (c .before .before .before .before .before .performed .given .1) (c .before .before .put .ensures)
+returns c =
+    let at-performed = c .before .before .before .before .before in
+    let at-start = at-performed .before .before .before in
+    let args = at-start .args in
+    noted-done (args .performed) (args .answers .now) _ (args .at) _ (at-performed .performed .given .1) (c .before .before .put .ensures)
 
 same-length-2 : tie.Need-same-length-2
 same-length-2 c = search needs
 
 returns-2 : tie.Need-returns-2
-returns-2 c = noted-refused (c .before .before .before .before .before .before .before .before .args .performed) (c .before .before .before .before .before .before .before .before .args .answers .now) _ (c .before .before .before .before .before .before .before .before .args .at) _ _ (c .before .before .before .before .before .performed2 .given .1) (c .before .before .put2 .ensures)
+returns-2 c =
+    let at-performed2 = c .before .before .before .before .before in
+    let at-start = at-performed2 .before .before .before in
+    let args = at-start .args in
+    noted-refused (args .performed) (args .answers .now) _ (args .at) _ _ (at-performed2 .performed2 .given .1) (c .before .before .put2 .ensures)
 
 same-length-3 : tie.Need-same-length-3
 same-length-3 c = search needs
 
 returns-3 : tie.Need-returns-3
-returns-3 c = noted-ran (c .before .before .before .before .before .before .before .before .before .before .args .performed) (c .before .before .before .before .before .before .before .before .before .before .args .answers .now) _ (c .before .before .before .before .before .before .before .before .before .before .args .at) _ _ (c .before .before .before .before .before .before .before .performed3 .given .1) (c .before .before .put3 .ensures)
+returns-3 c =
+    let at-performed3 = c .before .before .before .before .before .before .before in
+    let at-start = at-performed3 .before .before .before in
+    let args = at-start .args in
+    noted-ran (args .performed) (args .answers .now) _ (args .at) _ _ (at-performed3 .performed3 .given .1) (c .before .before .put3 .ensures)
 
 pub note-spec : {M : Type 1} → statement M
 note-spec =

@@ -12,13 +12,21 @@ use Rattle.replay.proofs.forget_call.Reads as forget-call-reads
 use Rattle.replay.proofs.run_call.Reads as run-call-reads
 
 mul-kind : tie.Need-mul-kind
-mul-kind c = let h = within (c .before .before .before .before .before .args .calls .now) (c .before .before .before .before .before .args .i) (c .before .before .before .before .before .pre) in omega arith
+mul-kind c =
+    let at-start = c .before .before .before .before .before in
+    let h = within (at-start .args .calls .now) (at-start .args .i) (at-start .pre) in omega arith
 
 shared-slice-read-kind : tie.Need-shared-slice-read-kind
-shared-slice-read-kind c = within (c .before .before .before .before .before .before .args .calls .now) (c .before .before .before .before .before .before .args .i) (c .before .before .before .before .before .before .pre)
+shared-slice-read-kind c =
+    let at-start = c .before .before .before .before .before .before in
+    within (at-start .args .calls .now) (at-start .args .i) (at-start .pre)
 
 begin-call-requires : tie.Need-begin-call-requires
-begin-call-requires c κs = begin-fits (c .before .before .before .before .before .before .before .before .before .before .before .args .calls .now) (c .before .before .before .before .before .before .before .before .before .before .before .args .i) (within (c .before .before .before .before .before .before .before .before .before .before .before .args .calls .now) (c .before .before .before .before .before .before .before .before .before .before .before .args .i) (c .before .before .before .before .before .before .before .before .before .before .before .pre)) (c .before .before .before .before .if1 .taken) (c .before .before .before .before .before .before .before .before .before .before .before .pre)
+begin-call-requires c κs =
+    let at-if1 = c .before .before .before .before in
+    let at-start = at-if1 .before .before .before .before .before .before .before in
+    let args = at-start .args in
+    begin-fits (args .calls .now) (args .i) (within (args .calls .now) (args .i) (at-start .pre)) (at-if1 .if1 .taken) (at-start .pre)
 
 same-length : tie.Need-same-length
 same-length c = search needs
@@ -33,10 +41,18 @@ same-length-4 : tie.Need-same-length-4
 same-length-4 c = search needs
 
 returns : tie.Need-returns
-returns c = c .before .before .before .before .before .before .begin-call .ensures ∙ calls-begin (c .before .before .before .before .before .before .before .before .before .before .before .before .before .before .before .before .before .before .args .calls .now) (c .before .before .before .before .before .before .before .before .before .before .before .before .before .before .before .before .before .before .args .i) _ (c .before .before .before .before .before .before .before .before .before .before .before .if1 .taken)
+returns c =
+    let at-begin-call = c .before .before .before .before .before .before in
+    let at-if1 = at-begin-call .before .before .before .before .before in
+    let at-start = at-if1 .before .before .before .before .before .before .before in
+    at-begin-call .begin-call .ensures ∙ calls-begin (at-start .args .calls .now) (at-start .args .i) _ (at-if1 .if1 .taken)
 
 run-call-requires : tie.Need-run-call-requires
-run-call-requires c κs = run-fits (c .before .before .before .before .before .before .before .before .before .before .before .before .args .calls .now) (c .before .before .before .before .before .before .before .before .before .before .before .before .args .i) (within (c .before .before .before .before .before .before .before .before .before .before .before .before .args .calls .now) (c .before .before .before .before .before .before .before .before .before .before .before .before .args .i) (c .before .before .before .before .before .before .before .before .before .before .before .before .pre)) (c .before .before .before .before .if2 .taken) (c .before .before .before .before .before .before .before .before .before .before .before .before .pre)
+run-call-requires c κs =
+    let at-if2 = c .before .before .before .before in
+    let at-start = at-if2 .before .before .before .before .before .before .before .before in
+    let args = at-start .args in
+    run-fits (args .calls .now) (args .i) (within (args .calls .now) (args .i) (at-start .pre)) (at-if2 .if2 .taken) (at-start .pre)
 
 same-length-5 : tie.Need-same-length-5
 same-length-5 c = search needs
@@ -51,7 +67,12 @@ same-length-8 : tie.Need-same-length-8
 same-length-8 c = search needs
 
 returns-2 : tie.Need-returns-2
-returns-2 c = c .before .before .before .before .before .before .before .before .run-call .ensures ∙ calls-run (c .before .before .before .before .before .before .before .before .before .before .before .before .before .before .before .before .before .before .before .before .before .args .calls .now) (c .before .before .before .before .before .before .before .before .before .before .before .before .before .before .before .before .before .before .before .before .before .args .i) _ (c .before .before .before .before .before .before .before .before .before .before .before .before .before .before .if1 .left) (c .before .before .before .before .before .before .before .before .before .before .before .before .before .if2 .taken)
+returns-2 c =
+    let at-run-call = c .before .before .before .before .before .before .before .before in
+    let at-if2 = at-run-call .before .before .before .before .before in
+    let at-if1 = at-if2 .before in
+    let at-start = at-if1 .before .before .before .before .before .before .before in
+    at-run-call .run-call .ensures ∙ calls-run (at-start .args .calls .now) (at-start .args .i) _ (at-if1 .if1 .left) (at-if2 .if2 .taken)
 
 drop-call-requires : tie.Need-drop-call-requires
 drop-call-requires c κs = search needs
@@ -69,7 +90,12 @@ same-length-12 : tie.Need-same-length-12
 same-length-12 c = search needs
 
 returns-3 : tie.Need-returns-3
-returns-3 c = c .drop-call .ensures ∙ calls-drop (c .before .before .before .before .before .before .before .before .before .before .before .before .before .before .args .calls .now) (c .before .before .before .before .before .before .before .before .before .before .before .before .before .before .args .i) _ (c .before .before .before .before .before .before .before .if1 .left) (c .before .before .before .before .before .before .if2 .left) (c .before .before .before .before .before .if3 .taken)
+returns-3 c =
+    let at-if3 = c .before .before .before .before .before in
+    let at-if2 = at-if3 .before in
+    let at-if1 = at-if2 .before in
+    let at-start = at-if1 .before .before .before .before .before .before .before in
+    c .drop-call .ensures ∙ calls-drop (at-start .args .calls .now) (at-start .args .i) _ (at-if1 .if1 .left) (at-if2 .if2 .left) (at-if3 .if3 .taken)
 
 forget-call-requires : tie.Need-forget-call-requires
 forget-call-requires c κs = search needs
@@ -87,7 +113,12 @@ same-length-16 : tie.Need-same-length-16
 same-length-16 c = search needs
 
 returns-4 : tie.Need-returns-4
-returns-4 c = c .before .before .forget-call .ensures ∙ calls-forget (c .before .before .before .before .before .before .before .before .before .before .before .before .before .before .before .before .args .calls .now) (c .before .before .before .before .before .before .before .before .before .before .before .before .before .before .before .before .args .i) _ (c .before .before .before .before .before .before .before .before .before .if1 .left) (c .before .before .before .before .before .before .before .before .if2 .left) (c .before .before .before .before .before .before .before .if3 .left)
+returns-4 c =
+    let at-if3 = c .before .before .before .before .before .before .before in
+    let at-if2 = at-if3 .before in
+    let at-if1 = at-if2 .before in
+    let at-start = at-if1 .before .before .before .before .before .before .before in
+    c .before .before .forget-call .ensures ∙ calls-forget (at-start .args .calls .now) (at-start .args .i) _ (at-if1 .if1 .left) (at-if2 .if2 .left) (at-if3 .if3 .left)
 
 pub perform-spec : {M : Type 1} → statement M
 perform-spec =

@@ -22,7 +22,10 @@ abbrev μ-loop : tie.MeasureT-loop
     room - made
 
 loop-holds : tie.Need-loop-holds Inv-loop μ-loop
-loop-holds c = (refl, starts (c .before .before .before .before .before .before .args .calls .now) (c .before .before .before .before .before .before .args .answers .now) (state (c .before .before .before .before .before .before .args .start) (c .before .before .before .before .before .before .args .contents .now) (c .before .before .before .before .before .before .args .bodies .now) (c .before .before .before .before .before .before .args .stack .now) (c .before .before .before .before .before .before .args .cache .now)))
+loop-holds c =
+    let at-start = c .before .before .before .before .before .before in
+    let args = at-start .args in
+    (refl, starts (args .calls .now) (args .answers .now) (state (args .start) (args .contents .now) (args .bodies .now) (args .stack .now) (args .cache .now)))
 
 size-at-requires : tie.Need-size-at-requires Inv-loop μ-loop
 size-at-requires c κs = search needs
@@ -43,28 +46,74 @@ same-length-5 : tie.Need-same-length-5 Inv-loop μ-loop
 same-length-5 c = c .before .before .before .loop .inv .1 .long
 
 returns : tie.Need-returns Inv-loop μ-loop
-returns c = ends-none (c .before .before .before .before .before .before .before .before .before .before .args .calls .now) (c .before .before .before .before .before .before .before .before .before .before .args .answers .now) _ _ _ _ _ (c .before .before .before .loop .inv .1) (c .before .size-at .result) (c .before .size-at .ensures) (c .if1 .taken)
+returns c =
+    let at-start = c .before .before .before .before .before .before .before .before .before .before in
+    ends-none (at-start .args .calls .now) (at-start .args .answers .now) _ _ _ _ _ (c .before .before .before .loop .inv .1) (c .before .size-at .result) (c .before .size-at .ensures) (c .if1 .taken)
 
 perform-requires : tie.Need-perform-requires Inv-loop μ-loop
-perform-requires c κs = stands (c .before .before .before .before .before .before .before .before .before .before .before .before .before .before .args .calls .now) (c .before .before .before .before .before .before .before .before .before .before .before .before .before .before .args .answers .now) _ _ _ _ _ (c .before .before .before .before .before .before .before .loop .inv .1) (c .before .before .before .before .before .before .loop-test .taken) (c .before .before .before .before .before .size-at .result) (c .before .before .before .before .before .size-at .ensures) (c .before .before .before .before .if1 .left)
+perform-requires c κs =
+    let at-if1 = c .before .before .before .before in
+    let at-size-at = at-if1 .before in
+    let at-loop-test = at-size-at .before in
+    let at-loop = at-loop-test .before in
+    let at-start = at-loop .before .before .before .before .before .before .before in
+    stands (at-start .args .calls .now) (at-start .args .answers .now) _ _ _ _ _ (at-loop .loop .inv .1) (at-loop-test .loop-test .taken)
+    (at-size-at .size-at .result) (at-size-at .size-at .ensures) (at-if1 .if1 .left)
 
 mul-note : tie.Need-mul-note Inv-loop μ-loop
-mul-note c = let f = fits (c .before .before .before .before .before .before .before .before .before .before .before .before .before .before .before .before .before .before .before .before .before .before .before .before .args .calls .now) (c .before .before .before .before .before .before .before .before .before .before .before .before .before .before .before .before .before .before .before .before .before .before .before .before .args .answers .now) _ _ _ _ _ (c .before .before .before .before .before .before .before .before .before .before .before .before .before .before .before .before .before .loop .inv .1) (c .before .before .before .before .before .before .before .before .before .before .before .before .before .before .before .before .loop-test .taken) (c .before .before .before .before .before .before .before .before .before .before .before .before .before .before .before .size-at .result) (c .before .before .before .before .before .before .before .before .before .before .before .before .before .before .before .size-at .ensures) (c .before .before .before .before .before .before .before .before .before .before .before .before .before .before .if1 .left) in omega arith
+mul-note c =
+    let at-if1 = c .before .before .before .before .before .before .before .before .before .before .before .before .before .before in
+    let at-size-at = at-if1 .before in
+    let at-loop-test = at-size-at .before in
+    let at-loop = at-loop-test .before in
+    let at-start = at-loop .before .before .before .before .before .before .before in
+    let f = fits (at-start .args .calls .now) (at-start .args .answers .now) _ _ _ _ _ (at-loop .loop .inv .1) (at-loop-test .loop-test .taken)
+    (at-size-at .size-at .result) (at-size-at .size-at .ensures) (at-if1 .if1 .left) in omega arith
 
 note-requires : tie.Need-note-requires Inv-loop μ-loop
-note-requires c κs = fits (c .before .before .before .before .before .before .before .before .before .before .before .before .before .before .before .before .before .before .before .before .before .before .before .before .args .calls .now) (c .before .before .before .before .before .before .before .before .before .before .before .before .before .before .before .before .before .before .before .before .before .before .before .before .args .answers .now) _ _ _ _ _ (c .before .before .before .before .before .before .before .before .before .before .before .before .before .before .before .before .before .loop .inv .1) (c .before .before .before .before .before .before .before .before .before .before .before .before .before .before .before .before .loop-test .taken) (c .before .before .before .before .before .before .before .before .before .before .before .before .before .before .before .size-at .result) (c .before .before .before .before .before .before .before .before .before .before .before .before .before .before .before .size-at .ensures) (c .before .before .before .before .before .before .before .before .before .before .before .before .before .before .if1 .left)
+note-requires c κs =
+    let at-if1 = c .before .before .before .before .before .before .before .before .before .before .before .before .before .before in
+    let at-size-at = at-if1 .before in
+    let at-loop-test = at-size-at .before in
+    let at-loop = at-loop-test .before in
+    let at-start = at-loop .before .before .before .before .before .before .before in
+    fits (at-start .args .calls .now) (at-start .args .answers .now) _ _ _ _ _ (at-loop .loop .inv .1) (at-loop-test .loop-test .taken)
+    (at-size-at .size-at .result) (at-size-at .size-at .ensures) (at-if1 .if1 .left)
 
 add-i : tie.Need-add-i Inv-loop μ-loop
-add-i c = let f = ends-inside (c .before .before .before .before .before .before .before .before .before .before .before .before .before .before .before .before .before .before .before .before .before .before .before .before .before .before .before .args .calls .now) (c .before .before .before .before .before .before .before .before .before .before .before .before .before .before .before .before .before .before .before .before .before .before .before .before .before .before .before .args .answers .now) _ _ _ _ _ (c .before .before .before .before .before .before .before .before .before .before .before .before .before .before .before .before .before .before .before .before .loop .inv .1) (c .before .before .before .before .before .before .before .before .before .before .before .before .before .before .before .before .before .before .before .loop-test .taken) (c .before .before .before .before .before .before .before .before .before .before .before .before .before .before .before .before .before .before .size-at .result) (c .before .before .before .before .before .before .before .before .before .before .before .before .before .before .before .before .before .before .size-at .ensures) (c .before .before .before .before .before .before .before .before .before .before .before .before .before .before .before .before .before .if1 .left) in omega (arith, c .before .before .before .before .before .before .before .before .before .before .before .before .before .before .before .before .before .before .before .before .before .before .before .before .before .before .before .good)
+add-i c =
+    let at-if1 = c .before .before .before .before .before .before .before .before .before .before .before .before .before .before .before .before .before in
+    let at-size-at = at-if1 .before in
+    let at-loop-test = at-size-at .before in
+    let at-loop = at-loop-test .before in
+    let at-start = at-loop .before .before .before .before .before .before .before in
+    let f = ends-inside (at-start .args .calls .now) (at-start .args .answers .now) _ _ _ _ _ (at-loop .loop .inv .1) (at-loop-test .loop-test .taken)
+    (at-size-at .size-at .result) (at-size-at .size-at .ensures) (at-if1 .if1 .left) in omega (arith, at-start .good)
 
 add-made : tie.Need-add-made Inv-loop μ-loop
-add-made c = omega (arith, c .before .before .before .before .before .before .before .before .before .before .before .before .before .before .before .before .before .before .before .loop-test .taken, c .before .before .before .before .before .before .before .before .before .before .before .before .before .before .before .before .before .before .before .before .before .before .before .before .before .before .before .good)
+add-made c =
+    let at-loop-test = c .before .before .before .before .before .before .before .before .before .before .before .before .before .before .before .before .before .before .before in
+    let at-start = at-loop-test .before .before .before .before .before .before .before .before in
+    omega (arith, at-loop-test .loop-test .taken, at-start .good)
 
 loop-less : tie.Need-loop-less Inv-loop μ-loop
 loop-less c = omega (arith, c .before .before .before .before .before .before .before .before .before .before .before .before .before .before .before .before .before .before .before .loop-test .taken)
 
 loop-again : tie.Need-loop-again Inv-loop μ-loop
-loop-again c = (c .before .before .before .before .before .before .before .before .before .before .before .before .before .before .before .before .before .before .before .before .loop .inv .0, goes-on (c .before .before .before .before .before .before .before .before .before .before .before .before .before .before .before .before .before .before .before .before .before .before .before .before .before .before .before .args .calls .now) (c .before .before .before .before .before .before .before .before .before .before .before .before .before .before .before .before .before .before .before .before .before .before .before .before .before .before .before .args .answers .now) _ _ _ _ _ (c .before .before .before .before .before .before .before .before .before .before .before .before .before .before .before .before .before .before .before .before .loop .inv .1) (c .before .before .before .before .before .before .before .before .before .before .before .before .before .before .before .before .before .before .before .loop-test .taken) (c .before .before .before .before .before .before .before .before .before .before .before .before .before .before .before .before .before .before .size-at .result) (c .before .before .before .before .before .before .before .before .before .before .before .before .before .before .before .before .before .before .size-at .ensures) (c .before .before .before .before .before .before .before .before .before .before .before .before .before .before .before .before .before .if1 .left) (c .before .before .before .before .before .before .before .before .before .before .before .before .perform .result) _ _ _ _ _ (c .before .before .before .before .before .before .before .before .before .before .before .before .perform .ensures) (c .before .before .note .ensures .1) (c .before .before .before .before .before .before .before .before .before .before .before .before .perform .kept .1 .0) (c .before .before .before .before .before .before .before .before .before .before .before .before .perform .kept .1 .1 .0) (c .before .before .before .before .before .before .before .before .before .before .before .before .perform .kept .1 .1 .1 .0) (c .before .before .before .before .before .before .before .before .before .before .before .before .perform .kept .1 .1 .1 .1 .0) _ (c .before .before .note .ensures .0))
+loop-again c =
+    let at-note = c .before .before in
+    let at-perform = at-note .before .before .before .before .before .before .before .before .before .before in
+    let at-if1 = at-perform .before .before .before .before .before in
+    let at-size-at = at-if1 .before in
+    let at-loop-test = at-size-at .before in
+    let at-loop = at-loop-test .before in
+    let at-start = at-loop .before .before .before .before .before .before .before in (
+      at-loop .loop .inv .0,
+      goes-on (at-start .args .calls .now) (at-start .args .answers .now) _ _ _ _ _ (at-loop .loop .inv .1)
+          (at-loop-test .loop-test .taken) (at-size-at .size-at .result) (at-size-at .size-at .ensures) (at-if1 .if1 .left) (at-perform .perform .result) _ _ _ _ _
+          (at-perform .perform .ensures) (at-note .note .ensures .1) (at-perform .perform .kept .1 .0) (at-perform .perform .kept .1 .1 .0)
+          (at-perform .perform .kept .1 .1 .1 .0) (at-perform .perform .kept .1 .1 .1 .1 .0) _ (at-note .note .ensures .0),
+    )
 
 same-length-6 : tie.Need-same-length-6 Inv-loop μ-loop
 same-length-6 c = c .before .loop .inv .1 .contents
@@ -82,7 +131,9 @@ same-length-10 : tie.Need-same-length-10 Inv-loop μ-loop
 same-length-10 c = c .before .loop .inv .1 .long
 
 returns-2 : tie.Need-returns-2 Inv-loop μ-loop
-returns-2 c = ends-full (c .before .before .before .before .before .before .before .before .args .calls .now) (c .before .before .before .before .before .before .before .before .args .answers .now) _ _ _ _ _ (c .before .loop .inv .1) (c .loop-test .left)
+returns-2 c =
+    let at-start = c .before .before .before .before .before .before .before .before in
+    ends-full (at-start .args .calls .now) (at-start .args .answers .now) _ _ _ _ _ (c .before .loop .inv .1) (c .loop-test .left)
 
 pub play-spec : {M : Type 1} → statement M
 play-spec =

@@ -36,9 +36,14 @@ same-length-5 c = search needs
 
 returns : tie.Need-returns
 returns c =
-    let a = c .before .before .before .before .before .before .before .before .before .before .before .before .before .before .before .before .before .before .before .before .before .before .before .before .before .before .before .before .before .before .before .before .before .before .before .before .before .args in
-    let load = c .before .before .before .before .before .before .before .before .before .before .before .before .before .before .before .before .before .before .before .before .before .before .before .before .before .before .load in
-    λ g. makes g (a .image .now) (a .calls .now) (a .answers .now) (a .contents .now) (a .bodies .now) (a .stack .now) (a .cache .now) _ _ _ (load .result) (load .ensures g (a .stack .now)) _ (c .before .before .before .before .before .before .before .before .before .before .before .before .before .before .before .before .before .before .start .given .1) _ _ _ (c .before .before .before .before .before .before .before .before .before .before .before .play .ensures)
+    let at-play = c .before .before .before .before .before .before .before .before .before .before .before in
+    let at-start = at-play .before .before .before .before .before .before .before in
+    let at-load = at-start .before .before .before .before .before .before .before .before in
+    let at-start′ = at-load .before .before .before .before .before .before .before .before .before .before .before in
+    let a = at-start′ .args in
+    let load = at-load .load in
+    λ g. makes g (a .image .now) (a .calls .now) (a .answers .now) (a .contents .now) (a .bodies .now) (a .stack .now) (a .cache .now) _ _ _ (load .result)
+    (load .ensures g (a .stack .now)) _ (at-start .start .given .1) _ _ _ (at-play .play .ensures)
 
 same-length-6 : tie.Need-same-length-6
 same-length-6 c = search needs
@@ -51,9 +56,12 @@ same-length-8 c = search needs
 
 returns-2 : tie.Need-returns-2
 returns-2 c =
-    let a = c .before .before .before .before .before .before .before .before .before .before .before .before .before .before .before .before .before .before .before .before .args in
-    let load = c .before .before .before .before .before .before .before .before .before .load in
-    λ g. declines g (a .image .now) (a .calls .now) (a .answers .now) (a .contents .now) (a .bodies .now) (a .stack .now) (a .cache .now) _ _ _ (load .result) (load .ensures g (a .stack .now)) _ _ (c .before .k .given .1)
+    let at-load = c .before .before .before .before .before .before .before .before .before in
+    let at-start = at-load .before .before .before .before .before .before .before .before .before .before .before in
+    let a = at-start .args in
+    let load = at-load .load in
+    λ g. declines g (a .image .now) (a .calls .now) (a .answers .now) (a .contents .now) (a .bodies .now) (a .stack .now) (a .cache .now) _ _ _ (load .result)
+    (load .ensures g (a .stack .now)) _ _ (c .before .k .given .1)
 
 pub replay-spec : {M : Type 1} → statement M
 replay-spec =

@@ -35,10 +35,14 @@ cast-low : tie.Need-cast-low
 cast-low c = omega (arith, c .before .shared-slice-known2 .given (c .before .before .before .before .before .before .before .args .i + 2))
 
 mul-n : tie.Need-mul-n
-mul-n c = let h = c .before .before .shared-slice-known .given (c .before .before .before .before .before .before .before .args .i + 1) in let l = c .before .shared-slice-known2 .given (c .before .before .before .before .before .before .before .args .i + 2) in omega arith
+mul-n c =
+    let at-start = c .before .before .before .before .before .before .before in
+    let h = c .before .before .shared-slice-known .given (at-start .args .i + 1) in let l = c .before .shared-slice-known2 .given (at-start .args .i + 2) in omega arith
 
 add-n : tie.Need-add-n
-add-n c = let h = c .before .before .shared-slice-known .given (c .before .before .before .before .before .before .before .args .i + 1) in let l = c .before .shared-slice-known2 .given (c .before .before .before .before .before .before .before .args .i + 2) in omega arith
+add-n c =
+    let at-start = c .before .before .before .before .before .before .before in
+    let h = c .before .before .shared-slice-known .given (at-start .args .i + 1) in let l = c .before .shared-slice-known2 .given (at-start .args .i + 2) in omega arith
 
 run-requires : tie.Need-run-requires
 run-requires c κs = search needs
@@ -63,7 +67,9 @@ same-length-4 c = search needs
 
 returns : tie.Need-returns
 unfolding runLength
-returns c = ran-done _ _ _ _ _ (c .before .before .before .before .before .before .before .before .before .before .before .run .result) (c .before .before .before .before .before .before .before .before .before .before .before .run .ensures .0) _ _ _ (c .before .next .given .1)
+returns c =
+    let at-run = c .before .before .before .before .before .before .before .before .before .before .before in
+    ran-done _ _ _ _ _ (at-run .run .result) (at-run .run .ensures .0) _ _ _ (c .before .next .given .1)
 
 same-length-5 : tie.Need-same-length-5
 same-length-5 c = search needs
@@ -79,7 +85,9 @@ same-length-8 c = search needs
 
 returns-2 : tie.Need-returns-2
 unfolding runLength
-returns-2 c = ran-refused _ _ _ _ _ (c .before .before .before .before .before .before .before .before .before .before .before .run .result) (c .before .before .before .before .before .before .before .before .before .before .before .run .ensures .0) _ _ (c .before .k .given .1)
+returns-2 c =
+    let at-run = c .before .before .before .before .before .before .before .before .before .before .before in
+    ran-refused _ _ _ _ _ (at-run .run .result) (at-run .run .ensures .0) _ _ (c .before .k .given .1)
 
 pub run-call-spec : {M : Type 1} → statement M
 run-call-spec =

@@ -36,7 +36,14 @@ same-length-3 : tie.Need-same-length-3
 same-length-3 c = search needs
 
 returns : tie.Need-returns
-returns c = begin-done (c .before .before .before .before .before .before .before .before .before .before .before .before .before .before .before .before .before .before .before .before .before .before .args .registers .now) (c .before .before .before .before .before .before .before .before .before .before .before .before .before .before .before .before .before .before .before .before .before .before .args .contents .now) (c .before .before .before .before .before .before .before .before .before .before .before .before .before .before .before .before .before .before .before .before .before .before .args .bodies .now) (c .before .before .before .before .before .before .before .before .before .before .before .before .before .before .before .before .before .before .before .before .before .before .args .stack .now) (c .before .before .before .before .before .before .before .before .before .before .before .before .before .before .before .before .before .before .before .before .before .before .args .cache .now) (c .before .before .before .before .before .before .before .before .before .before .before .before .before .before .before .taken .result) (c .before .before .before .before .before .before .before .before .before .before .before .before .before .before .before .taken .ensures) (c .before .before .before .before .before .before .before .before .before .before .before .before .before .before .before .before .before .before .before .before .before .before .args .receiver) (c .before .before .before .before .before .before .before .before .before .before .before .before .before .before .before .before .before .before .before .before .before .before .args .selector) (c .before .before .before .before .before .before .before .before .before .before .before .before .before .before .before .before .before .before .before .before .before .before .args .arguments .now) _ _ _ _ (c .before .before .before .before .before .before .before .before .before .before .before .begin .result) (c .before .before .before .before .before .before .before .before .before .before .before .begin .ensures) _ (c .before .before .before .r .given .1) (c .put .ensures)
+returns c =
+    let at-begin = c .before .before .before .before .before .before .before .before .before .before .before in
+    let at-taken = at-begin .before .before .before .before in
+    let at-start = at-taken .before .before .before .before .before .before .before in
+    let args = at-start .args in
+    begin-done (args .registers .now) (args .contents .now) (args .bodies .now) (args .stack .now) (args .cache .now) (at-taken .taken .result)
+    (at-taken .taken .ensures) (args .receiver) (args .selector) (args .arguments .now) _ _ _ _ (at-begin .begin .result) (at-begin .begin .ensures) _
+    (c .before .before .before .r .given .1) (c .put .ensures)
 
 same-length-4 : tie.Need-same-length-4
 same-length-4 c = search needs
@@ -48,7 +55,14 @@ same-length-6 : tie.Need-same-length-6
 same-length-6 c = search needs
 
 returns-2 : tie.Need-returns-2
-returns-2 c = begin-refused (c .before .before .before .before .before .before .before .before .before .before .before .before .before .before .before .before .before .before .before .before .before .before .args .registers .now) (c .before .before .before .before .before .before .before .before .before .before .before .before .before .before .before .before .before .before .before .before .before .before .args .contents .now) (c .before .before .before .before .before .before .before .before .before .before .before .before .before .before .before .before .before .before .before .before .before .before .args .bodies .now) (c .before .before .before .before .before .before .before .before .before .before .before .before .before .before .before .before .before .before .before .before .before .before .args .stack .now) (c .before .before .before .before .before .before .before .before .before .before .before .before .before .before .before .before .before .before .before .before .before .before .args .cache .now) (c .before .before .before .before .before .before .before .before .before .before .before .before .before .before .before .taken .result) (c .before .before .before .before .before .before .before .before .before .before .before .before .before .before .before .taken .ensures) (c .before .before .before .before .before .before .before .before .before .before .before .before .before .before .before .before .before .before .before .before .before .before .args .receiver) (c .before .before .before .before .before .before .before .before .before .before .before .before .before .before .before .before .before .before .before .before .before .before .args .selector) (c .before .before .before .before .before .before .before .before .before .before .before .before .before .before .before .before .before .before .before .before .before .before .args .arguments .now) _ _ _ _ (c .before .before .before .before .before .before .before .before .before .before .before .begin .result) (c .before .before .before .before .before .before .before .before .before .before .before .begin .ensures) _ _ (c .before .before .before .k .given .1) (c .put2 .ensures)
+returns-2 c =
+    let at-begin = c .before .before .before .before .before .before .before .before .before .before .before in
+    let at-taken = at-begin .before .before .before .before in
+    let at-start = at-taken .before .before .before .before .before .before .before in
+    let args = at-start .args in
+    begin-refused (args .registers .now) (args .contents .now) (args .bodies .now) (args .stack .now) (args .cache .now) (at-taken .taken .result)
+    (at-taken .taken .ensures) (args .receiver) (args .selector) (args .arguments .now) _ _ _ _ (at-begin .begin .result) (at-begin .begin .ensures) _ _
+    (c .before .before .before .k .given .1) (c .put2 .ensures)
 
 pub sofaduck-begin-spec : {M : Type 1} → statement M
 sofaduck-begin-spec =

@@ -20,10 +20,22 @@ enum-known-k : tie.Need-enum-known-k
 enum-known-k c = search needs
 
 returns : tie.Need-returns
-returns c = check-done (c .before .before .before .before .before .before .before .before .args .registers .now) (c .before .before .before .before .before .before .before .before .args .contents .now) (c .before .before .before .before .before .before .before .before .args .bodies .now) (c .before .before .before .before .before .before .before .before .args .stack .now) (c .before .before .before .before .before .before .before .before .args .cache .now) (c .before .before .before .taken .result) (c .before .before .before .taken .ensures) (c .before .before .check .result) (c .before .before .check .ensures) (c .enum-told .given .1)
+returns c =
+    let at-check = c .before .before in
+    let at-taken = at-check .before in
+    let at-start = at-taken .before .before .before .before .before in
+    let args = at-start .args in
+    check-done (args .registers .now) (args .contents .now) (args .bodies .now) (args .stack .now) (args .cache .now) (at-taken .taken .result)
+    (at-taken .taken .ensures) (at-check .check .result) (at-check .check .ensures) (c .enum-told .given .1)
 
 returns-2 : tie.Need-returns-2
-returns-2 c = check-refused (c .before .before .before .before .before .before .before .before .before .args .registers .now) (c .before .before .before .before .before .before .before .before .before .args .contents .now) (c .before .before .before .before .before .before .before .before .before .args .bodies .now) (c .before .before .before .before .before .before .before .before .before .args .stack .now) (c .before .before .before .before .before .before .before .before .before .args .cache .now) (c .before .before .before .before .taken .result) (c .before .before .before .before .taken .ensures) (c .before .before .before .check .result) (c .before .before .before .check .ensures) _ (c .before .k .given .1)
+returns-2 c =
+    let at-check = c .before .before .before in
+    let at-taken = at-check .before in
+    let at-start = at-taken .before .before .before .before .before in
+    let args = at-start .args in
+    check-refused (args .registers .now) (args .contents .now) (args .bodies .now) (args .stack .now) (args .cache .now) (at-taken .taken .result)
+    (at-taken .taken .ensures) (at-check .check .result) (at-check .check .ensures) _ (c .before .k .given .1)
 
 pub sofaduck-check-spec : {M : Type 1} → statement M
 sofaduck-check-spec =

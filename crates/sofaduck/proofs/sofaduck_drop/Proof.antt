@@ -27,10 +27,22 @@ put-requires-2 : tie.Need-put-requires-2
 put-requires-2 c κs = search needs
 
 returns : tie.Need-returns
-returns c = drop-done (c .before .before .before .before .before .before .before .before .before .before .before .before .args .registers .now) (c .before .before .before .before .before .before .before .before .before .before .before .before .args .contents .now) (c .before .before .before .before .before .before .before .before .before .before .before .before .args .bodies .now) (c .before .before .before .before .before .before .before .before .before .before .before .before .args .stack .now) (c .before .before .before .before .before .before .before .before .before .before .before .before .args .cache .now) (c .before .before .before .before .before .before .taken .result) (c .before .before .before .before .before .before .taken .ensures) _ (c .before .before .before .before .before .drop .result) (c .before .before .before .before .before .drop .ensures) _ (c .before .before .before .r .given .1) (c .put .ensures)
+returns c =
+    let at-drop = c .before .before .before .before .before in
+    let at-taken = at-drop .before in
+    let at-start = at-taken .before .before .before .before .before .before in
+    let args = at-start .args in
+    drop-done (args .registers .now) (args .contents .now) (args .bodies .now) (args .stack .now) (args .cache .now) (at-taken .taken .result)
+    (at-taken .taken .ensures) _ (at-drop .drop .result) (at-drop .drop .ensures) _ (c .before .before .before .r .given .1) (c .put .ensures)
 
 returns-2 : tie.Need-returns-2
-returns-2 c = drop-refused (c .before .before .before .before .before .before .before .before .before .before .before .before .args .registers .now) (c .before .before .before .before .before .before .before .before .before .before .before .before .args .contents .now) (c .before .before .before .before .before .before .before .before .before .before .before .before .args .bodies .now) (c .before .before .before .before .before .before .before .before .before .before .before .before .args .stack .now) (c .before .before .before .before .before .before .before .before .before .before .before .before .args .cache .now) (c .before .before .before .before .before .before .taken .result) (c .before .before .before .before .before .before .taken .ensures) _ (c .before .before .before .before .before .drop .result) (c .before .before .before .before .before .drop .ensures) _ _ (c .before .before .before .k .given .1) (c .put2 .ensures)
+returns-2 c =
+    let at-drop = c .before .before .before .before .before in
+    let at-taken = at-drop .before in
+    let at-start = at-taken .before .before .before .before .before .before in
+    let args = at-start .args in
+    drop-refused (args .registers .now) (args .contents .now) (args .bodies .now) (args .stack .now) (args .cache .now) (at-taken .taken .result)
+    (at-taken .taken .ensures) _ (at-drop .drop .result) (at-drop .drop .ensures) _ _ (c .before .before .before .k .given .1) (c .put2 .ensures)
 
 pub sofaduck-drop-spec : {M : Type 1} → statement M
 sofaduck-drop-spec =

@@ -23,13 +23,25 @@ same-length : tie.Need-same-length
 same-length c = search needs
 
 returns : tie.Need-returns
-returns c = forget-done (c .before .before .before .before .before .before .before .before .before .before .before .args .registers .now) (c .before .before .before .before .before .before .before .before .before .before .before .args .contents .now) (c .before .before .before .before .before .before .before .before .before .before .before .args .bodies .now) (c .before .before .before .before .before .before .before .before .before .before .before .args .stack .now) (c .before .before .before .before .before .before .before .before .before .before .before .args .cache .now) (c .before .before .before .before .before .before .taken .result) (c .before .before .before .before .before .before .taken .ensures) _ (c .before .before .before .before .forget .result) (c .before .before .before .before .forget .ensures) (c .enum-told .given .1)
+returns c =
+    let at-forget = c .before .before .before .before in
+    let at-taken = at-forget .before .before in
+    let at-start = at-taken .before .before .before .before .before in
+    let args = at-start .args in
+    forget-done (args .registers .now) (args .contents .now) (args .bodies .now) (args .stack .now) (args .cache .now) (at-taken .taken .result)
+    (at-taken .taken .ensures) _ (at-forget .forget .result) (at-forget .forget .ensures) (c .enum-told .given .1)
 
 same-length-2 : tie.Need-same-length-2
 same-length-2 c = search needs
 
 returns-2 : tie.Need-returns-2
-returns-2 c = forget-refused (c .before .before .before .before .before .before .before .before .before .before .before .before .args .registers .now) (c .before .before .before .before .before .before .before .before .before .before .before .before .args .contents .now) (c .before .before .before .before .before .before .before .before .before .before .before .before .args .bodies .now) (c .before .before .before .before .before .before .before .before .before .before .before .before .args .stack .now) (c .before .before .before .before .before .before .before .before .before .before .before .before .args .cache .now) (c .before .before .before .before .before .before .before .taken .result) (c .before .before .before .before .before .before .before .taken .ensures) _ (c .before .before .before .before .before .forget .result) (c .before .before .before .before .before .forget .ensures) _ (c .before .k .given .1)
+returns-2 c =
+    let at-forget = c .before .before .before .before .before in
+    let at-taken = at-forget .before .before in
+    let at-start = at-taken .before .before .before .before .before in
+    let args = at-start .args in
+    forget-refused (args .registers .now) (args .contents .now) (args .bodies .now) (args .stack .now) (args .cache .now) (at-taken .taken .result)
+    (at-taken .taken .ensures) _ (at-forget .forget .result) (at-forget .forget .ensures) _ (c .before .k .given .1)
 
 pub sofaduck-forget-spec : {M : Type 1} → statement M
 sofaduck-forget-spec =

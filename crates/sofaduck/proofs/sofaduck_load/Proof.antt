@@ -33,9 +33,12 @@ same-length-3 c = search needs
 
 returns : tie.Need-returns
 returns c =
-    let a = c .before .before .before .before .before .before .before .before .before .before .before .before .before .before .before .before .before .before .before .args in
-    let load = c .before .before .before .before .before .before .before .before .before .before .before .load in
-    load-done (a .image .now) (a .contents .now) (a .bodies .now) (a .cache .now) _ _ _ (load .result) (load .ensures) _ _ (c .before .before .before .r .given .1) (c .put .ensures)
+    let at-r = c .before .before .before in
+    let at-load = at-r .before .before .before .before .before .before .before .before in
+    let at-start = at-load .before .before .before .before .before .before .before .before in
+    let a = at-start .args in
+    let load = at-load .load in
+    load-done (a .image .now) (a .contents .now) (a .bodies .now) (a .cache .now) _ _ _ (load .result) (load .ensures) _ _ (at-r .r .given .1) (c .put .ensures)
 
 same-length-4 : tie.Need-same-length-4
 same-length-4 c = search needs
@@ -48,9 +51,12 @@ same-length-6 c = search needs
 
 returns-2 : tie.Need-returns-2
 returns-2 c =
-    let a = c .before .before .before .before .before .before .before .before .before .before .before .before .before .before .before .before .before .before .before .args in
-    let load = c .before .before .before .before .before .before .before .before .before .before .before .load in
-    load-refused (a .image .now) (a .contents .now) (a .bodies .now) (a .cache .now) _ _ _ (load .result) (load .ensures) _ _ _ (c .before .before .before .k .given .1) (c .put2 .ensures)
+    let at-k = c .before .before .before in
+    let at-load = at-k .before .before .before .before .before .before .before .before in
+    let at-start = at-load .before .before .before .before .before .before .before .before in
+    let a = at-start .args in
+    let load = at-load .load in
+    load-refused (a .image .now) (a .contents .now) (a .bodies .now) (a .cache .now) _ _ _ (load .result) (load .ensures) _ _ _ (at-k .k .given .1) (c .put2 .ensures)
 
 pub sofaduck-load-spec : {M : Type 1} → statement M
 sofaduck-load-spec =

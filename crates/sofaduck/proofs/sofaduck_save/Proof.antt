@@ -23,13 +23,25 @@ same-length : tie.Need-same-length
 same-length c = search needs
 
 returns : tie.Need-returns
-returns c = save-done (c .before .before .before .before .before .before .before .before .before .before .before .before .before .args .registers .now) (c .before .before .before .before .before .before .before .before .before .before .before .before .before .args .contents .now) (c .before .before .before .before .before .before .before .before .before .before .before .before .before .args .bodies .now) (c .before .before .before .before .before .before .before .before .before .before .before .before .before .args .stack .now) (c .before .before .before .before .before .before .before .before .before .before .before .before .before .args .cache .now) (c .before .before .before .before .before .before .before .taken .result) (c .before .before .before .before .before .before .before .taken .ensures) (c .before .before .before .before .before .before .before .before .before .before .before .before .before .args .output .now) _ (c .before .before .before .before .before .save .result) (c .before .before .before .before .before .save .ensures) (c .before .before .before .before .before .before .before .before .before .before .before .before .before .args .length .now) _ (c .before .bytes .given .1)
+returns c =
+    let at-save = c .before .before .before .before .before in
+    let at-taken = at-save .before .before in
+    let at-start = at-taken .before .before .before .before .before .before in
+    let args = at-start .args in
+    save-done (args .registers .now) (args .contents .now) (args .bodies .now) (args .stack .now) (args .cache .now) (at-taken .taken .result)
+    (at-taken .taken .ensures) (args .output .now) _ (at-save .save .result) (at-save .save .ensures) (args .length .now) _ (c .before .bytes .given .1)
 
 same-length-2 : tie.Need-same-length-2
 same-length-2 c = search needs
 
 returns-2 : tie.Need-returns-2
-returns-2 c = save-refused (c .before .before .before .before .before .before .before .before .before .before .before .before .before .args .registers .now) (c .before .before .before .before .before .before .before .before .before .before .before .before .before .args .contents .now) (c .before .before .before .before .before .before .before .before .before .before .before .before .before .args .bodies .now) (c .before .before .before .before .before .before .before .before .before .before .before .before .before .args .stack .now) (c .before .before .before .before .before .before .before .before .before .before .before .before .before .args .cache .now) (c .before .before .before .before .before .before .before .taken .result) (c .before .before .before .before .before .before .before .taken .ensures) (c .before .before .before .before .before .before .before .before .before .before .before .before .before .args .output .now) _ (c .before .before .before .before .before .save .result) (c .before .before .before .before .before .save .ensures) (c .before .before .before .before .before .before .before .before .before .before .before .before .before .args .length .now) _ (c .before .k .given .1)
+returns-2 c =
+    let at-save = c .before .before .before .before .before in
+    let at-taken = at-save .before .before in
+    let at-start = at-taken .before .before .before .before .before .before in
+    let args = at-start .args in
+    save-refused (args .registers .now) (args .contents .now) (args .bodies .now) (args .stack .now) (args .cache .now) (at-taken .taken .result)
+    (at-taken .taken .ensures) (args .output .now) _ (at-save .save .result) (at-save .save .ensures) (args .length .now) _ (c .before .k .given .1)
 
 pub sofaduck-save-spec : {M : Type 1} → statement M
 sofaduck-save-spec =

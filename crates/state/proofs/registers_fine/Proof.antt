@@ -14,7 +14,10 @@ is-valid-requires : tie.Need-is-valid-requires
 is-valid-requires c κs = search needs
 
 returns-2 : tie.Need-returns-2
-returns-2 c = finished-value (c .before .before .before .args .n) (c .before .before .before .args .phase) (c .before .before .before .args .value) _ (c .before .before .if1 .left) (c .before .if2 .taken) (c .is-valid .ensures)
+returns-2 c =
+    let at-start = c .before .before .before in
+    let args = at-start .args in
+    finished-value (args .n) (args .phase) (args .value) _ (c .before .before .if1 .left) (c .before .if2 .taken) (c .is-valid .ensures)
 
 returns-3 : tie.Need-returns-3
 returns-3 c = other-value (c .before .before .args .n) (c .before .before .args .phase) (c .before .before .args .value) (c .before .if1 .left) (c .if2 .left)

@@ -17,37 +17,101 @@ header-fine-requires : tie.Need-header-fine-requires
 header-fine-requires c κs = search needs
 
 returns : tie.Need-returns
-returns c = header-no (c .before .before .before .before .before .before .args .n) (c .before .before .before .before .before .before .args .b) (c .before .before .before .before .before .before .args .receiver) (c .before .before .before .before .before .before .args .selector) (c .before .before .before .before .before .before .args .phase) (c .before .before .before .before .before .before .args .top) (c .before .before .before .before .before .before .args .value) (c .before .before .before .before .before .before .args .contents .now) (c .before .before .before .before .before .before .args .bodies .now) (c .before .before .before .before .before .before .args .stack .now) (c .before .before .before .before .before .before .args .cache .now) (sym (c .before .header-fine .ensures) ∙ not-true _ (c .if1 .taken))
+returns c =
+    let at-start = c .before .before .before .before .before .before in
+    let args = at-start .args in
+    header-no (args .n) (args .b) (args .receiver) (args .selector) (args .phase) (args .top) (args .value) (args .contents .now) (args .bodies .now)
+    (args .stack .now) (args .cache .now) (sym (c .before .header-fine .ensures) ∙ not-true _ (c .if1 .taken))
 
 registers-fine-requires : tie.Need-registers-fine-requires
 registers-fine-requires c κs = search needs
 
 returns-2 : tie.Need-returns-2
-returns-2 c = registers-no (c .before .before .before .before .before .before .before .before .args .n) (c .before .before .before .before .before .before .before .before .args .b) (c .before .before .before .before .before .before .before .before .args .receiver) (c .before .before .before .before .before .before .before .before .args .selector) (c .before .before .before .before .before .before .before .before .args .phase) (c .before .before .before .before .before .before .before .before .args .top) (c .before .before .before .before .before .before .before .before .args .value) (c .before .before .before .before .before .before .before .before .args .contents .now) (c .before .before .before .before .before .before .before .before .args .bodies .now) (c .before .before .before .before .before .before .before .before .args .stack .now) (c .before .before .before .before .before .before .before .before .args .cache .now) (sym (c .before .registers-fine .ensures) ∙ not-true _ (c .if2 .taken))
+returns-2 c =
+    let at-start = c .before .before .before .before .before .before .before .before in
+    let args = at-start .args in
+    registers-no (args .n) (args .b) (args .receiver) (args .selector) (args .phase) (args .top) (args .value) (args .contents .now) (args .bodies .now)
+    (args .stack .now) (args .cache .now) (sym (c .before .registers-fine .ensures) ∙ not-true _ (c .if2 .taken))
 
 slice-aggregate-judge : tie.Need-slice-aggregate-judge
 slice-aggregate-judge c = search needs
 
 judge-requires : tie.Need-judge-requires
-judge-requires c κs = (lent (c .before .before .before .before .before .before .before .before .before .args .n) (c .before .before .before .before .before .before .before .before .before .args .b) (c .before .before .before .before .before .before .before .before .before .args .receiver) (c .before .before .before .before .before .before .before .before .before .args .selector) (c .before .before .before .before .before .before .before .before .before .args .phase) (c .before .before .before .before .before .before .before .before .before .args .top) (c .before .before .before .before .before .before .before .before .before .args .value) (c .before .before .before .before .before .before .before .before .before .args .contents .now) (c .before .before .before .before .before .before .before .before .before .args .bodies .now) (c .before .before .before .before .before .before .before .before .before .args .stack .now) (c .before .before .before .before .before .before .before .before .before .args .cache .now) (sym (c .before .before .before .before .header-fine .ensures) ∙ not-false _ (c .before .before .before .if1 .left)) (c .before .before .before .before .before .before .before .before .before .pre), let h = notes-room (c .before .before .before .before .before .before .before .before .before .args .n) (c .before .before .before .before .before .before .before .before .before .args .b) (c .before .before .before .before .before .before .before .before .before .args .receiver) (c .before .before .before .before .before .before .before .before .before .args .selector) (c .before .before .before .before .before .before .before .before .before .args .phase) (c .before .before .before .before .before .before .before .before .before .args .top) (c .before .before .before .before .before .before .before .before .before .args .value) (c .before .before .before .before .before .before .before .before .before .args .contents .now) (c .before .before .before .before .before .before .before .before .before .args .bodies .now) (c .before .before .before .before .before .before .before .before .before .args .stack .now) (c .before .before .before .before .before .before .before .before .before .args .cache .now) (sym (c .before .before .before .before .header-fine .ensures) ∙ not-false _ (c .before .before .before .if1 .left)) (c .before .before .before .before .before .before .before .before .before .pre) in search needs)
+judge-requires c κs =
+    let at-if1 = c .before .before .before in
+    let at-header-fine = at-if1 .before in
+    let at-start = at-header-fine .before .before .before .before .before in
+    let args = at-start .args in (
+      lent (args .n) (args .b) (args .receiver) (args .selector) (args .phase) (args .top) (args .value) (args .contents .now) (args .bodies .now)
+          (args .stack .now) (args .cache .now) (sym (at-header-fine .header-fine .ensures) ∙ not-false _ (at-if1 .if1 .left)) (at-start .pre),
+      let h = notes-room
+          (args .n) (args .b) (args .receiver) (args .selector) (args .phase) (args .top) (args .value) (args .contents .now) (args .bodies .now) (args .stack .now)
+          (args .cache .now) (sym (at-header-fine .header-fine .ensures) ∙ not-false _ (at-if1 .if1 .left)) (at-start .pre) in search needs,
+    )
 
 returns-3 : tie.Need-returns-3
-returns-3 c = judged-no (c .before .before .before .before .before .before .before .before .before .before .before .before .args .n) (c .before .before .before .before .before .before .before .before .before .before .before .before .args .b) (c .before .before .before .before .before .before .before .before .before .before .before .before .args .receiver) (c .before .before .before .before .before .before .before .before .before .before .before .before .args .selector) (c .before .before .before .before .before .before .before .before .before .before .before .before .args .phase) (c .before .before .before .before .before .before .before .before .before .before .before .before .args .top) (c .before .before .before .before .before .before .before .before .before .before .before .before .args .value) (c .before .before .before .before .before .before .before .before .before .before .before .before .args .contents .now) (c .before .before .before .before .before .before .before .before .before .before .before .before .args .bodies .now) (c .before .before .before .before .before .before .before .before .before .before .before .before .args .stack .now) (c .before .before .before .before .before .before .before .before .before .before .before .before .args .cache .now) _ _ (c .before .before .judge .ensures) (c .if3 .taken)
+returns-3 c =
+    let at-start = c .before .before .before .before .before .before .before .before .before .before .before .before in
+    let args = at-start .args in
+    judged-no (args .n) (args .b) (args .receiver) (args .selector) (args .phase) (args .top) (args .value) (args .contents .now) (args .bodies .now)
+    (args .stack .now) (args .cache .now) _ _ (c .before .before .judge .ensures) (c .if3 .taken)
 
 slice-aggregate-standing-fine : tie.Need-slice-aggregate-standing-fine
 slice-aggregate-standing-fine c = search needs
 
 standing-fine-requires : tie.Need-standing-fine-requires
-standing-fine-requires c κs = all-noted (c .before .before .before .before .before .before .before .before .before .before .before .before .before .args .n) (c .before .before .before .before .before .before .before .before .before .before .before .before .before .args .b) (c .before .before .before .before .before .before .before .before .before .before .before .before .before .args .receiver) (c .before .before .before .before .before .before .before .before .before .before .before .before .before .args .selector) (c .before .before .before .before .before .before .before .before .before .before .before .before .before .args .phase) (c .before .before .before .before .before .before .before .before .before .before .before .before .before .args .top) (c .before .before .before .before .before .before .before .before .before .before .before .before .before .args .value) (c .before .before .before .before .before .before .before .before .before .before .before .before .before .args .contents .now) (c .before .before .before .before .before .before .before .before .before .before .before .before .before .args .bodies .now) (c .before .before .before .before .before .before .before .before .before .before .before .before .before .args .stack .now) (c .before .before .before .before .before .before .before .before .before .before .before .before .before .args .cache .now) (sym (c .before .before .before .before .before .before .before .before .header-fine .ensures) ∙ not-false _ (c .before .before .before .before .before .before .before .if1 .left)) (c .before .before .before .before .before .before .before .before .before .before .before .before .before .pre) _ _ (c .before .before .before .judge .ensures) (c .before .if3 .left) (search needs)
+standing-fine-requires c κs =
+    let at-if1 = c .before .before .before .before .before .before .before in
+    let at-header-fine = at-if1 .before in
+    let at-start = at-header-fine .before .before .before .before .before in
+    let args = at-start .args in
+    all-noted (args .n) (args .b) (args .receiver) (args .selector) (args .phase) (args .top) (args .value) (args .contents .now) (args .bodies .now)
+    (args .stack .now) (args .cache .now) (sym (at-header-fine .header-fine .ensures) ∙ not-false _ (at-if1 .if1 .left)) (at-start .pre) _ _
+    (c .before .before .before .judge .ensures) (c .before .if3 .left) (search needs)
 
 returns-4 : tie.Need-returns-4
-returns-4 c = standing-no (c .before .before .before .before .before .before .before .before .before .before .before .before .before .before .before .args .n) (c .before .before .before .before .before .before .before .before .before .before .before .before .before .before .before .args .b) (c .before .before .before .before .before .before .before .before .before .before .before .before .before .before .before .args .receiver) (c .before .before .before .before .before .before .before .before .before .before .before .before .before .before .before .args .selector) (c .before .before .before .before .before .before .before .before .before .before .before .before .before .before .before .args .phase) (c .before .before .before .before .before .before .before .before .before .before .before .before .before .before .before .args .top) (c .before .before .before .before .before .before .before .before .before .before .before .before .before .before .before .args .value) (c .before .before .before .before .before .before .before .before .before .before .before .before .before .before .before .args .contents .now) (c .before .before .before .before .before .before .before .before .before .before .before .before .before .before .before .args .bodies .now) (c .before .before .before .before .before .before .before .before .before .before .before .before .before .before .before .args .stack .now) (c .before .before .before .before .before .before .before .before .before .before .before .before .before .before .before .args .cache .now) (sym (c .before .before .before .before .before .before .before .before .before .before .header-fine .ensures) ∙ not-false _ (c .before .before .before .before .before .before .before .before .before .if1 .left)) (c .before .before .before .before .before .before .before .before .before .before .before .before .before .before .before .pre) _ _ (c .before .before .before .before .before .judge .ensures) (c .before .before .before .if3 .left) (sym (c .before .before .before .before .before .before .before .before .registers-fine .ensures) ∙ not-false _ (c .before .before .before .before .before .before .before .if2 .left)) (sym (c .before .standing-fine .ensures) ∙ not-true _ (c .if4 .taken))
+returns-4 c =
+    let at-judge = c .before .before .before .before .before in
+    let at-if2 = at-judge .before .before in
+    let at-registers-fine = at-if2 .before in
+    let at-if1 = at-registers-fine .before in
+    let at-header-fine = at-if1 .before in
+    let at-start = at-header-fine .before .before .before .before .before in
+    let args = at-start .args in
+    standing-no (args .n) (args .b) (args .receiver) (args .selector) (args .phase) (args .top) (args .value) (args .contents .now) (args .bodies .now)
+    (args .stack .now) (args .cache .now) (sym (at-header-fine .header-fine .ensures) ∙ not-false _ (at-if1 .if1 .left)) (at-start .pre) _ _
+    (at-judge .judge .ensures) (c .before .before .before .if3 .left) (sym (at-registers-fine .registers-fine .ensures) ∙ not-false _ (at-if2 .if2 .left))
+    (sym (c .before .standing-fine .ensures) ∙ not-true _ (c .if4 .taken))
 
 cache-fine-requires : tie.Need-cache-fine-requires
-cache-fine-requires c κs = (rights (c .before .before .before .before .before .before .before .before .before .before .before .before .before .before .before .args .n) (c .before .before .before .before .before .before .before .before .before .before .before .before .before .before .before .args .b) (c .before .before .before .before .before .before .before .before .before .before .before .before .before .before .before .args .receiver) (c .before .before .before .before .before .before .before .before .before .before .before .before .before .before .before .args .selector) (c .before .before .before .before .before .before .before .before .before .before .before .before .before .before .before .args .phase) (c .before .before .before .before .before .before .before .before .before .before .before .before .before .before .before .args .top) (c .before .before .before .before .before .before .before .before .before .before .before .before .before .before .before .args .value) (c .before .before .before .before .before .before .before .before .before .before .before .before .before .before .before .args .contents .now) (c .before .before .before .before .before .before .before .before .before .before .before .before .before .before .before .args .bodies .now) (c .before .before .before .before .before .before .before .before .before .before .before .before .before .before .before .args .stack .now) (c .before .before .before .before .before .before .before .before .before .before .before .before .before .before .before .args .cache .now) (sym (c .before .before .before .before .before .before .before .before .before .before .header-fine .ensures) ∙ not-false _ (c .before .before .before .before .before .before .before .before .before .if1 .left)) (c .before .before .before .before .before .before .before .before .before .before .before .before .before .before .before .pre) _ _ (c .before .before .before .before .before .judge .ensures) (c .before .before .before .if3 .left), cache-long (c .before .before .before .before .before .before .before .before .before .before .before .before .before .before .before .args .n) (c .before .before .before .before .before .before .before .before .before .before .before .before .before .before .before .args .b) (c .before .before .before .before .before .before .before .before .before .before .before .before .before .before .before .args .receiver) (c .before .before .before .before .before .before .before .before .before .before .before .before .before .before .before .args .selector) (c .before .before .before .before .before .before .before .before .before .before .before .before .before .before .before .args .phase) (c .before .before .before .before .before .before .before .before .before .before .before .before .before .before .before .args .top) (c .before .before .before .before .before .before .before .before .before .before .before .before .before .before .before .args .value) (c .before .before .before .before .before .before .before .before .before .before .before .before .before .before .before .args .contents .now) (c .before .before .before .before .before .before .before .before .before .before .before .before .before .before .before .args .bodies .now) (c .before .before .before .before .before .before .before .before .before .before .before .before .before .before .before .args .stack .now) (c .before .before .before .before .before .before .before .before .before .before .before .before .before .before .before .args .cache .now) (sym (c .before .before .before .before .before .before .before .before .before .before .header-fine .ensures) ∙ not-false _ (c .before .before .before .before .before .before .before .before .before .if1 .left)) (c .before .before .before .before .before .before .before .before .before .before .before .before .before .before .before .pre))
+cache-fine-requires c κs =
+    let at-judge = c .before .before .before .before .before in
+    let at-if1 = at-judge .before .before .before .before in
+    let at-header-fine = at-if1 .before in
+    let at-start = at-header-fine .before .before .before .before .before in
+    let args = at-start .args in (
+      rights (args .n) (args .b) (args .receiver) (args .selector) (args .phase) (args .top) (args .value) (args .contents .now) (args .bodies .now)
+          (args .stack .now) (args .cache .now) (sym (at-header-fine .header-fine .ensures) ∙ not-false _ (at-if1 .if1 .left)) (at-start .pre) _ _
+          (at-judge .judge .ensures) (c .before .before .before .if3 .left),
+      cache-long (args .n) (args .b) (args .receiver) (args .selector) (args .phase)
+          (args .top) (args .value) (args .contents .now) (args .bodies .now) (args .stack .now) (args .cache .now) (sym (at-header-fine .header-fine .ensures)
+          ∙ not-false _ (at-if1 .if1 .left)) (at-start .pre),
+    )
 
 returns-5 : tie.Need-returns-5
-returns-5 c = cache-left (c .before .before .before .before .before .before .before .before .before .before .before .before .before .before .before .before .args .n) (c .before .before .before .before .before .before .before .before .before .before .before .before .before .before .before .before .args .b) (c .before .before .before .before .before .before .before .before .before .before .before .before .before .before .before .before .args .receiver) (c .before .before .before .before .before .before .before .before .before .before .before .before .before .before .before .before .args .selector) (c .before .before .before .before .before .before .before .before .before .before .before .before .before .before .before .before .args .phase) (c .before .before .before .before .before .before .before .before .before .before .before .before .before .before .before .before .args .top) (c .before .before .before .before .before .before .before .before .before .before .before .before .before .before .before .before .args .value) (c .before .before .before .before .before .before .before .before .before .before .before .before .before .before .before .before .args .contents .now) (c .before .before .before .before .before .before .before .before .before .before .before .before .before .before .before .before .args .bodies .now) (c .before .before .before .before .before .before .before .before .before .before .before .before .before .before .before .before .args .stack .now) (c .before .before .before .before .before .before .before .before .before .before .before .before .before .before .before .before .args .cache .now) (sym (c .before .before .before .before .before .before .before .before .before .before .before .header-fine .ensures) ∙ not-false _ (c .before .before .before .before .before .before .before .before .before .before .if1 .left)) (c .before .before .before .before .before .before .before .before .before .before .before .before .before .before .before .before .pre) _ _ (c .before .before .before .before .before .before .judge .ensures) (c .before .before .before .before .if3 .left) (sym (c .before .before .before .before .before .before .before .before .before .registers-fine .ensures) ∙ not-false _ (c .before .before .before .before .before .before .before .before .if2 .left)) _ (sym (c .before .before .standing-fine .ensures) ∙ not-false _ (c .before .if4 .left)) (c .cache-fine .ensures)
+returns-5 c =
+    let at-if3 = c .before .before .before .before in
+    let at-judge = at-if3 .before .before in
+    let at-if2 = at-judge .before .before in
+    let at-registers-fine = at-if2 .before in
+    let at-if1 = at-registers-fine .before in
+    let at-header-fine = at-if1 .before in
+    let at-start = at-header-fine .before .before .before .before .before in
+    let args = at-start .args in
+    cache-left (args .n) (args .b) (args .receiver) (args .selector) (args .phase) (args .top) (args .value) (args .contents .now) (args .bodies .now)
+    (args .stack .now) (args .cache .now) (sym (at-header-fine .header-fine .ensures) ∙ not-false _ (at-if1 .if1 .left)) (at-start .pre) _ _
+    (at-judge .judge .ensures) (at-if3 .if3 .left) (sym (at-registers-fine .registers-fine .ensures) ∙ not-false _ (at-if2 .if2 .left)) _
+    (sym (c .before .before .standing-fine .ensures) ∙ not-false _ (c .before .if4 .left)) (c .cache-fine .ensures)
 
 pub state-fine-spec : {M : Type 1} → statement M
 state-fine-spec =

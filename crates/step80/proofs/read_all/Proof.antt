@@ -45,10 +45,16 @@ count-requires : tie.Need-count-requires Inv-loop μ-loop
 count-requires c κs = tt
 
 same-length-2 : tie.Need-same-length-2 Inv-loop μ-loop
-same-length-2 c = c .before .before .before .before .before .before .image .given .1 ∙ c .before .before .before .before .before .before .before .before .before .before .loop .inv .1
+same-length-2 c =
+    let at-image = c .before .before .before .before .before .before in
+    let at-loop = at-image .before .before .before .before in
+    at-image .image .given .1 ∙ at-loop .loop .inv .1
 
 returns-2 : tie.Need-returns-2 Inv-loop μ-loop
-returns-2 c = let g = c .before .before .before .before .before .before .image .given .1 in omega (arith, c .before .before .before .before .before .before .before .before .before .before .loop .inv .0)
+returns-2 c =
+    let at-image = c .before .before .before .before .before .before in
+    let at-loop = at-image .before .before .before .before in
+    let g = at-image .image .given .1 in omega (arith, at-loop .loop .inv .0)
 
 add-done : tie.Need-add-done Inv-loop μ-loop
 add-done c = omega arith
@@ -57,7 +63,10 @@ loop-less : tie.Need-loop-less Inv-loop μ-loop
 loop-less c = omega arith
 
 loop-again : tie.Need-loop-again Inv-loop μ-loop
-loop-again c = (let g = c .before .before .before .before .before .before .image .given .1 in let k = c .before .count .ensures .0 .0 in omega (arith, c .before .before .before .before .before .before .before .before .before .before .loop .inv .0), c .before .before .before .before .before .before .image .given .1 ∙ c .before .before .before .before .before .before .before .before .before .before .loop .inv .1)
+loop-again c =
+    let at-image = c .before .before .before .before .before .before in
+    let at-loop = at-image .before .before .before .before in
+    (let g = at-image .image .given .1 in let k = c .before .count .ensures .0 .0 in omega (arith, at-loop .loop .inv .0), at-image .image .given .1 ∙ at-loop .loop .inv .1)
 
 same-length-3 : tie.Need-same-length-3 Inv-loop μ-loop
 same-length-3 c = c .before .loop .inv .1

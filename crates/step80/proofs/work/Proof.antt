@@ -30,10 +30,15 @@ returns : tie.Need-returns
 returns c = search needs
 
 slice-reshare-prefix-answer : tie.Need-slice-reshare-prefix-answer
-slice-reshare-prefix-answer c = subst (λ (r : Input). bytesRead r ≤ length (c .before .before .before .before .before .read-all .last .0)) (c .before .n .given .1) (c .before .before .before .before .before .read-all .ensures)
+slice-reshare-prefix-answer c = subst (λ (r : Input). bytesRead r ≤ length (c .before .before .before .before .before .read-all .last .0))
+    (c .before .n .given .1) (c .before .before .before .before .before .read-all .ensures)
 
 slice-aggregate-answer : tie.Need-slice-aggregate-answer
-slice-aggregate-answer c = sym (length-take-le (c .before .before .n .given .0 .0) (c .before .before .before .before .before .before .read-all .last .0) (subst (λ (r : Input). bytesRead r ≤ length (c .before .before .before .before .before .before .read-all .last .0)) (c .before .before .n .given .1) (c .before .before .before .before .before .before .read-all .ensures)))
+slice-aggregate-answer c =
+    let at-n = c .before .before in
+    let at-read-all = at-n .before .before .before .before in
+    sym (length-take-le (at-n .n .given .0 .0) (at-read-all .read-all .last .0) (subst (λ (r : Input). bytesRead r ≤ length (at-read-all .read-all .last .0))
+    (at-n .n .given .1) (at-read-all .read-all .ensures)))
 
 answer-requires : tie.Need-answer-requires
 answer-requires c κs = search needs
