@@ -8,8 +8,7 @@ use Rattle.model.specs.Objects.{objectsAt}
 use Rattle.model.specs.Image.{accepted, buffersFine, imageBytes}
 use Rattle.store.specs.Answer.{roomFor}
 use Rattle.plain.specs.Registers.{withPhase, idle}
-use Rattle.plain.specs.Registers as R
-use Rattle.plain.specs.Flat.{Flat, flat, roomOf, flatObjects}
+use Rattle.plain.specs.Flat.{Flat, roomOf, flatObjects}
 use Rattle.plain.specs.Cache.{emptyCache}
 use Rattle.plain.specs.Check.{check}
 use Rattle.plain.specs.Calls.{done, wrote}
@@ -19,7 +18,7 @@ use Rattle.machine.specs.declared.Loaded.{Loaded}
 use Rattle.machine.specs.declared.Saved.{Saved}
 use Rattle.machine.specs.declared.Loaded.the-variants as L
 use Rattle.machine.specs.declared.Saved.the-variants as S
-use Rattle.machine.specs.State.{state, loadGives, saveGives}
+use Rattle.machine.specs.State.{state, PromisedLoad, saveGives}
 
 -- The length of the image of a state
 abbrev pub savedBytes : Flat → ℕ
@@ -57,13 +56,9 @@ LoadThenSave =
     (t s : Flat) (image output : List ℕ) → Bytes image → flatLoad t image ≡ gives done s → length image ≤ length output → Resaved image s output
 
 -- The same of the answers of `save` and `load` (src/lib.rt), by what the two promise: `PromisedSave` of the answer and the output afterwards,
--- `PromisedLoad` of the answer and the buffers afterwards.
+-- `PromisedLoad` (State) of the answer and the buffers afterwards.
 abbrev pub PromisedSave : Registers → (contents bodies stack cache output : List ℕ) → Saved → List ℕ → Type 0
 PromisedSave r contents bodies stack cache output a output′ = saveGives a output′ ≡ flatSave (state r contents bodies stack cache) output
-
-abbrev pub PromisedLoad : (image contents bodies cache : List ℕ) → Loaded → (contents′ bodies′ cache′ : List ℕ) → Type 0
-PromisedLoad image contents bodies cache a contents′ bodies′ cache′ =
-    (g : R.Registers) (stack : List ℕ) → loadGives a contents′ bodies′ stack cache′ ≡ flatLoad (flat g contents bodies stack cache) image
 
 -- The registers of a state that was saved, as load gives them
 abbrev pub idleAgain : Registers → Registers

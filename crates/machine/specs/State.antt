@@ -5,7 +5,7 @@ use mathlib.Core.Bool.{true}
 use mathlib.Core.List.{List}
 use Rattle.plain.specs.Flat.{Flat, flat}
 use Rattle.plain.specs.Calls.{Answer, done, refusedBy, result, wrote}
-use Rattle.plain.specs.FlatCalls.{Given, gives, reachFine}
+use Rattle.plain.specs.FlatCalls.{Given, gives, reachFine, flatLoad, flatRun}
 use Rattle.machine.specs.declared.Registers.{Registers}
 use Rattle.machine.specs.declared.Loaded.{Loaded}
 use Rattle.machine.specs.declared.Checked.{Checked}
@@ -38,6 +38,11 @@ unfoldable pub loadGives : Loaded → List ℕ → List ℕ → List ℕ → Lis
 loadGives (L.Accepted r) contents bodies stack cache = gives done (state r contents bodies stack cache)
 loadGives (L.Refused k r) contents bodies stack cache = gives (refusedBy k) (state r contents bodies stack cache)
 
+-- What load promises of its answer and the buffers afterwards, whatever registers and stack there are
+abbrev pub PromisedLoad : (image contents bodies cache : List ℕ) → Loaded → (contents′ bodies′ cache′ : List ℕ) → Type 0
+PromisedLoad image contents bodies cache a contents′ bodies′ cache′ =
+    (g : R.Registers) (stack : List ℕ) → loadGives a contents′ bodies′ stack cache′ ≡ flatLoad (flat g contents bodies stack cache) image
+
 -- Check: yes, 3 or 11
 unfoldable pub checkGives : Checked → Verdict
 checkGives C.Right = accepted
@@ -56,6 +61,10 @@ runGives (N.Refused k r) contents bodies stack cache = gives (refusedBy k) (stat
 abbrev pub ReachIs : Flat → ℕ → Ran → Type 0
 ReachIs s n (N.Done r count reach) = reachFine s n reach ≡ true
 ReachIs s n (N.Refused k r) = Unit {0}
+
+-- What run promises of its answer and the buffers afterwards
+abbrev pub PromisedRun : Flat → ℕ → Ran → (contents bodies stack cache : List ℕ) → Type 0
+PromisedRun s n r contents bodies stack cache = (runGives r contents bodies stack cache ≡ flatRun s n) × ReachIs s n r
 
 -- Drop: the registers come back, changed or as they were.
 unfoldable pub dropGives : Dropped → List ℕ → List ℕ → List ℕ → List ℕ → Given

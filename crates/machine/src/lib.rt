@@ -1,12 +1,9 @@
 // The calls. Each promise is an equation with the flat calls of plain's specs/FlatCalls.antt, through the definitions of specs/State.antt.
 ghost use mathlib.Core.Path.{_≡_};
-ghost use mathlib.Core.List.{List};
-ghost use Prim.Native.Nat.{ℕ};
 ghost use Rattle.plain.specs.Registers as R;
-ghost use Rattle.plain.specs.Flat.{flat};
 ghost use Rattle.plain.specs.Check as K;
-ghost use Rattle.plain.specs.FlatCalls.{flatLoad, flatBegin, flatRun, flatDrop, flatForget, flatSave};
-ghost use Rattle.machine.specs.State.{registersOf, state, loadGives, checkGives, beginGives, runGives, dropGives, ReachIs, forgetGives, saveGives};
+ghost use Rattle.plain.specs.FlatCalls.{flatBegin, flatDrop, flatForget, flatSave};
+ghost use Rattle.machine.specs.State.{registersOf, state, PromisedLoad, checkGives, beginGives, PromisedRun, dropGives, forgetGives, saveGives};
 use begins::Beginning;
 use image::Header;
 use store::Reading;
@@ -30,7 +27,7 @@ pub enum Loaded {
 
 // An image put in place and the cache emptied, or nothing but zeros where it is refused by 4 to 8.
 pub fn load(image: &[u8], contents: &mut [u16], bodies: &mut [u16], cache: &mut [u16]) -> Loaded
-    ensures { λ r. ⌜ ((g : R.Registers) (stack : List ℕ) → loadGives r (now (contents .exit)) (now (bodies .exit)) stack (now (cache .exit)) ≡ flatLoad (flat g (now (contents .entry)) (now (bodies .entry)) stack (now (cache .entry))) (now (image .entry))) ⌝ }
+    ensures { λ r. ⌜ PromisedLoad (now (image .entry)) (now (contents .entry)) (now (bodies .entry)) (now (cache .entry)) r (now (contents .exit)) (now (bodies .exit)) (now (cache .exit)) ⌝ }
 {
     match store::read(image, contents, bodies, cache.len()) {
         Reading::Accepted {
@@ -273,7 +270,7 @@ impl Registers {
         cache: &mut [u16],
         n: u32,
     ) -> Ran
-        ensures { λ r. ⌜ (runGives r (now (contents .exit)) (now (bodies .exit)) (now (stack .exit)) (now (cache .exit)) ≡ flatRun (state self (now (contents .entry)) (now (bodies .entry)) (now (stack .entry)) (now (cache .entry))) n) × ReachIs (state self (now (contents .entry)) (now (bodies .entry)) (now (stack .entry)) (now (cache .entry))) n r ⌝ }
+        ensures { λ r. ⌜ PromisedRun (state self (now (contents .entry)) (now (bodies .entry)) (now (stack .entry)) (now (cache .entry))) n r (now (contents .exit)) (now (bodies .exit)) (now (stack .exit)) (now (cache .exit)) ⌝ }
     {
         match check(self, contents, bodies, stack, cache) {
             Checked::Refused(k) => Ran::Refused(k, self),

@@ -7,12 +7,10 @@ use native.Mathlib.Decide.{ℕ-discrete}
 use borrow.Author.Tests.{eq-eqb, ne-eqb}
 use lib.ListN.{length}
 use Rattle.bytecode.proofs.Choice.{if-yes, if-no}
-use Rattle.model.specs.Objects.{objectsAt}
-use Rattle.model.specs.Method.{frameSize}
 use Rattle.model.specs.Image.{Room, accepted}
 use Rattle.model.proofs.Facts.{most, most-words}
 use Rattle.plain.specs.Step.{Stepped, step}
-use Rattle.plain.specs.Flat.{Flat, flat, roomOf, plainOf, frameMethod}
+use Rattle.plain.specs.Flat.{Flat, flat, roomOf, plainOf}
 use Rattle.plain.specs.Check.{check}
 use Rattle.plain.specs.FlatCalls.{topEnd}
 use Rattle.plain.specs.Running.{Runs, runningWith, finishedWith, runningAt, roomAt, Made}
@@ -29,7 +27,7 @@ use Rattle.steps.specs.Events.{written, movedOn, Stands, IsActive, Leaving}
 use Rattle.steps.proofs.ActiveLaws.{length-written, leaving}
 use Rattle.interpreter.specs.declared.Advanced.{Advanced}
 use Rattle.interpreter.specs.Advances.{Stops, AdvancedIs}
-use Rattle.runs.specs.Ends.{startOf, raisedTo, RunsTo}
+use Rattle.runs.specs.Ends.{startOf, frameEnd, raisedTo, RunsTo}
 use Rattle.interpreter.specs.declared.Advanced.the-variants as A
 
 -- The state of the loop: from s₀ the run came to a running state, and the highest end fits a word and one.
@@ -45,7 +43,7 @@ module _ (receiver selector n b top : ℕ) (contents bodies stack cache : List �
   pub start-runs : Runs n b top contents bodies stack
   start-runs = running-runs receiver selector n b top contents bodies stack cache (check-right s c)
 
-  pub loop-start : (grant reach : ℕ) → reach ≡ top + frameSize (objectsAt n b contents bodies) (frameMethod stack top) → reach ≤ 65536
+  pub loop-start : (grant reach : ℕ) → reach ≡ frameEnd n b top contents bodies stack → reach ≤ 65536
       → LoopAt s grant receiver selector n b top contents bodies stack cache 0 reach
   loop-start grant reach h l =
       record { turn = turn-start s grant reach c refl (h ∙ sym (top-end-is receiver selector n b top contents bodies stack cache)); low = l }
@@ -120,7 +118,7 @@ module _ (s₀ : Flat) (grant receiver selector n b top : ℕ) (contents bodies 
       runs-at = running-runs receiver selector n′ b′ t contents′ bodies′ stack′ cache′ (check-right s′ (next (max reach (topEnd (plainOf s′))) refl .checked))
 
       abbrev end′ : ℕ
-      end′ = t + frameSize (objectsAt n′ b′ contents′ bodies′) (frameMethod stack′ t)
+      end′ = frameEnd n′ b′ t contents′ bodies′ stack′
 
       raises : Dec (top ≡ t) → raisedTo top t reach end′ ≡ max reach (topEnd (plainOf s′))
       unfolding raisedTo
@@ -210,7 +208,7 @@ module _ {s₀ : Flat} {grant receiver selector n b : ℕ} {a : Active} {content
       pub went-runs : Runs n′ b′ (t .0) contents′ bodies′ stack′
       went-runs = runs-at s₀ grant receiver selector n b (a .base .0) contents bodies (written a stack) cache count reach (l .at) more contents′ bodies′ stack′ cache′ n′ b′ (t .0) (told (A.Top n′ b′ t) d)
 
-      pub loop-went : (reach′ : ℕ) → reach′ ≡ raisedTo (a .base .0) (t .0) reach (t .0 + frameSize (objectsAt n′ b′ contents′ bodies′) (frameMethod stack′ (t .0))) → reach′ ≤ 65536
+      pub loop-went : (reach′ : ℕ) → reach′ ≡ raisedTo (a .base .0) (t .0) reach (frameEnd n′ b′ (t .0) contents′ bodies′ stack′) → reach′ ≤ 65536
           → LoopAt s₀ grant receiver selector n′ b′ (t .0) contents′ bodies′ stack′ cache′ (count + 1) reach′
       loop-went reach′ h g = went-at s₀ grant receiver selector n b (a .base .0) contents bodies (written a stack) cache count reach (l .at) more contents′ bodies′ stack′ cache′ n′ b′ (t .0) (told (A.Top n′ b′ t) d) reach′ h g
 

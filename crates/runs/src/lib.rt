@@ -1,11 +1,8 @@
 // The run loop, over N, B, top and the lent words. The start words are none of its business: what it promises holds for all of them.
 ghost use mathlib.Core.Path.{_≡_};
-ghost use Prim.Native.Nat.{_+_, _≤_};
-ghost use Rattle.model.specs.Objects.{objectsAt};
-ghost use Rattle.model.specs.Method.{frameSize};
-ghost use Rattle.plain.specs.Flat.{frameMethod};
+ghost use Prim.Native.Nat.{_≤_};
 ghost use Rattle.plain.specs.Running.{Runs};
-ghost use Rattle.runs.specs.Ends.{raisedTo, Goes, RunsOn};
+ghost use Rattle.runs.specs.Ends.{frameEnd, raisedTo, Goes, RunsOn};
 use interpreter::Advanced;
 use model::Pointer;
 use model::StackPosition;
@@ -31,7 +28,7 @@ fn frame_end(
     top: StackPosition,
 ) -> usize
     requires { ⌜ Runs n b (top .0) (now contents) (now bodies) (now stack) ⌝ }
-    ensures { λ r. ⌜ (r ≡ top .0 + frameSize (objectsAt n b (now (contents .entry)) (now (bodies .entry))) (frameMethod (now (stack .entry)) (top .0))) × (r ≤ 65536) ⌝ }
+    ensures { λ r. ⌜ (r ≡ frameEnd n b (top .0) (now (contents .entry)) (now (bodies .entry)) (now (stack .entry))) × (r ≤ 65536) ⌝ }
 {
     let base = top.0;
     let method = Pointer(stack[base + 3]);
@@ -51,7 +48,7 @@ fn raised(
     reach: usize,
 ) -> usize
     requires { ⌜ Runs n b top (now contents) (now bodies) (now stack) × (reach ≤ 65536) ⌝ }
-    ensures { λ r. ⌜ (r ≡ raisedTo before top reach (top + frameSize (objectsAt n b (now (contents .entry)) (now (bodies .entry))) (frameMethod (now (stack .entry)) top))) × (r ≤ 65536) ⌝ }
+    ensures { λ r. ⌜ (r ≡ raisedTo before top reach (frameEnd n b top (now (contents .entry)) (now (bodies .entry)) (now (stack .entry)))) × (r ≤ 65536) ⌝ }
 {
     if before == top {
         return reach;
