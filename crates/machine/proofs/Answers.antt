@@ -62,7 +62,8 @@ module _ (r : Registers) (contents bodies stack cache : List ℕ) where
     unfolding dropGives
     drops-not k q = drop-refused (state r contents bodies stack cache) k (was-refused k q)
 
-    pub drops : (r′ : Registers) → registersOf r′ ≡ withPhase (registersOf r) 0 0 0 → x ≡ C.Right → dropGives (D.Dropped r′) contents bodies stack cache ≡ flatDrop (state r contents bodies stack cache)
+    pub drops : (r′ : Registers) → registersOf r′ ≡ withPhase (registersOf r) 0 0 0 → x ≡ C.Right → dropGives (D.Dropped r′) contents bodies stack cache ≡
+        flatDrop (state r contents bodies stack cache)
     unfolding dropGives
     drops r′ z q = (λ i. gives done (flat (z i) contents bodies stack cache)) ∙ drop-done (registersOf r) contents bodies stack cache (was-right q)
 
@@ -70,7 +71,8 @@ module _ (r : Registers) (contents bodies stack cache : List ℕ) where
     unfolding forgetGives
     forgets-not k q = forget-refused (state r contents bodies stack cache) k (was-refused k q)
 
-    pub forgets : x ≡ C.Right → (cache′ : List ℕ) → cache′ ≡ replicate (length cache) 0 ++ drop (length cache) cache → forgetGives F.Emptied r contents bodies stack cache′ ≡ flatForget (state r contents bodies stack cache)
+    pub forgets : x ≡ C.Right → (cache′ : List ℕ) → cache′ ≡ replicate (length cache) 0 ++ drop (length cache) cache → forgetGives F.Emptied r contents bodies
+        stack cache′ ≡ flatForget (state r contents bodies stack cache)
     unfolding forgetGives
     forgets q cache′ c = forget-done (registersOf r) contents bodies stack cache cache′ (was-right q) c
 
@@ -83,7 +85,8 @@ module _ (r : Registers) (contents bodies stack cache : List ℕ) where
       saves-room q = save-room (registersOf r) contents bodies stack cache output long (was-right q)
 
       pub saves : x ≡ C.Right → (k : ℕ) (output′ : List ℕ) → k ≡ imageBytes (r .n) (r .b)
-          → output′ ≡ imageOf (record { edition = 1; n = r .n; b = r .b; receiver = r .receiver; selector = r .selector }) (objectsAt (r .n) (r .b) contents bodies) ++ drop (imageBytes (r .n) (r .b)) output
+          → output′ ≡ imageOf (record { edition = 1; n = r .n; b = r .b; receiver = r .receiver; selector = r .selector })
+          (objectsAt (r .n) (r .b) contents bodies) ++ drop (imageBytes (r .n) (r .b)) output
           → saveGives (S.Wrote k) output′ ≡ flatSave (state r contents bodies stack cache) output
       unfolding saveGives
       saves q k output′ p w = save-done (registersOf r) contents bodies stack cache output long k output′ (was-right q) p w

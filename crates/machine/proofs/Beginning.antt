@@ -74,7 +74,8 @@ module _ (r : Registers) (contents bodies stack cache : List ℕ) (w selector : 
         unfolding plainOf
         own y′ p =
             subst (BeginIs (P.begin (roomOf s) (plainOf s) w selector arguments) (plainOf s) contents bodies stack contents′ bodies′ stack′) p
-            (z (r .receiver) (r .selector) (r .phase) (r .top) (r .value) (length cache) (ifFrames (hasFrames (r .phase)) (framesFrom (suc (r .top)) (flatObjects s) stack (r .top))) (ne-eqb (r .phase) running idle))
+            (z (r .receiver) (r .selector) (r .phase) (r .top) (r .value) (length cache)
+            (ifFrames (hasFrames (r .phase)) (framesFrom (suc (r .top)) (flatObjects s) stack (r .top))) (ne-eqb (r .phase) running idle))
 
         pub begins-refused : (k : ℕ) → y ≡ Rattle.begins.specs.declared.Beginning.the-variants.Refused k → beginGives (B.Refused k r) contents′ bodies′ stack′ cache ≡ flatBegin s w selector arguments
         unfolding beginGives
@@ -87,7 +88,8 @@ module _ (r : Registers) (contents bodies stack cache : List ℕ) (w selector : 
         unfolding beginGives plainOf
         begins-entered r′ e p =
             let v = own Rattle.begins.specs.declared.Beginning.the-variants.Entered p in
-            (λ i. gives P.done (flat (e i) ((v .entries ∙ sym (front-same (entryWords * r .n) contents (right .contents))) i) ((v .words ∙ sym (front-same (r .b) bodies (right .bodies))) i) (v .frames i) cache))
+            (λ i. gives P.done (flat (e i) ((v .entries ∙ sym (front-same (entryWords * r .n) contents (right .contents))) i)
+            ((v .words ∙ sym (front-same (r .b) bodies (right .bodies))) i) (v .frames i) cache))
             ∙ begun-is (P.begun (withFrames (plainOf s) (v .first ∷ []) running 0 0)) (v .leads)
 
         module _ (u n b : ℕ) (p : y ≡ Rattle.begins.specs.declared.Beginning.the-variants.Answered u n b) where
@@ -105,7 +107,8 @@ module _ (r : Registers) (contents bodies stack cache : List ℕ) (w selector : 
               let f = v .size in
               (omega arith, omega arith)
 
-          pub begins-answered : (r₁ r₂ : Registers) → registersOf r₁ ≡ withSizes (registersOf r) n b → registersOf r₂ ≡ withPhase (registersOf r₁) 2 0 u → beginGives (B.Started r₂) contents′ bodies′ stack′ cache ≡ flatBegin s w selector arguments
+          pub begins-answered : (r₁ r₂ : Registers) → registersOf r₁ ≡ withSizes (registersOf r) n b → registersOf r₂ ≡ withPhase (registersOf r₁) 2 0 u
+              → beginGives (B.Started r₂) contents′ bodies′ stack′ cache ≡ flatBegin s w selector arguments
           unfolding beginGives laid plainOf
           begins-answered r₁ r₂ d e =
               let z : registersOf r₂ ≡ withPhase (withSizes (registersOf r) (v .after .n) (v .after .b)) 2 0 u =

@@ -63,7 +63,8 @@ pub forget-refused : (s : Flat) (k : ℕ) → refused k ≡ check s → gives (r
 unfolding flatForget
 forget-refused s k e = refuses s k _ e
 
-pub forget-done : (r : Registers) (contents bodies stack cache cache′ : List ℕ) → accepted ≡ check (flat r contents bodies stack cache) → cache′ ≡ replicate (length cache) 0 ++ drop (length cache) cache
+pub forget-done : (r : Registers) (contents bodies stack cache cache′ : List ℕ) → accepted ≡ check (flat r contents bodies stack cache) → cache′ ≡ replicate
+    (length cache) 0 ++ drop (length cache) cache
     → gives done (flat r contents bodies stack cache′) ≡ flatForget (flat r contents bodies stack cache)
 unfolding flatForget
 forget-done r contents bodies stack cache cache′ e c =
@@ -100,14 +101,22 @@ module _ (r : Registers) (contents bodies stack cache output : List ℕ) where
     save-refused k e = ap (afterSave s output) (e ∙ sym same)
 
     pub save-done : (k : ℕ) (output′ : List ℕ) → accepted ≡ check s → k ≡ imageBytes (r .n) (r .b)
-        → output′ ≡ imageOf (record { edition = 1; n = r .n; b = r .b; receiver = r .startReceiver; selector = r .startSelector }) (objectsAt (r .n) (r .b) contents bodies) ++ drop (imageBytes (r .n) (r .b)) output
+        → output′ ≡ imageOf (record { edition = 1; n = r .n; b = r .b; receiver = r .startReceiver; selector = r .startSelector })
+        (objectsAt (r .n) (r .b) contents bodies) ++ drop (imageBytes (r .n) (r .b)) output
         → saved (wrote k) output′ ≡ flatSave s output
     unfolding flatSave savedImage
     save-done k output′ e q w =
         let f = check-right s (sym e) in
         let h : Header = record { edition = 1; n = r .n; b = r .b; receiver = r .startReceiver; selector = r .startSelector } in
-        let fit : Fitting h (objectsAt (r .n) (r .b) contents bodies) = record { objects = refl; words = refl; contents = length-take-le (entryWords * r .n) contents (f .contents); bodies = length-take-le (r .b) bodies (f .bodies) } in
-        ap₂ (λ (x : ℕ) (l : List ℕ). saved (wrote x) l) q (w ∙ ap (λ (x : ℕ). imageOf h (objectsAt (r .n) (r .b) contents bodies) ++ drop x output) (sym (length-image h (objectsAt (r .n) (r .b) contents bodies) fit)))
+        let fit : Fitting h (objectsAt (r .n) (r .b) contents bodies) = record {
+          objects = refl;
+          words = refl;
+          contents = length-take-le (entryWords * r .n)
+              contents (f .contents);
+          bodies = length-take-le (r .b) bodies (f .bodies);
+        } in
+        ap₂ (λ (x : ℕ) (l : List ℕ). saved (wrote x) l) q (w ∙ ap (λ (x : ℕ). imageOf h (objectsAt (r .n) (r .b) contents bodies) ++ drop x output)
+        (sym (length-image h (objectsAt (r .n) (r .b) contents bodies) fit)))
         ∙ ap (afterSave s output) (e ∙ sym same)
 
     -- what writing asks

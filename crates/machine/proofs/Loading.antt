@@ -90,7 +90,8 @@ module _ (image contents bodies cache contents′ bodies′ : List ℕ) where
         → loadGives (L.Refused k r) contents′ bodies′ stack cache ≡ flatLoad s image
     load-refused k r z e q = go verdict refl e q
       where
-        by-number : (j : ℕ) (b : Bool) → stored k contents′ bodies′ ≡ (if b then stored j contents bodies else inFront j (h .n) (h .b) (replicate (entryWords * h .n) 0) (replicate (h .b) 0) contents bodies)
+        by-number : (j : ℕ) (b : Bool) → stored k contents′ bodies′ ≡ (if b then stored j contents bodies else inFront j (h .n) (h .b)
+            (replicate (entryWords * h .n) 0) (replicate (h .b) 0) contents bodies)
             → gives (refusedBy k) (flat R.noRegisters contents′ bodies′ stack cache) ≡ gives (refusedBy j) (if b then withRegisters s R.noRegisters else zeroed s (h .n) (h .b))
         by-number j true q = unfold if_then_else_ in given-eq (ap (λ (z : Stored). refusedBy (z .number)) q) refl (ap (λ (z : Stored). z .contents) q) (ap (λ (z : Stored). z .bodies) q) refl refl
         by-number j false q = unfold if_then_else_ zeroed in
@@ -111,7 +112,8 @@ module _ (image contents bodies cache contents′ bodies′ : List ℕ) where
     read-accepted r n b receiver selector cache′ x e q c =
         load-accepted n b receiver selector cache′ (sym x ∙ e) (ap (λ (y : Reading). stored (readingNumber y) contents′ bodies′) (sym x) ∙ q) c
 
-    pub read-refused : (y : Reading) (k : ℕ) (r : Registers) → registersOf r ≡ R.noRegisters → y ≡ Refused k → y ≡ readingOf verdict h → stored (readingNumber y) contents′ bodies′ ≡ storedBy verdict image contents bodies
+    pub read-refused : (y : Reading) (k : ℕ) (r : Registers) → registersOf r ≡ R.noRegisters → y ≡ Refused k → y ≡ readingOf verdict h
+        → stored (readingNumber y) contents′ bodies′ ≡ storedBy verdict image contents bodies
         → loadGives (L.Refused k r) contents′ bodies′ stack cache ≡ flatLoad s image
     unfolding readingNumber
     read-refused y k r z x e q = load-refused k r z (sym x ∙ e) (ap (λ (w : Reading). stored (readingNumber w) contents′ bodies′) (sym x) ∙ q)

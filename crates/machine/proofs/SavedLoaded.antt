@@ -95,7 +95,19 @@ module _ (s : Flat) (e : check s ≡ accepted) where
 
 -- ---- save, then load
 pub save-then-load : SaveThenLoad
-save-then-load s t output e long room = (output′, t′, record { saves = saves′; loads = loads′; registers = registers′; objects = objects′; stack = refl; cache = refl; checks = after-checks t image (back .taken) })
+save-then-load s t output e long room = (
+  output′,
+  t′,
+  record {
+    saves = saves′;
+    loads = loads′;
+    registers = registers′;
+    objects = objects′;
+    stack = refl;
+    cache = refl;
+    checks = after-checks t image (back .taken);
+  },
+)
   where
     image : List ℕ
     image = imageOf (h s e) (flatObjects s)
@@ -148,7 +160,12 @@ pub load-then-save : LoadThenSave
 unfolding loaded
 load-then-save t s image output bytes g long =
     subst (λ (x : Flat). Resaved image x output) (left t s image g)
-    (record { checks = after-checks t image e; bytes = sym (a .long); saves = sym (save-done (s₀ .registers) (s₀ .contents) (s₀ .bodies) (s₀ .stack) (s₀ .cache) output room (length image) _ (sym (after-checks t image e)) (a .long) written) })
+    (record {
+      checks = after-checks t image e;
+      bytes = sym (a .long);
+      saves = sym (save-done (s₀ .registers) (s₀ .contents) (s₀ .bodies) (s₀ .stack)
+          (s₀ .cache) output room (length image) _ (sym (after-checks t image e)) (a .long) written);
+    })
   where
     e : loadVerdict (roomOf t) image ≡ accepted
     e = took t s image g
@@ -162,7 +179,14 @@ load-then-save t s image output bytes g long =
     room : savedBytes s₀ ≤ length output
     room = subst (λ (k : ℕ). k ≤ length output) (a .long) long
 
-    same-header : _≡_ {A = Header} (imageHeader image) (record { edition = 1; n = imageHeader image .n; b = imageHeader image .b; receiver = imageHeader image .receiver; selector = imageHeader image .selector })
+    same-header : _≡_ {A = Header} (imageHeader image) (record {
+      edition = 1;
+      n = imageHeader image .n;
+      b = imageHeader image .b;
+      receiver = imageHeader
+          image .receiver;
+      selector = imageHeader image .selector;
+    })
     same-header = λ i. record { edition = a .edition i; n = imageHeader image .n; b = imageHeader image .b; receiver = imageHeader image .receiver; selector = imageHeader image .selector }
 
     written : image ++ drop (length image) output ≡ imageOf (h s₀ (after-checks t image e)) (flatObjects s₀) ++ drop (savedBytes s₀) output
@@ -227,7 +251,14 @@ saved-loaded r contents bodies stack cache output a output′ contents₁ bodies
 
     at : (stack₁ : List ℕ) → (l ≡ L.Accepted (idleAgain r)) × (objectsAt (r .n) (r .b) contents′ bodies′ ≡ objectsAt (r .n) (r .b) contents bodies) × (cache′ ≡ emptyCache)
         × (check (state (idleAgain r) contents′ bodies′ stack₁ cache′) ≡ accepted)
-    at stack₁ = (x .1 ∙ ap L.Accepted same, ap (λ (y : Registers). objectsAt (y .n) (y .b) contents′ bodies′) (sym same) ∙ ap flatObjects (x .2) ∙ b .objects, ap (λ (y : Flat). y .cache) (x .2) ∙ b .cache, ap (λ (y : Registers). check (state y contents′ bodies′ stack₁ cache′)) (sym same) ∙ ap check (x .2) ∙ b .checks)
+    at stack₁ = (
+      x .1 ∙ ap L.Accepted same,
+      ap (λ (y : Registers). objectsAt (y .n) (y .b) contents′ bodies′) (sym same) ∙ ap flatObjects (x .2)
+          ∙ b .objects,
+      ap (λ (y : Flat). y .cache) (x .2) ∙ b .cache,
+      ap (λ (y : Registers). check (state y contents′ bodies′ stack₁ cache′)) (sym same)
+          ∙ ap check (x .2) ∙ b .checks,
+    )
       where
         t′ : Flat
         t′ = both stack₁ .1

@@ -90,14 +90,21 @@ module _ (s₀ : Flat) (grant receiver selector n b top : ℕ) (contents bodies 
     finished-at w e =
         let m = made-as same-step e in
         let z : topEnd (plainOf (flat (finishedWith receiver selector n b w) contents′ bodies′ stack′ cache′)) ≡ 0 = unfold plainOf topEnd in refl in
-        record { gave = loop-over s₀ grant sₗ count reach (l .turn) more (finishedWith receiver selector n b w) contents′ bodies′ stack′ cache′ m refl; ends = loop-over-ends s₀ grant sₗ count reach (l .turn) more (finishedWith receiver selector n b w) contents′ bodies′ stack′ cache′ m refl z; small = l .low }
+        record {
+          gave = loop-over s₀ grant sₗ count reach (l .turn) more (finishedWith receiver selector n b w) contents′ bodies′ stack′ cache′ m refl;
+          ends =
+              loop-over-ends s₀ grant sₗ count reach (l .turn) more (finishedWith receiver selector n b w) contents′ bodies′ stack′ cache′ m refl z;
+          small = l .low;
+        }
 
     halted-at : (k : ℕ) → Stops x k contents bodies stack cache contents′ bodies′ stack′ cache′
         → RunsTo s₀ grant receiver selector contents′ bodies′ stack′ cache′ (record { n = n; b = b; phase = k; top = top; value = 0; count = count; reach = reach })
     halted-at k h =
         let u = h .stays in
         record {
-          gave = (λ i. Rattle.plain.specs.FlatCalls.gives (Rattle.plain.specs.Calls.result (h .phase i) count 0) (flat (record { n = n; b = b; startReceiver = receiver; startSelector = selector; phase = h .phase i; top = top; value = 0 }) (u .entries i) (u .words i) (u .frames i) (u .cached i)))
+          gave = (λ i. Rattle.plain.specs.FlatCalls.gives (Rattle.plain.specs.Calls.result (h .phase i) count 0)
+              (flat (record { n = n; b = b; startReceiver = receiver; startSelector = selector; phase = h .phase i; top = top; value = 0 }) (u .entries i)
+              (u .words i) (u .frames i) (u .cached i)))
               ∙ loop-halts s₀ grant sₗ count reach (l .turn) more (h .cause) (same-step ∙ h .steps);
           ends = loop-halts-ends s₀ grant sₗ count reach (l .turn) more (h .cause) (same-step ∙ h .steps);
           small = l .low;
@@ -150,11 +157,13 @@ pub record Loop (s₀ : Flat) (grant receiver selector n b : ℕ) (a : Active) (
   pub at : LoopAt s₀ grant receiver selector n b (a .base .0) contents bodies (written a stack) cache count reach
   pub stands : Stands n b contents bodies stack a
 
-pub loop-holds-it : {s₀ : Flat} {grant receiver selector n b top : ℕ} {contents bodies stack cache : List ℕ} {count reach : ℕ} → LoopAt s₀ grant receiver selector n b top contents bodies stack cache count reach
+pub loop-holds-it : {s₀ : Flat} {grant receiver selector n b top : ℕ} {contents bodies stack cache : List ℕ} {count reach : ℕ} → LoopAt s₀ grant receiver
+    selector n b top contents bodies stack cache count reach
     → (a : Active) → (a .base .0 ≡ top) × (written a stack ≡ stack) × Stands n b contents bodies stack a → Loop s₀ grant receiver selector n b a contents bodies stack cache count reach
 loop-holds-it {s₀} {grant} {receiver} {selector} {n} {b} {top} {contents} {bodies} {stack} {cache} {count} {reach} l a e =
     record {
-      at = subst (λ (t : ℕ). LoopAt s₀ grant receiver selector n b t contents bodies (written a stack) cache count reach) (sym (e .0)) (subst (λ (s : List ℕ). LoopAt s₀ grant receiver selector n b top contents bodies s cache count reach) (sym (e .1)) l);
+      at = subst (λ (t : ℕ). LoopAt s₀ grant receiver selector n b t contents bodies (written a stack) cache count reach) (sym (e .0))
+          (subst (λ (s : List ℕ). LoopAt s₀ grant receiver selector n b top contents bodies s cache count reach) (sym (e .1)) l);
       stands = e .2;
     }
 
@@ -191,7 +200,8 @@ module _ {s₀ : Flat} {grant receiver selector n b : ℕ} {a : Active} {content
 
     pub loop-finished : (w : ℕ) → y ≡ A.Finished w
         → RunsTo s₀ grant receiver selector contents′ bodies′ stack′ cache′ (record { n = n; b = b; phase = 2; top = 0; value = w; count = count + 1; reach = reach })
-    loop-finished w e = finished-at s₀ grant receiver selector n b (a .base .0) contents bodies (written a stack) cache count reach (l .at) more contents′ bodies′ stack′ cache′ w (told (A.Finished w) e)
+    loop-finished w e = finished-at s₀ grant receiver selector n b (a .base .0) contents bodies (written a stack) cache count reach (l .at) more contents′
+        bodies′ stack′ cache′ w (told (A.Finished w) e)
 
     pub loop-halted : (k : ℕ) → y ≡ A.Halted k
         → RunsTo s₀ grant receiver selector contents′ bodies′ stack′ cache′ (record { n = n; b = b; phase = k; top = a .base .0; value = 0; count = count; reach = reach })
@@ -201,16 +211,22 @@ module _ {s₀ : Flat} {grant receiver selector n b : ℕ} {a : Active} {content
     pub loop-next-one : (q : CodePosition) (e : StackPosition) → y ≡ A.Next q e → Loop s₀ grant receiver selector n b (movedOn a q e) contents′ bodies′ stack′ cache′ (count + 1) reach
     loop-next-one q e d =
         let m : AdvancedIs receiver selector n b a contents bodies stack cache contents′ bodies′ stack′ cache′ (A.Next q e) = told (A.Next q e) d in
-        record { at = went-at s₀ grant receiver selector n b (a .base .0) contents bodies (written a stack) cache count reach (l .at) more contents′ bodies′ (written (movedOn a q e) stack′) cache′ n b (a .base .0) (m .0) reach (raised-same (a .base .0) (a .base .0) reach _ refl) (l .at .low); stands = m .1 }
+        record {
+          at = went-at s₀ grant receiver selector n b (a .base .0) contents bodies (written a stack) cache count reach (l .at) more contents′ bodies′
+              (written (movedOn a q e) stack′) cache′ n b (a .base .0) (m .0) reach (raised-same (a .base .0) (a .base .0) reach _ refl) (l .at .low);
+          stands = m .1;
+        }
 
     -- another frame is on top, or the same
     module _ (n′ b′ : ℕ) (t : StackPosition) (d : y ≡ A.Top n′ b′ t) where
       pub went-runs : Runs n′ b′ (t .0) contents′ bodies′ stack′
-      went-runs = runs-at s₀ grant receiver selector n b (a .base .0) contents bodies (written a stack) cache count reach (l .at) more contents′ bodies′ stack′ cache′ n′ b′ (t .0) (told (A.Top n′ b′ t) d)
+      went-runs = runs-at s₀ grant receiver selector n b (a .base .0) contents bodies (written a stack) cache count reach (l .at) more contents′ bodies′ stack′
+          cache′ n′ b′ (t .0) (told (A.Top n′ b′ t) d)
 
       pub loop-went : (reach′ : ℕ) → reach′ ≡ raisedTo (a .base .0) (t .0) reach (frameEnd n′ b′ (t .0) contents′ bodies′ stack′) → reach′ ≤ 65536
           → LoopAt s₀ grant receiver selector n′ b′ (t .0) contents′ bodies′ stack′ cache′ (count + 1) reach′
-      loop-went reach′ h g = went-at s₀ grant receiver selector n b (a .base .0) contents bodies (written a stack) cache count reach (l .at) more contents′ bodies′ stack′ cache′ n′ b′ (t .0) (told (A.Top n′ b′ t) d) reach′ h g
+      loop-went reach′ h g = went-at s₀ grant receiver selector n b (a .base .0) contents bodies (written a stack) cache count reach (l .at) more contents′
+          bodies′ stack′ cache′ n′ b′ (t .0) (told (A.Top n′ b′ t) d) reach′ h g
 
     -- a return: the frame below ends where the top one began
     module _ (t : StackPosition) (d : y ≡ A.Below t) where

@@ -12,16 +12,30 @@ buffers-fine-requires : tie.Need-buffers-fine-requires
 buffers-fine-requires c κs = search needs
 
 returns : tie.Need-returns
-returns c = answers-3 (c .before .before .before .before .before .before .args .registers) (c .before .before .before .before .before .before .args .contents .now) (c .before .before .before .before .before .before .args .bodies .now) (c .before .before .before .before .before .before .args .stack .now) (c .before .before .before .before .before .before .args .cache .now) _ (c .before .buffers-fine .ensures) (not-true _ (c .if1 .taken))
+returns c =
+    let at-start = c .before .before .before .before .before .before in
+    let args = at-start .args in
+    answers-3 (args .registers) (args .contents .now) (args .bodies .now) (args .stack .now) (args .cache .now) _ (c .before .buffers-fine .ensures) (not-true _ (c .if1 .taken))
 
 state-fine-requires : tie.Need-state-fine-requires
-state-fine-requires c κs = buffers-pass (c .before .before .before .before .before .before .args .registers) (c .before .before .before .before .before .before .args .contents .now) (c .before .before .before .before .before .before .args .bodies .now) (c .before .before .before .before .before .before .args .stack .now) (c .before .before .before .before .before .before .args .cache .now) _ (c .before .buffers-fine .ensures) (not-false _ (c .if1 .left))
+state-fine-requires c κs =
+    let at-start = c .before .before .before .before .before .before in
+    let args = at-start .args in
+    buffers-pass (args .registers) (args .contents .now) (args .bodies .now) (args .stack .now) (args .cache .now) _ (c .before .buffers-fine .ensures) (not-false _ (c .if1 .left))
 
 returns-2 : tie.Need-returns-2
-returns-2 c = answers-11 (c .before .before .before .before .before .before .before .before .args .registers) (c .before .before .before .before .before .before .before .before .args .contents .now) (c .before .before .before .before .before .before .before .before .args .bodies .now) (c .before .before .before .before .before .before .before .before .args .stack .now) (c .before .before .before .before .before .before .before .before .args .cache .now) _ (c .before .before .before .buffers-fine .ensures) _ (c .before .state-fine .ensures) (not-false _ (c .before .before .if1 .left)) (not-true _ (c .if2 .taken))
+returns-2 c =
+    let at-start = c .before .before .before .before .before .before .before .before in
+    let args = at-start .args in
+    answers-11 (args .registers) (args .contents .now) (args .bodies .now) (args .stack .now) (args .cache .now) _
+    (c .before .before .before .buffers-fine .ensures) _ (c .before .state-fine .ensures) (not-false _ (c .before .before .if1 .left)) (not-true _ (c .if2 .taken))
 
 returns-3 : tie.Need-returns-3
-returns-3 c = answers-yes (c .before .before .before .before .before .before .before .before .args .registers) (c .before .before .before .before .before .before .before .before .args .contents .now) (c .before .before .before .before .before .before .before .before .args .bodies .now) (c .before .before .before .before .before .before .before .before .args .stack .now) (c .before .before .before .before .before .before .before .before .args .cache .now) _ (c .before .before .before .buffers-fine .ensures) _ (c .before .state-fine .ensures) (not-false _ (c .before .before .if1 .left)) (not-false _ (c .if2 .left))
+returns-3 c =
+    let at-start = c .before .before .before .before .before .before .before .before in
+    let args = at-start .args in
+    answers-yes (args .registers) (args .contents .now) (args .bodies .now) (args .stack .now) (args .cache .now) _
+    (c .before .before .before .buffers-fine .ensures) _ (c .before .state-fine .ensures) (not-false _ (c .before .before .if1 .left)) (not-false _ (c .if2 .left))
 
 pub check-spec : {M : Type 1} → statement M
 check-spec =

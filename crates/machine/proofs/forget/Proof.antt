@@ -23,13 +23,23 @@ same-length : tie.Need-same-length
 same-length c = search needs
 
 returns : tie.Need-returns
-returns c = forgets-not (c .before .before .before .before .before .before .before .before .before .args .registers) (c .before .before .before .before .before .before .before .before .before .args .contents .now) (c .before .before .before .before .before .before .before .before .before .args .bodies .now) (c .before .before .before .before .before .before .before .before .before .args .stack .now) (c .before .before .before .before .before .before .before .before .before .args .cache .now) (c .before .before .before .check .result) (c .before .before .before .check .ensures) _ (c .before .k .given .1)
+returns c =
+    let at-check = c .before .before .before in
+    let at-start = at-check .before .before .before .before .before .before in
+    let args = at-start .args in
+    forgets-not (args .registers) (args .contents .now) (args .bodies .now) (args .stack .now) (args .cache .now) (at-check .check .result) (at-check .check .ensures) _ (c .before .k .given .1)
 
 same-length-2 : tie.Need-same-length-2
 same-length-2 c = search needs
 
 returns-2 : tie.Need-returns-2
-returns-2 c = forgets (c .before .before .before .before .before .before .before .before .before .before .before .before .args .registers) (c .before .before .before .before .before .before .before .before .before .before .before .before .args .contents .now) (c .before .before .before .before .before .before .before .before .before .before .before .before .args .bodies .now) (c .before .before .before .before .before .before .before .before .before .before .before .before .args .stack .now) (c .before .before .before .before .before .before .before .before .before .before .before .before .args .cache .now) (c .before .before .before .before .before .before .check .result) (c .before .before .before .before .before .before .check .ensures) (c .before .before .before .before .enum-told .given .1) _ (c .before .before .clear .ensures)
+returns-2 c =
+    let at-enum-told = c .before .before .before .before in
+    let at-check = at-enum-told .before .before in
+    let at-start = at-check .before .before .before .before .before .before in
+    let args = at-start .args in
+    forgets (args .registers) (args .contents .now) (args .bodies .now) (args .stack .now) (args .cache .now) (at-check .check .result)
+    (at-check .check .ensures) (at-enum-told .enum-told .given .1) _ (c .before .before .clear .ensures)
 
 pub forget-spec : {M : Type 1} → statement M
 forget-spec =

@@ -34,9 +34,12 @@ same-length-3 c = search needs
 
 returns : tie.Need-returns
 returns c =
-    let a = c .before .before .before .before .before .before .before .before .before .before .before .before .before .before .before .before .before .before .args in
-    let read = c .before .before .before .before .before .before .before .before .before .before .before .read .ensures in
-    λ g stack. read-accepted (a .image .now) (a .contents .now) (a .bodies .now) (a .cache .now) _ _ g stack _ _ _ _ _ _ (c .before .before .before .before .before .n .given .1) (read .0) (read .1) (c .before .before .clear .ensures)
+    let at-n = c .before .before .before .before .before in
+    let at-read = at-n .before .before .before .before .before .before in
+    let at-start = at-read .before .before .before .before .before .before .before in
+    let a = at-start .args in
+    let read = at-read .read .ensures in
+    λ g stack. read-accepted (a .image .now) (a .contents .now) (a .bodies .now) (a .cache .now) _ _ g stack _ _ _ _ _ _ (at-n .n .given .1) (read .0) (read .1) (c .before .before .clear .ensures)
 
 same-length-4 : tie.Need-same-length-4
 same-length-4 c = search needs
@@ -46,8 +49,10 @@ same-length-5 c = search needs
 
 returns-2 : tie.Need-returns-2
 returns-2 c =
-    let a = c .before .before .before .before .before .before .before .before .before .before .before .before .before .before .before .args in
-    let read = c .before .before .before .before .before .before .before .before .read .ensures in
+    let at-read = c .before .before .before .before .before .before .before .before in
+    let at-start = at-read .before .before .before .before .before .before .before in
+    let a = at-start .args in
+    let read = at-read .read .ensures in
     λ g stack. read-refused (a .image .now) (a .contents .now) (a .bodies .now) (a .cache .now) _ _ g stack _ _ _ (c .none .ensures) (c .before .before .k .given .1) (read .0) (read .1)
 
 pub load-spec : {M : Type 1} → statement M

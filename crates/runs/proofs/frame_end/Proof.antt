@@ -34,7 +34,11 @@ add-result-2 : tie.Need-add-result-2
 add-result-2 c = let k = small-frame _ _ (c .frame-words .ensures) in let t = top-bounds (c .before .before .before .before .before .before .pre) in omega arith
 
 returns : tie.Need-returns
-returns c = let e = frame-is (objectsAt (c .before .before .before .before .before .before .args .n) (c .before .before .before .before .before .before .args .b) (c .before .before .before .before .before .before .args .contents .now) (c .before .before .before .before .before .before .args .bodies .now)) _ _ _ (c .before .header .ensures) (c .frame-words .ensures) in let t = top-bounds (c .before .before .before .before .before .before .pre) in (ap (λ (k : ℕ). c .before .before .before .before .before .before .args .top .0 + (6 + k)) e, omega arith)
+returns c =
+    let at-start = c .before .before .before .before .before .before in
+    let args = at-start .args in
+    let e = frame-is (objectsAt (args .n) (args .b) (args .contents .now) (args .bodies .now)) _ _ _ (c .before .header .ensures)
+    (c .frame-words .ensures) in let t = top-bounds (at-start .pre) in (ap (λ (k : ℕ). args .top .0 + (6 + k)) e, omega arith)
 
 pub frame-end-spec : {M : Type 1} → statement M
 frame-end-spec =

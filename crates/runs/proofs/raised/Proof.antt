@@ -9,16 +9,29 @@ use Rattle.runs.proofs.raised.Lts as lts
 use Rattle.runs.proofs.frame_end.Reads as frame-end-reads
 
 returns : tie.Need-returns
-returns c = (raised-same (c .before .before .before .before .args .before) (c .before .before .before .before .args .top) (c .before .before .before .before .args .reach) _ (c .if1 .taken), (c .before .before .before .before .pre) .1)
+returns c =
+    let at-start = c .before .before .before .before in
+    let args = at-start .args in
+    (raised-same (args .before) (args .top) (args .reach) _ (c .if1 .taken), (at-start .pre) .1)
 
 frame-end-requires : tie.Need-frame-end-requires
 frame-end-requires c κs = search needs
 
 returns-2 : tie.Need-returns-2
-returns-2 c = let e = c .before .frame-end .ensures .0 in let t = c .if2 .taken in (raised-other (c .before .before .before .before .before .before .args .before) (c .before .before .before .before .before .before .args .top) (c .before .before .before .before .before .before .args .reach) _ _ (c .before .before .if1 .left) (omega arith), c .before .frame-end .ensures .1)
+returns-2 c =
+    let at-start = c .before .before .before .before .before .before in
+    let args = at-start .args in
+    let e = c .before .frame-end .ensures .0 in let t = c .if2 .taken in (
+      raised-other (args .before) (args .top) (args .reach) _ _
+          (c .before .before .if1 .left) (omega arith),
+      c .before .frame-end .ensures .1,
+    )
 
 returns-3 : tie.Need-returns-3
-returns-3 c = let e = c .before .frame-end .ensures .0 in let t = c .if2 .left in (raised-other (c .before .before .before .before .before .before .args .before) (c .before .before .before .before .before .before .args .top) (c .before .before .before .before .before .before .args .reach) _ _ (c .before .before .if1 .left) (omega arith), (c .before .before .before .before .before .before .pre) .1)
+returns-3 c =
+    let at-start = c .before .before .before .before .before .before in
+    let args = at-start .args in
+    let e = c .before .frame-end .ensures .0 in let t = c .if2 .left in (raised-other (args .before) (args .top) (args .reach) _ _ (c .before .before .if1 .left) (omega arith), (at-start .pre) .1)
 
 pub raised-spec : {M : Type 1} → statement M
 raised-spec = tie.close (tie.spec returns frame-end-requires returns-2 returns-3)

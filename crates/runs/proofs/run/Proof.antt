@@ -26,240 +26,350 @@ abbrev μ-loop : tie.MeasureT-loop
 
 frame-end-requires : tie.Need-frame-end-requires Inv-loop μ-loop
 frame-end-requires c κs =
-    let a = c .before .before .before .before .before .before .before .args in
-    let w = c .before .before .before .before .before .before .before .pre in
+    let at-start = c .before .before .before .before .before .before .before in
+    let a = at-start .args in
+    let w = at-start .pre in
     start-runs (w .receiver) (w .selector) (a .n) (a .b) (a .top) (a .contents .now) (a .bodies .now) (a .stack .now) (a .cache .now) (w .checks)
 
 enter-requires : tie.Need-enter-requires Inv-loop μ-loop
 enter-requires c κs =
-    let a = c .before .before .before .before .before .before .before .before .before .before .before .args in
-    let w = c .before .before .before .before .before .before .before .before .before .before .before .pre in
+    let at-start = c .before .before .before .before .before .before .before .before .before .before .before in
+    let a = at-start .args in
+    let w = at-start .pre in
     start-runs (w .receiver) (w .selector) (a .n) (a .b) (a .top) (a .contents .now) (a .bodies .now) (a .stack .now) (a .cache .now) (w .checks)
 
 loop-holds : tie.Need-loop-holds Inv-loop μ-loop
 loop-holds c =
-    let a = c .before .before .before .before .before .before .before .before .before .before .before .before .args in
-    let end = c .before .before .before .before .frame-end .ensures in
-    λ receiver selector e. loop-holds-it (loop-start receiver selector (a .n) (a .b) (a .top) (a .contents .now) (a .bodies .now) (a .stack .now) (a .cache .now) e (a .grant) _ (end .0) (end .1)) (c .enter .result) (c .enter .ensures)
+    let at-frame-end = c .before .before .before .before in
+    let at-start = at-frame-end .before .before .before .before .before .before .before .before in
+    let a = at-start .args in
+    let end = at-frame-end .frame-end .ensures in
+    λ receiver selector e. loop-holds-it (loop-start receiver selector (a .n) (a .b) (a .top) (a .contents .now) (a .bodies .now) (a .stack .now)
+    (a .cache .now) e (a .grant) _ (end .0) (end .1)) (c .enter .result) (c .enter .ensures)
 
 advance-requires : tie.Need-advance-requires Inv-loop μ-loop
 advance-requires c κs =
-    let w = c .before .before .before .before .before .before .before .before .before .before .before .before .before .before .before .before .before .before .pre in
-    let l = c .before .before .before .before .before .loop .inv (w .receiver) (w .selector) (w .checks) in
+    let at-loop = c .before .before .before .before .before in
+    let at-start = at-loop .before .before .before .before .before .before .before .before .before .before .before .before .before in
+    let w = at-start .pre in
+    let l = at-loop .loop .inv (w .receiver) (w .selector) (w .checks) in
     (loop-active l, loop-cached l)
 
 enum-known-position : tie.Need-enum-known-position Inv-loop μ-loop
 enum-known-position c = search needs
 
 add-count : tie.Need-add-count Inv-loop μ-loop
-add-count c = let t = c .before .before .before .before .before .before .before .before .before .before .before .before .before .before .before .before .loop-test .taken in omega (arith, c .before .before .before .before .before .before .before .before .before .before .before .before .before .before .before .before .before .before .before .before .before .before .before .before .before .before .before .before .before .before .fits)
+add-count c =
+    let at-loop-test = c .before .before .before .before .before .before .before .before .before .before .before .before .before .before .before .before in
+    let at-start = at-loop-test .before .before .before .before .before .before .before .before .before .before .before .before .before .before in
+    let t = at-loop-test .loop-test .taken in omega (arith, at-start .fits)
 
 loop-less : tie.Need-loop-less Inv-loop μ-loop
 loop-less c = let t = c .before .before .before .before .before .before .before .before .before .before .before .before .before .before .before .before .loop-test .taken in omega arith
 
 loop-again : tie.Need-loop-again Inv-loop μ-loop
 loop-again c =
-    λ receiver selector e. loop-next-one (c .before .before .before .before .before .before .before .before .before .before .before .before .before .before .before .before .before .loop .inv receiver selector e) (c .before .before .before .before .before .before .before .before .before .before .before .before .before .before .before .before .loop-test .taken) _ _ _ _ (c .before .before .before .before .before .before .before .before .before .before .before .advance .result) (c .before .before .before .before .before .before .before .before .before .before .before .advance .ensures receiver selector) _ _ (c .before .position .given .1)
+    let at-advance = c .before .before .before .before .before .before .before .before .before .before .before in
+    let at-loop-test = at-advance .before .before .before .before .before in
+    let at-loop = at-loop-test .before in
+    λ receiver selector e. loop-next-one (at-loop .loop .inv receiver selector e) (at-loop-test .loop-test .taken) _ _ _ _ (at-advance .advance .result)
+    (at-advance .advance .ensures receiver selector) _ _ (c .before .position .given .1)
 
 enum-known-grown : tie.Need-enum-known-grown Inv-loop μ-loop
 enum-known-grown c = search needs
 
 raised-requires : tie.Need-raised-requires Inv-loop μ-loop
 raised-requires c κs =
-    let w = c .before .before .before .before .before .before .before .before .before .before .before .before .before .before .before .before .before .before .before .before .before .before .before .before .before .before .before .before .before .before .before .before .before .pre in
-    let l = c .before .before .before .before .before .before .before .before .before .before .before .before .before .before .before .before .before .before .before .before .loop .inv (w .receiver) (w .selector) (w .checks) in
-    (went-runs l (c .before .before .before .before .before .before .before .before .before .before .before .before .before .before .before .before .before .before .before .loop-test .taken) _ _ _ _ (c .before .before .before .before .before .before .before .before .before .before .before .before .before .before .advance .result) (c .before .before .before .before .before .before .before .before .before .before .before .before .before .before .advance .ensures (w .receiver) (w .selector)) _ _ _ (c .before .before .before .before .grown .given .1), l .at .low)
+    let at-grown = c .before .before .before .before in
+    let at-advance = at-grown .before .before .before .before .before .before .before .before .before .before in
+    let at-loop-test = at-advance .before .before .before .before .before in
+    let at-loop = at-loop-test .before in
+    let at-start = at-loop .before .before .before .before .before .before .before .before .before .before .before .before .before in
+    let w = at-start .pre in
+    let l = at-loop .loop .inv (w .receiver) (w .selector) (w .checks) in
+    (went-runs l (at-loop-test .loop-test .taken) _ _ _ _ (at-advance .advance .result) (at-advance .advance .ensures (w .receiver) (w .selector)) _ _ _ (at-grown .grown .given .1), l .at .low)
 
 enter-requires-2 : tie.Need-enter-requires-2 Inv-loop μ-loop
 enter-requires-2 c κs =
-    let w = c .before .before .before .before .before .before .before .before .before .before .before .before .before .before .before .before .before .before .before .before .before .before .before .before .before .before .before .before .before .before .before .before .before .before .before .before .before .pre in
-    let l = c .before .before .before .before .before .before .before .before .before .before .before .before .before .before .before .before .before .before .before .before .before .before .before .before .loop .inv (w .receiver) (w .selector) (w .checks) in
-    went-runs l (c .before .before .before .before .before .before .before .before .before .before .before .before .before .before .before .before .before .before .before .before .before .before .before .loop-test .taken) _ _ _ _ (c .before .before .before .before .before .before .before .before .before .before .before .before .before .before .before .before .before .before .advance .result) (c .before .before .before .before .before .before .before .before .before .before .before .before .before .before .before .before .before .before .advance .ensures (w .receiver) (w .selector)) _ _ _ (c .before .before .before .before .before .before .before .before .grown .given .1)
+    let at-grown = c .before .before .before .before .before .before .before .before in
+    let at-advance = at-grown .before .before .before .before .before .before .before .before .before .before in
+    let at-loop-test = at-advance .before .before .before .before .before in
+    let at-loop = at-loop-test .before in
+    let at-start = at-loop .before .before .before .before .before .before .before .before .before .before .before .before .before in
+    let w = at-start .pre in
+    let l = at-loop .loop .inv (w .receiver) (w .selector) (w .checks) in
+    went-runs l (at-loop-test .loop-test .taken) _ _ _ _ (at-advance .advance .result) (at-advance .advance .ensures (w .receiver) (w .selector)) _ _ _ (at-grown .grown .given .1)
 
 add-count-2 : tie.Need-add-count-2 Inv-loop μ-loop
-add-count-2 c = let t = c .before .before .before .before .before .before .before .before .before .before .before .before .before .before .before .before .before .before .before .before .before .before .before .before .loop-test .taken in omega (arith, c .before .before .before .before .before .before .before .before .before .before .before .before .before .before .before .before .before .before .before .before .before .before .before .before .before .before .before .before .before .before .before .before .before .before .before .before .before .before .fits)
+add-count-2 c =
+    let at-loop-test = c .before .before .before .before .before .before .before .before .before .before .before .before .before .before .before .before .before .before .before .before .before .before .before .before in
+    let at-start = at-loop-test .before .before .before .before .before .before .before .before .before .before .before .before .before .before in
+    let t = at-loop-test .loop-test .taken in omega (arith, at-start .fits)
 
 loop-less-2 : tie.Need-loop-less-2 Inv-loop μ-loop
 loop-less-2 c = let t = c .before .before .before .before .before .before .before .before .before .before .before .before .before .before .before .before .before .before .before .before .before .before .before .before .loop-test .taken in omega arith
 
 loop-again-2 : tie.Need-loop-again-2 Inv-loop μ-loop
 loop-again-2 c =
-    let end = c .before .before .before .before .raised .ensures in
-    λ receiver selector e. loop-holds-it (loop-went (c .before .before .before .before .before .before .before .before .before .before .before .before .before .before .before .before .before .before .before .before .before .before .before .before .before .loop .inv receiver selector e) (c .before .before .before .before .before .before .before .before .before .before .before .before .before .before .before .before .before .before .before .before .before .before .before .before .loop-test .taken) _ _ _ _ (c .before .before .before .before .before .before .before .before .before .before .before .before .before .before .before .before .before .before .before .advance .result) (c .before .before .before .before .before .before .before .before .before .before .before .before .before .before .before .before .before .before .before .advance .ensures receiver selector) _ _ _ (c .before .before .before .before .before .before .before .before .before .grown .given .1) _ (end .0) (end .1)) (c .enter2 .result) (c .enter2 .ensures)
+    let at-raised = c .before .before .before .before in
+    let at-grown = at-raised .before .before .before .before .before in
+    let at-advance = at-grown .before .before .before .before .before .before .before .before .before .before in
+    let at-loop-test = at-advance .before .before .before .before .before in
+    let at-loop = at-loop-test .before in
+    let end = at-raised .raised .ensures in
+    λ receiver selector e. loop-holds-it (loop-went (at-loop .loop .inv receiver selector e) (at-loop-test .loop-test .taken) _ _ _ _
+    (at-advance .advance .result) (at-advance .advance .ensures receiver selector) _ _ _ (at-grown .grown .given .1) _ (end .0) (end .1)) (c .enter2 .result) (c .enter2 .ensures)
 
 enum-known-below : tie.Need-enum-known-below Inv-loop μ-loop
 enum-known-below c = search needs
 
 enter-requires-3 : tie.Need-enter-requires-3 Inv-loop μ-loop
 enter-requires-3 c κs =
-    let w = c .before .before .before .before .before .before .before .before .before .before .before .before .before .before .before .before .before .before .before .before .before .before .before .before .before .before .before .before .before .before .before .before .before .pre in
-    let l = c .before .before .before .before .before .before .before .before .before .before .before .before .before .before .before .before .before .before .before .before .loop .inv (w .receiver) (w .selector) (w .checks) in
-    back-runs l (c .before .before .before .before .before .before .before .before .before .before .before .before .before .before .before .before .before .before .before .loop-test .taken) _ _ _ _ (c .before .before .before .before .before .before .before .before .before .before .before .before .before .before .advance .result) (c .before .before .before .before .before .before .before .before .before .before .before .before .before .before .advance .ensures (w .receiver) (w .selector)) _ (c .before .before .before .before .below .given .1)
+    let at-below = c .before .before .before .before in
+    let at-advance = at-below .before .before .before .before .before .before .before .before .before .before in
+    let at-loop-test = at-advance .before .before .before .before .before in
+    let at-loop = at-loop-test .before in
+    let at-start = at-loop .before .before .before .before .before .before .before .before .before .before .before .before .before in
+    let w = at-start .pre in
+    let l = at-loop .loop .inv (w .receiver) (w .selector) (w .checks) in
+    back-runs l (at-loop-test .loop-test .taken) _ _ _ _ (at-advance .advance .result) (at-advance .advance .ensures (w .receiver) (w .selector)) _ (at-below .below .given .1)
 
 add-count-3 : tie.Need-add-count-3 Inv-loop μ-loop
-add-count-3 c = let t = c .before .before .before .before .before .before .before .before .before .before .before .before .before .before .before .before .before .before .before .before .loop-test .taken in omega (arith, c .before .before .before .before .before .before .before .before .before .before .before .before .before .before .before .before .before .before .before .before .before .before .before .before .before .before .before .before .before .before .before .before .before .before .fits)
+add-count-3 c =
+    let at-loop-test = c .before .before .before .before .before .before .before .before .before .before .before .before .before .before .before .before .before .before .before .before in
+    let at-start = at-loop-test .before .before .before .before .before .before .before .before .before .before .before .before .before .before in
+    let t = at-loop-test .loop-test .taken in omega (arith, at-start .fits)
 
 loop-less-3 : tie.Need-loop-less-3 Inv-loop μ-loop
 loop-less-3 c = let t = c .before .before .before .before .before .before .before .before .before .before .before .before .before .before .before .before .before .before .before .before .loop-test .taken in omega arith
 
 loop-again-3 : tie.Need-loop-again-3 Inv-loop μ-loop
 loop-again-3 c =
-    λ receiver selector e. loop-holds-it (loop-back (c .before .before .before .before .before .before .before .before .before .before .before .before .before .before .before .before .before .before .before .before .before .loop .inv receiver selector e) (c .before .before .before .before .before .before .before .before .before .before .before .before .before .before .before .before .before .before .before .before .loop-test .taken) _ _ _ _ (c .before .before .before .before .before .before .before .before .before .before .before .before .before .before .before .advance .result) (c .before .before .before .before .before .before .before .before .before .before .before .before .before .before .before .advance .ensures receiver selector) _ (c .before .before .before .before .before .below .given .1)) (c .enter3 .result) (c .enter3 .ensures)
+    let at-below = c .before .before .before .before .before in
+    let at-advance = at-below .before .before .before .before .before .before .before .before .before .before in
+    let at-loop-test = at-advance .before .before .before .before .before in
+    let at-loop = at-loop-test .before in
+    λ receiver selector e. loop-holds-it (loop-back (at-loop .loop .inv receiver selector e) (at-loop-test .loop-test .taken) _ _ _ _
+    (at-advance .advance .result) (at-advance .advance .ensures receiver selector) _ (at-below .below .given .1)) (c .enter3 .result) (c .enter3 .ensures)
 
 enum-known-w : tie.Need-enum-known-w Inv-loop μ-loop
 enum-known-w c = search needs
 
 cast-t63 : tie.Need-cast-t63 Inv-loop μ-loop
 cast-t63 c =
-    let w = c .before .before .before .before .before .before .before .before .before .before .before .before .before .before .before .before .before .before .before .before .before .before .before .before .before .before .before .before .before .before .pre in
-    let l = c .before .before .before .before .before .before .before .before .before .before .before .before .before .before .before .before .before .loop .inv (w .receiver) (w .selector) (w .checks) in
+    let at-loop = c .before .before .before .before .before .before .before .before .before .before .before .before .before .before .before .before .before in
+    let at-start = at-loop .before .before .before .before .before .before .before .before .before .before .before .before .before in
+    let w = at-start .pre in
+    let l = at-loop .loop .inv (w .receiver) (w .selector) (w .checks) in
     let k = held-small l in
     omega arith
 
 cast-t64 : tie.Need-cast-t64 Inv-loop μ-loop
 cast-t64 c =
-    let w = c .before .before .before .before .before .before .before .before .before .before .before .before .before .before .before .before .before .before .before .before .before .before .before .before .before .before .before .before .before .before .pre in
-    let l = c .before .before .before .before .before .before .before .before .before .before .before .before .before .before .before .before .before .loop .inv (w .receiver) (w .selector) (w .checks) in
+    let at-loop = c .before .before .before .before .before .before .before .before .before .before .before .before .before .before .before .before .before in
+    let at-start = at-loop .before .before .before .before .before .before .before .before .before .before .before .before .before in
+    let w = at-start .pre in
+    let l = at-loop .loop .inv (w .receiver) (w .selector) (w .checks) in
     let k = held-small l in
     omega arith
 
 add-t65 : tie.Need-add-t65 Inv-loop μ-loop
-add-t65 c = let t = c .before .before .before .before .before .before .before .before .before .before .before .before .before .before .before .before .loop-test .taken in omega (arith, c .before .before .before .before .before .before .before .before .before .before .before .before .before .before .before .before .before .before .before .before .before .before .before .before .before .before .before .before .before .before .fits)
+add-t65 c =
+    let at-loop-test = c .before .before .before .before .before .before .before .before .before .before .before .before .before .before .before .before in
+    let at-start = at-loop-test .before .before .before .before .before .before .before .before .before .before .before .before .before .before in
+    let t = at-loop-test .loop-test .taken in omega (arith, at-start .fits)
 
 same-length : tie.Need-same-length Inv-loop μ-loop
 same-length c =
-    let w = c .before .before .before .before .before .before .before .before .before .before .before .before .before .before .before .before .before .before .before .before .before .before .before .before .before .before .before .before .before .before .pre in
-    let l = c .before .before .before .before .before .before .before .before .before .before .before .before .before .before .before .before .before .loop .inv (w .receiver) (w .selector) (w .checks) in
-    c .before .before .before .before .before .before .before .before .before .before .before .advance .kept .0 ∙ held-lengths l .0
+    let at-advance = c .before .before .before .before .before .before .before .before .before .before .before in
+    let at-loop = at-advance .before .before .before .before .before .before in
+    let at-start = at-loop .before .before .before .before .before .before .before .before .before .before .before .before .before in
+    let w = at-start .pre in
+    let l = at-loop .loop .inv (w .receiver) (w .selector) (w .checks) in
+    at-advance .advance .kept .0 ∙ held-lengths l .0
 
 same-length-2 : tie.Need-same-length-2 Inv-loop μ-loop
 same-length-2 c =
-    let w = c .before .before .before .before .before .before .before .before .before .before .before .before .before .before .before .before .before .before .before .before .before .before .before .before .before .before .before .before .before .before .pre in
-    let l = c .before .before .before .before .before .before .before .before .before .before .before .before .before .before .before .before .before .loop .inv (w .receiver) (w .selector) (w .checks) in
-    c .before .before .before .before .before .before .before .before .before .before .before .advance .kept .1 .0 ∙ held-lengths l .1
+    let at-advance = c .before .before .before .before .before .before .before .before .before .before .before in
+    let at-loop = at-advance .before .before .before .before .before .before in
+    let at-start = at-loop .before .before .before .before .before .before .before .before .before .before .before .before .before in
+    let w = at-start .pre in
+    let l = at-loop .loop .inv (w .receiver) (w .selector) (w .checks) in
+    at-advance .advance .kept .1 .0 ∙ held-lengths l .1
 
 same-length-3 : tie.Need-same-length-3 Inv-loop μ-loop
 same-length-3 c =
-    let w = c .before .before .before .before .before .before .before .before .before .before .before .before .before .before .before .before .before .before .before .before .before .before .before .before .before .before .before .before .before .before .pre in
-    let l = c .before .before .before .before .before .before .before .before .before .before .before .before .before .before .before .before .before .loop .inv (w .receiver) (w .selector) (w .checks) in
-    c .before .before .before .before .before .before .before .before .before .before .before .advance .kept .1 .1 .0 ∙ held-lengths l .2
+    let at-advance = c .before .before .before .before .before .before .before .before .before .before .before in
+    let at-loop = at-advance .before .before .before .before .before .before in
+    let at-start = at-loop .before .before .before .before .before .before .before .before .before .before .before .before .before in
+    let w = at-start .pre in
+    let l = at-loop .loop .inv (w .receiver) (w .selector) (w .checks) in
+    at-advance .advance .kept .1 .1 .0 ∙ held-lengths l .2
 
 same-length-4 : tie.Need-same-length-4 Inv-loop μ-loop
 same-length-4 c =
-    let w = c .before .before .before .before .before .before .before .before .before .before .before .before .before .before .before .before .before .before .before .before .before .before .before .before .before .before .before .before .before .before .pre in
-    let l = c .before .before .before .before .before .before .before .before .before .before .before .before .before .before .before .before .before .loop .inv (w .receiver) (w .selector) (w .checks) in
-    c .before .before .before .before .before .before .before .before .before .before .before .advance .kept .1 .1 .1 .0 ∙ held-lengths l .3
+    let at-advance = c .before .before .before .before .before .before .before .before .before .before .before in
+    let at-loop = at-advance .before .before .before .before .before .before in
+    let at-start = at-loop .before .before .before .before .before .before .before .before .before .before .before .before .before in
+    let w = at-start .pre in
+    let l = at-loop .loop .inv (w .receiver) (w .selector) (w .checks) in
+    at-advance .advance .kept .1 .1 .1 .0 ∙ held-lengths l .3
 
 returns : tie.Need-returns Inv-loop μ-loop
 returns c =
-    λ receiver selector e. loop-finished (c .before .before .before .before .before .before .before .before .before .before .before .before .before .before .before .before .before .loop .inv receiver selector e) (c .before .before .before .before .before .before .before .before .before .before .before .before .before .before .before .before .loop-test .taken) _ _ _ _ (c .before .before .before .before .before .before .before .before .before .before .before .advance .result) (c .before .before .before .before .before .before .before .before .before .before .before .advance .ensures receiver selector) _ (c .before .w .given .1)
+    let at-advance = c .before .before .before .before .before .before .before .before .before .before .before in
+    let at-loop-test = at-advance .before .before .before .before .before in
+    let at-loop = at-loop-test .before in
+    λ receiver selector e. loop-finished (at-loop .loop .inv receiver selector e) (at-loop-test .loop-test .taken) _ _ _ _ (at-advance .advance .result)
+    (at-advance .advance .ensures receiver selector) _ (c .before .w .given .1)
 
 enum-known-k : tie.Need-enum-known-k Inv-loop μ-loop
 enum-known-k c = search needs
 
 cast-t66 : tie.Need-cast-t66 Inv-loop μ-loop
 cast-t66 c =
-    let w = c .before .before .before .before .before .before .before .before .before .before .before .before .before .before .before .before .before .before .before .before .before .before .before .before .before .before .before .before .before .before .pre in
-    let l = c .before .before .before .before .before .before .before .before .before .before .before .before .before .before .before .before .before .loop .inv (w .receiver) (w .selector) (w .checks) in
+    let at-loop = c .before .before .before .before .before .before .before .before .before .before .before .before .before .before .before .before .before in
+    let at-start = at-loop .before .before .before .before .before .before .before .before .before .before .before .before .before in
+    let w = at-start .pre in
+    let l = at-loop .loop .inv (w .receiver) (w .selector) (w .checks) in
     let k = held-small l in
     omega arith
 
 cast-t67 : tie.Need-cast-t67 Inv-loop μ-loop
 cast-t67 c =
-    let w = c .before .before .before .before .before .before .before .before .before .before .before .before .before .before .before .before .before .before .before .before .before .before .before .before .before .before .before .before .before .before .pre in
-    let l = c .before .before .before .before .before .before .before .before .before .before .before .before .before .before .before .before .before .loop .inv (w .receiver) (w .selector) (w .checks) in
+    let at-loop = c .before .before .before .before .before .before .before .before .before .before .before .before .before .before .before .before .before in
+    let at-start = at-loop .before .before .before .before .before .before .before .before .before .before .before .before .before in
+    let w = at-start .pre in
+    let l = at-loop .loop .inv (w .receiver) (w .selector) (w .checks) in
     let k = held-small l in
     omega arith
 
 cast-t68 : tie.Need-cast-t68 Inv-loop μ-loop
 cast-t68 c =
-    let w = c .before .before .before .before .before .before .before .before .before .before .before .before .before .before .before .before .before .before .before .before .before .before .before .before .before .before .before .before .before .before .before .pre in
-    let l = c .before .before .before .before .before .before .before .before .before .before .before .before .before .before .before .before .before .before .loop .inv (w .receiver) (w .selector) (w .checks) in
+    let at-loop = c .before .before .before .before .before .before .before .before .before .before .before .before .before .before .before .before .before .before in
+    let at-start = at-loop .before .before .before .before .before .before .before .before .before .before .before .before .before in
+    let w = at-start .pre in
+    let l = at-loop .loop .inv (w .receiver) (w .selector) (w .checks) in
     let k = held-small l in
     omega arith
 
 same-length-5 : tie.Need-same-length-5 Inv-loop μ-loop
 same-length-5 c =
-    let w = c .before .before .before .before .before .before .before .before .before .before .before .before .before .before .before .before .before .before .before .before .before .before .before .before .before .before .before .before .before .before .before .pre in
-    let l = c .before .before .before .before .before .before .before .before .before .before .before .before .before .before .before .before .before .before .loop .inv (w .receiver) (w .selector) (w .checks) in
-    c .before .before .before .before .before .before .before .before .before .before .before .before .advance .kept .0 ∙ held-lengths l .0
+    let at-advance = c .before .before .before .before .before .before .before .before .before .before .before .before in
+    let at-loop = at-advance .before .before .before .before .before .before in
+    let at-start = at-loop .before .before .before .before .before .before .before .before .before .before .before .before .before in
+    let w = at-start .pre in
+    let l = at-loop .loop .inv (w .receiver) (w .selector) (w .checks) in
+    at-advance .advance .kept .0 ∙ held-lengths l .0
 
 same-length-6 : tie.Need-same-length-6 Inv-loop μ-loop
 same-length-6 c =
-    let w = c .before .before .before .before .before .before .before .before .before .before .before .before .before .before .before .before .before .before .before .before .before .before .before .before .before .before .before .before .before .before .before .pre in
-    let l = c .before .before .before .before .before .before .before .before .before .before .before .before .before .before .before .before .before .before .loop .inv (w .receiver) (w .selector) (w .checks) in
-    c .before .before .before .before .before .before .before .before .before .before .before .before .advance .kept .1 .0 ∙ held-lengths l .1
+    let at-advance = c .before .before .before .before .before .before .before .before .before .before .before .before in
+    let at-loop = at-advance .before .before .before .before .before .before in
+    let at-start = at-loop .before .before .before .before .before .before .before .before .before .before .before .before .before in
+    let w = at-start .pre in
+    let l = at-loop .loop .inv (w .receiver) (w .selector) (w .checks) in
+    at-advance .advance .kept .1 .0 ∙ held-lengths l .1
 
 same-length-7 : tie.Need-same-length-7 Inv-loop μ-loop
 same-length-7 c =
-    let w = c .before .before .before .before .before .before .before .before .before .before .before .before .before .before .before .before .before .before .before .before .before .before .before .before .before .before .before .before .before .before .before .pre in
-    let l = c .before .before .before .before .before .before .before .before .before .before .before .before .before .before .before .before .before .before .loop .inv (w .receiver) (w .selector) (w .checks) in
-    c .before .before .before .before .before .before .before .before .before .before .before .before .advance .kept .1 .1 .0 ∙ held-lengths l .2
+    let at-advance = c .before .before .before .before .before .before .before .before .before .before .before .before in
+    let at-loop = at-advance .before .before .before .before .before .before in
+    let at-start = at-loop .before .before .before .before .before .before .before .before .before .before .before .before .before in
+    let w = at-start .pre in
+    let l = at-loop .loop .inv (w .receiver) (w .selector) (w .checks) in
+    at-advance .advance .kept .1 .1 .0 ∙ held-lengths l .2
 
 same-length-8 : tie.Need-same-length-8 Inv-loop μ-loop
 same-length-8 c =
-    let w = c .before .before .before .before .before .before .before .before .before .before .before .before .before .before .before .before .before .before .before .before .before .before .before .before .before .before .before .before .before .before .before .pre in
-    let l = c .before .before .before .before .before .before .before .before .before .before .before .before .before .before .before .before .before .before .loop .inv (w .receiver) (w .selector) (w .checks) in
-    c .before .before .before .before .before .before .before .before .before .before .before .before .advance .kept .1 .1 .1 .0 ∙ held-lengths l .3
+    let at-advance = c .before .before .before .before .before .before .before .before .before .before .before .before in
+    let at-loop = at-advance .before .before .before .before .before .before in
+    let at-start = at-loop .before .before .before .before .before .before .before .before .before .before .before .before .before in
+    let w = at-start .pre in
+    let l = at-loop .loop .inv (w .receiver) (w .selector) (w .checks) in
+    at-advance .advance .kept .1 .1 .1 .0 ∙ held-lengths l .3
 
 returns-2 : tie.Need-returns-2 Inv-loop μ-loop
 returns-2 c =
-    λ receiver selector e. loop-halted (c .before .before .before .before .before .before .before .before .before .before .before .before .before .before .before .before .before .before .loop .inv receiver selector e) (c .before .before .before .before .before .before .before .before .before .before .before .before .before .before .before .before .before .loop-test .taken) _ _ _ _ (c .before .before .before .before .before .before .before .before .before .before .before .before .advance .result) (c .before .before .before .before .before .before .before .before .before .before .before .before .advance .ensures receiver selector) _ (c .before .before .k .given .1)
+    let at-advance = c .before .before .before .before .before .before .before .before .before .before .before .before in
+    let at-loop-test = at-advance .before .before .before .before .before in
+    let at-loop = at-loop-test .before in
+    λ receiver selector e. loop-halted (at-loop .loop .inv receiver selector e) (at-loop-test .loop-test .taken) _ _ _ _ (at-advance .advance .result)
+    (at-advance .advance .ensures receiver selector) _ (c .before .before .k .given .1)
 
 leave-requires : tie.Need-leave-requires Inv-loop μ-loop
 leave-requires c κs =
-    let w = c .before .before .before .before .before .before .before .before .before .before .before .before .before .before .before .pre in
+    let at-start = c .before .before .before .before .before .before .before .before .before .before .before .before .before .before .before in
+    let w = at-start .pre in
     let l = c .before .before .loop .inv (w .receiver) (w .selector) (w .checks) in
     held-leaves l
 
 cast-t72 : tie.Need-cast-t72 Inv-loop μ-loop
 cast-t72 c =
-    let w = c .before .before .before .before .before .before .before .before .before .before .before .before .before .before .before .before .before .before .pre in
-    let l = c .before .before .before .before .before .loop .inv (w .receiver) (w .selector) (w .checks) in
+    let at-loop = c .before .before .before .before .before in
+    let at-start = at-loop .before .before .before .before .before .before .before .before .before .before .before .before .before in
+    let w = at-start .pre in
+    let l = at-loop .loop .inv (w .receiver) (w .selector) (w .checks) in
     let k = held-small l in
     omega arith
 
 cast-t73 : tie.Need-cast-t73 Inv-loop μ-loop
 cast-t73 c =
-    let w = c .before .before .before .before .before .before .before .before .before .before .before .before .before .before .before .before .before .before .pre in
-    let l = c .before .before .before .before .before .loop .inv (w .receiver) (w .selector) (w .checks) in
+    let at-loop = c .before .before .before .before .before in
+    let at-start = at-loop .before .before .before .before .before .before .before .before .before .before .before .before .before in
+    let w = at-start .pre in
+    let l = at-loop .loop .inv (w .receiver) (w .selector) (w .checks) in
     let k = held-small l in
     omega arith
 
 cast-t74 : tie.Need-cast-t74 Inv-loop μ-loop
 cast-t74 c =
-    let w = c .before .before .before .before .before .before .before .before .before .before .before .before .before .before .before .before .before .before .before .pre in
-    let l = c .before .before .before .before .before .before .loop .inv (w .receiver) (w .selector) (w .checks) in
+    let at-loop = c .before .before .before .before .before .before in
+    let at-start = at-loop .before .before .before .before .before .before .before .before .before .before .before .before .before in
+    let w = at-start .pre in
+    let l = at-loop .loop .inv (w .receiver) (w .selector) (w .checks) in
     let k = held-small l in
     omega arith
 
 same-length-9 : tie.Need-same-length-9 Inv-loop μ-loop
 same-length-9 c =
-    let w = c .before .before .before .before .before .before .before .before .before .before .before .before .before .before .before .before .before .before .before .pre in
-    let l = c .before .before .before .before .before .before .loop .inv (w .receiver) (w .selector) (w .checks) in
+    let at-loop = c .before .before .before .before .before .before in
+    let at-start = at-loop .before .before .before .before .before .before .before .before .before .before .before .before .before in
+    let w = at-start .pre in
+    let l = at-loop .loop .inv (w .receiver) (w .selector) (w .checks) in
     held-lengths l .0
 
 same-length-10 : tie.Need-same-length-10 Inv-loop μ-loop
 same-length-10 c =
-    let w = c .before .before .before .before .before .before .before .before .before .before .before .before .before .before .before .before .before .before .before .pre in
-    let l = c .before .before .before .before .before .before .loop .inv (w .receiver) (w .selector) (w .checks) in
+    let at-loop = c .before .before .before .before .before .before in
+    let at-start = at-loop .before .before .before .before .before .before .before .before .before .before .before .before .before in
+    let w = at-start .pre in
+    let l = at-loop .loop .inv (w .receiver) (w .selector) (w .checks) in
     held-lengths l .1
 
 same-length-11 : tie.Need-same-length-11 Inv-loop μ-loop
 same-length-11 c =
-    let w = c .before .before .before .before .before .before .before .before .before .before .before .before .before .before .before .before .before .before .before .pre in
-    let l = c .before .before .before .before .before .before .loop .inv (w .receiver) (w .selector) (w .checks) in
-    c .before .before .before .leave .kept .0 ∙ held-lengths l .2
+    let at-leave = c .before .before .before in
+    let at-loop = at-leave .before .before .before in
+    let at-start = at-loop .before .before .before .before .before .before .before .before .before .before .before .before .before in
+    let w = at-start .pre in
+    let l = at-loop .loop .inv (w .receiver) (w .selector) (w .checks) in
+    at-leave .leave .kept .0 ∙ held-lengths l .2
 
 same-length-12 : tie.Need-same-length-12 Inv-loop μ-loop
 same-length-12 c =
-    let w = c .before .before .before .before .before .before .before .before .before .before .before .before .before .before .before .before .before .before .before .pre in
-    let l = c .before .before .before .before .before .before .loop .inv (w .receiver) (w .selector) (w .checks) in
+    let at-loop = c .before .before .before .before .before .before in
+    let at-start = at-loop .before .before .before .before .before .before .before .before .before .before .before .before .before in
+    let w = at-start .pre in
+    let l = at-loop .loop .inv (w .receiver) (w .selector) (w .checks) in
     held-lengths l .3
 
 returns-3 : tie.Need-returns-3 Inv-loop μ-loop
 returns-3 c =
-    λ receiver selector e. loop-ends (c .before .before .before .before .before .before .loop .inv receiver selector e) _ (c .before .before .before .leave .ensures) (c .before .before .before .before .before .loop-test .left)
+    let at-leave = c .before .before .before in
+    let at-loop-test = at-leave .before .before in
+    let at-loop = at-loop-test .before in
+    λ receiver selector e. loop-ends (at-loop .loop .inv receiver selector e) _ (at-leave .leave .ensures) (at-loop-test .loop-test .left)
 
 pub run-spec : {M : Type 1} → statement M
 run-spec =

@@ -30,9 +30,12 @@ same-length-3 c = search needs
 
 returns : tie.Need-returns
 returns c =
-    let a = c .before .before .before .before .before .before .before .before .before .before .before .before .before .args in
-    let check = c .before .before .before .before .check in
-    begins-12 (a .self) (a .contents .now) (a .bodies .now) (a .stack .now) (a .cache .now) (a .receiver) (a .selector) (a .arguments .now) (check .result) (check .ensures) (c .before .before .enum-told .given .1) (c .if1 .taken)
+    let at-check = c .before .before .before .before in
+    let at-start = at-check .before .before .before .before .before .before .before .before .before in
+    let a = at-start .args in
+    let check = at-check .check in
+    begins-12 (a .self) (a .contents .now) (a .bodies .now) (a .stack .now) (a .cache .now) (a .receiver) (a .selector) (a .arguments .now) (check .result)
+    (check .ensures) (c .before .before .enum-told .given .1) (c .if1 .taken)
 
 cast-begin : tie.Need-cast-begin
 cast-begin c = search needs
@@ -42,26 +45,44 @@ cast-begin-2 c = search needs
 
 begin-requires : tie.Need-begin-requires
 begin-requires c κs =
-    let a = c .before .before .before .before .before .before .before .before .before .before .before .before .before .before .before .before .before .before .args in
-    let check = c .before .before .before .before .before .before .before .before .before .check in
-    begins-right (a .self) (a .contents .now) (a .bodies .now) (a .stack .now) (a .cache .now) (a .receiver) (a .selector) (a .arguments .now) (check .result) (check .ensures) (c .before .before .before .before .before .before .before .enum-told .given .1)
+    let at-enum-told = c .before .before .before .before .before .before .before in
+    let at-check = at-enum-told .before .before in
+    let at-start = at-check .before .before .before .before .before .before .before .before .before in
+    let a = at-start .args in
+    let check = at-check .check in
+    begins-right (a .self) (a .contents .now) (a .bodies .now) (a .stack .now) (a .cache .now) (a .receiver) (a .selector) (a .arguments .now) (check .result)
+    (check .ensures) (at-enum-told .enum-told .given .1)
 
 enum-known-word : tie.Need-enum-known-word
 enum-known-word c = search needs
 
 cast-with-sizes : tie.Need-cast-with-sizes
 cast-with-sizes c =
-    let a = c .before .before .before .before .before .before .before .before .before .before .before .before .before .before .before .before .before .before .before .before .before .before .before .before .before .before .before .before .args in
-    let check = c .before .before .before .before .before .before .before .before .before .before .before .before .before .before .before .before .before .before .before .check in
-    let begin = c .before .before .before .before .before .before .before .before .before .begin in
-    let k = begins-small (a .self) (a .contents .now) (a .bodies .now) (a .stack .now) (a .cache .now) (a .receiver) (a .selector) (a .arguments .now) (check .result) (check .ensures) (c .before .before .before .before .before .before .before .before .before .before .before .before .before .before .before .before .before .enum-told .given .1) (c .before .before .before .before .before .before .before .before .before .before .before .before .before .before .before .if1 .left) _ _ _ (begin .result) (begin .ensures) _ _ _ (c .before .word .given .1) in omega arith
+    let at-begin = c .before .before .before .before .before .before .before .before .before in
+    let at-if1 = at-begin .before .before .before .before .before .before in
+    let at-enum-told = at-if1 .before .before in
+    let at-check = at-enum-told .before .before in
+    let at-start = at-check .before .before .before .before .before .before .before .before .before in
+    let a = at-start .args in
+    let check = at-check .check in
+    let begin = at-begin .begin in
+    let k = begins-small (a .self) (a .contents .now) (a .bodies .now) (a .stack .now) (a .cache .now) (a .receiver) (a .selector) (a .arguments .now)
+    (check .result) (check .ensures) (at-enum-told .enum-told .given .1) (at-if1 .if1 .left) _ _ _ (begin .result) (begin .ensures) _ _ _
+    (c .before .word .given .1) in omega arith
 
 cast-with-sizes-2 : tie.Need-cast-with-sizes-2
 cast-with-sizes-2 c =
-    let a = c .before .before .before .before .before .before .before .before .before .before .before .before .before .before .before .before .before .before .before .before .before .before .before .before .before .before .before .before .args in
-    let check = c .before .before .before .before .before .before .before .before .before .before .before .before .before .before .before .before .before .before .before .check in
-    let begin = c .before .before .before .before .before .before .before .before .before .begin in
-    let k = begins-small (a .self) (a .contents .now) (a .bodies .now) (a .stack .now) (a .cache .now) (a .receiver) (a .selector) (a .arguments .now) (check .result) (check .ensures) (c .before .before .before .before .before .before .before .before .before .before .before .before .before .before .before .before .before .enum-told .given .1) (c .before .before .before .before .before .before .before .before .before .before .before .before .before .before .before .if1 .left) _ _ _ (begin .result) (begin .ensures) _ _ _ (c .before .word .given .1) in omega arith
+    let at-begin = c .before .before .before .before .before .before .before .before .before in
+    let at-if1 = at-begin .before .before .before .before .before .before in
+    let at-enum-told = at-if1 .before .before in
+    let at-check = at-enum-told .before .before in
+    let at-start = at-check .before .before .before .before .before .before .before .before .before in
+    let a = at-start .args in
+    let check = at-check .check in
+    let begin = at-begin .begin in
+    let k = begins-small (a .self) (a .contents .now) (a .bodies .now) (a .stack .now) (a .cache .now) (a .receiver) (a .selector) (a .arguments .now)
+    (check .result) (check .ensures) (at-enum-told .enum-told .given .1) (at-if1 .if1 .left) _ _ _ (begin .result) (begin .ensures) _ _ _
+    (c .before .word .given .1) in omega arith
 
 with-sizes-requires : tie.Need-with-sizes-requires
 with-sizes-requires c κs = search needs
@@ -89,8 +110,10 @@ same-length-6 c = search needs
 
 returns-2 : tie.Need-returns-2
 returns-2 c =
-    let a = c .before .before .before .before .before .before .before .before .before .before .before .before .args in
-    let check = c .before .before .before .check in
+    let at-check = c .before .before .before in
+    let at-start = at-check .before .before .before .before .before .before .before .before .before in
+    let a = at-start .args in
+    let check = at-check .check in
     begins-not (a .self) (a .contents .now) (a .bodies .now) (a .stack .now) (a .cache .now) (a .receiver) (a .selector) (a .arguments .now) (check .result) (check .ensures) _ (c .before .k .given .1)
 
 same-length-7 : tie.Need-same-length-7
@@ -104,10 +127,18 @@ same-length-9 c = search needs
 
 returns-3 : tie.Need-returns-3
 returns-3 c =
-    let a = c .before .before .before .before .before .before .before .before .before .before .before .before .before .before .before .before .before .before .before .before .before .before .before .before .before .before .before .before .before .before .args in
-    let check = c .before .before .before .before .before .before .before .before .before .before .before .before .before .before .before .before .before .before .before .before .before .check in
-    let begin = c .before .before .before .before .before .before .before .before .before .before .before .begin in
-    begins-answered (a .self) (a .contents .now) (a .bodies .now) (a .stack .now) (a .cache .now) (a .receiver) (a .selector) (a .arguments .now) (check .result) (check .ensures) (c .before .before .before .before .before .before .before .before .before .before .before .before .before .before .before .before .before .before .before .enum-told .given .1) (c .before .before .before .before .before .before .before .before .before .before .before .before .before .before .before .before .before .if1 .left) _ _ _ (begin .result) (begin .ensures) _ _ _ (c .before .before .before .word .given .1) _ _ (c .before .with-sizes .ensures) (c .with-phase .ensures)
+    let at-word = c .before .before .before in
+    let at-begin = at-word .before .before .before .before .before .before .before .before in
+    let at-if1 = at-begin .before .before .before .before .before .before in
+    let at-enum-told = at-if1 .before .before in
+    let at-check = at-enum-told .before .before in
+    let at-start = at-check .before .before .before .before .before .before .before .before .before in
+    let a = at-start .args in
+    let check = at-check .check in
+    let begin = at-begin .begin in
+    begins-answered (a .self) (a .contents .now) (a .bodies .now) (a .stack .now) (a .cache .now) (a .receiver) (a .selector) (a .arguments .now)
+    (check .result) (check .ensures) (at-enum-told .enum-told .given .1) (at-if1 .if1 .left) _ _ _ (begin .result) (begin .ensures) _ _ _
+    (at-word .word .given .1) _ _ (c .before .with-sizes .ensures) (c .with-phase .ensures)
 
 same-length-10 : tie.Need-same-length-10
 same-length-10 c = search needs
@@ -120,10 +151,17 @@ same-length-12 c = search needs
 
 returns-4 : tie.Need-returns-4
 returns-4 c =
-    let a = c .before .before .before .before .before .before .before .before .before .before .before .before .before .before .before .before .before .before .before .before .before .before .before .before .before .before .before .before .args in
-    let check = c .before .before .before .before .before .before .before .before .before .before .before .before .before .before .before .before .before .before .before .check in
-    let begin = c .before .before .before .before .before .before .before .before .before .begin in
-    begins-entered (a .self) (a .contents .now) (a .bodies .now) (a .stack .now) (a .cache .now) (a .receiver) (a .selector) (a .arguments .now) (check .result) (check .ensures) (c .before .before .before .before .before .before .before .before .before .before .before .before .before .before .before .before .before .enum-told .given .1) (c .before .before .before .before .before .before .before .before .before .before .before .before .before .before .before .if1 .left) _ _ _ (begin .result) (begin .ensures) _ (c .with-phase2 .ensures) (c .before .enum-told2 .given .1)
+    let at-begin = c .before .before .before .before .before .before .before .before .before in
+    let at-if1 = at-begin .before .before .before .before .before .before in
+    let at-enum-told = at-if1 .before .before in
+    let at-check = at-enum-told .before .before in
+    let at-start = at-check .before .before .before .before .before .before .before .before .before in
+    let a = at-start .args in
+    let check = at-check .check in
+    let begin = at-begin .begin in
+    begins-entered (a .self) (a .contents .now) (a .bodies .now) (a .stack .now) (a .cache .now) (a .receiver) (a .selector) (a .arguments .now)
+    (check .result) (check .ensures) (at-enum-told .enum-told .given .1) (at-if1 .if1 .left) _ _ _ (begin .result) (begin .ensures) _ (c .with-phase2 .ensures)
+    (c .before .enum-told2 .given .1)
 
 same-length-13 : tie.Need-same-length-13
 same-length-13 c = search needs
@@ -136,10 +174,16 @@ same-length-15 c = search needs
 
 returns-5 : tie.Need-returns-5
 returns-5 c =
-    let a = c .before .before .before .before .before .before .before .before .before .before .before .before .before .before .before .before .before .before .before .before .before .before .before .before .before .before .before .before .args in
-    let check = c .before .before .before .before .before .before .before .before .before .before .before .before .before .before .before .before .before .before .before .check in
-    let begin = c .before .before .before .before .before .before .before .before .before .begin in
-    begins-refused (a .self) (a .contents .now) (a .bodies .now) (a .stack .now) (a .cache .now) (a .receiver) (a .selector) (a .arguments .now) (check .result) (check .ensures) (c .before .before .before .before .before .before .before .before .before .before .before .before .before .before .before .before .before .enum-told .given .1) (c .before .before .before .before .before .before .before .before .before .before .before .before .before .before .before .if1 .left) _ _ _ (begin .result) (begin .ensures) _ (c .before .k2 .given .1)
+    let at-begin = c .before .before .before .before .before .before .before .before .before in
+    let at-if1 = at-begin .before .before .before .before .before .before in
+    let at-enum-told = at-if1 .before .before in
+    let at-check = at-enum-told .before .before in
+    let at-start = at-check .before .before .before .before .before .before .before .before .before in
+    let a = at-start .args in
+    let check = at-check .check in
+    let begin = at-begin .begin in
+    begins-refused (a .self) (a .contents .now) (a .bodies .now) (a .stack .now) (a .cache .now) (a .receiver) (a .selector) (a .arguments .now)
+    (check .result) (check .ensures) (at-enum-told .enum-told .given .1) (at-if1 .if1 .left) _ _ _ (begin .result) (begin .ensures) _ (c .before .k2 .given .1)
 
 pub begin-spec : {M : Type 1} → statement M
 begin-spec =

@@ -21,14 +21,18 @@ with-phase-requires c κs = search needs
 
 returns : tie.Need-returns
 returns c =
-    let a = c .before .before .before .before .before .before .before .before .args in
-    let check = c .before .before .before .check in
+    let at-check = c .before .before .before in
+    let at-start = at-check .before .before .before .before .before in
+    let a = at-start .args in
+    let check = at-check .check in
     drops-not (a .self) (a .contents .now) (a .bodies .now) (a .stack .now) (a .cache .now) (check .result) (check .ensures) _ (c .before .k .given .1)
 
 returns-2 : tie.Need-returns-2
 returns-2 c =
-    let a = c .before .before .before .before .before .before .before .before .args in
-    let check = c .before .before .before .check in
+    let at-check = c .before .before .before in
+    let at-start = at-check .before .before .before .before .before in
+    let a = at-start .args in
+    let check = at-check .check in
     drops (a .self) (a .contents .now) (a .bodies .now) (a .stack .now) (a .cache .now) (check .result) (check .ensures) _ (c .with-phase .ensures) (c .before .enum-told .given .1)
 
 pub drop-spec : {M : Type 1} → statement M

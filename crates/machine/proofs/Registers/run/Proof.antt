@@ -33,8 +33,10 @@ same-length-4 c = search needs
 
 returns : tie.Need-returns
 returns c =
-    let a = c .before .before .before .before .before .before .before .before .before .before .before .before .before .args in
-    let check = c .before .before .before .before .check in
+    let at-check = c .before .before .before .before in
+    let at-start = at-check .before .before .before .before .before .before .before .before .before in
+    let a = at-start .args in
+    let check = at-check .check in
     runs-12 (a .self) (a .contents .now) (a .bodies .now) (a .stack .now) (a .cache .now) (a .n) (check .result) (check .ensures) (c .before .before .enum-told .given .1) (c .if1 .taken)
 
 cast-run : tie.Need-cast-run
@@ -48,9 +50,13 @@ cast-run-3 c = search needs
 
 run-requires : tie.Need-run-requires
 run-requires c κs =
-    let a = c .before .before .before .before .before .before .before .before .before .before .before .before .before .before .before .before .before .before .before .before .args in
-    let check = c .before .before .before .before .before .before .before .before .before .before .before .check in
-    runs-goes (a .self) (a .contents .now) (a .bodies .now) (a .stack .now) (a .cache .now) (a .n) (check .result) (check .ensures) (c .before .before .before .before .before .before .before .before .before .enum-told .given .1) (c .before .before .before .before .before .before .before .if1 .left)
+    let at-if1 = c .before .before .before .before .before .before .before in
+    let at-enum-told = at-if1 .before .before in
+    let at-check = at-enum-told .before .before in
+    let at-start = at-check .before .before .before .before .before .before .before .before .before in
+    let a = at-start .args in
+    let check = at-check .check in
+    runs-goes (a .self) (a .contents .now) (a .bodies .now) (a .stack .now) (a .cache .now) (a .n) (check .result) (check .ensures) (at-enum-told .enum-told .given .1) (at-if1 .if1 .left)
 
 with-sizes-requires : tie.Need-with-sizes-requires
 with-sizes-requires c κs = search needs
@@ -60,10 +66,16 @@ with-phase-requires c κs = search needs
 
 cast-t33 : tie.Need-cast-t33
 cast-t33 c =
-    let a = c .before .before .before .before .before .before .before .before .before .before .before .before .before .before .before .before .before .before .before .before .before .before .before .before .before .before .before .before .before .before .before .before .args in
-    let check = c .before .before .before .before .before .before .before .before .before .before .before .before .before .before .before .before .before .before .before .before .before .before .before .check in
-    let run = c .before .before .before .before .before .before .before .before .before .before .before .run in
-    let k = runs-small (a .self) (a .contents .now) (a .bodies .now) (a .stack .now) (a .cache .now) (a .n) (check .result) (check .ensures) (c .before .before .before .before .before .before .before .before .before .before .before .before .before .before .before .before .before .before .before .before .before .enum-told .given .1) (c .before .before .before .before .before .before .before .before .before .before .before .before .before .before .before .before .before .before .before .if1 .left) _ _ _ _ (run .result) (run .ensures) in
+    let at-run = c .before .before .before .before .before .before .before .before .before .before .before in
+    let at-if1 = at-run .before .before .before .before .before .before .before .before in
+    let at-enum-told = at-if1 .before .before in
+    let at-check = at-enum-told .before .before in
+    let at-start = at-check .before .before .before .before .before .before .before .before .before in
+    let a = at-start .args in
+    let check = at-check .check in
+    let run = at-run .run in
+    let k = runs-small (a .self) (a .contents .now) (a .bodies .now) (a .stack .now) (a .cache .now) (a .n) (check .result) (check .ensures)
+    (at-enum-told .enum-told .given .1) (at-if1 .if1 .left) _ _ _ _ (run .result) (run .ensures) in
     omega arith
 
 same-length-5 : tie.Need-same-length-5
@@ -80,8 +92,10 @@ same-length-8 c = search needs
 
 returns-2 : tie.Need-returns-2
 returns-2 c =
-    let a = c .before .before .before .before .before .before .before .before .before .before .before .before .args in
-    let check = c .before .before .before .check in
+    let at-check = c .before .before .before in
+    let at-start = at-check .before .before .before .before .before .before .before .before .before in
+    let a = at-start .args in
+    let check = at-check .check in
     runs-not (a .self) (a .contents .now) (a .bodies .now) (a .stack .now) (a .cache .now) (a .n) (check .result) (check .ensures) _ (c .before .k .given .1)
 
 same-length-9 : tie.Need-same-length-9
@@ -98,10 +112,16 @@ same-length-12 c = search needs
 
 returns-3 : tie.Need-returns-3
 returns-3 c =
-    let a = c .before .before .before .before .before .before .before .before .before .before .before .before .before .before .before .before .before .before .before .before .before .before .before .before .before .before .before .before .before .before .before .before .args in
-    let check = c .before .before .before .before .before .before .before .before .before .before .before .before .before .before .before .before .before .before .before .before .before .before .before .check in
-    let run = c .before .before .before .before .before .before .before .before .before .before .before .run in
-    runs-done (a .self) (a .contents .now) (a .bodies .now) (a .stack .now) (a .cache .now) (a .n) (check .result) (check .ensures) (c .before .before .before .before .before .before .before .before .before .before .before .before .before .before .before .before .before .before .before .before .before .enum-told .given .1) (c .before .before .before .before .before .before .before .before .before .before .before .before .before .before .before .before .before .before .before .if1 .left) _ _ _ _ (run .result) (run .ensures) _ _ (c .before .before .with-sizes .ensures) (c .before .with-phase .ensures)
+    let at-run = c .before .before .before .before .before .before .before .before .before .before .before in
+    let at-if1 = at-run .before .before .before .before .before .before .before .before in
+    let at-enum-told = at-if1 .before .before in
+    let at-check = at-enum-told .before .before in
+    let at-start = at-check .before .before .before .before .before .before .before .before .before in
+    let a = at-start .args in
+    let check = at-check .check in
+    let run = at-run .run in
+    runs-done (a .self) (a .contents .now) (a .bodies .now) (a .stack .now) (a .cache .now) (a .n) (check .result) (check .ensures)
+    (at-enum-told .enum-told .given .1) (at-if1 .if1 .left) _ _ _ _ (run .result) (run .ensures) _ _ (c .before .before .with-sizes .ensures) (c .before .with-phase .ensures)
 
 pub run-spec : {M : Type 1} → statement M
 run-spec =
