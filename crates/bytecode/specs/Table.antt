@@ -62,10 +62,6 @@ index (SuperSend l n) = l
 index (SpecialSend k) = 0
 index Unused = 0
 
--- A count of each number above; an instruction with no index passes, since 0 is below 1.
-abbrev pub counts : ℕ → ℕ → ℕ → List ℕ
-counts fields temporaries literals = 1 ∷ fields ∷ temporaries ∷ literals ∷ []
-
 -- 0: goes on to the next instruction, and has no rule but on its index and its operands. 1: goes on to the next instruction, and has
 -- further rules: on a literal variable, on a selector, or against a store to a literal. 2: a return. 3: a jump. 4: unused.
 unfoldable pub pushGroup : Place → ℕ

@@ -6,19 +6,19 @@ use mathlib.Core.List.{List}
 use mathlib.Core.Option.{Option, none, some}
 use native.Mathlib.Omega.{arith}
 use borrow.Author.Tests.{lt-ltb}
-use lib.Dec.{T, ltb, leb→le}
+use lib.Dec.{T, ltb}
 use lib.ListN.{length, getD, replicate}
 use Rattle.bytecode.specs.Test.{below, implies}
 use Rattle.bytecode.specs.Code.{decodeAt}
 use Rattle.bytecode.specs.declared.Instruction.{Instruction}
-use Rattle.bytecode.proofs.TestLaws.{true→T, T→true, implied, rule, below-at}
+use Rattle.bytecode.proofs.TestLaws.{true→T, T→true, implied, below-at}
 use Rattle.model.specs.Objects.{Objects}
 use Rattle.model.specs.Method.{codeWords, codeSize, temporaryCount, frameWords}
-use Rattle.model.specs.Depth.{rulesAt, fineAt, depthTable, isSome}
+use Rattle.model.specs.Depth.{depthTable, isSome}
 use Rattle.model.specs.Rules.{methodTable}
 use Rattle.model.proofs.DepthLaws.{table-notes}
 use Rattle.flow.specs.Linked.{linked, linkedAt, allLinked}
-use Rattle.flow.specs.Walk.{mostDepth, Walked}
+use Rattle.flow.specs.Walk.{Walked}
 use Rattle.flow.proofs.CodeWalk.{noted-inside}
 use Rattle.flow.proofs.UniqueLaws.{combined-some, combined-fails, combined-none}
 use Rattle.flow.proofs.RuleLaws.{indexedIn, table-split}
@@ -27,18 +27,6 @@ module _ (words : List ℕ) (size temporaries limit : ℕ) (r : Instruction → 
   -- a note for each byte of the code
   pub table-length : length t ≡ size
   table-length = table-notes words size temporaries limit r t e .long
-
-  -- and none above 33
-  pub note-small : limit ≤ mostDepth → (p : ℕ) → getD t p 0 ≤ 33
-  note-small h p = go (getD t p 0) refl
-    where
-      within : (d : ℕ) → T (fineAt words size temporaries limit r p d) → temporaries + d ≤ limit
-      within d f =
-          leb→le (temporaries + d) limit (unfold fineAt in unfold rulesAt in rule (rulesAt words size temporaries limit r p d) f 3)
-
-      go : (v : ℕ) → getD t p 0 ≡ v → v ≤ 33
-      go zero q = omega arith
-      go (suc d) q = let k = within d (table-notes words size temporaries limit r t e .kept p d q) in omega arith
 
 -- what the walk's answer says of the table that it computes
 pub walked-yes : (o : Option (List ℕ)) (size : ℕ) (notes : List ℕ) (r : Bool) → Walked o size notes r → r ≡ true → o ≡ some notes

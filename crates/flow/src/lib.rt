@@ -5,12 +5,12 @@ ghost use mathlib.Core.List.{[], _∷_};
 ghost use Prim.Native.Nat.{_+_, _-_, _*_, _<_, _≤_};
 ghost use lib.Dec.{ltb, leb};
 ghost use lib.ListN.{length, getD, replicate};
-ghost use Rattle.bytecode.specs.Code.{placeOf, instructionOf, decodeAt};
-ghost use Rattle.bytecode.specs.Table.{groupPart, lengthPart, needPart, leavesPart, boundPart, indexPart, groupOf, IsTable};
+ghost use Rattle.bytecode.specs.Code.{placeOf, instructionOf};
+ghost use Rattle.bytecode.specs.Table.{groupPart, lengthPart, needPart, leavesPart, boundPart, indexPart};
 ghost use Rattle.model.specs.Depth.{depthTable};
 ghost use Rattle.model.specs.Rules.{isWritable};
 ghost use Rattle.flow.specs.Index.{indexed, placeIndexedBy, indexedBy};
-ghost use Rattle.flow.specs.Walk.{Asks, Visit, Visits, Step, alike, Here, Expand, Static, WalkingAt, TurnAt, Answer, Lent, Walked, tableBy, mostCode};
+ghost use Rattle.flow.specs.Walk.{Asks, Visit, Visits, Step, alike, Here, Expand, Static, WalkingAt, TurnAt, Answer, Lent, Walked, tableBy};
 
 // How many positions are pending after a step; or that there is no depth table.
 enum Went {

@@ -3,25 +3,22 @@ use Prim.Native.Nat.{ℕ, _+_, _*_, _≤_, _<_}
 use mathlib.Core.Path.{_≡_, refl, sym, ap, _∙_}
 use mathlib.Core.List.{List, [], _∷_, _++_}
 use native.Mathlib.Omega.{arith}
-use lib.Dec.{T, leb, eqb, le→leb, leb→le, eqb→eq}
+use lib.Dec.{T, leb, eqb, le→leb, eqb→eq}
 use lib.ListN.{length, getD, take, drop, length-append, length-drop, take-append-drop}
 use lib.Seq.{take-at, drop-at, take-all, length-take-le, drop-drop, sets, sets-eq}
 use borrow.Author.Tests.{eq-eqb}
-use Rattle.bytecode.proofs.TestLaws.{true→T, and-left, and-right, and-both}
+use Rattle.bytecode.proofs.TestLaws.{true→T, and-right, and-both}
 use Rattle.model.specs.Limits.{headerWords, entryWords}
 use Rattle.model.specs.Objects.{Objects, objectsAt, part}
 use Rattle.model.specs.Image.{Header, wordsOf, bytesOf, headerOf, objectsIn, imageHeader, imageObjects, imageOf, imageBytes, lengthFine}
-use Rattle.model.proofs.Parts.{length-part}
+use Rattle.model.proofs.Lent.{objects-eq}
+use Rattle.model.proofs.Parts.{length-part, sets-append}
 use Rattle.image.specs.Heads.{headWords}
-use Rattle.image.proofs.Words.{length-words, length-bytes, words-bytes, bytes-words, bytes-append, sets-append}
+use Rattle.image.proofs.Words.{length-words, length-bytes, words-bytes, bytes-words, bytes-append}
 
 pub header-eq : {e e′ n n′ b b′ r r′ s s′ : ℕ} → e ≡ e′ → n ≡ n′ → b ≡ b′ → r ≡ r′ → s ≡ s′
     → _≡_ {A = Header} (record { edition = e; n = n; b = b; receiver = r; selector = s }) (record { edition = e′; n = n′; b = b′; receiver = r′; selector = s′ })
 header-eq p q r s t = λ i. record { edition = p i; n = q i; b = r i; receiver = s i; selector = t i }
-
-pub objects-eq : {n n′ b b′ : ℕ} {c c′ d d′ : List ℕ} → n ≡ n′ → b ≡ b′ → c ≡ c′ → d ≡ d′
-    → _≡_ {A = Objects} (record { n = n; b = b; contents = c; bodies = d }) (record { n = n′; b = b′; contents = c′; bodies = d′ })
-objects-eq p q r s = λ i. record { n = p i; b = q i; contents = r i; bodies = s i }
 
 -- The lists of the objects that a header names have the lengths that it says.
 pub record Fitting (h : Header) (o : Objects) : Type 0 where
@@ -81,10 +78,6 @@ five (p ∷ q ∷ r ∷ s ∷ []) h = absurd (omega arith)
 
 -- An image of the right length
 module _ (image : List ℕ) (t : T (lengthFine image)) where
-  pub long : 2 * headerWords ≤ length image
-  unfolding lengthFine
-  long = leb→le (2 * headerWords) (length image) (and-left (leb (2 * headerWords) (length image)) _ t)
-
   pub exact : length image ≡ imageBytes (imageHeader image .n) (imageHeader image .b)
   unfolding lengthFine
   exact = eqb→eq (length image) _ (and-right (leb (2 * headerWords) (length image)) (eqb (length image) (imageBytes (imageHeader image .n) (imageHeader image .b))) t)

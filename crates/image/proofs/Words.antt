@@ -9,6 +9,7 @@ use borrow.Author.Fill.{fill-more}
 use lib.Seq.{sets, take-suc, length-take-le, getD-drop}
 use Rattle.model.specs.Objects.{part}
 use Rattle.model.specs.Image.{wordsOf, bytesOf}
+use Rattle.model.proofs.Parts.{sets-append}
 
 two : (i : ℕ) → 2 * suc i ≡ suc (suc (2 * i))
 two i = omega arith
@@ -68,17 +69,6 @@ bytes-words (x ∷ y ∷ bs) e h =
 
     low : (x y : ℕ) → y < 256 → (x * 256 + y) % 256 ≡ y
     low x y l = omega arith
-
--- Stores one after the other
-pub sets-append : (l : List ℕ) (i : ℕ) (vs ws : List ℕ) → sets l i (vs ++ ws) ≡ sets (sets l i vs) (i + length vs) ws
-sets-append l i [] ws = ap (λ (k : ℕ). sets l k ws) (there i)
-  where
-    there : (i : ℕ) → i ≡ i + 0
-    there i = omega arith
-sets-append l i (v ∷ vs) ws = sets-append (set l i v) (suc i) vs ws ∙ ap (λ (k : ℕ). sets (sets (set l i v) (suc i) vs) k ws) (there i (length vs))
-  where
-    there : (i k : ℕ) → suc i + k ≡ i + suc k
-    there i k = omega arith
 
 -- one more word behind those that stand
 pub put-next : (l : List ℕ) (at i : ℕ) (ws : List ℕ) → i < length ws

@@ -1,27 +1,18 @@
 -- Texts stored one behind the other.
-use Prim.Native.Nat.{ℕ, suc, _+_, _/_, _%_, _≤_, _<_}
+use Prim.Native.Nat.{ℕ, _+_, _/_, _%_, _≤_, _<_}
 use mathlib.Core.Path.{_≡_, refl, sym, ap, ap₂, subst, _∙_}
 use mathlib.Core.List.{List, [], _∷_, _++_}
 use native.Mathlib.Omega.{arith}
 use native.Mathlib.Numerals.{add-one}
 use lib.ListN.{length, getD, take, drop, set, length-append}
 use lib.Seq.{sets, sets-eq, take-suc, length-take-le}
+use Rattle.model.proofs.Parts.{sets-append}
 use Rattle.plain.specs.Text.{decimal}
 use Rattle.lines.proofs.Digits.{one-digit, more-digits}
 
 -- the bytes vs from a place on, and the place behind them
 abbrev pub Put : List ℕ → ℕ → List ℕ → ℕ → List ℕ → Type 0
 Put old at vs end out = (end ≡ at + length vs) × (out ≡ sets old at vs)
-
-pub sets-append : (l : List ℕ) (i : ℕ) (vs ws : List ℕ) → sets l i (vs ++ ws) ≡ sets (sets l i vs) (i + length vs) ws
-sets-append l i [] ws = ap (λ (k : ℕ). sets l k ws) (there i)
-  where
-    there : (i : ℕ) → i ≡ i + 0
-    there i = omega arith
-sets-append l i (v ∷ vs) ws = sets-append (set l i v) (suc i) vs ws ∙ ap (λ (k : ℕ). sets (sets (set l i v) (suc i) vs) k ws) (there i (length vs))
-  where
-    there : (i k : ℕ) → suc i + k ≡ i + suc k
-    there i k = omega arith
 
 pub and-then : (old mid out : List ℕ) (vs ws : List ℕ) (at e f : ℕ) → Put old at vs e mid → Put mid e ws f out → Put old at (vs ++ ws) f out
 and-then old mid out vs ws at e f p q = (

@@ -9,18 +9,18 @@ use native.Mathlib.Nat.{suc-inj}
 use native.Mathlib.Decide.{ℕ-discrete, decLt}
 use borrow.Author.Tests.{eq-eqb}
 use lib.Dec.{T, eqb, eqb→eq}
-use lib.ListN.{length, getD, set}
+use lib.ListN.{length, getD}
 use lib.Seq.{getD-set-same, getD-set-other}
 use Rattle.bytecode.specs.Test.{upTo, below, implies, allOf}
 use Rattle.bytecode.proofs.TestLaws.{true→T, and-left, and-right, and-both, implied, upTo-at, at-upTo, below-at, at-below}
-use Rattle.model.specs.Limits.{bytesKind, classKind, listKind, methodKind}
+use Rattle.model.specs.Limits.{bytesKind, classKind}
 use Rattle.model.specs.Word.{pointer, objectNumber}
 use Rattle.model.specs.Objects.{Objects, kind, isKind, dictionaryWord, pairCount, pairSelector, pairMethod}
 use Rattle.model.specs.Method.{home, argumentCount}
 use Rattle.model.specs.Rules.{rule6, classRules, knownObjectRules, objectFine, entryFine, dictionaryMethodsFine, takesCount}
 use Rattle.model.proofs.ChainLaws.{Named, named}
 use Rattle.model.proofs.Parts.{implying}
-use Rattle.model.proofs.Facts.{naming, named-pointer, pointer-of, number-of, ClassFacts, class-facts-of, PairFacts}
+use Rattle.model.proofs.Facts.{naming, named-pointer, pointer-of, ClassFacts, class-facts-of, PairFacts}
 use Rattle.methods.specs.Passes.{holderFine, holders}
 use Rattle.methods.specs.Counts.{Counted, Counts, PairRight, Counting, Turned, Noted, Held}
 use Rattle.methods.proofs.CountLaws.{takes-at, at-takes}

@@ -12,13 +12,13 @@ use Rattle.bytecode.specs.Test.{if_then_else_, upTo, every, implies, allOf}
 use Rattle.bytecode.specs.Constant.{nilWord}
 use Rattle.bytecode.proofs.Choice.{if-yes, if-no, if-cases}
 use Rattle.bytecode.proofs.TestLaws.{true→T, T→true, and-left, and-right, and-both, or-cases, implied, rule, rules, upTo-at, below-at, every-at, at-every}
-use Rattle.model.specs.Limits.{leastObjects, mostObjects, mostBodyWords, entryWords, fieldsKind, bytesKind, classKind, listKind, methodKind, lastForm, fixedForm, indexedForm, bytesForm, otherForm, classWords, mostFields, nilObject, falseObject, trueObject, integerClassObject, selectorsObject, specialSelectors, fieldFlag, primitiveFlag}
+use Rattle.model.specs.Limits.{leastObjects, mostObjects, mostBodyWords, fieldsKind, bytesKind, classKind, listKind, methodKind, lastForm, fixedForm, indexedForm, bytesForm, otherForm, classWords, mostFields, nilObject, falseObject, trueObject, integerClassObject, selectorsObject, specialSelectors, fieldFlag, primitiveFlag}
 use Rattle.model.specs.Word.{isInteger, isPointer, isValid, pointer, objectNumber, integerClass}
 use Rattle.model.specs.Objects.{Objects, classWord, kind, start, size, sizedInBytes, bodyWords, bodyEnd, bodyWord, bodyOf, isKind, isNilOr, superclassWord, dictionaryWord, fieldsWord, formWord, fieldCount, form, pairCount, pairSelector, pairMethod}
 use Rattle.model.specs.Method.{header, home, literal, flag, temporaryCount, literalCount, extension, argumentCount, runsCode}
 use Rattle.model.specs.Lookup.{endsWithin}
 use Rattle.model.specs.Depth.{isSome}
-use Rattle.model.specs.Rules.{sizesFine, startFine, paddingFine, layoutRules, rule4, wordsFine, rule5, fits, entryFine, pairFine, dictionaryFine, classRules, knownObjectRules, objectFine, rule6, takesCount, methodTable, extensionFine, methodRules, dictionaryMethodsFine, rule7}
+use Rattle.model.specs.Rules.{startFine, paddingFine, layoutRules, rule4, wordsFine, rule5, fits, entryFine, pairFine, dictionaryFine, classRules, knownObjectRules, objectFine, rule6, takesCount, methodTable, extensionFine, methodRules, dictionaryMethodsFine, rule7}
 pub use Rattle.model.specs.Rules.{Right}
 use Rattle.model.proofs.ChainLaws.{Named, named}
 use Rattle.model.proofs.Parts.{_also_, implying, or-left, or-right, length-part, part-at}
@@ -42,9 +42,6 @@ named-pointer o k h g =
 
 pub pointer-of : (w : ℕ) → w % 2 ≡ 0 → pointer (objectNumber w) ≡ w
 pointer-of w h = omega arith
-
-pub number-of : (k : ℕ) → objectNumber (pointer k) ≡ k
-number-of k = omega arith
 
 pub data Valid (n w : ℕ) : Type 0 where
   odd : w % 2 ≡ 1 → Valid n w
@@ -451,17 +448,6 @@ module _ {e : ℕ} {o : Objects} (r : Right e o) where
       let w = in-words o selectorsObject (omega arith) (omega arith) in
       omega arith
 
-  pub special-selector : (k : ℕ) → k < specialSelectors → T (isNilOr o bytesKind (bodyWord o selectorsObject k))
-  unfolding knownObjectRules bodyOf
-  special-selector k h =
-      let l = least in
-      let i = inside selectorsObject (omega arith) (omega arith) in
-      let s = r .bodies in
-      let b = inside-selectors k h in
-      let p = length-part (o .bodies) (start o selectorsObject) (bodyWords o selectorsObject) (omega arith) in
-      subst (λ (w : ℕ). T (isNilOr o bytesKind w)) (part-at (o .bodies) (start o selectorsObject) (bodyWords o selectorsObject) k b)
-      (every-at (isNilOr o bytesKind) (bodyOf o selectorsObject) (rule (knownObjectRules e o) known 7) k (omega arith))
-
   pub special-valid : (k : ℕ) → k < specialSelectors → T (isValid (o .n) (bodyWord o selectorsObject k))
   special-valid k h =
       let l = least in
@@ -510,11 +496,3 @@ module _ {e : ℕ} {o : Objects} (r : Right e o) where
       (and-left (eqb (home o (pairMethod o (dictionaryWord o c) i)) c) _
       (below-at (pairCount o (dictionaryWord o c)) (λ i. eqb (home o (pairMethod o (dictionaryWord o c) i)) c && takesCount o
       (pairSelector o (dictionaryWord o c) i) (argumentCount o (pairMethod o (dictionaryWord o c) i))) (fine-methods c t) i l))
-
-  pub pair-count : (c i : ℕ) → T (isKind o classKind c) → i < pairCount o (dictionaryWord o c)
-      → T (takesCount o (pairSelector o (dictionaryWord o c) i) (argumentCount o (pairMethod o (dictionaryWord o c) i)))
-  unfolding dictionaryMethodsFine
-  pair-count c i t l =
-      and-right (eqb (home o (pairMethod o (dictionaryWord o c) i)) c) (takesCount o (pairSelector o (dictionaryWord o c) i) (argumentCount o (pairMethod o (dictionaryWord o c) i)))
-      (below-at (pairCount o (dictionaryWord o c)) (λ i. eqb (home o (pairMethod o (dictionaryWord o c) i)) c && takesCount o
-      (pairSelector o (dictionaryWord o c) i) (argumentCount o (pairMethod o (dictionaryWord o c) i))) (fine-methods c t) i l)

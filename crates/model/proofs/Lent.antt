@@ -6,8 +6,12 @@ use native.Mathlib.Omega.{arith}
 use lib.ListN.{length, take, drop, length-take, take-append-drop}
 use lib.Seq.{length-take-le}
 use Rattle.model.specs.Limits.{entryWords}
-use Rattle.model.specs.Objects.{objectsAt}
+use Rattle.model.specs.Objects.{Objects, objectsAt}
 use Rattle.model.specs.Rules.{Right}
+
+pub objects-eq : {n n′ b b′ : ℕ} {c c′ d d′ : List ℕ} → n ≡ n′ → b ≡ b′ → c ≡ c′ → d ≡ d′
+    → _≡_ {A = Objects} (record { n = n; b = b; contents = c; bodies = d }) (record { n = n′; b = b′; contents = c′; bodies = d′ })
+objects-eq p q r s = λ i. record { n = p i; b = q i; contents = r i; bodies = s i }
 
 module _ {e : ℕ} (n b : ℕ) (contents bodies : List ℕ) (r : Right e (objectsAt n b contents bodies)) where
   pub contents-room : entryWords * n ≤ length contents

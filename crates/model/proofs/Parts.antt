@@ -1,13 +1,13 @@
--- Equal tests, and parts of a list of words.
+-- Equal tests, parts of a list of words, and stores into one.
 use Prim.Native.Nat.{ℕ, zero, suc, _+_, _≤_, _<_}
-use mathlib.Core.Path.{_≡_, refl, sym, ap₂, _∙_, subst}
+use mathlib.Core.Path.{_≡_, refl, sym, ap, ap₂, _∙_, subst}
 use mathlib.Core.Bool.{Bool, true, false, _&&_, _||_}
-use mathlib.Core.List.{List, [], _∷_}
+use mathlib.Core.List.{List, [], _∷_, _++_}
 use native.Mathlib.Omega.{arith}
 use native.Mathlib.Decide.{decLe}
 use lib.Dec.{T}
-use lib.ListN.{length, getD, drop, length-drop}
-use lib.Seq.{length-take-le, getD-take, getD-drop, ext-getD}
+use lib.ListN.{length, getD, set, drop, length-drop}
+use lib.Seq.{sets, length-take-le, getD-take, getD-drop, ext-getD}
 use Rattle.bytecode.specs.Test.{if_then_else_, upTo, below, every, implies}
 use Rattle.bytecode.proofs.TestLaws.{and-left, and-right, and-both, upTo-at, at-upTo}
 use Rattle.model.specs.Objects.{part}
@@ -68,3 +68,14 @@ part-same xs ys from count h g same =
     let b = length-part ys from count g in
     ext-getD 0 (part ys from count) (part xs from count) (b ∙ sym a)
     (λ i l. part-at ys from count i (omega arith) ∙ same i (omega arith) ∙ sym (part-at xs from count i (omega arith)))
+
+-- Stores one after the other
+pub sets-append : (l : List ℕ) (i : ℕ) (vs ws : List ℕ) → sets l i (vs ++ ws) ≡ sets (sets l i vs) (i + length vs) ws
+sets-append l i [] ws = ap (λ (k : ℕ). sets l k ws) (there i)
+  where
+    there : (i : ℕ) → i ≡ i + 0
+    there i = omega arith
+sets-append l i (v ∷ vs) ws = sets-append (set l i v) (suc i) vs ws ∙ ap (λ (k : ℕ). sets (sets (set l i v) (suc i) vs) k ws) (there i (length vs))
+  where
+    there : (i k : ℕ) → suc i + k ≡ i + suc k
+    there i k = omega arith

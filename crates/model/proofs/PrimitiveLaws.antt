@@ -24,7 +24,6 @@ use Rattle.model.specs.Image.{Room}
 use Rattle.model.specs.Arithmetic.{number, divided, exactQuotient, onIntegers, onBits, arithmetic}
 use Rattle.model.specs.Primitive.{Outcome, answers, fails, storeWord, objectByte, storeByte, isIndexable, holdsBytes, elementCount, isIndex, placeOfIndex, at, atPut, sizeAnswer, appended, hasRoom, make, new, newWith, computed, perform, primitiveCount, primitive}
 use Rattle.model.proofs.Marks.{blank}
-use Rattle.model.proofs.Parts.{}
 use Rattle.model.proofs.Facts.{Right, Valid, odd, names, valid-cases, valid-odd, valid-name, valid-kind, Fits, fixed, indexed, bytes, other, in-words, least, word-valid, entry-class, entry-fits}
 use Rattle.model.proofs.Extends.{Extends, extends-refl, valid-grows}
 use Rattle.model.proofs.StoreLaws.{stored-extends, stored-right, byte-extends, byte-right}
@@ -189,7 +188,7 @@ module _ {e : ℕ} {o : Objects} (r : Right e o) where
           go (other a b) q (inl s) = absurd (omega arith)
           go (other a b) q (inr s) = absurd (q s)
 
-      place : (x : ℕ) → T (isIndex o w x) → placeOfIndex o w x < size o (w / 2)
+      place : (x : ℕ) → T (isIndex o w x) → placeOfIndex x < size o (w / 2)
       place x t =
           let q : T (leb 1 (x / 2) && leb (x / 2) (elementCount o w)) = and-right (isNatural largestInteger x) (leb 1 (x / 2) && leb (x / 2) (elementCount o w)) t in
           let a = leb→le 1 (x / 2) (and-left (leb 1 (x / 2)) (leb (x / 2) (elementCount o w)) q) in
@@ -206,9 +205,9 @@ module _ {e : ℕ} {o : Objects} (r : Right e o) where
       unfolding at
       at-law x =
           if-cases (Kept room e o) (isIndexable o w && isIndex o w x) _ fails
-          (λ p. same-objects _ (if-cases (λ (z : ℕ). T (isValid (o .n) z)) (holdsBytes o w) (2 * objectByte o (w / 2) (placeOfIndex o w x) + 1) (bodyWord o (w / 2) (placeOfIndex o w x))
-          (λ q. valid-odd (o .n) (2 * objectByte o (w / 2) (placeOfIndex o w x) + 1) (omega arith))
-          (λ q. element-valid (placeOfIndex o w x) (element (and-left (isIndexable o w) (isIndex o w x) (true→T p))) q (place x (and-right (isIndexable o w) (isIndex o w x) (true→T p))))))
+          (λ p. same-objects _ (if-cases (λ (z : ℕ). T (isValid (o .n) z)) (holdsBytes o w) (2 * objectByte o (w / 2) (placeOfIndex x) + 1) (bodyWord o (w / 2) (placeOfIndex x))
+          (λ q. valid-odd (o .n) (2 * objectByte o (w / 2) (placeOfIndex x) + 1) (omega arith))
+          (λ q. element-valid (placeOfIndex x) (element (and-left (isIndexable o w) (isIndex o w x) (true→T p))) q (place x (and-right (isIndexable o w) (isIndex o w x) (true→T p))))))
           (λ p. tt)
 
       pub size-law : Kept room e o (sizeAnswer o w)
@@ -249,8 +248,8 @@ module _ {e : ℕ} {o : Objects} (r : Right e o) where
           (λ p. let h = element (and-left (isIndexable o w) (isIndex o w x) (true→T p)) in
           let l = place x (and-right (isIndexable o w) (isIndex o w x) (true→T p)) in
           if-cases (Kept room e o) (holdsBytes o w) _ _
-          (λ q. if-cases (Kept room e o) (isNatural 255 y) _ fails (λ s. byte-stored (placeOfIndex o w x) (y / 2) y u h q l) (λ s. tt))
-          (λ q. word-stored (placeOfIndex o w x) y u h q l))
+          (λ q. if-cases (Kept room e o) (isNatural 255 y) _ fails (λ s. byte-stored (placeOfIndex x) (y / 2) y u h q l) (λ s. tt))
+          (λ q. word-stored (placeOfIndex x) y u h q l))
           (λ p. tt)
 
     -- 70 and 71

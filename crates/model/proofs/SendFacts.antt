@@ -175,10 +175,6 @@ module _ {e : ℕ} {o : Objects} (r : Right e o) where
   unfolding inChain
   chain-fields a c t = above-within (o .n) a c t .fewer
 
-  pub chain-class-of : (a c : ℕ) → T (inChain o a c) → T (isKind o classKind a)
-  unfolding inChain
-  chain-class-of a c t = above-within (o .n) a c t .class-a
-
   -- the fields of a home are fields of the receiver
   pub receiver-fields : (w a i : ℕ) → T (isValid (o .n) w) → T (inChain o a (classOf o w)) → i < fieldCount o a → T (isKind o fieldsKind w) × (i < size o (w / 2))
   unfolding classOf

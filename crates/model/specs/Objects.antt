@@ -1,10 +1,10 @@
 -- Objects: the table of contents and the bodies, read by object number (01, "Image").
 -- A read outside the two lists gives 0; the image rules see to it that none is made.
 use Prim.Native.Nat.{ℕ, _+_, _-_, _*_, _/_, _%_}
-use mathlib.Core.Bool.{Bool, true, false, _&&_, _||_}
-use mathlib.Core.List.{List, [], _∷_}
-use lib.Dec.{leb, ltb, eqb}
-use lib.ListN.{getD, take, drop}
+use mathlib.Core.Bool.{Bool, _&&_, _||_}
+use mathlib.Core.List.{List, [], _∷_, _++_}
+use lib.Dec.{eqb}
+use lib.ListN.{length, getD, take, drop}
 use Rattle.bytecode.specs.Test.{if_then_else_}
 use Rattle.bytecode.specs.Constant.{nilWord}
 use Rattle.model.specs.Limits.{entryWords, bytesKind, methodKind}
@@ -20,6 +20,14 @@ pub record Objects : Type 0 where
 -- The objects in buffers that may be longer
 abbrev pub objectsAt : ℕ → ℕ → List ℕ → List ℕ → Objects
 objectsAt n b contents bodies = record { n = n; b = b; contents = take (entryWords * n) contents; bodies = take b bodies }
+
+-- The entries alone, where no body is read
+abbrev pub entriesAt : ℕ → List ℕ → Objects
+entriesAt n contents = objectsAt n 0 contents []
+
+-- Words at the front of a buffer; the rest is as it was.
+abbrev pub atFront : List ℕ → List ℕ → List ℕ
+atFront words buffer = words ++ drop (length words) buffer
 
 -- Word i of the entry of object k: class, kind, start, size. Objects are numbered from 1.
 abbrev pub entryWord : Objects → ℕ → ℕ → ℕ

@@ -1,7 +1,7 @@
 -- The primitives (01, "Plain machine": "Primitives"): 1 to 17 by specs/Arithmetic.antt, 60 to 62, 70, 71, 110, 111. One that fails
 -- changes nothing; every other number fails.
 use Prim.Native.Nat.{ℕ, _+_, _-_, _*_, _/_, _%_}
-use mathlib.Core.Bool.{Bool, true, false, _&&_, _||_, not}
+use mathlib.Core.Bool.{Bool, _&&_, _||_, not}
 use mathlib.Core.List.{List, [], _∷_, _++_}
 use lib.Dec.{leb, ltb, eqb}
 use lib.ListN.{length, getD, set, replicate}
@@ -49,14 +49,14 @@ elementCount o w = size o (objectNumber w)
 abbrev pub isIndex : Objects → ℕ → ℕ → Bool
 isIndex o w x = isNatural largestInteger x && (leb 1 (x / 2) && leb (x / 2) (elementCount o w))
 
-abbrev pub placeOfIndex : Objects → ℕ → ℕ → ℕ
-placeOfIndex o w x = x / 2 - 1
+abbrev pub placeOfIndex : ℕ → ℕ
+placeOfIndex x = x / 2 - 1
 
 -- 60 at:
 unfoldable pub at : Objects → ℕ → ℕ → Outcome
 at o w x =
     if isIndexable o w && isIndex o w x
-    then answers (if holdsBytes o w then 2 * objectByte o (objectNumber w) (placeOfIndex o w x) + 1 else bodyWord o (objectNumber w) (placeOfIndex o w x)) o
+    then answers (if holdsBytes o w then 2 * objectByte o (objectNumber w) (placeOfIndex x) + 1 else bodyWord o (objectNumber w) (placeOfIndex x)) o
     else fails
 
 -- 61 at:put: answers what it stored; a byte is 0 to 255.
@@ -65,8 +65,8 @@ atPut o w x v =
     if isIndexable o w && isIndex o w x
     then
     (if holdsBytes o w
-    then (if isNatural 255 v then answers v (storeByte o (objectNumber w) (placeOfIndex o w x) (v / 2)) else fails)
-    else answers v (storeWord o (objectNumber w) (placeOfIndex o w x) v))
+    then (if isNatural 255 v then answers v (storeByte o (objectNumber w) (placeOfIndex x) (v / 2)) else fails)
+    else answers v (storeWord o (objectNumber w) (placeOfIndex x) v))
     else fails
 
 -- 62 size

@@ -5,17 +5,16 @@ use mathlib.Core.Bool.{Bool, true, false, _&&_, _||_}
 use mathlib.Core.List.{List, _++_}
 use native.Mathlib.Omega.{arith}
 use lib.Dec.{leb, eqb}
-use lib.ListN.{length, getD, take, drop, set, length-set, length-take, take-append-drop}
+use lib.ListN.{length, getD, take, drop, set, length-set, take-append-drop}
 use lib.Seq.{getD-take, length-take-le, take-at, set-append-left}
 use borrow.Author.Tests.{eq-eqb, ne-eqb, le-leb, lt-leb}
 use Rattle.bytecode.proofs.Choice.{if-yes, if-no}
 use Rattle.model.specs.Limits.{entryWords}
 use Rattle.model.specs.Word.{isPointer, isValid}
-use Rattle.model.specs.Objects.{Objects, objectsAt, entryWord, kind, start, bodyWord, classOf, isKind}
-use Rattle.model.specs.Rules.{Right}
+use Rattle.model.specs.Objects.{Objects, objectsAt, entryWord, kind, start, bodyWord, classOf, isKind, atFront}
 use Rattle.model.specs.Primitive.{storeWord, storeByte}
+use Rattle.model.proofs.Lent.{objects-eq}
 pub use Rattle.model.proofs.Lent.{contents-room, bodies-room, front-same}
-use Rattle.objects.specs.Lent.{front}
 
 module _ (n b : ℕ) (contents bodies : List ℕ) where
   pub entry-at : (k i at : ℕ) → 1 ≤ k → k ≤ n → i < entryWords → at ≡ entryWords * (k - 1) + i → getD contents at 0 ≡ entryWord (objectsAt n b contents bodies) k i
@@ -43,7 +42,7 @@ module _ (n b : ℕ) (contents bodies : List ℕ) where
 
   -- a store below b
   pub stored : (k i w at : ℕ) → b ≤ length bodies → at ≡ start (objectsAt n b contents bodies) k + i → at < b
-      → set bodies at w ≡ front (storeWord (objectsAt n b contents bodies) k i w .bodies) bodies
+      → set bodies at w ≡ atFront (storeWord (objectsAt n b contents bodies) k i w .bodies) bodies
   unfolding storeWord
   stored k i w at r e l =
       let t = length-take-le b bodies r in
@@ -51,28 +50,13 @@ module _ (n b : ℕ) (contents bodies : List ℕ) where
       ∙ set-append-left (take b bodies) (drop b bodies) at w (omega arith)
       ∙ ap₂ (λ (x y : ℕ). set (take b bodies) x w ++ drop y bodies) e (sym (length-set (take b bodies) (start (objectsAt n b contents bodies) k + i) w ∙ t))
 
--- Objects put at the front of buffers are the objects there.
-objects-eq : {n n′ b b′ : ℕ} {c c′ d d′ : List ℕ} → n ≡ n′ → b ≡ b′ → c ≡ c′ → d ≡ d′
-    → _≡_ {A = Objects} (record { n = n; b = b; contents = c; bodies = d }) (record { n = n′; b = b′; contents = c′; bodies = d′ })
-objects-eq p q r s = λ i. record { n = p i; b = q i; contents = r i; bodies = s i }
-
-pub objects-front : (o : Objects) (contents bodies : List ℕ) → length (o .contents) ≡ entryWords * o .n → length (o .bodies) ≡ o .b
-    → objectsAt (o .n) (o .b) (front (o .contents) contents) (front (o .bodies) bodies) ≡ o
-objects-front o contents bodies p q =
-    objects-eq refl refl (take-at (o .contents) (drop (length (o .contents)) contents) (entryWords * o .n) p) (take-at (o .bodies) (drop (length (o .bodies)) bodies) (o .b) q)
-
 -- what a store leaves is what is defined
 pub stored-objects : (n b : ℕ) (contents bodies : List ℕ) (k i w : ℕ) → b ≤ length bodies
-    → objectsAt n b contents (front (storeWord (objectsAt n b contents bodies) k i w .bodies) bodies) ≡ storeWord (objectsAt n b contents bodies) k i w
+    → objectsAt n b contents (atFront (storeWord (objectsAt n b contents bodies) k i w .bodies) bodies) ≡ storeWord (objectsAt n b contents bodies) k i w
 unfolding storeWord
 stored-objects n b contents bodies k i w h =
     let at = start (objectsAt n b contents bodies) k + i in
     objects-eq refl refl refl (take-at (set (take b bodies) at w) _ b (length-set (take b bodies) at w ∙ length-take-le b bodies h))
-
-pub stored-byte : (n b : ℕ) (contents bodies : List ℕ) (k i v : ℕ) → b ≤ length bodies
-    → objectsAt n b contents (front (storeByte (objectsAt n b contents bodies) k i v .bodies) bodies) ≡ storeByte (objectsAt n b contents bodies) k i v
-unfolding storeByte
-stored-byte n b contents bodies k i v h = stored-objects n b contents bodies k (i / 2) _ h
 
 -- words, by the tests of the code
 pub pointer-odd : (n w : ℕ) → (w % 2 ≡ 0 → ⊥) → false ≡ isPointer n w

@@ -7,18 +7,10 @@ use lib.ListN.{length, take, drop}
 use Rattle.bytecode.specs.Test.{if_then_else_}
 use Rattle.model.specs.Limits.{entryWords, smallFrameWords, largeFrameWords}
 use Rattle.model.specs.Word.{objectNumber}
-use Rattle.model.specs.Objects.{Objects, objectsAt, start, bodyWords, isKind}
+use Rattle.model.specs.Objects.{objectsAt, start, bodyWords, isKind}
 use Rattle.model.specs.Method.{literalCount, codeWords, codeSize}
 use Rattle.model.specs.Rules.{Right}
 use Rattle.objects.specs.declared.Code.{Code}
-
--- The entries alone, where no body is read
-abbrev pub entriesAt : ℕ → List ℕ → Objects
-entriesAt n contents = objectsAt n 0 contents []
-
--- Words at the front of a buffer, and what lies behind them as it was
-abbrev pub front : List ℕ → List ℕ → List ℕ
-front words buffer = words ++ drop (length words) buffer
 
 -- w names an object whose entry is in the buffer.
 pub record Listed (n : ℕ) (contents : List ℕ) (w : ℕ) : Type 0 where

@@ -8,12 +8,12 @@ ghost use lib.ListN.{length, take, drop};
 ghost use Rattle.bytecode.specs.Code.{byteAt};
 ghost use Rattle.model.specs.Limits.{entryWords, classKind, listKind, methodKind, primitiveFlag};
 ghost use Rattle.model.specs.Word.{isPointer, isValid, objectNumber};
-ghost use Rattle.model.specs.Objects.{objectsAt, classOf, isKind, isNilOr, kind, start, size, bodyWord, superclassWord, dictionaryWord, fieldCount, form};
+ghost use Rattle.model.specs.Objects.{objectsAt, classOf, isKind, isNilOr, kind, start, size, bodyWord, superclassWord, dictionaryWord, fieldCount, form, entriesAt, atFront};
 ghost use Rattle.model.specs.Method.{header, home, literal, flag, literalCount, extension, primitiveNumber, argumentCount};
 ghost use Rattle.model.specs.Lookup.{findIn, lookup, inChain};
 ghost use Rattle.model.specs.Rules.{Right};
 ghost use Rattle.model.specs.Primitive.{storeWord, objectByte, storeByte};
-ghost use Rattle.objects.specs.Lent.{entriesAt, front, Listed, Inside, Holds, CodeAt, flagOf, temporariesOf, literalsOf, frameOf};
+ghost use Rattle.objects.specs.Lent.{Listed, Inside, Holds, CodeAt, flagOf, temporariesOf, literalsOf, frameOf};
 use model::Found;
 use model::Pointer;
 
@@ -118,7 +118,7 @@ pub fn store_word(
     w: u16,
 )
     requires { ⌜ Inside n b (now contents) (now bodies) (p .0) i ⌝ }
-    ensures { λ _. ⌜ now (bodies .exit) ≡ front (storeWord (objectsAt n b (now (contents .entry)) (now (bodies .entry))) (objectNumber (p .0)) i w .bodies) (now (bodies .entry)) ⌝ }
+    ensures { λ _. ⌜ now (bodies .exit) ≡ atFront (storeWord (objectsAt n b (now (contents .entry)) (now (bodies .entry))) (objectNumber (p .0)) i w .bodies) (now (bodies .entry)) ⌝ }
 {
     let to = start_of(contents, n, p) + i;
     bodies[to] = w;
@@ -146,7 +146,7 @@ pub fn store_byte(
     v: u8,
 )
     requires { ⌜ Inside n b (now contents) (now bodies) (p .0) (i / 2) ⌝ }
-    ensures { λ _. ⌜ now (bodies .exit) ≡ front (storeByte (objectsAt n b (now (contents .entry)) (now (bodies .entry))) (objectNumber (p .0)) i v .bodies) (now (bodies .entry)) ⌝ }
+    ensures { λ _. ⌜ now (bodies .exit) ≡ atFront (storeByte (objectsAt n b (now (contents .entry)) (now (bodies .entry))) (objectNumber (p .0)) i v .bodies) (now (bodies .entry)) ⌝ }
 {
     let w = word_of(contents, bodies, n, b, p, i / 2);
     if i % 2 == 0 {

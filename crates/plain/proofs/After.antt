@@ -1,18 +1,16 @@
 -- What a step, a begin or a run does to the objects, and what a step needs of them.
 use Prim.Native.Nat.{ℕ, _+_, _*_, _≤_, _<_}
-use mathlib.Core.Path.{_≡_, refl, sym, ap, _∙_, subst}
-use mathlib.Core.Bool.{Bool, true, false}
-use mathlib.Core.List.{List, [], _∷_}
+use mathlib.Core.Path.{_≡_, sym, _∙_, subst}
+use mathlib.Core.List.{[], _∷_}
 use lib.Dec.{T}
 use Rattle.model.specs.Limits.{entryWords}
 use Rattle.model.specs.Objects.{Objects}
 use Rattle.model.specs.Image.{Room}
 use Rattle.model.proofs.Facts.{Right}
-use Rattle.model.proofs.Extends.{Extends, extends-trans}
+use Rattle.model.proofs.Extends.{Extends}
 use Rattle.model.proofs.Unchanged.{start-same}
-use Rattle.plain.specs.Registers.{editionOf}
 use Rattle.plain.specs.State.{Plain, objects}
-use Rattle.plain.proofs.Preserve.{World, Kept, Shape}
+use Rattle.plain.proofs.Preserve.{Kept}
 use Rattle.plain.proofs.StateLaws.{PlainRight, goes}
 
 -- Objects after others: right, with classes, lists and methods as they were, and within the buffers
@@ -21,9 +19,6 @@ pub record After (room : Room) (o o′ : Objects) : Type 0 where
   pub right : Right 1 o′
   pub contents : entryWords * o′ .n ≤ room .contents
   pub bodies : o′ .b ≤ room .bodies
-
-pub after-trans : (room : Room) {o o′ o″ : Objects} → After room o o′ → After room o′ o″ → After room o o″
-after-trans room a b = record { extends = extends-trans (a .extends) (b .extends); right = b .right; contents = b .contents; bodies = b .bodies }
 
 -- a right state after a step
 pub kept-right : (room : Room) (s s′ : Plain) → PlainRight room s → Kept (After room) room s s′ → PlainRight room s′

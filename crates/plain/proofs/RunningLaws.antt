@@ -1,22 +1,22 @@
 -- A running handler's top frame, and the step that it is about to make.
 use Prim.Native.Nat.{ℕ, suc, _+_, _≤_, _<_}
-use mathlib.Core.Path.{_≡_, refl, sym, ap, _∙_, subst}
-use mathlib.Core.Bool.{Bool, true, false}
+use mathlib.Core.Path.{_≡_, refl, sym, _∙_, subst}
+use mathlib.Core.Bool.{true}
 use mathlib.Core.List.{List, [], _∷_}
 use native.Mathlib.Omega.{arith}
-use lib.Dec.{T, leb, leb→le}
-use lib.ListN.{length, getD}
+use lib.Dec.{T}
+use lib.ListN.{length}
 use Rattle.bytecode.specs.Test.{if_then_else_}
-use Rattle.bytecode.specs.Code.{nextAt, decodeAt}
+use Rattle.bytecode.specs.Code.{decodeAt}
 use Rattle.bytecode.specs.declared.Instruction.{Instruction}
 use Rattle.bytecode.proofs.Choice.{if-cases}
-use Rattle.model.specs.Limits.{methodKind, mostStackWords}
+use Rattle.model.specs.Limits.{methodKind}
 use Rattle.model.specs.Objects.{Objects, objectsAt, isKind}
 use Rattle.model.specs.Method.{temporaryCount, frameWords, frameSize, isLarge, codeWords, codeSize}
 use Rattle.model.specs.Image.{Room}
-use Rattle.plain.specs.State.{Frame, Plain}
-use Rattle.plain.specs.Step.{Stepped, execute, stepFrame, step}
-use Rattle.plain.specs.Flat.{frameDepth, frameMethod, framePosition, frameReceiver, frameSender, frameAt, framesFrom}
+use Rattle.plain.specs.State.{Frame}
+use Rattle.plain.specs.Step.{execute, stepFrame, step}
+use Rattle.plain.specs.Flat.{frameDepth, frameMethod, framePosition, frameReceiver, frameAt, framesFrom}
 use Rattle.plain.specs.Running.{Runs, At, runningAt, topFrame, restFrames}
 use Rattle.plain.proofs.FrameLaws.{FrameRight, FramesRight, Fits, frames-right, depth-within}
 use Rattle.plain.proofs.NowLaws.{Now, now}
@@ -63,21 +63,9 @@ module _ {n b top : ℕ} {contents bodies stack : List ℕ} (r : Runs n b top co
   unfolding frameAt
   method-is = refl
 
-  pub position-is : f .position ≡ framePosition stack top
-  unfolding frameAt
-  position-is = refl
-
-  pub depth-is : f .depth ≡ frameDepth stack top
-  unfolding frameAt
-  depth-is = refl
-
   pub receiver-is : f .receiver ≡ frameReceiver stack top
   unfolding frameAt
   receiver-is = refl
-
-  pub sender-is : f .sender ≡ frameSender stack top
-  unfolding frameAt
-  sender-is = refl
 
   pub is-method : T (isKind o methodKind (frameMethod stack top))
   is-method = subst (λ (m : ℕ). T (isKind o methodKind m)) method-is (top-right .isMethod)

@@ -1,6 +1,6 @@
 -- The stack with frames laid into it, as the few words that a bytecode writes.
 use Prim.Native.Nat.{ℕ, zero, suc, _+_, _-_, _≤_, _<_}
-use mathlib.Core.Path.{_≡_, refl, sym, ap, ap₂, _∙_, subst}
+use mathlib.Core.Path.{_≡_, refl, sym, ap, _∙_, subst}
 use mathlib.Core.Bool.{Bool, true, false}
 use mathlib.Core.Logic.{_⊎_, inl, inr, _≢_}
 use mathlib.Core.List.{List, [], _∷_, _++_}
@@ -374,18 +374,6 @@ module _ (isTop : Bool) (o : Objects) (stack : List ℕ) (t left : ℕ) (f : Fra
 
 -- The same of the top frame
 module _ (o : Objects) (stack : List ℕ) (t left : ℕ) (f : Frame) (rest : List Frame) (fr : FramesRight o (length stack) true t (f ∷ rest)) (stood : framesFrom left o stack t ≡ f ∷ rest) where
-  pub top-right : FrameRight o true f
-  top-right = frame-right-at true o stack t left f rest fr stood
-
-  pub top-here : frameAt o stack t ≡ f
-  top-here = frame-here-at true o stack t left f rest fr stood
-
-  pub rest-same : laid stack (f .sender) rest ≡ stack
-  rest-same = rest-same-at true o stack t left f rest fr stood
-
-  pub top-laid : (f′ : Frame) → f′ .sender ≡ f .sender → laid stack t (f′ ∷ rest) ≡ sets stack t (frameImage f′)
-  top-laid = laid-at true o stack t left f rest fr stood
-
   pub moved-writes : (q k : ℕ) → k ≤ f .depth → laid stack t (movedTo f q (take k (f .operands)) ∷ rest) ≡ set (set stack (t + 1) q) (t + 2) k
   moved-writes = moved-at true o stack t left f rest fr stood
 

@@ -4,12 +4,13 @@ use Prim.Native.Nat.{ℕ, _+_, _*_, max}
 use mathlib.Core.Bool.{Bool, true, false, _&&_}
 use mathlib.Core.List.{List, [], _∷_, _++_}
 use lib.Dec.{leb, eqb}
-use lib.ListN.{length, drop, replicate}
+use lib.ListN.{length, replicate}
 use lib.Seq.{sets}
 use Rattle.bytecode.specs.Test.{if_then_else_}
 use Rattle.model.specs.Limits.{entryWords}
 use Rattle.model.specs.Method.{frameSize}
-use Rattle.model.specs.Image.{Header, Verdict, accepted, refused, unless, _then_, buffersFine, imageHeader, imageOf, imageBytes, loadVerdict}
+use Rattle.model.specs.Image.{Verdict, accepted, refused, unless, _then_, buffersFine, imageHeader, imageOf, imageBytes, loadVerdict}
+pub use Rattle.model.specs.Objects.{atFront}
 use Rattle.plain.specs.Registers.{Registers, noRegisters, editionOf, running}
 use Rattle.plain.specs.State.{Frame, Plain, objects}
 use Rattle.plain.specs.Calls.{loaded, Begun, begun, declined, begin, Ran, ran, stuck, Taken, taken, steps, dropped, Answer, done, refusedBy, result, wrote, Call, beginCall, runCall, dropCall, forgetCall}
@@ -35,10 +36,6 @@ stackAfter stack (taken l s ∷ ts) = stackAfter (laid stack (s .registers .top)
 unfoldable pub cacheAfter : List ℕ → List Taken → List ℕ
 cacheAfter cache [] = cache
 cacheAfter cache (taken l s ∷ ts) = cacheAfter (filled cache l) ts
-
--- Words at the front of a buffer; the rest is as it was.
-abbrev pub atFront : List ℕ → List ℕ → List ℕ
-atFront words buffer = words ++ drop (length words) buffer
 
 -- The flat state with a plain state's registers and objects
 abbrev pub withPlain : Flat → Plain → List ℕ → List ℕ → Flat

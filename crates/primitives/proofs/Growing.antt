@@ -15,18 +15,17 @@ use Rattle.bytecode.proofs.TestLaws.{T→true, and-both}
 use Rattle.model.specs.declared.Computed.the-variants.{Word, Failed}
 use Rattle.model.specs.Limits.{entryWords, mostObjects, mostBodyWords, largestInteger, fieldsKind, bytesKind, classKind, fixedForm, indexedForm, bytesForm}
 use Rattle.model.specs.Word.{isNatural}
-use Rattle.model.specs.Objects.{Objects, objectsAt, isKind, fieldCount, form}
+use Rattle.model.specs.Objects.{Objects, objectsAt, isKind, fieldCount, form, atFront}
 use Rattle.model.specs.Image.{Room}
 use Rattle.model.specs.Rules.{Right}
 use Rattle.model.specs.Primitive.{Outcome, fails, appended, hasRoom, make, new, newWith}
 use Rattle.model.proofs.AppendLaws.{HasRoom, room-facts}
 use Rattle.primitives.specs.declared.Done.{Done}
-use Rattle.objects.specs.Lent.{front}
 use Rattle.primitives.specs.Outcomes.{answerOf, objectsAfter, roomOf, Does}
 use Rattle.objects.proofs.Buffers.{contents-room, bodies-room, front-same}
 
 -- One more word at the front
-front-next : (p l : List ℕ) (i v : ℕ) → length p ≡ i → i < length l → set (front p l) i v ≡ front (p ++ (v ∷ [])) l
+front-next : (p l : List ℕ) (i v : ℕ) → length p ≡ i → i < length l → set (atFront p l) i v ≡ atFront (p ++ (v ∷ [])) l
 front-next p l i v e h =
     ap (λ (k : ℕ). set (p ++ drop k l) i v) e ∙ ap (λ (r : List ℕ). set (p ++ r) i v) (drop-cons l i 0 h) ∙ set-at p _ (drop (suc i) l) v i e
     ∙ sym (append-snoc p v (drop (suc i) l)) ∙ ap (λ (k : ℕ). (p ++ (v ∷ [])) ++ drop k l) there
@@ -34,25 +33,25 @@ front-next p l i v e h =
     there : suc i ≡ length (p ++ (v ∷ []))
     there = let a = length-append p (v ∷ []) in omega arith
 
-pub fill-first : (l : List ℕ) (b w : ℕ) → b ≤ length l → l ≡ front (take b l ++ replicate 0 w) l
-fill-first l b w h = sym (front-same b l h) ∙ ap (λ (x : List ℕ). front x l) (sym (append-nil (take b l)))
+pub fill-first : (l : List ℕ) (b w : ℕ) → b ≤ length l → l ≡ atFront (take b l ++ replicate 0 w) l
+fill-first l b w h = sym (front-same b l h) ∙ ap (λ (x : List ℕ). atFront x l) (sym (append-nil (take b l)))
 
-pub fill-next : (l bodies : List ℕ) (b i w : ℕ) → b + i < length l → bodies ≡ front (take b l ++ replicate i w) l → set bodies (b + i) w ≡ front (take b l ++ replicate (i + 1) w) l
+pub fill-next : (l bodies : List ℕ) (b i w : ℕ) → b + i < length l → bodies ≡ atFront (take b l ++ replicate i w) l → set bodies (b + i) w ≡ atFront (take b l ++ replicate (i + 1) w) l
 fill-next l bodies b i w h p =
     ap (λ (x : List ℕ). set x (b + i) w) p ∙ front-next (take b l ++ replicate i w) l (b + i) w long h
-    ∙ ap (λ (x : List ℕ). front x l) (append-assoc (take b l) (replicate i w) (w ∷ []) ∙ ap (λ (x : List ℕ). take b l ++ x) (replicate-append-replicate i 1 w))
+    ∙ ap (λ (x : List ℕ). atFront x l) (append-assoc (take b l) (replicate i w) (w ∷ []) ∙ ap (λ (x : List ℕ). take b l ++ x) (replicate-append-replicate i 1 w))
   where
     long : length (take b l ++ replicate i w) ≡ b + i
     long = let a = length-append (take b l) (replicate i w) in let t = length-take-le b l (omega arith) in let r = length-replicate i w in omega arith
 
-pub entered : (l : List ℕ) (at c k s z : ℕ) → at + 4 ≤ length l → set (set (set (set l at c) (at + 1) k) (at + 2) s) (at + 3) z ≡ front (take at l ++ (c ∷ k ∷ s ∷ z ∷ [])) l
+pub entered : (l : List ℕ) (at c k s z : ℕ) → at + 4 ≤ length l → set (set (set (set l at c) (at + 1) k) (at + 2) s) (at + 3) z ≡ atFront (take at l ++ (c ∷ k ∷ s ∷ z ∷ [])) l
 entered l at c k s z h =
     ap (λ (x : List ℕ). set (set (set (set x at c) (at + 1) k) (at + 2) s) (at + 3) z) (sym (front-same at l (omega arith)))
     ∙ ap (λ (x : List ℕ). set (set (set x (at + 1) k) (at + 2) s) (at + 3) z) (front-next p l at c zero-long (omega arith))
     ∙ ap (λ (x : List ℕ). set (set x (at + 2) s) (at + 3) z) (front-next (p ++ (c ∷ [])) l (at + 1) k one-long (omega arith))
     ∙ ap (λ (x : List ℕ). set x (at + 3) z) (front-next (p ++ (c ∷ []) ++ (k ∷ [])) l (at + 2) s two-long (omega arith))
     ∙ front-next (p ++ (c ∷ []) ++ (k ∷ []) ++ (s ∷ [])) l (at + 3) z three-long (omega arith)
-    ∙ ap (λ (x : List ℕ). front x l) joined
+    ∙ ap (λ (x : List ℕ). atFront x l) joined
   where
     joined : take at l ++ (c ∷ []) ++ (k ∷ []) ++ (s ∷ []) ++ (z ∷ []) ≡ take at l ++ (c ∷ k ∷ s ∷ z ∷ [])
     joined = simp append-assoc
@@ -111,7 +110,7 @@ has-room room o count h =
 
 -- The new object in the buffers
 pub does-make : (n b : ℕ) (contents bodies contents′ bodies′ : List ℕ) (class kd sz count w : ℕ) → HasRoom (roomOf contents bodies) (objectsAt n b contents bodies) count
-    → contents′ ≡ front (take (entryWords * n) contents ++ (class ∷ kd ∷ b ∷ sz ∷ [])) contents → bodies′ ≡ front (take b bodies ++ replicate count w) bodies
+    → contents′ ≡ atFront (take (entryWords * n) contents ++ (class ∷ kd ∷ b ∷ sz ∷ [])) contents → bodies′ ≡ atFront (take b bodies ++ replicate count w) bodies
     → Does (objectsAt n b contents bodies) (make (roomOf contents bodies) (objectsAt n b contents bodies) class kd sz count w)
     (record { answer = Word (2 * (n + 1)); n = n + 1; b = b + count }) contents bodies contents′ bodies′
 unfolding make answerOf objectsAfter appended

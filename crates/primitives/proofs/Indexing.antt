@@ -12,11 +12,11 @@ use Rattle.bytecode.proofs.TestLaws.{true→T, T→true, and-left, and-right, a
 use Rattle.model.specs.declared.Computed.the-variants.{Word, Failed}
 use Rattle.model.specs.Limits.{largestInteger, mostElements, fieldsKind, bytesKind, indexedForm, bytesForm}
 use Rattle.model.specs.Word.{isInteger, isNatural, objectNumber}
-use Rattle.model.specs.Objects.{Objects, objectsAt, classOf, classWord, kind, size, bodyWords, bodyWord, form, isKind}
+use Rattle.model.specs.Objects.{Objects, objectsAt, classOf, classWord, kind, size, bodyWords, bodyWord, form, isKind, atFront}
 use Rattle.model.specs.Primitive.{Outcome, answers, fails, storeWord, storeByte, objectByte, isIndexable, holdsBytes, isIndex, at, atPut, sizeAnswer}
 use Rattle.model.proofs.Parts.{or-left, or-right}
 use Rattle.model.proofs.Facts.{in-words, in-bytes, sized-at, Fits, fixed, indexed, bytes, other, entry-class, entry-fits}
-use Rattle.objects.specs.Lent.{front, Listed, Inside, Holds}
+use Rattle.objects.specs.Lent.{Listed, Inside, Holds}
 use Rattle.primitives.specs.Outcomes.{answerOf, objectsAfter, Receives, Puts, elementsOf, indexOf}
 use Rattle.objects.proofs.Buffers.{contents-room, bodies-room, front-same}
 use Rattle.objects.proofs.Bodies.{valid-listed}
@@ -311,6 +311,6 @@ unfolding answerOf objectsAfter
 puts-none {n} {b} {contents} {bodies} h p =
     subst (λ (z : Outcome). Puts (objectsAt n b contents bodies) z Failed bodies bodies) p (record { answer = refl; words = sym (front-same b bodies (bodies-room n b contents bodies (h .right))) })
 
-pub puts-some : {o o′ : Objects} {v : ℕ} {bodies after : List ℕ} {z : Outcome} → after ≡ front (o′ .bodies) bodies → answers v o′ ≡ z → Puts o z (Word v) bodies after
+pub puts-some : {o o′ : Objects} {v : ℕ} {bodies after : List ℕ} {z : Outcome} → after ≡ atFront (o′ .bodies) bodies → answers v o′ ≡ z → Puts o z (Word v) bodies after
 unfolding answerOf objectsAfter
 puts-some {o} {o′} {v} {bodies} {after} h p = subst (λ (z : Outcome). Puts o z (Word v) bodies after) p (record { answer = refl; words = h })

@@ -15,13 +15,11 @@ use Rattle.model.specs.declared.Computed.{Computed}
 use Rattle.model.specs.declared.Computed.the-variants.{Word, Failed}
 use Rattle.model.specs.Limits.{entryWords}
 use Rattle.model.specs.Word.{booleanWord}
-use Rattle.model.specs.Objects.{Objects, objectsAt, classOf}
+use Rattle.model.specs.Objects.{Objects, objectsAt, classOf, atFront}
 use Rattle.model.specs.Image.{Room}
 use Rattle.model.specs.Rules.{Right}
 use Rattle.model.specs.Primitive.{Outcome, answers, fails, storeWord, storeByte, at, atPut, sizeAnswer, hasRoom, make, new, newWith, computed, perform, primitiveCount, primitive}
-use Rattle.objects.specs.Lent.{front}
-use Rattle.objects.proofs.Buffers.{objects-front, contents-room, bodies-room, front-same}
-use Rattle.primitives.specs.declared.Done.{Done}
+use Rattle.objects.proofs.Buffers.{contents-room, bodies-room, front-same}
 use Rattle.primitives.specs.Outcomes.{answerOf, objectsAfter, roomOf, Puts, Does}
 use Rattle.primitives.proofs.Growing.{does-none}
 
@@ -40,13 +38,6 @@ does-computed n b contents bodies (Word v) h p =
           (front-same b bodies (bodies-room n b contents bodies h));
     })
 does-computed n b contents bodies Failed h p = does-none n b contents bodies h p
-
--- The objects in the buffers are then those of the outcome.
-pub does-objects : {o : Objects} {z : Outcome} {r : Done} {contents bodies contents′ bodies′ : List ℕ} → Does o z r contents bodies contents′ bodies′
-    → length (objectsAfter o z .contents) ≡ entryWords * objectsAfter o z .n → length (objectsAfter o z .bodies) ≡ objectsAfter o z .b
-    → objectsAt (r .n) (r .b) contents′ bodies′ ≡ objectsAfter o z
-does-objects {o} {z} {r} {contents} {bodies} h p q =
-    (λ i. objectsAt (h .count i) (h .size i) (h .entries i) (h .words i)) ∙ objects-front (objectsAfter o z) contents bodies p q
 
 -- 61 leaves entries, n and b.
 record Stays (o : Objects) (z : Outcome) : Type 0 where
@@ -73,7 +64,7 @@ does-put n b contents bodies after r w x v h p q =
       answer = q .answer;
       count = sym (s .n);
       size = sym (s .b);
-      entries = sym (front-same (entryWords * n) contents (contents-room n b contents bodies h)) ∙ ap (λ (l : List ℕ). front l contents) (sym (s .contents));
+      entries = sym (front-same (entryWords * n) contents (contents-room n b contents bodies h)) ∙ ap (λ (l : List ℕ). atFront l contents) (sym (s .contents));
       words = q .words;
     })
 

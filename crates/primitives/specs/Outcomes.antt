@@ -10,12 +10,11 @@ use Rattle.model.specs.declared.Computed.{Computed}
 use Rattle.model.specs.declared.Computed.the-variants.{Word, Failed}
 use Rattle.model.specs.Limits.{largestInteger}
 use Rattle.model.specs.Word.{isNatural, isValid}
-use Rattle.model.specs.Objects.{Objects, objectsAt, classOf, form}
+use Rattle.model.specs.Objects.{Objects, objectsAt, classOf, form, atFront}
 use Rattle.model.specs.Rules.{Right}
 use Rattle.model.specs.Image.{Room}
 use Rattle.model.specs.Primitive.{Outcome, answers, fails, isIndexable}
 use Rattle.primitives.specs.declared.Done.{Done}
-use Rattle.objects.specs.Lent.{front}
 
 unfoldable pub answerOf : Outcome → Computed
 answerOf (answers w o) = Word w
@@ -38,15 +37,15 @@ pub record Receives (n b : ℕ) (contents bodies : List ℕ) (w : ℕ) : Type 0 
 -- An outcome that leaves entries, n and b
 pub record Puts (o : Objects) (z : Outcome) (r : Computed) (bodies after : List ℕ) : Type 0 where
   pub answer : r ≡ answerOf z
-  pub words : after ≡ front (objectsAfter o z .bodies) bodies
+  pub words : after ≡ atFront (objectsAfter o z .bodies) bodies
 
 -- Any outcome
 pub record Does (o : Objects) (z : Outcome) (r : Done) (contents bodies contents′ bodies′ : List ℕ) : Type 0 where
   pub answer : r .answer ≡ answerOf z
   pub count : r .n ≡ objectsAfter o z .n
   pub size : r .b ≡ objectsAfter o z .b
-  pub entries : contents′ ≡ front (objectsAfter o z .contents) contents
-  pub words : bodies′ ≡ front (objectsAfter o z .bodies) bodies
+  pub entries : contents′ ≡ atFront (objectsAfter o z .contents) contents
+  pub words : bodies′ ≡ atFront (objectsAfter o z .bodies) bodies
 
 -- How 60 to 62 take w: 1 by words, 2 by bytes, 0 not at all
 unfoldable pub elementsOf : Objects → ℕ → ℕ

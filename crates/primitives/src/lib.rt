@@ -4,12 +4,11 @@ ghost use mathlib.Core.List.{[], _∷_, _++_};
 ghost use Prim.Native.Nat.{_+_, _*_, _<_, _≤_};
 ghost use lib.ListN.{length, take, replicate};
 ghost use Rattle.model.specs.Limits.{entryWords};
-ghost use Rattle.model.specs.Objects.{objectsAt};
+ghost use Rattle.model.specs.Objects.{objectsAt, atFront};
 ghost use Rattle.model.specs.Rules.{Right};
 ghost use Rattle.model.specs.Primitive.{at, atPut, sizeAnswer, make, new, newWith, computed, perform, primitiveCount, primitive};
 ghost use Rattle.model.specs.Word.{booleanWord};
 ghost use lib.Dec.{eqb};
-ghost use Rattle.objects.specs.Lent.{front};
 ghost use Rattle.primitives.specs.Outcomes.{roomOf, Receives, Puts, Does, elementsOf, indexOf};
 use model::Computed;
 use model::Pointer;
@@ -137,7 +136,7 @@ pub fn size_answer(contents: &[u16], bodies: &[u16], n: usize, b: usize, w: u16)
 // The entry of one more object.
 fn enter(contents: &mut [u16], n: usize, class: Pointer, kind: u16, start: u16, size: u16)
     requires { ⌜ entryWords * (n + 1) ≤ length (now contents) ⌝ }
-    ensures { λ _. ⌜ now (contents .exit) ≡ front (take (entryWords * n) (now (contents .entry)) ++ (class .0 ∷ kind ∷ start ∷ size ∷ [])) (now (contents .entry)) ⌝ }
+    ensures { λ _. ⌜ now (contents .exit) ≡ atFront (take (entryWords * n) (now (contents .entry)) ++ (class .0 ∷ kind ∷ start ∷ size ∷ [])) (now (contents .entry)) ⌝ }
 {
     let at = 4 * n;
     contents[at] = class.0;
@@ -149,7 +148,7 @@ fn enter(contents: &mut [u16], n: usize, class: Pointer, kind: u16, start: u16, 
 // Body words behind those that stand, all the same.
 fn fill(bodies: &mut [u16], b: usize, count: usize, w: u16)
     requires { ⌜ b + count ≤ length (now bodies) ⌝ }
-    ensures { λ _. ⌜ now (bodies .exit) ≡ front (take b (now (bodies .entry)) ++ replicate count w) (now (bodies .entry)) ⌝ }
+    ensures { λ _. ⌜ now (bodies .exit) ≡ atFront (take b (now (bodies .entry)) ++ replicate count w) (now (bodies .entry)) ⌝ }
 {
     let mut i: usize = 0;
     while i < count {

@@ -12,13 +12,12 @@ use Rattle.bytecode.specs.Constant.{nilWord}
 use Rattle.bytecode.proofs.TestLaws.{true→T, T→true, and-right, implied, rule, upTo-at}
 use Rattle.model.specs.Limits.{bytesKind, classKind, listKind, methodKind, otherForm, integerClassObject, selectorsObject, specialSelectors, mostFields, lastForm, bytesForm}
 use Rattle.model.specs.Word.{isNatural, pointer, integerClass}
-use Rattle.model.specs.Objects.{Objects, objectsAt, classWord, kind, size, bodyOf, isKind, isNilOr, superclassWord, dictionaryWord, fieldsWord, formWord, fieldCount, form, pairCount, pairSelector, pairMethod}
+use Rattle.model.specs.Objects.{Objects, objectsAt, classWord, kind, size, bodyOf, isKind, isNilOr, superclassWord, dictionaryWord, fieldsWord, formWord, fieldCount, form, pairCount, pairSelector, pairMethod, entriesAt}
 use Rattle.model.specs.Lookup.{endsWithin}
 use Rattle.model.specs.Rules.{fits, entryFine, pairFine, dictionaryFine, classRules, knownObjectRules, objectFine, rule6}
 use Rattle.model.proofs.Facts.{pointer-of}
 use Rattle.model.proofs.Parts.{or-right}
 use Rattle.model.proofs.Unchanged.{ends-above, ends-nil}
-use Rattle.rules.specs.Lent.{entriesAt}
 use Rattle.rules.specs.Shape.{fitsForm, numbersFine, kindsFine, selectorsFine, risesFine, shapeRules, shapeFine, chainFine}
 use Rattle.rules.proofs.Loops.{stop, pass, and-true, up-both}
 use Rattle.rules.proofs.Names.{is-named, names-kind}

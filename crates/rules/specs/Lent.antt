@@ -29,10 +29,6 @@ pub record Entry (n k : ℕ) (contents : List ℕ) : Type 0 where
   pub least : 1 ≤ k
   pub most : k ≤ n
 
--- The entries alone: class, kind, start and size do not depend on the bodies.
-abbrev pub entriesAt : ℕ → List ℕ → Objects
-entriesAt n contents = objectsAt n 0 contents []
-
 -- where the body of object k has to start
 unfoldable pub startOf : Objects → ℕ → ℕ
 startOf o k = if eqb k 1 then 0 else bodyEnd o (k - 1)

@@ -7,9 +7,9 @@ ghost use lib.ListN.{length, getD, take};
 ghost use Rattle.bytecode.specs.Test.{every, implies, allOf};
 ghost use Rattle.model.specs.Limits.{entryWords, classKind, classWords};
 ghost use Rattle.model.specs.Word.{isPointer, isValid};
-ghost use Rattle.model.specs.Objects.{objectsAt, entryWord, classWord, kind, start, size, sizedInBytes, bodyWords, bodyEnd, isKind, isNilOr};
+ghost use Rattle.model.specs.Objects.{objectsAt, entryWord, classWord, kind, start, size, sizedInBytes, bodyWords, bodyEnd, isKind, isNilOr, entriesAt};
 ghost use Rattle.model.specs.Rules.{paddingFine, layoutRules, wordsFine, rule4, rule5, rule6};
-ghost use Rattle.rules.specs.Lent.{Lent, Laid, Entry, entriesAt, startOf};
+ghost use Rattle.rules.specs.Lent.{Lent, Laid, Entry, startOf};
 
 pub mod class_body;
 mod class_rules;

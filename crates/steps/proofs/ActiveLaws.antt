@@ -275,9 +275,6 @@ module _ {n b : ℕ} {contents bodies stack : List ℕ} {a : Active} {next : ℕ
   pub here : HereAt n b (a .base .0) contents bodies (written a stack) (hereOf stack a next) i
   here = here-of (d .active) (d .at)
 
-  abbrev Goes : Active → List ℕ → Type 0
-  Goes a′ stack′ = Moved n b (a .base .0) contents bodies (written a stack) bodies (written a′ stack′)
-
   -- nothing is written but position and depth
   pub says-moved : (q : CodePosition) (e : StackPosition) (k : ℕ) → e .0 - a .operands .0 ≡ k → a .operands .0 ≤ e .0
       → ((s : List ℕ) → s ≡ set (set (written a stack) (a .base .0 + 1) (q .0)) (a .base .0 + 2) k → Moved n b (a .base .0) contents bodies (written a stack) bodies s)

@@ -12,6 +12,7 @@ use Rattle.model.specs.Objects.{Objects, isKind, superclassWord}
 use Rattle.model.specs.Lookup.{inChainWithin, inChain, endsWithin}
 use Rattle.model.specs.Rules.{Right}
 use Rattle.model.proofs.Facts.{class-facts, nil-no-class}
+use Rattle.model.proofs.Parts.{or-right}
 use Rattle.model.proofs.Unchanged.{chain-class, chain-none, ends-above}
 
 -- Class a is c or above it.
@@ -39,10 +40,6 @@ up-within o (suc left) a c t = go (isKind o classKind c) refl (up-within o left 
 up-joined : {o : Objects} {a h c : ℕ} → Up o a (superclassWord o h) → Up o h c → Up o a c
 up-joined {o = o} {a = a} u (same {c = c} t e) = above t (subst (λ (x : ℕ). Up o a (superclassWord o x)) e u)
 up-joined u (above t v) = above t (up-joined u v)
-
-or-right : (a b : Bool) → T b → T (a || b)
-or-right true b t = tt
-or-right false b t = t
 
 module _ {e : ℕ} {o : Objects} (r : Right e o) where
   class-no-nil : (c : ℕ) → T (isKind o classKind c) → c ≢ nilWord

@@ -44,7 +44,7 @@ use Rattle.steps.proofs.MoveLaws.{Answers, same-two, same-three}
 use Rattle.steps.proofs.ActiveLaws.{active-method, length-written, word-written, moves-on, puts, put-method, Ends, ends, method-read, receiver-read, doing, here, says-moved, says-answered, says-pushed, stands-on}
 use Rattle.steps.proofs.PlaceLaws.{HasField, ReadsLiteral, literal-there, own-field, own-inside, own-read, temporary-inside, temporary-read, literal-below, literal-read, variable-below, variable-field, variable-inside, variable-read, push-place, store-place, store-writable, store-needs}
 use Rattle.steps.proofs.StoreLaws.{store-field, store-temporary, store-variable}
-use Rattle.steps.proofs.SayLaws.{push-room, push-says, self-room, self-says, constant-room, constant-says, duplicate-needs, duplicate-room, duplicate-says, pop-needs, pop-says, jump-back, jump-small, jump-says, on-needs, on-small, on-jumps, on-stays, on-halts, self-returns, constant-returns, top-needs, top-returns, unused-never}
+use Rattle.steps.proofs.SayLaws.{push-room, push-says, self-room, self-says, constant-room, constant-says, duplicate-needs, duplicate-room, duplicate-says, pop-needs, pop-says, jump-back, jump-says, on-needs, on-small, on-jumps, on-stays, on-halts, self-returns, constant-returns, top-needs, top-returns, unused-never}
 use Rattle.steps.proofs.SendLaws.{sent-depth, sent-valid, sent-says, send-below, send-sends, super-below, super-needs, holds-home, super-says}
 use Rattle.steps.proofs.SpecialLaws.{special-small, selector-inside, special-needs, special-sends, arithmetic-two, arithmetic-says, arithmetic-sends, same-says, class-says}
 use Rattle.steps.specs.declared.Event.the-variants as E
@@ -317,9 +317,6 @@ module _ {n b : ℕ} {contents bodies stack : List ℕ} {a : Active} {next ahead
 module _ {n b : ℕ} {contents bodies stack : List ℕ} {a : Active} {next ahead back : ℕ} (d : Doing n b contents bodies stack a next (Jump ahead back)) where
   pub jump-low : back ≤ next + ahead
   jump-low = jump-back (here d)
-
-  pub jump-room : next + ahead - back < 65536
-  jump-room = jump-small (here d)
 
   pub jump-done : (q : ℕ) → q ≡ next + ahead - back → Says n b contents a bodies stack bodies stack (Next (record { 0 = q }) (a .end))
   jump-done q e =

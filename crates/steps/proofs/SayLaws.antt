@@ -16,7 +16,6 @@ use Rattle.bytecode.specs.declared.Place.{Place}
 use Rattle.bytecode.specs.declared.Instruction.{Instruction}
 use Rattle.bytecode.specs.declared.Instruction.the-variants.{Push, PushSelf, PushConstant, ReturnSelf, ReturnConstant, ReturnTop, Pop, Duplicate, Jump, JumpOn, Unused}
 use Rattle.bytecode.proofs.Choice.{if-yes, if-no}
-use Rattle.bytecode.proofs.TestLaws.{T→true}
 use Rattle.model.specs.Word.{booleanWord}
 use Rattle.model.specs.Objects.{Objects, objectsAt}
 use Rattle.model.specs.Depth.{noteAt}
@@ -41,9 +40,6 @@ module _ {n b top : ℕ} {contents bodies stack : List ℕ} {h : Here} {i : Inst
 
   abbrev f : Frame
   f = topFrame n b top contents bodies stack
-
-  abbrev rest : List Frame
-  rest = restFrames n b top contents bodies stack
 
   abbrev m : ℕ
   m = frameMethod stack top
@@ -150,13 +146,6 @@ module _ {n b top : ℕ} {contents bodies stack : List ℕ} {h : Here} where
 
   pub jump-back : {ahead back : ℕ} → HereAt n b top contents bodies stack h (Jump ahead back) → back ≤ h .next + ahead
   jump-back {ahead} {back} a = leb→le back (h .next + ahead) (jump-test a)
-
-  pub jump-small : {ahead back : ℕ} → HereAt n b top contents bodies stack h (Jump ahead back) → h .next + ahead - back < 65536
-  unfolding successors need leaves
-  jump-small {ahead} {back} a =
-      noted-small (a .at .runs) (h .next + ahead - back) (h .depth - 0 + 0)
-      (noted a (h .next + ahead - back) (subst (List·Memᴰ (h .next + ahead - back))
-      (sym (if-yes ((h .next + ahead - back) ∷ []) [] (T→true (leb back (h .next + ahead)) (jump-test a)))) (List·Memᴰ·head refl)))
 
   pub jump-says : {ahead back : ℕ} (a : HereAt n b top contents bodies stack h (Jump ahead back)) (stack′ : List ℕ)
       → stack′ ≡ set (set stack (top + 1) (h .next + ahead - back)) (top + 2) (h .depth) → Moved n b top contents bodies stack bodies stack′

@@ -1,20 +1,20 @@
 -- What is in the lent words after an image is put in place, and after it is undone.
 use Prim.Native.Nat.{ℕ, _*_, _≤_}
 use mathlib.Core.Path.{_≡_, refl, sym, ap, ap₂, _∙_, subst}
-use mathlib.Core.Bool.{Bool, true, false, _&&_}
+use mathlib.Core.Bool.{true, false, _&&_}
 use mathlib.Core.List.{List, [], _++_}
-use native.Mathlib.Omega.{arith}
-use lib.Dec.{T, leb, eqb, leb→le, eqb→eq}
-use lib.ListN.{length, take, drop, replicate, length-append}
+use lib.Dec.{leb, eqb, leb→le, eqb→eq}
+use lib.ListN.{length, take, drop, replicate}
 use lib.Seq.{take-at, drop-at}
 use Rattle.bytecode.proofs.TestLaws.{true→T, and-left, and-right}
 use Rattle.model.specs.Limits.{isEdition, leastObjects, mostObjects, mostBodyWords, entryWords, cacheWords}
 use Rattle.model.specs.Objects.{Objects, objectsAt}
 use Rattle.model.specs.Rules.{headerFine, sizesFine}
-use Rattle.model.specs.Image.{Room, Header, imageHeader, imageObjects, Verdict, refused, lengthFine, buffersFine, objectsVerdict, loadVerdict}
-use Rattle.image.proofs.RoundTrip.{Fitting, objects-eq, objects-fit}
+use Rattle.model.specs.Image.{Room, Header, imageHeader, imageObjects, refused, lengthFine, buffersFine, objectsVerdict, loadVerdict}
+use Rattle.model.proofs.Lent.{objects-eq}
+use Rattle.image.proofs.RoundTrip.{Fitting, objects-fit}
 use Rattle.rules.specs.Lent.{Lent}
-use Rattle.store.specs.Answer.{numberOf, roomFor, Stored, stored, inFront, storedBy, Passed}
+use Rattle.store.specs.Answer.{numberOf, roomFor, stored, inFront, storedBy, Passed}
 use Rattle.store.proofs.Verdicts.{gives-2, gives-3, gives-rest, late, kept, undone}
 
 pub stored-eq : {k k′ : ℕ} {c c′ b b′ : List ℕ} → k ≡ k′ → c ≡ c′ → b ≡ b′ → stored k c b ≡ stored k′ c′ b′

@@ -1,10 +1,9 @@
 -- The verdicts rule by rule, and what is stored by each.
 use Prim.Native.Nat.{ℕ, _*_, _≤_, _<_}
-use mathlib.Core.Path.{_≡_, refl, sym, ap, _∙_, subst}
+use mathlib.Core.Path.{_≡_, refl, sym, ap, _∙_}
 use mathlib.Core.Bool.{Bool, true, false, _&&_}
 use mathlib.Core.List.{List, []}
 use native.Mathlib.Omega.{arith}
-use lib.Dec.{leb}
 use lib.ListN.{replicate}
 use Rattle.bytecode.specs.Test.{if_then_else_}
 use Rattle.bytecode.proofs.Choice.{if-le, if-gt}
@@ -12,8 +11,9 @@ use Rattle.model.specs.Limits.{entryWords, bytesKind}
 use Rattle.model.specs.Word.{isValid}
 use Rattle.model.specs.Objects.{Objects, isKind}
 use Rattle.model.specs.Rules.{headerFine, rule4, rule5, rule6, rule7, rule8}
-use Rattle.model.specs.Image.{Room, Header, imageHeader, imageObjects, Verdict, accepted, refused, unless, _then_, lengthFine, buffersFine, objectsVerdict, loadVerdict}
-use Rattle.store.specs.Answer.{numberOf, roomFor, Stored, stored, inFront, storedBy}
+use Rattle.model.specs.Image.{Room, imageHeader, imageObjects, Verdict, accepted, refused, unless, _then_, lengthFine, buffersFine, objectsVerdict, loadVerdict}
+use Rattle.rules.proofs.Loops.{and-true}
+use Rattle.store.specs.Answer.{numberOf, Stored, stored, inFront, storedBy}
 
 -- 4 to 8
 module _ (e : ℕ) (o : Objects) (receiver selector : ℕ) where
@@ -109,10 +109,6 @@ pub refuse : (v : Verdict) (k : ℕ) (image contents bodies : List ℕ) → v �
 refuse v k image contents bodies e h = sym (ap (λ (x : Verdict). storedBy x image contents bodies) e ∙ early k image contents bodies h)
 
 -- 8 without arguments
-and-yes : (b : Bool) → (b && true) ≡ b
-and-yes true = refl
-and-yes false = refl
-
 module _ (o : Objects) (receiver selector : ℕ) where
   pub receiver-no : isValid (o .n) receiver ≡ false → rule8 o receiver selector [] ≡ false
   unfolding rule8
@@ -120,59 +116,8 @@ module _ (o : Objects) (receiver selector : ℕ) where
 
   pub by-selector : isValid (o .n) receiver ≡ true → rule8 o receiver selector [] ≡ isKind o bytesKind selector
   unfolding rule8
-  by-selector e = ap (λ (b : Bool). b && (isKind o bytesKind selector && true)) e ∙ and-yes (isKind o bytesKind selector)
+  by-selector e = ap (λ (b : Bool). b && (isKind o bytesKind selector && true)) e ∙ and-true (isKind o bytesKind selector)
 
 -- the same verdict stores the same
 pub stores : (s : Stored) (v w : Verdict) (image contents bodies : List ℕ) → w ≡ v → s ≡ storedBy v image contents bodies → s ≡ storedBy w image contents bodies
 stores s v w image contents bodies e h = h ∙ ap (λ (x : Verdict). storedBy x image contents bodies) (sym e)
-
--- the stack's length is none of load's
-pub any-stack : (contents bodies stack cache : ℕ) (image : List ℕ)
-    → loadVerdict (record { contents = contents; bodies = bodies; stack = stack; cache = cache }) image ≡ loadVerdict (roomFor contents bodies cache) image
-unfolding loadVerdict buffersFine
-any-stack contents bodies stack cache image = refl
-
--- all rules hold where the number is 0
-pub record Holds (e : ℕ) (o : Objects) (receiver selector : ℕ) : Type 0 where
-  pub rule-4 : rule4 e o ≡ true
-  pub rule-5 : rule5 e o ≡ true
-  pub rule-6 : rule6 e o ≡ true
-  pub rule-7 : rule7 e o ≡ true
-  pub rule-8 : rule8 o receiver selector [] ≡ true
-
-accepts : (v : Verdict) → Late v → 0 ≡ numberOf v → v ≡ accepted
-unfolding numberOf
-accepts accepted l e = refl
-accepts (refused k) l e = absurd (omega arith)
-
-refused-not : (k : ℕ) → refused k ≡ accepted → ⊥
-refused-not k e = subst Refused e tt
-  where
-    Refused : Verdict → Type 0
-    Refused accepted = ⊥
-    Refused (refused j) = Unit {0}
-
-passes : (b : Bool) (k : ℕ) (v : Verdict) → (unless b k then v) ≡ accepted → (b ≡ true) × (v ≡ accepted)
-passes true k v e = (refl, e)
-passes false k v e = absurd (refused-not k e)
-
-passes-last : (b : Bool) (k : ℕ) → unless b k ≡ accepted → b ≡ true
-passes-last true k e = refl
-passes-last false k e = absurd (refused-not k e)
-
-all-passed : (e : ℕ) (o : Objects) (receiver selector : ℕ) → objectsVerdict e o receiver selector ≡ accepted → Holds e o receiver selector
-unfolding objectsVerdict
-all-passed e o receiver selector a =
-    let four = passes (rule4 e o) 4 _ a in
-    let five = passes (rule5 e o) 5 _ (four .1) in
-    let six = passes (rule6 e o) 6 _ (five .1) in
-    let seven = passes (rule7 e o) 7 _ (six .1) in
-    record { rule-4 = four .0; rule-5 = five .0; rule-6 = six .0; rule-7 = seven .0; rule-8 = passes-last (rule8 o receiver selector []) 8 (seven .1) }
-
-pub holds : (e : ℕ) (o : Objects) (receiver selector : ℕ) → 0 ≡ numberOf (objectsVerdict e o receiver selector) → Holds e o receiver selector
-holds e o receiver selector z =
-    all-passed e o receiver selector (accepts (objectsVerdict e o receiver selector) (late e o receiver selector) z)
-
-pub held : (e : ℕ) (o : Objects) (receiver selector : ℕ) → Holds e o receiver selector → 0 ≡ numberOf (objectsVerdict e o receiver selector)
-unfolding numberOf
-held e o receiver selector h = sym (ap numberOf (gives-none e o receiver selector (h .rule-4) (h .rule-5) (h .rule-6) (h .rule-7) (h .rule-8)))

@@ -1,17 +1,13 @@
 use mathlib.Core.List.{List, [], _∷_, _++_}
-use Rattle.frames.proofs.SetsLaws.{sets-append}
 use Prim.Native.Nat.{ℕ, _≤_, _-_, _+_}
-use mathlib.Core.Path.{_≡_, refl, sym, ap, ap₂, _∙_}
+use mathlib.Core.Path.{_≡_, sym, ap, _∙_}
 use native.Mathlib.Omega.{arith}
 use lib.ListN.{length, length-set, take, set, replicate}
 use lib.Seq.{sets, length-sets, length-take-le}
+use Rattle.model.proofs.Parts.{sets-append}
 use borrow.Author.Needs.{needs}
 use Rattle.frames.proofs.write_frame.Statement.{statement}
 use Rattle.frames.proofs.write_frame.Tie as tie
-use Rattle.frames.proofs.write_frame.Reads as reads
-use Rattle.frames.proofs.write_frame.Lts as lts
-use Rattle.frames.proofs.copy_arguments.Reads as copy-arguments-reads
-use Rattle.frames.proofs.fill_nil.Reads as fill-nil-reads
 
 long : (l l′ : List ℕ) (sender method receiver : ℕ) (ws : List ℕ) → l′ ≡ sets (sets l 0 (sender ∷ 0 ∷ 0 ∷ method ∷ 0 ∷ receiver ∷ [])) 6 ws → length l′ ≡ length l
 long l l′ sender method receiver ws e =
@@ -20,7 +16,7 @@ long l l′ sender method receiver ws e =
 finish : (l arguments : List ℕ) (count temporaries : ℕ) → count ≤ length arguments
     → sets l 6 (take count arguments ++ replicate (temporaries - length (take count arguments)) 2) ≡ sets (sets l 6 (take count arguments)) (6 + count) (replicate (temporaries - count) 2)
 finish l arguments count temporaries h =
-    sets-append (take count arguments) (replicate (temporaries - length (take count arguments)) 2) l 6
+    sets-append l 6 (take count arguments) (replicate (temporaries - length (take count arguments)) 2)
     ∙ ap (λ (k : ℕ). sets (sets l 6 (take count arguments)) (6 + k) (replicate (temporaries - k) 2)) (length-take-le count arguments h)
 
 cast-words : tie.Need-cast-words

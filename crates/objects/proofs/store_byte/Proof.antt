@@ -1,7 +1,6 @@
 -- One half of a word; the other stays.
 use mathlib.Core.Path.{ap, _∙_}
-use Rattle.model.specs.Objects.{Objects}
-use Rattle.objects.specs.Lent.{front}
+use Rattle.model.specs.Objects.{Objects, atFront}
 use Rattle.objects.proofs.Buffers.{byte-high, byte-low}
 use borrow.Author.Needs.{needs}
 use Rattle.objects.proofs.store_byte.Statement.{statement}
@@ -36,7 +35,7 @@ returns c =
     let at-if1 = c .before .before .before .before in
     let at-word-of = at-if1 .before in
     let at-start = at-word-of .before .before .before .before in
-    c .before .before .store-word .ensures ∙ ap (λ (o : Objects). front (o .bodies) (at-start .args .bodies .now)) (byte-high _ _ _ _ _ (at-if1 .if1 .taken) (at-word-of .word-of .ensures))
+    c .before .before .store-word .ensures ∙ ap (λ (o : Objects). atFront (o .bodies) (at-start .args .bodies .now)) (byte-high _ _ _ _ _ (at-if1 .if1 .taken) (at-word-of .word-of .ensures))
 
 same-length-2 : tie.Need-same-length-2
 same-length-2 c = search needs
@@ -46,7 +45,7 @@ returns-2 c =
     let at-if1 = c .before .before .before .before in
     let at-word-of = at-if1 .before in
     let at-start = at-word-of .before .before .before .before in
-    c .before .before .store-word2 .ensures ∙ ap (λ (o : Objects). front (o .bodies) (at-start .args .bodies .now)) (byte-low _ _ _ _ _ (at-if1 .if1 .left) (at-word-of .word-of .ensures))
+    c .before .before .store-word2 .ensures ∙ ap (λ (o : Objects). atFront (o .bodies) (at-start .args .bodies .now)) (byte-low _ _ _ _ _ (at-if1 .if1 .left) (at-word-of .word-of .ensures))
 
 pub store-byte-spec : {M : Type 1} → statement M
 store-byte-spec =

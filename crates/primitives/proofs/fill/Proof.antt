@@ -4,13 +4,13 @@ use mathlib.Core.Path.{_≡_, refl}
 use mathlib.Core.List.{_++_}
 use native.Mathlib.Omega.{arith}
 use lib.ListN.{length, take, replicate, length-set}
-use Rattle.objects.specs.Lent.{front}
+use Rattle.model.specs.Objects.{atFront}
 use Rattle.primitives.proofs.Growing.{fill-first, fill-next}
 use Rattle.primitives.proofs.fill.Statement.{statement}
 use Rattle.primitives.proofs.fill.Tie as tie
 
 abbrev Inv-loop : tie.InvT-loop
-Inv-loop bodies₀ b count w i₀ bodies i = (i ≤ count) × (bodies ≡ front (take b bodies₀ ++ replicate i w) bodies₀) × (length bodies ≡ length bodies₀)
+Inv-loop bodies₀ b count w i₀ bodies i = (i ≤ count) × (bodies ≡ atFront (take b bodies₀ ++ replicate i w) bodies₀) × (length bodies ≡ length bodies₀)
 
 abbrev μ-loop : tie.MeasureT-loop
 μ-loop bodies₀ b count w i₀ bodies i = count - i

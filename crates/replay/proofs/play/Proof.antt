@@ -61,7 +61,16 @@ perform-requires c κs =
     (at-size-at .size-at .result) (at-size-at .size-at .ensures) (at-if1 .if1 .left)
 
 mul-note : tie.Need-mul-note Inv-loop μ-loop
-mul-note c = let f = fits (c .before .before .before .before .before .before .before .before .before .before .before .before .before .before .before .before .before .before .before .before .before .before .before .before .args .calls .now) (c .before .before .before .before .before .before .before .before .before .before .before .before .before .before .before .before .before .before .before .before .before .before .before .before .args .answers .now) _ _ _ _ _ (c .before .before .before .before .before .before .before .before .before .before .before .before .before .before .before .before .before .loop .inv .1) (c .before .before .before .before .before .before .before .before .before .before .before .before .before .before .before .before .loop-test .taken) (c .before .before .before .before .before .before .before .before .before .before .before .before .before .before .before .size-at .result) (c .before .before .before .before .before .before .before .before .before .before .before .before .before .before .before .size-at .ensures) (c .before .before .before .before .before .before .before .before .before .before .before .before .before .before .if1 .left) in omega arith
+mul-note c =
+    let f = (
+    let at-if1 = c .before .before .before .before .before .before .before .before .before .before .before .before .before .before in
+    let at-size-at = at-if1 .before in
+    let at-loop-test = at-size-at .before in
+    let at-loop = at-loop-test .before in
+    let args = at-loop .before .before .before .before .before .before .before .args in
+    fits (args .calls .now) (args .answers .now) _ _ _ _ _ (at-loop .loop .inv .1) (at-loop-test .loop-test .taken) (at-size-at .size-at .result)
+    (at-size-at .size-at .ensures) (at-if1 .if1 .left)) in
+    omega arith
 
 note-requires : tie.Need-note-requires Inv-loop μ-loop
 note-requires c κs =
