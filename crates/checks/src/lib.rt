@@ -1,17 +1,16 @@
-// The frames' and the cache's part of check.
+// The frames' part of check.
 ghost use mathlib.Core.Path.{_≡_};
 ghost use mathlib.Core.Bool.{true};
 ghost use Prim.Native.Nat.{suc};
 ghost use lib.Dec.{T};
 ghost use lib.ListN.{length};
 ghost use Rattle.bytecode.specs.Test.{allOf};
-ghost use Rattle.model.specs.Limits.{methodKind, cacheWords};
+ghost use Rattle.model.specs.Limits.{methodKind};
 ghost use Rattle.model.specs.Objects.{objectsAt, isKind};
 ghost use Rattle.model.specs.Depth.{noteAt};
 ghost use Rattle.model.specs.Rules.{Right, methodTable};
 ghost use Rattle.plain.specs.Flat.{frameAt, framesFrom};
 ghost use Rattle.plain.specs.Check.{frameRules, framesFine};
-ghost use Rattle.plain.specs.Cache.{cacheFine};
 ghost use Rattle.checks.specs.Frame.{frameEnd, headerFine, Noted, Stands};
 use model::CodePosition;
 use model::Pointer;
@@ -180,12 +179,4 @@ pub fn frames_fine(
         base = sender;
         uppermost = false;
     }
-}
-
-// Every entry of the cache is empty or what lookup finds.
-pub fn cache_fine(contents: &[u16], bodies: &[u16], cache: &[u16], n: usize, b: usize) -> bool
-    requires { ⌜ Right 1 (objectsAt n b (now contents) (now bodies)) × (length (now cache) ≡ cacheWords) ⌝ }
-    ensures { λ r. ⌜ r ≡ cacheFine (objectsAt n b (now (contents .entry)) (now (bodies .entry))) (now (cache .entry)) ⌝ }
-{
-    cache::cache_fine(contents, bodies, cache, n, b)
 }

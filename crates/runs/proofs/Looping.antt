@@ -19,7 +19,7 @@ use Rattle.plain.proofs.FlatLaws.{FlatRight, check-right}
 use Rattle.plain.proofs.RunningLaws.{top-bounds}
 use Rattle.plain.proofs.MadeLaws.{made-as, running-is, running-runs}
 use Rattle.plain.proofs.LoopLaws.{top-end-is, turn-start, loop-out, loop-out-ends, loop-halts, loop-halts-ends, loop-level, loop-next, loop-over, loop-over-ends}
-use Rattle.sends.specs.Sends.{Caches}
+use Rattle.cache.specs.Caches.{Caches}
 use Rattle.model.specs.declared.CodePosition.{CodePosition}
 use Rattle.model.specs.declared.StackPosition.{StackPosition}
 use Rattle.steps.specs.declared.Active.{Active}

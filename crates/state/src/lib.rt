@@ -97,5 +97,5 @@ pub fn state_fine(
     if !standing_fine(contents, bodies, stack, &notes, objects, words, phase, top) {
         return false;
     }
-    checks::cache_fine(contents, bodies, cache, objects, words)
+    cache::cache_fine(contents, bodies, cache, objects, words)
 }

@@ -7,7 +7,7 @@ use Rattle.state.proofs.state_fine.Statement.{statement}
 use Rattle.state.proofs.state_fine.Tie as tie
 use Rattle.state.proofs.state_fine.Reads as reads
 use Rattle.state.proofs.state_fine.Lts as lts
-use Rattle.checks.proofs.cache_fine.Reads as cache-fine-reads
+use Rattle.cache.proofs.cache_fine.Reads as cache-fine-reads
 use Rattle.state.proofs.registers_fine.Reads as registers-fine-reads
 use Rattle.state.proofs.standing_fine.Reads as standing-fine-reads
 use Rattle.store.proofs.header_fine.Reads as header-fine-reads
