@@ -16,7 +16,6 @@ use Rattle.plain.specs.State.{fitsStack}
 use Rattle.plain.specs.Step.{Stepped, halts}
 use Rattle.plain.specs.Flat.{frameDepth, frameMethod, operandsStart}
 use Rattle.plain.specs.Running.{runningWith, Made, Stays, sentReceiver, roomAt, sendStep}
-use Rattle.cache.specs.Caches.{Caches}
 use Rattle.sends.specs.declared.Message.{Message}
 use Rattle.sends.specs.declared.Base.{Base}
 use Rattle.sends.specs.declared.Base.the-variants.{At, Full, Unfit}
