@@ -35,7 +35,7 @@ static void fill(void) {
 
 // One side's buffers, with these lengths.
 static machine on(int side, size_t room, size_t space, size_t cached) {
-    return (machine){{contents[side], room}, {bodies[side], space}, {NULL, 0}, {cache, cached}, {0}};
+    return (machine){contents[side], room, bodies[side], space, NULL, 0, cache, cached, {0}};
 }
 
 // The objects of an image as a state that nothing has judged yet.
@@ -66,7 +66,7 @@ static bool measure(const char *name, size_t length, uint32_t number, int runs, 
         memset(cache, 0, sizeof cache);
         const machine first = unjudged(0), second = unjudged(1);
         t0 = now();
-        r = our_check(&first);
+        r = sofaduck_state_check(&first);
         t1 = now();
         s = c_check(entries, &second);
         t2 = now();
@@ -75,7 +75,7 @@ static bool measure(const char *name, size_t length, uint32_t number, int runs, 
         fill();
         machine m = on(0, CONTENTS, BODIES, CACHE);
         t0 = now();
-        r = our_load(&m, image, length);
+        r = sofaduck_state_load(&m, image, length);
         t1 = now();
         s = c_read(entries, image, length, contents[1], CONTENTS, bodies[1], BODIES, CACHE);
         t2 = now();
@@ -202,7 +202,7 @@ static bool heads(void) {
         if (room > CONTENTS || space > BODIES) continue;
         fill();
         machine m = on(0, room, space, cached);
-        const uint32_t r = our_load(&m, edited, length);
+        const uint32_t r = sofaduck_state_load(&m, edited, length);
         const uint32_t s = c_read(entries, edited, length, contents[1], room, bodies[1], space, cached);
         if (r != s || !alike()) return printf("header %u %u: the loads answer %u and %u\n", n, b, r, s), false;
         count++;
@@ -227,7 +227,7 @@ static bool spoil(void) {
         const size_t cached = below(400) == 0 ? below(MOST_CACHE) : CACHE;
         fill();
         machine m = on(0, room, space, cached);
-        const uint32_t r = our_load(&m, edited, given);
+        const uint32_t r = sofaduck_state_load(&m, edited, given);
         const uint32_t s = c_read(entries, edited, given, contents[1], room, bodies[1], space, cached);
         if (r != s || r > 8 || !alike()) {
             printf("edit %d: the loads answer %u and %u%s\n", edit, r, s, r == s ? " and leave different words" : "");
