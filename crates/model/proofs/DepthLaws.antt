@@ -78,29 +78,29 @@ module _ (words : List ℕ) (size temporaries limit : ℕ) (rules : Instruction 
   table-notes t e = found (fineAt words size temporaries limit rules) (successorsAt words size) (depthAfterAt words size) size fine-inside t e
 
 -- the same for a method
-pub decides-method : (o : Objects) (m : ℕ) → SoundMethod o m ↔ T (isSome (methodTable o m))
+pub decides-method : (e : ℕ) (o : Objects) (m : ℕ) → SoundMethod e o m ↔ T (isSome (methodTable e o m))
 unfolding methodTable
-decides-method o m = decides (codeWords o m) (codeSize o m) (temporaryCount o m) (frameWords o m) (allowed o m)
+decides-method e o m = decides (codeWords o m) (codeSize o m) (temporaryCount o m) (frameWords o m) (allowed e o m)
 
 -- What a note of a method's table says of its position: the instruction there keeps its rules, and each successor is noted with
 -- the depth that it leaves it.
-pub record Spot (o : Objects) (m p d : ℕ) : Type 0 where
-  pub kept : T (allOf (rulesAt (codeWords o m) (codeSize o m) (temporaryCount o m) (frameWords o m) (allowed o m) p d))
+pub record Spot (e : ℕ) (o : Objects) (m p d : ℕ) : Type 0 where
+  pub kept : T (allOf (rulesAt (codeWords o m) (codeSize o m) (temporaryCount o m) (frameWords o m) (allowed e o m) p d))
   pub along : (q : ℕ) → List·Memᴰ q (successorsAt (codeWords o m) (codeSize o m) p)
-      → noteAt (methodTable o m) q ≡ suc (depthAfterAt (codeWords o m) (codeSize o m) p q d)
+      → noteAt (methodTable e o m) q ≡ suc (depthAfterAt (codeWords o m) (codeSize o m) p q d)
 
-module _ (o : Objects) (m : ℕ) where
-  method-notes : (t : List ℕ) → methodTable o m ≡ some t
-      → Notes (fineAt (codeWords o m) (codeSize o m) (temporaryCount o m) (frameWords o m) (allowed o m)) (successorsAt (codeWords o m) (codeSize o m))
+module _ (e : ℕ) (o : Objects) (m : ℕ) where
+  method-notes : (t : List ℕ) → methodTable e o m ≡ some t
+      → Notes (fineAt (codeWords o m) (codeSize o m) (temporaryCount o m) (frameWords o m) (allowed e o m)) (successorsAt (codeWords o m) (codeSize o m))
       (depthAfterAt (codeWords o m) (codeSize o m)) (codeSize o m) t
   unfolding methodTable
-  method-notes t e = table-notes (codeWords o m) (codeSize o m) (temporaryCount o m) (frameWords o m) (allowed o m) t e
+  method-notes t h = table-notes (codeWords o m) (codeSize o m) (temporaryCount o m) (frameWords o m) (allowed e o m) t h
 
-  pub spot : (p d : ℕ) → noteAt (methodTable o m) p ≡ suc d → Spot o m p d
+  pub spot : (p d : ℕ) → noteAt (methodTable e o m) p ≡ suc d → Spot e o m p d
   unfolding fineAt
-  spot p d e = go (methodTable o m) refl e
+  spot p d h = go (methodTable e o m) refl h
     where
-      go : (x : Option (List ℕ)) → methodTable o m ≡ x → noteAt x p ≡ suc d → Spot o m p d
+      go : (x : Option (List ℕ)) → methodTable e o m ≡ x → noteAt x p ≡ suc d → Spot e o m p d
       go none h n = absurd (zero-not-suc n)
         where
           zero-not-suc : {k : ℕ} → _≡_ {A = ℕ} 0 (suc k) → ⊥
@@ -115,10 +115,10 @@ module _ (o : Objects) (m : ℕ) where
           }
 
   -- position 0 of a sound method is noted with depth 0
-  pub spot-start : T (isSome (methodTable o m)) → noteAt (methodTable o m) 0 ≡ 1
-  spot-start s = go (methodTable o m) refl s
+  pub spot-start : T (isSome (methodTable e o m)) → noteAt (methodTable e o m) 0 ≡ 1
+  spot-start s = go (methodTable e o m) refl s
     where
-      go : (x : Option (List ℕ)) → methodTable o m ≡ x → T (isSome x) → noteAt (methodTable o m) 0 ≡ 1
+      go : (x : Option (List ℕ)) → methodTable e o m ≡ x → T (isSome x) → noteAt (methodTable e o m) 0 ≡ 1
       go none h s′ = absurd s′
       go (some t) h s′ =
           let notes = method-notes t h in

@@ -278,7 +278,7 @@ pub record Extended (o : Objects) (m : ℕ) : Type 0 where
   pub tag : extension o m % 2 ≡ 1
   pub small : extension o m < 16384
 
-pub record MethodFacts (o : Objects) (m : ℕ) : Type 0 where
+pub record MethodFacts (e : ℕ) (o : Objects) (m : ℕ) : Type 0 where
   pub long : 4 ≤ size o (objectNumber m)
   pub tag : header o m % 2 ≡ 1
   pub holds : 4 + 2 * literalCount o m ≤ size o (objectNumber m)
@@ -287,7 +287,7 @@ pub record MethodFacts (o : Objects) (m : ℕ) : Type 0 where
   pub field : flag o m ≡ fieldFlag → temporaryCount o m < fieldCount o (home o m)
   pub extended : flag o m ≡ primitiveFlag → Extended o m
   pub arguments : argumentCount o m ≤ temporaryCount o m
-  pub sound : T (runsCode o m) → T (isSome (methodTable o m))
+  pub sound : T (runsCode o m) → T (isSome (methodTable e o m))
 
 pub extended-facts : (o : Objects) (m : ℕ) → T (extensionFine o m) → Extended o m
 extended-facts o m t =
@@ -298,7 +298,7 @@ extended-facts o m t =
       small = ltb→lt (extension o m) 16384 (and-right (isInteger (extension o m)) (ltb (extension o m) 16384) q);
     }
 
-pub method-facts-of : (e : ℕ) (o : Objects) (m : ℕ) → T (allOf (methodRules e o m)) → MethodFacts o m
+pub method-facts-of : (e : ℕ) (o : Objects) (m : ℕ) → T (allOf (methodRules e o m)) → MethodFacts e o m
 unfolding methodRules
 method-facts-of e o m t =
     record {
@@ -467,7 +467,7 @@ module _ {e : ℕ} {o : Objects} (r : Right e o) where
       subst (λ (x : ℕ). T (allOf (methodRules e o x))) (pointer-of m (h .even)) (implied (eqb (kind o (m / 2)) methodKind)
       (allOf (methodRules e o (pointer (m / 2)))) q (true→T (eq-eqb (kind o (m / 2)) methodKind (h .kinds))))
 
-  pub method-facts : (m : ℕ) → T (isKind o methodKind m) → MethodFacts o m
+  pub method-facts : (m : ℕ) → T (isKind o methodKind m) → MethodFacts e o m
   method-facts m t = method-facts-of e o m (method-rules m t)
 
   pub method-words : (m : ℕ) → T (isKind o methodKind m) → bodyWords o (m / 2) ≡ (size o (m / 2) + 1) / 2

@@ -303,7 +303,7 @@ module _ {e : ℕ} {o : Objects} (r : Right e o) where
         (λ p. tt)
 
     -- all of them
-    pub perform-law : (k w x y : ℕ) → T (isValid (o .n) w) → (k ≡ 61 → T (isValid (o .n) y)) → Kept room e o (perform room o k w x y)
+    pub perform-law : (k w x y : ℕ) → T (isValid (o .n) w) → (k ≡ 61 → T (isValid (o .n) y)) → Kept room e o (perform e room o k w x y)
     unfolding perform
     perform-law k w x y v u =
         if-cases (Kept room e o) _ _ _ (λ p. computed-law (arithmetic k w x) (arithmetic-valid k w x))
@@ -316,7 +316,7 @@ module _ {e : ℕ} {o : Objects} (r : Right e o) where
         (λ p. if-cases (Kept room e o) _ _ fails (λ p. same-objects (classOf o w) (class-valid w v)) (λ p. tt))))))))
 
     pub answer-law : (k count w : ℕ) (arguments : List ℕ) → count ≡ length arguments → T (isValid (o .n) w) → T (every (isValid (o .n)) arguments)
-        → Kept room e o (primitive room o k count w arguments)
+        → Kept room e o (primitive e room o k count w arguments)
     unfolding primitive primitiveCount
     answer-law k count w arguments l v a =
         if-cases (Kept room e o) (eqb count (primitiveCount k)) _ fails
@@ -329,5 +329,5 @@ pub answered : (room : Room) (e : ℕ) (o : Objects) {z : Outcome} {v : ℕ} {o�
 answered room e o t p = subst (Kept room e o) p t
 
 pub primitive-law : {e : ℕ} {o o′ : Objects} (room : Room) (k count w v : ℕ) (arguments : List ℕ) → Right e o → count ≡ length arguments → T (isValid (o .n) w)
-    → T (every (isValid (o .n)) arguments) → primitive room o k count w arguments ≡ answers v o′ → Performed room e o v o′
+    → T (every (isValid (o .n)) arguments) → primitive e room o k count w arguments ≡ answers v o′ → Performed room e o v o′
 primitive-law {e = e} {o = o} room k count w v arguments r l t a p = answered room e o (answer-law r room k count w arguments l t a) p

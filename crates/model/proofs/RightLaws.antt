@@ -303,4 +303,4 @@ module _ {e : ℕ} {o o′ : Objects} (x : Extends o o′) (r : Right e o) where
 
     pub right-kept : Right e o′
     right-kept =
-        record { contents = y .contents; bodies = y .bodies; sizes = y .sizes; rule-4 = rule-4-kept; rule-5 = rule-5-kept; rule-6 = rule-6-kept; rule-7 = rule-7-kept }
+        record { edition = r .edition; contents = y .contents; bodies = y .bodies; sizes = y .sizes; rule-4 = rule-4-kept; rule-5 = rule-5-kept; rule-6 = rule-6-kept; rule-7 = rule-7-kept }

@@ -301,7 +301,7 @@ module _ {e : ℕ} {o o′ : Objects} (x : Extends o o′) (r : Right e o) where
     place-same (LiteralVariable i) = at-literal i (variableFine o) (variableFine o′) (variable-same x r)
 
     -- the rules of an instruction
-    pub allowed-same : (i : Instruction) → Small i → allowed o′ m i ≡ allowed o m i
+    pub allowed-same : (i : Instruction) → Small i → allowed e o′ m i ≡ allowed e o m i
     unfolding allowed
     allowed-same (Push p) s = place-same p
     allowed-same (Store p) s = ap (λ (b : Bool). isWritable p && b) (place-same p)
@@ -322,20 +322,20 @@ module _ {e : ℕ} {o o′ : Objects} (x : Extends o o′) (r : Right e o) where
         (ap (λ (w : ℕ). sendFine o′ w (specialCount k)) (special-same k s) ∙ send-same x r (specialSelector o k) (specialCount k) (special-valid r k s))
     allowed-same Unused s = refl
 
-    fine-same : (ws : List ℕ) (sz tc fw p d : ℕ) → fineAt ws sz tc fw (allowed o′ m) p d ≡ fineAt ws sz tc fw (allowed o m) p d
+    fine-same : (ws : List ℕ) (sz tc fw p d : ℕ) → fineAt ws sz tc fw (allowed e o′ m) p d ≡ fineAt ws sz tc fw (allowed e o m) p d
     unfolding fineAt rulesAt
     fine-same ws sz tc fw p d =
         ap (λ (b : Bool). usable (nextAt ws p) (decodeAt ws sz p) && (b && (leb (need (decodeAt ws sz p)) d && (leb (tc + d) fw && true)))) (allowed-same (decodeAt ws sz p) (small-at ws sz p))
 
-    rules-same : (ws : List ℕ) (sz tc fw : ℕ) → depthTable ws sz tc fw (allowed o′ m) ≡ depthTable ws sz tc fw (allowed o m)
+    rules-same : (ws : List ℕ) (sz tc fw : ℕ) → depthTable ws sz tc fw (allowed e o′ m) ≡ depthTable ws sz tc fw (allowed e o m)
     unfolding depthTable
     rules-same ws sz tc fw = ap (λ (f : ℕ → ℕ → Bool). walkFrom f (successorsAt ws sz) (depthAfterAt ws sz) sz) (fun-ext (λ p. fun-ext (λ d. fine-same ws sz tc fw p d)))
 
-    pub table-same : methodTable o′ m ≡ methodTable o m
+    pub table-same : methodTable e o′ m ≡ methodTable e o m
     unfolding methodTable
     table-same =
-        ap₂ (λ (ws : List ℕ) (sz : ℕ). depthTable ws sz (temporaryCount o′ m) (frameWords o′ m) (allowed o′ m)) (code-same x r m t) (code-size-same x r m t)
-        ∙ ap₂ (λ (a b : ℕ). depthTable (codeWords o m) (codeSize o m) a b (allowed o′ m)) (temporaries-same x r m t) (frame-same x r m t)
+        ap₂ (λ (ws : List ℕ) (sz : ℕ). depthTable ws sz (temporaryCount o′ m) (frameWords o′ m) (allowed e o′ m)) (code-same x r m t) (code-size-same x r m t)
+        ∙ ap₂ (λ (a b : ℕ). depthTable (codeWords o m) (codeSize o m) a b (allowed e o′ m)) (temporaries-same x r m t) (frame-same x r m t)
         ∙ rules-same (codeWords o m) (codeSize o m) (temporaryCount o m) (frameWords o m)
 
 -- start words stay right

@@ -15,9 +15,9 @@ abbrev pub notesFrom : Objects → ℕ → ℕ
 notesFrom o m = 2 * (start o (objectNumber m) + (2 + literalCount o m))
 
 -- the notes of method m are those of its depth table, 0 where there is none
-abbrev pub MethodNoted : Objects → List ℕ → ℕ → Type 0
-MethodNoted o notes m = (p : ℕ) → p < codeSize o m → getD notes (notesFrom o m + p) 0 ≡ noteAt (methodTable o m) p
+abbrev pub MethodNoted : ℕ → Objects → List ℕ → ℕ → Type 0
+MethodNoted e o notes m = (p : ℕ) → p < codeSize o m → getD notes (notesFrom o m + p) 0 ≡ noteAt (methodTable e o m) p
 
 -- the methods among the objects below k have their notes
-abbrev pub NotedBefore : Objects → List ℕ → ℕ → Type 0
-NotedBefore o notes k = (j : ℕ) → 1 ≤ j → j < k → kind o j ≡ methodKind → MethodNoted o notes (pointer j)
+abbrev pub NotedBefore : ℕ → Objects → List ℕ → ℕ → Type 0
+NotedBefore e o notes k = (j : ℕ) → 1 ≤ j → j < k → kind o j ≡ methodKind → MethodNoted e o notes (pointer j)

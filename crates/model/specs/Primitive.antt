@@ -109,9 +109,9 @@ abbrev pub computed : Objects → Computed → Outcome
 computed o (Word w) = answers w o
 computed o Failed = fails
 
--- Primitive k on a receiver w and two arguments, those that it takes
-unfoldable pub perform : Room → Objects → ℕ → ℕ → ℕ → ℕ → Outcome
-perform room o k w x y =
+-- Primitive k on a receiver w and two arguments, those that it takes; `e` is the edition, which has all of them today
+unfoldable pub perform : ℕ → Room → Objects → ℕ → ℕ → ℕ → ℕ → Outcome
+perform e room o k w x y =
     if leb 1 k && leb k 17 then computed o (arithmetic k w x) else
     if eqb k 60 then at o w x else
     if eqb k 61 then atPut o w x y else
@@ -126,6 +126,6 @@ perform room o k w x y =
 unfoldable pub primitiveCount : ℕ → ℕ
 primitiveCount k = if eqb k 61 then 2 else if eqb k 62 || (eqb k 70 || eqb k 111) then 0 else 1
 
-unfoldable pub primitive : Room → Objects → ℕ → ℕ → ℕ → List ℕ → Outcome
-primitive room o k count w arguments =
-    if eqb count (primitiveCount k) then perform room o k w (getD arguments 0 0) (getD arguments 1 0) else fails
+unfoldable pub primitive : ℕ → Room → Objects → ℕ → ℕ → ℕ → List ℕ → Outcome
+primitive e room o k count w arguments =
+    if eqb count (primitiveCount k) then perform e room o k w (getD arguments 0 0) (getD arguments 1 0) else fails

@@ -153,30 +153,30 @@ abbrev pub isClass : ℕ → Bool
 isClass k = eqb k 23
 
 -- The rules of a reached instruction that do not speak of depth
-unfoldable pub allowed : Objects → ℕ → Instruction → Bool
-allowed o m (Push p) = placeFine o m p
-allowed o m (Store p) = isWritable p && placeFine o m p
-allowed o m (PopStore p) = isWritable p && placeFine o m p
-allowed o m PushSelf = true
-allowed o m (PushConstant w) = true
-allowed o m ReturnSelf = true
-allowed o m (ReturnConstant w) = true
-allowed o m ReturnTop = true
-allowed o m Pop = true
-allowed o m Duplicate = true
-allowed o m (Jump a b) = true
-allowed o m (JumpOn x a) = true
-allowed o m (Send l n) = ltb l (literalCount o m) && sendFine o (literal o m l) n
-allowed o m (SuperSend l n) = ltb l (literalCount o m) && sendFine o (literal o m l) n
-allowed o m (SpecialSend k) = isSame k || (isClass k || sendFine o (specialSelector o k) (specialCount k))
-allowed o m Unused = false
+unfoldable pub allowed : ℕ → Objects → ℕ → Instruction → Bool
+allowed e o m (Push p) = placeFine o m p
+allowed e o m (Store p) = isWritable p && placeFine o m p
+allowed e o m (PopStore p) = isWritable p && placeFine o m p
+allowed e o m PushSelf = true
+allowed e o m (PushConstant w) = true
+allowed e o m ReturnSelf = true
+allowed e o m (ReturnConstant w) = true
+allowed e o m ReturnTop = true
+allowed e o m Pop = true
+allowed e o m Duplicate = true
+allowed e o m (Jump a b) = true
+allowed e o m (JumpOn x a) = true
+allowed e o m (Send l n) = ltb l (literalCount o m) && sendFine o (literal o m l) n
+allowed e o m (SuperSend l n) = ltb l (literalCount o m) && sendFine o (literal o m l) n
+allowed e o m (SpecialSend k) = isSame k || (isClass k || sendFine o (specialSelector o k) (specialCount k))
+allowed e o m Unused = false
 
 -- A method is sound where its code has a depth table: the statement, and the table itself.
-abbrev pub SoundMethod : Objects → ℕ → Type 0
-SoundMethod o m = Sound (codeWords o m) (codeSize o m) (temporaryCount o m) (frameWords o m) (allowed o m)
+abbrev pub SoundMethod : ℕ → Objects → ℕ → Type 0
+SoundMethod e o m = Sound (codeWords o m) (codeSize o m) (temporaryCount o m) (frameWords o m) (allowed e o m)
 
-unfoldable pub methodTable : Objects → ℕ → Option (List ℕ)
-methodTable o m = depthTable (codeWords o m) (codeSize o m) (temporaryCount o m) (frameWords o m) (allowed o m)
+unfoldable pub methodTable : ℕ → Objects → ℕ → Option (List ℕ)
+methodTable e o m = depthTable (codeWords o m) (codeSize o m) (temporaryCount o m) (frameWords o m) (allowed e o m)
 
 -- The extension of flag 7: there are 2 literals, and it is an integer word with its two high bits zero.
 abbrev pub extensionFine : Objects → ℕ → Bool
@@ -194,7 +194,7 @@ methodRules e o m =
     implies (eqb (flag o m) fieldFlag) (ltb (temporaryCount o m) (fieldCount o (home o m))) ∷
     implies (eqb (flag o m) primitiveFlag) (extensionFine o m) ∷
     leb (argumentCount o m) (temporaryCount o m) ∷
-    implies (runsCode o m) (isSome (methodTable o m)) ∷
+    implies (runsCode o m) (isSome (methodTable e o m)) ∷
     []
 
 -- A dictionary's methods name as home the class that holds it, and methods under one selector take equally many arguments.
@@ -217,6 +217,7 @@ rule8 o receiver selector arguments =
 
 -- Objects that meet the rules 2 and 4 to 7, in lists of their own lengths
 pub record Right (e : ℕ) (o : Objects) : Type 0 where
+  pub edition : T (isEdition e)
   pub contents : length (o .contents) ≡ entryWords * o .n
   pub bodies : length (o .bodies) ≡ o .b
   pub sizes : T (sizesFine e (o .n) (o .b))
@@ -224,3 +225,7 @@ pub record Right (e : ℕ) (o : Objects) : Type 0 where
   pub rule-5 : T (rule5 e o)
   pub rule-6 : T (rule6 e o)
   pub rule-7 : T (rule7 e o)
+
+-- The same in some edition, for what is the same in all of them
+abbrev pub IsRight : Objects → Type 0
+IsRight o = (e : ℕ) × Right e o

@@ -12,7 +12,7 @@ use Rattle.bytecode.proofs.TestLaws.{true→T, T→true, and-left, and-right, a
 use Rattle.model.specs.Limits.{entryWords, cacheWords}
 use Rattle.model.specs.Objects.{Objects}
 use Rattle.model.specs.Image.{Room, Verdict, accepted, refused, unless, _then_, buffersFine}
-use Rattle.plain.specs.Registers.{hasFrames, editionOf}
+use Rattle.plain.specs.Registers.{hasFrames}
 use Rattle.plain.specs.State.{Frame, Plain, objects}
 use Rattle.plain.specs.Cache.{cacheFine}
 use Rattle.plain.specs.Flat.{Flat, roomOf, flatObjects, framesFrom, ifFrames, plainOf}
@@ -59,7 +59,7 @@ check-right s e =
     let c = leb→le (entryWords * n) (length (s .contents)) (and-left (leb (entryWords * n) (length (s .contents))) (leb b (length (s .bodies)) && eqb (length (s .cache)) cacheWords) (t .0)) in
     let d = leb→le b (length (s .bodies)) (and-left (leb b (length (s .bodies))) (eqb (length (s .cache)) cacheWords) u) in
     let f = and-left (plainFine (length (s .stack)) (plainOf s)) (cacheFine (flatObjects s) (s .cache)) (t .1) in
-    let i = image-right (editionOf (s .registers)) (flatObjects s) (s .registers .startReceiver) (s .registers .startSelector)
+    let i = image-right (s .registers .edition) (flatObjects s) (s .registers .startReceiver) (s .registers .startSelector)
     (length-take-le (entryWords * n) (s .contents) c) (length-take-le b (s .bodies) d) (plain-image (length (s .stack)) (plainOf s) f) in
     record {
       contents = c;
@@ -86,7 +86,7 @@ right-check s r =
     (and-both (leb (entryWords * n) (length (s .contents))) (leb b (length (s .bodies)) && eqb (length (s .cache)) cacheWords) (le→leb (entryWords * n) (length (s .contents)) (r .contents))
     (and-both (leb b (length (s .bodies))) (eqb (length (s .cache)) cacheWords) (le→leb b (length (s .bodies)) (r .bodies)) (true→T (eq-eqb (length (s .cache)) cacheWords (r .cacheLength)))))
     (and-both (plainFine (length (s .stack)) (plainOf s)) (cacheFine (flatObjects s) (s .cache))
-    (stands-plain (length (s .stack)) (plainOf s) (right-image (editionOf (s .registers)) (flatObjects s) (s .registers .startReceiver)
+    (stands-plain (length (s .stack)) (plainOf s) (right-image (s .registers .edition) (flatObjects s) (s .registers .startReceiver)
     (s .registers .startSelector) (r .plain .image) (r .plain .starts)) (r .plain .stands))
     (r .cached))
 

@@ -16,7 +16,7 @@ use Rattle.model.specs.Objects.{Objects}
 use Rattle.model.specs.Rules.{sizesFine, rule4, rule5, rule6, rule7, rule8}
 use Rattle.model.specs.Image.{Room}
 use Rattle.model.proofs.Facts.{Right}
-use Rattle.plain.specs.Registers.{Registers, editionOf, idle, running, finished, lastPhase, hasFrames}
+use Rattle.plain.specs.Registers.{Registers, idle, running, finished, lastPhase, hasFrames}
 use Rattle.plain.specs.State.{Frame, Plain, objects}
 use Rattle.plain.specs.Check.{imageRules, framesFine, isEmpty, plainRules, plainFine}
 use Rattle.plain.proofs.FrameLaws.{FramesRight, frames-right, right-frames}
@@ -30,7 +30,7 @@ pub data Stands (stack : ℕ) (s : Plain) : Type 0 where
 
 -- A right state whose objects fit the buffers
 pub record PlainRight (room : Room) (s : Plain) : Type 0 where
-  pub image : Right (editionOf (s .registers)) (objects s)
+  pub image : Right (s .registers .edition) (objects s)
   pub contents : entryWords * s .registers .n ≤ room .contents
   pub bodies : s .registers .b ≤ room .bodies
   pub starts : T (rule8 (objects s) (s .registers .startReceiver) (s .registers .startSelector) [])
@@ -134,11 +134,11 @@ module _ (stack : ℕ) (s : Plain) where
       let r = rule (plainRules stack s) t in
       stands-by phase refl (r 1) (r 2) (r 3)
 
-  pub plain-image : T (plainFine stack s) → T (allOf (imageRules (editionOf (s .registers)) (objects s) (s .registers .startReceiver) (s .registers .startSelector)))
+  pub plain-image : T (plainFine stack s) → T (allOf (imageRules (s .registers .edition) (objects s) (s .registers .startReceiver) (s .registers .startSelector)))
   unfolding plainFine plainRules
   plain-image t = rule (plainRules stack s) t 0
 
-  pub stands-plain : T (allOf (imageRules (editionOf (s .registers)) (objects s) (s .registers .startReceiver) (s .registers .startSelector))) → Stands stack s → T (plainFine stack s)
+  pub stands-plain : T (allOf (imageRules (s .registers .edition) (objects s) (s .registers .startReceiver) (s .registers .startSelector))) → Stands stack s → T (plainFine stack s)
   unfolding plainFine plainRules
   stands-plain i x =
       let f = fine-by phase refl x in

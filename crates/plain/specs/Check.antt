@@ -11,9 +11,9 @@ use Rattle.model.specs.Objects.{Objects, classOf, isKind}
 use Rattle.model.specs.Method.{home, temporaryCount, frameSize}
 use Rattle.model.specs.Depth.{noteAt}
 use Rattle.model.specs.Lookup.{inChain}
-use Rattle.model.specs.Rules.{sizesFine, rule4, rule5, rule6, rule7, rule8, methodTable}
+use Rattle.model.specs.Rules.{headerFine, rule4, rule5, rule6, rule7, rule8, methodTable}
 use Rattle.model.specs.Image.{Verdict, accepted, refused, unless, _then_, buffersFine}
-use Rattle.plain.specs.Registers.{Registers, editionOf, finished, lastPhase, hasFrames}
+use Rattle.plain.specs.Registers.{Registers, finished, lastPhase, hasFrames}
 use Rattle.plain.specs.State.{Frame, Plain, noMark, objects, fitsStack}
 use Rattle.plain.specs.Cache.{cacheFine}
 use Rattle.plain.specs.Flat.{Flat, roomOf, flatObjects, plainOf}
@@ -21,7 +21,7 @@ use Rattle.plain.specs.Flat.{Flat, roomOf, flatObjects, plainOf}
 -- The image rules, and right start words
 unfoldable pub imageRules : ℕ → Objects → ℕ → ℕ → List Bool
 imageRules e o receiver selector =
-    sizesFine e (o .n) (o .b) ∷ rule4 e o ∷ rule5 e o ∷ rule6 e o ∷ rule7 e o ∷ rule8 o receiver selector [] ∷ []
+    headerFine e (o .n) (o .b) ∷ rule4 e o ∷ rule5 e o ∷ rule6 e o ∷ rule7 e o ∷ rule8 o receiver selector [] ∷ []
 
 -- A frame: the fifth word is 0; receiver, temporaries and operands are valid; home is in the receiver's class chain; the position is
 -- reached and the depth is that of the table there, or one less below the top. (A note is one more than the table's depth.)
@@ -58,7 +58,7 @@ isEmpty (f ∷ fs) = false
 -- The image rules; a phase from 0 to 5; a value that is valid in phase 2, else 0; frames, or top 0 and none.
 unfoldable pub plainRules : ℕ → Plain → List Bool
 plainRules stack s =
-    allOf (imageRules (editionOf (s .registers)) (objects s) (s .registers .startReceiver) (s .registers .startSelector)) ∷
+    allOf (imageRules (s .registers .edition) (objects s) (s .registers .startReceiver) (s .registers .startSelector)) ∷
     leb (s .registers .phase) lastPhase ∷
     (if eqb (s .registers .phase) finished then isValid (s .registers .n) (s .registers .value) else eqb (s .registers .value) 0) ∷
     (if hasFrames (s .registers .phase)

@@ -11,7 +11,7 @@ use Rattle.model.specs.Limits.{entryWords}
 use Rattle.model.specs.Method.{frameSize}
 use Rattle.model.specs.Image.{Verdict, accepted, refused, unless, _then_, buffersFine, imageHeader, imageOf, imageBytes, loadVerdict}
 pub use Rattle.model.specs.Objects.{atFront}
-use Rattle.plain.specs.Registers.{Registers, noRegisters, editionOf, running}
+use Rattle.plain.specs.Registers.{Registers, noRegisters, running}
 use Rattle.plain.specs.State.{Frame, Plain, objects}
 use Rattle.plain.specs.Calls.{loaded, Begun, begun, declined, begin, Ran, ran, stuck, Taken, taken, steps, dropped, Answer, done, refusedBy, result, wrote, Call, beginCall, runCall, dropCall, forgetCall}
 use Rattle.plain.specs.Cache.{filled, emptyCache}
@@ -142,7 +142,7 @@ flatLoad s bytes = afterLoad s bytes (loadVerdict (roomOf s) bytes)
 unfoldable pub savedImage : Flat → List ℕ
 savedImage s =
     imageOf
-    (record { edition = editionOf (s .registers); n = s .registers .n; b = s .registers .b; receiver = s .registers .startReceiver; selector = s .registers .startSelector })
+    (record { edition = s .registers .edition; n = s .registers .n; b = s .registers .b; receiver = s .registers .startReceiver; selector = s .registers .startSelector })
     (flatObjects s)
 
 unfoldable pub saveVerdict : Flat → List ℕ → Verdict

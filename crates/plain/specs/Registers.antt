@@ -11,14 +11,11 @@ pub record Registers : Type 0 where
   pub phase : ℕ
   pub top : ℕ
   pub value : ℕ
+  pub edition : ℕ
 
 -- what a refused load returns
 abbrev pub noRegisters : Registers
-noRegisters = record { n = 0; b = 0; startReceiver = 0; startSelector = 0; phase = 0; top = 0; value = 0 }
-
--- The edition whose rules hold
-abbrev pub editionOf : Registers → ℕ
-editionOf r = 1
+noRegisters = record { n = 0; b = 0; startReceiver = 0; startSelector = 0; phase = 0; top = 0; value = 0; edition = 0 }
 
 abbrev pub idle : ℕ
 idle = 0
@@ -51,8 +48,8 @@ hasFrames p = not (eqb p idle || eqb p finished)
 -- The same registers but for phase, top and value, or for N and B
 abbrev pub withPhase : Registers → ℕ → ℕ → ℕ → Registers
 withPhase r p t v =
-    record { n = r .n; b = r .b; startReceiver = r .startReceiver; startSelector = r .startSelector; phase = p; top = t; value = v }
+    record { n = r .n; b = r .b; startReceiver = r .startReceiver; startSelector = r .startSelector; phase = p; top = t; value = v; edition = r .edition }
 
 abbrev pub withSizes : Registers → ℕ → ℕ → Registers
 withSizes r n b =
-    record { n = n; b = b; startReceiver = r .startReceiver; startSelector = r .startSelector; phase = r .phase; top = r .top; value = r .value }
+    record { n = n; b = b; startReceiver = r .startReceiver; startSelector = r .startSelector; phase = r .phase; top = r .top; value = r .value; edition = r .edition }
