@@ -14,16 +14,16 @@ use Rattle.plain.proofs.Preserve.{Kept}
 use Rattle.plain.proofs.StateLaws.{PlainRight, goes}
 
 -- Objects after others: right, with classes, lists and methods as they were, and within the buffers
-pub record After (room : Room) (o o′ : Objects) : Type 0 where
+pub record After (e : ℕ) (room : Room) (o o′ : Objects) : Type 0 where
   pub extends : Extends o o′
-  pub right : Right 1 o′
+  pub right : Right e o′
   pub contents : entryWords * o′ .n ≤ room .contents
   pub bodies : o′ .b ≤ room .bodies
 
 -- a right state after a step
-pub kept-right : (room : Room) (s s′ : Plain) → PlainRight room s → Kept (After room) room s s′ → PlainRight room s′
+pub kept-right : (room : Room) (s s′ : Plain) → PlainRight room s → Kept (After (s .registers .edition) room) room s s′ → PlainRight room s′
 kept-right room s s′ r k =
-    record { image = k .after .right; contents = k .after .contents; bodies = k .after .bodies; starts = starts′; stands = goes (k .shape) }
+    record { image = subst (λ (e : ℕ). Right e (objects s′)) (sym (k .edition)) (k .after .right); contents = k .after .contents; bodies = k .after .bodies; starts = starts′; stands = goes (k .shape) }
   where
     starts′ : T (Rattle.model.specs.Rules.rule8 (objects s′) (s′ .registers .startReceiver) (s′ .registers .startSelector) [])
     starts′ =

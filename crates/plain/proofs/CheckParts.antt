@@ -15,7 +15,7 @@ use Rattle.plain.specs.Check.{imageRules, framesFine, isEmpty, plainRule
 
 module _ (s : Flat) where
   abbrev pub imagePart : Bool
-  imagePart = allOf (imageRules 1 (flatObjects s) (s .registers .startReceiver) (s .registers .startSelector))
+  imagePart = allOf (imageRules (s .registers .edition) (flatObjects s) (s .registers .startReceiver) (s .registers .startSelector))
 
   abbrev pub phasePart : Bool
   phasePart = leb (s .registers .phase) lastPhase
@@ -26,7 +26,7 @@ module _ (s : Flat) where
   abbrev pub framesPart : Bool
   framesPart =
       if hasFrames (s .registers .phase)
-      then framesFine (flatObjects s) (length (s .stack)) true (s .registers .top) (framesFrom (suc (s .registers .top)) (flatObjects s) (s .stack) (s .registers .top))
+      then framesFine (s .registers .edition) (flatObjects s) (length (s .stack)) true (s .registers .top) (framesFrom (suc (s .registers .top)) (flatObjects s) (s .stack) (s .registers .top))
       else eqb (s .registers .top) 0
 
   abbrev pub cachePart : Bool
@@ -44,8 +44,8 @@ module _ (s : Flat) where
       and-true false = refl
 
       by-frames : (h : Bool) (fs : List Frame)
-          → (if h then framesFine (flatObjects s) (length (s .stack)) true (s .registers .top) (ifFrames h fs) else (eqb (s .registers .top) 0 && isEmpty (ifFrames h fs)))
-          ≡ (if h then framesFine (flatObjects s) (length (s .stack)) true (s .registers .top) fs else eqb (s .registers .top) 0)
+          → (if h then framesFine (s .registers .edition) (flatObjects s) (length (s .stack)) true (s .registers .top) (ifFrames h fs) else (eqb (s .registers .top) 0 && isEmpty (ifFrames h fs)))
+          ≡ (if h then framesFine (s .registers .edition) (flatObjects s) (length (s .stack)) true (s .registers .top) fs else eqb (s .registers .top) 0)
       by-frames true fs = unfold if_then_else_ in refl
       by-frames false fs = unfold if_then_else_ in and-true (eqb (s .registers .top) 0)
 

@@ -22,28 +22,28 @@ use Rattle.plain.specs.Check.{noteOf, frameRules, framesFine}
 eq→eqb : (a b : ℕ) → a ≡ b → T (eqb a b)
 eq→eqb a b e = subst (λ (k : ℕ). T (eqb a k)) e (eqb-refl a)
 
-pub record FrameRight (o : Objects) (isTop : Bool) (f : Frame) : Type 0 where
+pub record FrameRight (e : ℕ) (o : Objects) (isTop : Bool) (f : Frame) : Type 0 where
   pub isMethod : T (isKind o methodKind (f .method))
   pub unmarked : f .mark ≡ noMark
   pub receiver : T (isValid (o .n) (f .receiver))
   pub chain : T (inChain o (home o (f .method)) (classOf o (f .receiver)))
-  pub note : noteAt (methodTable o (f .method)) (f .position) ≡ noteOf isTop f
+  pub note : noteAt (methodTable e o (f .method)) (f .position) ≡ noteOf isTop f
   pub temporaries : length (f .temporaries) ≡ temporaryCount o (f .method)
   pub depth : length (f .operands) ≡ f .depth
   pub validTemporaries : T (every (isValid (o .n)) (f .temporaries))
   pub validOperands : T (every (isValid (o .n)) (f .operands))
 
-pub frame-right : (o : Objects) (isTop : Bool) (f : Frame) → T (allOf (frameRules o isTop f)) → FrameRight o isTop f
+pub frame-right : (e : ℕ) (o : Objects) (isTop : Bool) (f : Frame) → T (allOf (frameRules e o isTop f)) → FrameRight e o isTop f
 unfolding frameRules
-frame-right o isTop f t =
-    let r = rule (frameRules o isTop f) t in
+frame-right e o isTop f t =
+    let r = rule (frameRules e o isTop f) t in
     record {
       isMethod = r 0;
       unmarked = eqb→eq (f .mark) noMark (r 1);
       receiver = r 2;
       chain = r 3;
       note = eqb→eq
-          (noteAt (methodTable o (f .method)) (f .position)) (noteOf isTop f) (r 4);
+          (noteAt (methodTable e o (f .method)) (f .position)) (noteOf isTop f) (r 4);
       temporaries = eqb→eq (length (f .temporaries)) (temporaryCount o (f .method))
           (r 5);
       depth = eqb→eq (length (f .operands)) (f .depth) (r 6);
@@ -51,10 +51,10 @@ frame-right o isTop f t =
       validOperands = r 8;
     }
 
-pub right-frame : (o : Objects) (isTop : Bool) (f : Frame) → FrameRight o isTop f → T (allOf (frameRules o isTop f))
+pub right-frame : (e : ℕ) (o : Objects) (isTop : Bool) (f : Frame) → FrameRight e o isTop f → T (allOf (frameRules e o isTop f))
 unfolding frameRules
-right-frame o isTop f r =
-    rules (frameRules o isTop f) (
+right-frame e o isTop f r =
+    rules (frameRules e o isTop f) (
       r .isMethod,
       (
         eq→eqb (f .mark) noMark (r .unmarked),
@@ -63,7 +63,7 @@ right-frame o isTop f r =
           (
             r .chain,
             (
-              eq→eqb (noteAt (methodTable o (f .method)) (f .position)) (noteOf isTop f) (r .note),
+              eq→eqb (noteAt (methodTable e o (f .method)) (f .position)) (noteOf isTop f) (r .note),
               (
                 eq→eqb (length (f .temporaries)) (temporaryCount o (f .method)) (r .temporaries),
                 (
@@ -97,54 +97,54 @@ fitting stack base words f =
     and-both (leb (base + words) stack) (leb (base + words) mostStackWords) (le→leb (base + words) stack (f .inside)) (le→leb (base + words) mostStackWords (f .most))
 
 -- The frames, top first, the first at `base`
-abbrev pub FramesRight : Objects → ℕ → Bool → ℕ → List Frame → Type 0
-FramesRight o stack isTop base [] = ⊥
-FramesRight o stack isTop base (f ∷ []) = FrameRight o isTop f × Fits stack base (frameSize o (f .method)) × (base ≡ 0) × (f .sender ≡ 0)
-FramesRight o stack isTop base (f ∷ g ∷ rest) =
-    FrameRight o isTop f × Fits stack base (frameSize o (f .method)) × (base ≡ f .sender + frameSize o (g .method)) × FramesRight o stack false (f .sender) (g ∷ rest)
+abbrev pub FramesRight : ℕ → Objects → ℕ → Bool → ℕ → List Frame → Type 0
+FramesRight e o stack isTop base [] = ⊥
+FramesRight e o stack isTop base (f ∷ []) = FrameRight e o isTop f × Fits stack base (frameSize o (f .method)) × (base ≡ 0) × (f .sender ≡ 0)
+FramesRight e o stack isTop base (f ∷ g ∷ rest) =
+    FrameRight e o isTop f × Fits stack base (frameSize o (f .method)) × (base ≡ f .sender + frameSize o (g .method)) × FramesRight e o stack false (f .sender) (g ∷ rest)
 
-pub frames-right : (o : Objects) (stack : ℕ) (isTop : Bool) (base : ℕ) (fs : List Frame) → T (framesFine o stack isTop base fs) → FramesRight o stack isTop base fs
+pub frames-right : (e : ℕ) (o : Objects) (stack : ℕ) (isTop : Bool) (base : ℕ) (fs : List Frame) → T (framesFine e o stack isTop base fs) → FramesRight e o stack isTop base fs
 unfolding framesFine
-frames-right o stack isTop base [] t = t
-frames-right o stack isTop base (f ∷ []) t =
-    let a = allOf (frameRules o isTop f) in
+frames-right e o stack isTop base [] t = t
+frames-right e o stack isTop base (f ∷ []) t =
+    let a = allOf (frameRules e o isTop f) in
     let b = fitsStack stack base (frameSize o (f .method)) in
     let s = and-right a (b && (eqb base 0 && eqb (f .sender) 0)) t in
     let u = and-right b (eqb base 0 && eqb (f .sender) 0) s in (
-      frame-right o isTop f (and-left a (b && (eqb base 0 && eqb (f .sender) 0)) t),
+      frame-right e o isTop f (and-left a (b && (eqb base 0 && eqb (f .sender) 0)) t),
       fits stack base (frameSize o (f .method))
           (and-left b (eqb base 0 && eqb (f .sender) 0) s),
       eqb→eq base 0 (and-left (eqb base 0) (eqb (f .sender) 0) u),
       eqb→eq (f .sender) 0
           (and-right (eqb base 0) (eqb (f .sender) 0) u),
     )
-frames-right o stack isTop base (f ∷ g ∷ rest) t =
-    let a = allOf (frameRules o isTop f) in
+frames-right e o stack isTop base (f ∷ g ∷ rest) t =
+    let a = allOf (frameRules e o isTop f) in
     let b = fitsStack stack base (frameSize o (f .method)) in
     let c = eqb base (f .sender + frameSize o (g .method)) in
-    let d = framesFine o stack false (f .sender) (g ∷ rest) in
+    let d = framesFine e o stack false (f .sender) (g ∷ rest) in
     let s = and-right a (b && (c && d)) t in
     let u = and-right b (c && d) s in (
-      frame-right o isTop f (and-left a (b && (c && d)) t),
+      frame-right e o isTop f (and-left a (b && (c && d)) t),
       fits stack base (frameSize o (f .method)) (and-left b (c && d) s),
       eqb→eq base
           (f .sender + frameSize o (g .method)) (and-left c d u),
-      frames-right o stack false (f .sender) (g ∷ rest) (and-right c d u),
+      frames-right e o stack false (f .sender) (g ∷ rest) (and-right c d u),
     )
 
-pub right-frames : (o : Objects) (stack : ℕ) (isTop : Bool) (base : ℕ) (fs : List Frame) → FramesRight o stack isTop base fs → T (framesFine o stack isTop base fs)
+pub right-frames : (e : ℕ) (o : Objects) (stack : ℕ) (isTop : Bool) (base : ℕ) (fs : List Frame) → FramesRight e o stack isTop base fs → T (framesFine e o stack isTop base fs)
 unfolding framesFine
-right-frames o stack isTop base [] r = r
-right-frames o stack isTop base (f ∷ []) r =
-    and-both (allOf (frameRules o isTop f)) (fitsStack stack base (frameSize o (f .method)) && (eqb base 0 && eqb (f .sender) 0)) (right-frame o isTop f (r .0))
+right-frames e o stack isTop base [] r = r
+right-frames e o stack isTop base (f ∷ []) r =
+    and-both (allOf (frameRules e o isTop f)) (fitsStack stack base (frameSize o (f .method)) && (eqb base 0 && eqb (f .sender) 0)) (right-frame e o isTop f (r .0))
     (and-both (fitsStack stack base (frameSize o (f .method))) (eqb base 0 && eqb (f .sender) 0) (fitting stack base (frameSize o (f .method)) (r .1))
     (and-both (eqb base 0) (eqb (f .sender) 0) (eq→eqb base 0 (r .2)) (eq→eqb (f .sender) 0 (r .3))))
-right-frames o stack isTop base (f ∷ g ∷ rest) r =
+right-frames e o stack isTop base (f ∷ g ∷ rest) r =
     let c = eqb base (f .sender + frameSize o (g .method)) in
-    let d = framesFine o stack false (f .sender) (g ∷ rest) in
-    and-both (allOf (frameRules o isTop f)) (fitsStack stack base (frameSize o (f .method)) && (c && d)) (right-frame o isTop f (r .0))
+    let d = framesFine e o stack false (f .sender) (g ∷ rest) in
+    and-both (allOf (frameRules e o isTop f)) (fitsStack stack base (frameSize o (f .method)) && (c && d)) (right-frame e o isTop f (r .0))
     (and-both (fitsStack stack base (frameSize o (f .method))) (c && d) (fitting stack base (frameSize o (f .method)) (r .1))
-    (and-both c d (eq→eqb base (f .sender + frameSize o (g .method)) (r .2)) (right-frames o stack false (f .sender) (g ∷ rest) (r .3))))
+    (and-both c d (eq→eqb base (f .sender + frameSize o (g .method)) (r .2)) (right-frames e o stack false (f .sender) (g ∷ rest) (r .3))))
 
 -- The depth in the table at a frame's position: the frame's own on top, one more below
 abbrev pub tableDepth : Bool → ℕ → ℕ
@@ -156,16 +156,16 @@ unfolding noteOf if_then_else_
 note-is true f = refl
 note-is false f = refl
 
-module _ (o : Objects) (isTop : Bool) (f : Frame) (r : FrameRight o isTop f) where
-  pub frame-spot : Spot o (f .method) (f .position) (tableDepth isTop (f .depth))
-  frame-spot = spot o (f .method) (f .position) (tableDepth isTop (f .depth)) (r .note ∙ note-is isTop f)
+module _ {e : ℕ} (o : Objects) (isTop : Bool) (f : Frame) (r : FrameRight e o isTop f) where
+  pub frame-spot : Spot e o (f .method) (f .position) (tableDepth isTop (f .depth))
+  frame-spot = spot e o (f .method) (f .position) (tableDepth isTop (f .depth)) (r .note ∙ note-is isTop f)
 
   -- temporaries and operands are within the frame
   pub within : temporaryCount o (f .method) + tableDepth isTop (f .depth) ≤ frameWords o (f .method)
   unfolding rulesAt
   within =
       leb→le (temporaryCount o (f .method) + tableDepth isTop (f .depth)) (frameWords o (f .method))
-      (rule (rulesAt (codeWords o (f .method)) (codeSize o (f .method)) (temporaryCount o (f .method)) (frameWords o (f .method)) (allowed o (f .method))
+      (rule (rulesAt (codeWords o (f .method)) (codeSize o (f .method)) (temporaryCount o (f .method)) (frameWords o (f .method)) (allowed e o (f .method))
       (f .position) (tableDepth isTop (f .depth))) (frame-spot .kept) 3)
 
   pub depth-within : temporaryCount o (f .method) + f .depth ≤ frameWords o (f .method)

@@ -33,9 +33,7 @@ use Rattle.plain.specs.Cache.{filled}
 use Rattle.plain.specs.Running.{runningWith, runningAt, topFrame, restFrames, Made, Sending, sentReceiver, sendStep}
 use Rattle.plain.proofs.FrameLaws.{fits}
 use Rattle.plain.proofs.StepLaws.{Valid, has-word, without-length, arguments-length, arguments-valid}
-use Rattle.plain.proofs.Preserve.{Activates, activates}
-use Rattle.plain.proofs.Worlds.{worlds}
-use Rattle.plain.proofs.After.{After}
+use Rattle.plain.proofs.Preserve.{entered-runs}
 use Rattle.plain.proofs.RunningLaws.{stood, all-right, top-right, top-bounds}
 use Rattle.plain.proofs.WriteLaws.{operand-here, moved-writes, pushed-writes}
 
@@ -72,10 +70,10 @@ part-end l from d k h g =
         omega arith
 
 -- The first frame of a method whose code runs has room for its temporaries.
-pub temporaries-fit : (o : Objects) (m : ℕ) → noteAt (methodTable o m) 0 ≡ 1 → temporaryCount o m ≤ frameWords o m
+pub temporaries-fit : (e : ℕ) (o : Objects) (m : ℕ) → noteAt (methodTable e o m) 0 ≡ 1 → temporaryCount o m ≤ frameWords o m
 unfolding rulesAt
-temporaries-fit o m e =
-    let k = rule (rulesAt (codeWords o m) (codeSize o m) (temporaryCount o m) (frameWords o m) (allowed o m) 0 0) (spot o m 0 0 e .kept) 3 in
+temporaries-fit e o m n =
+    let k = rule (rulesAt (codeWords o m) (codeSize o m) (temporaryCount o m) (frameWords o m) (allowed e o m) 0 0) (spot e o m 0 0 n .kept) 3 in
     let h = lib.Dec.leb→le (temporaryCount o m + 0) (frameWords o m) k in
     omega arith
 
@@ -146,15 +144,10 @@ module _ {n b top : ℕ} {contents bodies stack : List ℕ} {selector count clas
     found-arguments = let a = method-facts (s .runs .right) m (facts .method) .arguments in let c = found-count in omega arith
 
     -- a frame of it has room for its temporaries
-    pub found-fits : (room : Room) → entryWords * n ≤ room .contents → b ≤ room .bodies → activate room o m receiver sentArguments ≡ entered → temporaryCount o m ≤ frameWords o m
-    found-fits room c d a =
-        let w = worlds room o (s .runs .right) c d in
-        let x : Activates (After room) room (runningAt 0 0 n b top contents bodies stack) w m receiver (activate room o m receiver sentArguments) =
-        activates (After room) room (runningAt 0 0 n b top contents bodies stack) w m receiver sentArguments receiver-valid
-        (arguments-valid o f (top-right (s .runs)) count) (found-count ∙ sym arguments-count) in
-        let y : Activates (After room) room (runningAt 0 0 n b top contents bodies stack) w m receiver entered =
-        subst (Activates (After room) room (runningAt 0 0 n b top contents bodies stack) w m receiver) a x in
-        temporaries-fit o m (spot-start o m (method-facts (s .runs .right) m (facts .method) .sound (y .0)))
+    pub found-fits : (edition : ℕ) (room : Room) → activate edition room o m receiver sentArguments ≡ entered → temporaryCount o m ≤ frameWords o m
+    found-fits edition room a =
+        temporaries-fit (s .runs .edition) o m (spot-start (s .runs .edition) o m
+        (method-facts (s .runs .right) m (facts .method) .sound (entered-runs edition room o m receiver sentArguments a)))
 
   -- ---- the words that are written
 
@@ -170,9 +163,9 @@ module _ {n b top : ℕ} {contents bodies stack : List ℕ} {selector count clas
   unfolding frameAt
   answer-written w =
       let h = ltb→lt (temporaryCount o (frameMethod stack top) + (depth - suc count)) (frameWords o (frameMethod stack top))
-      (has-word o (frameMethod stack top) position (depth - suc count) (s .noted)) in
+      (has-word (s .runs .edition) o (frameMethod stack top) position (depth - suc count) (s .noted)) in
       ap₂ (λ (i k : ℕ). set (set (set stack i w) (top + 1) position) (top + 2) k) (sums top (temporaryCount o (frameMethod stack top)) (depth - suc count)) (one (depth - suc count))
-      ∙ sym (pushed-writes o stack top (suc top) f rest (all-right (s .runs)) (stood (s .runs)) position (depth - suc count) w (omega arith) h)
+      ∙ sym (pushed-writes (s .runs .edition) o stack top (suc top) f rest (all-right (s .runs)) (stood (s .runs)) position (depth - suc count) w (omega arith) h)
     where
       sums : (a b c : ℕ) → a + 6 + b + c ≡ a + (6 + (b + c))
       sums a b c = omega arith
@@ -186,33 +179,33 @@ module _ {n b top : ℕ} {contents bodies stack : List ℕ} {selector count clas
   unfolding frameAt laid newFrame
   frame-written m base =
       ap₂ (λ (l ws : List ℕ). sets l base (top ∷ 0 ∷ 0 ∷ m ∷ 0 ∷ receiver ∷ ws))
-      (sym (moved-writes o stack top (suc top) f rest (all-right (s .runs)) (stood (s .runs)) position (depth - suc count) (omega arith)))
+      (sym (moved-writes (s .runs .edition) o stack top (suc top) f rest (all-right (s .runs)) (stood (s .runs)) position (depth - suc count) (omega arith)))
       (sym (append-nil (sentArguments ++ replicate (temporaryCount o m - length sentArguments) nilWord)))
 
   -- ---- the step
 
-  module _ (room : Room) (receiver₀ selector₀ : ℕ) where
+  module _ (room : Room) (edition receiver₀ selector₀ : ℕ) where
     abbrev p : Plain
-    p = runningAt receiver₀ selector₀ n b top contents bodies stack
+    p = runningAt edition receiver₀ selector₀ n b top contents bodies stack
 
     abbrev x : Stepped
-    x = sendStep room receiver₀ selector₀ n b top contents bodies stack selector count class position
+    x = sendStep edition room receiver₀ selector₀ n b top contents bodies stack selector count class position
 
     pub send-none : lookup o selector class ≡ Nothing → x ≡ halts notUnderstood
     send-none e = ap (afterLookup room p (popped f position (suc count)) rest selector class receiver sentArguments) e
 
     module _ (m : ℕ) (e : lookup o selector class ≡ found m) where
-      send-found : x ≡ activated room p (popped f position (suc count)) rest m receiver sentArguments (looked selector class m) (activate room o m receiver sentArguments)
+      send-found : x ≡ activated room p (popped f position (suc count)) rest m receiver sentArguments (looked selector class m) (activate edition room o m receiver sentArguments)
       send-found = ap (afterLookup room p (popped f position (suc count)) rest selector class receiver sentArguments) e
 
-      pub send-unfit : activate room o m receiver sentArguments ≡ unfit → x ≡ halts notUnderstood
+      pub send-unfit : activate edition room o m receiver sentArguments ≡ unfit → x ≡ halts notUnderstood
       send-unfit a = send-found ∙ ap (activated room p (popped f position (suc count)) rest m receiver sentArguments (looked selector class m)) a
 
       -- an answer
       abbrev answeredTop : ℕ → Frame
       answeredTop w = movedTo f position (take (f .depth - suc count) (f .operands) ++ (w ∷ []))
 
-      send-answered : (w : ℕ) (o′ : Objects) → activate room o m receiver sentArguments ≡ answered w o′
+      send-answered : (w : ℕ) (o′ : Objects) → activate edition room o m receiver sentArguments ≡ answered w o′
           → x ≡ next (withObjects (onTop p (answeredTop w) rest) o′) (looked selector class m)
       unfolding pushed frameAt
       send-answered w o′ a =
@@ -224,13 +217,13 @@ module _ {n b top : ℕ} {contents bodies stack : List ℕ} {selector count clas
           long = without-length o f (top-right (s .runs)) (suc count) (s .needs)
 
           has : T (hasWord o (popped f position (suc count)) (length (without f (suc count))))
-          has = has-word o (frameMethod stack top) position (length (without f (suc count))) (s .noted ∙ ap (λ (k : ℕ). suc (suc k)) (sym long))
+          has = has-word (s .runs .edition) o (frameMethod stack top) position (length (without f (suc count))) (s .noted ∙ ap (λ (k : ℕ). suc (suc k)) (sym long))
 
       -- a frame that does not fit
-      send-entered : activate room o m receiver sentArguments ≡ entered → x ≡ framed room p (popped f position (suc count)) rest m receiver sentArguments (looked selector class m)
+      send-entered : activate edition room o m receiver sentArguments ≡ entered → x ≡ framed room p (popped f position (suc count)) rest m receiver sentArguments (looked selector class m)
       send-entered a = send-found ∙ ap (activated room p (popped f position (suc count)) rest m receiver sentArguments (looked selector class m)) a
 
-      pub send-full : activate room o m receiver sentArguments ≡ entered → fitsStack (room .stack) (top + frameSize o (frameMethod stack top)) (frameSize o m) ≡ false → x ≡ halts noStackRoom
+      pub send-full : activate edition room o m receiver sentArguments ≡ entered → fitsStack (room .stack) (top + frameSize o (frameMethod stack top)) (frameSize o m) ≡ false → x ≡ halts noStackRoom
       unfolding framed frameAt
       send-full a q = send-entered a ∙ if-no _ _ q
 
@@ -238,7 +231,7 @@ module _ {n b top : ℕ} {contents bodies stack : List ℕ} {selector count clas
       abbrev enteredState : ℕ → Plain
       enteredState base = withFrames p (newFrame o top m receiver sentArguments ∷ popped f position (suc count) ∷ rest) running base 0
 
-      send-framed : (base : ℕ) → base ≡ top + frameSize o (frameMethod stack top) → activate room o m receiver sentArguments ≡ entered
+      send-framed : (base : ℕ) → base ≡ top + frameSize o (frameMethod stack top) → activate edition room o m receiver sentArguments ≡ entered
           → fitsStack (room .stack) (top + frameSize o (frameMethod stack top)) (frameSize o m) ≡ true
           → x ≡ next (enteredState base) (looked selector class m)
       unfolding framed frameAt
@@ -246,29 +239,29 @@ module _ {n b top : ℕ} {contents bodies stack : List ℕ} {selector count clas
 
       -- ---- the buffers after it
 
-      pub answered-made : (cache : List ℕ) (w n′ b′ : ℕ) (o′ : Objects) (contents′ bodies′ stack′ cache′ : List ℕ) → activate room o m receiver sentArguments ≡ answered w o′ → o′ .n ≡ n′ → o′ .b ≡ b′
+      pub answered-made : (cache : List ℕ) (w n′ b′ : ℕ) (o′ : Objects) (contents′ bodies′ stack′ cache′ : List ℕ) → activate edition room o m receiver sentArguments ≡ answered w o′ → o′ .n ≡ n′ → o′ .b ≡ b′
           → contents′ ≡ atFront (o′ .contents) contents → bodies′ ≡ atFront (o′ .bodies) bodies
           → stack′ ≡ set (set (set stack (operandsStart o (frameMethod stack top) top + (depth - suc count)) w) (top + 1) position) (top + 2) (depth - suc count + 1)
           → cache′ ≡ filled cache (looked selector class m)
-          → Made x (runningWith receiver₀ selector₀ n′ b′ top) contents bodies stack cache contents′ bodies′ stack′ cache′
+          → Made x (runningWith edition receiver₀ selector₀ n′ b′ top) contents bodies stack cache contents′ bodies′ stack′ cache′
       answered-made cache w n′ b′ o′ contents′ bodies′ stack′ cache′ a en eb ec ed es ek =
           record {
             state = withObjects (onTop p (answeredTop w) rest) o′;
             lookup = looked selector class m;
             steps = send-answered w o′ a;
             registers = λ i.
-                runningWith receiver₀ selector₀ (en i) (eb i) top;
+                runningWith edition receiver₀ selector₀ (en i) (eb i) top;
             entries = ec;
             words = ed;
             frames = es ∙ answer-written w;
             cached = ek;
           }
 
-      pub entered-made : (cache : List ℕ) (base : ℕ) (contents′ bodies′ stack′ cache′ : List ℕ) → base ≡ top + frameSize o (frameMethod stack top) → activate room o m receiver sentArguments ≡ entered
+      pub entered-made : (cache : List ℕ) (base : ℕ) (contents′ bodies′ stack′ cache′ : List ℕ) → base ≡ top + frameSize o (frameMethod stack top) → activate edition room o m receiver sentArguments ≡ entered
           → fitsStack (room .stack) (top + frameSize o (frameMethod stack top)) (frameSize o m) ≡ true → contents′ ≡ contents → bodies′ ≡ bodies
           → stack′ ≡ sets (set (set stack (top + 1) position) (top + 2) (depth - suc count)) base (newImage top m receiver (temporaryCount o m) sentArguments)
           → cache′ ≡ filled cache (looked selector class m)
-          → Made x (runningWith receiver₀ selector₀ n b base) contents bodies stack cache contents′ bodies′ stack′ cache′
+          → Made x (runningWith edition receiver₀ selector₀ n b base) contents bodies stack cache contents′ bodies′ stack′ cache′
       entered-made cache base contents′ bodies′ stack′ cache′ g a q ec ed es ek =
           record {
             state = enteredState base;

@@ -89,7 +89,7 @@ module _ (room : Room) (s : Plain) (f : Frame) (rest : List Frame) where
     changes o missing h = tt
 
     found-halts : (t : Sent (objects s) f i) (q : ℕ) (m : Pointer) → lookup (objects s) (t .selector) (t .class) ≡ Method m
-        → (a : Activation) → activate room (objects s) (m .0) (t .receiver) (argumentsOf f (t .count)) ≡ a
+        → (a : Activation) → activate (s .registers .edition) room (objects s) (m .0) (t .receiver) (argumentsOf f (t .count)) ≡ a
         → (l : Looked) → Caused C (activated room s (popped f q (suc (t .count))) rest (m .0) (t .receiver) (argumentsOf f (t .count)) l a)
     unfolding framed
     found-halts t q m e (answered w o) h l =

@@ -129,8 +129,8 @@ unfolding laid
 length-laid stack base [] = refl
 length-laid stack base (f ∷ rest) = length-sets (laid stack (f .sender) rest) base (frameImage f) ∙ length-laid stack (f .sender) rest
 
-module _ (o : Objects) (n : ℕ) (stack : List ℕ) (long : length stack ≡ n) where
-  image-length : (isTop : Bool) (f : Frame) → FrameRight o isTop f → length (frameImage f) ≤ frameSize o (f .method)
+module _ (e : ℕ) (o : Objects) (n : ℕ) (stack : List ℕ) (long : length stack ≡ n) where
+  image-length : (isTop : Bool) (f : Frame) → FrameRight e o isTop f → length (frameImage f) ≤ frameSize o (f .method)
   image-length isTop f r =
       let w = depth-within o isTop f r in
       let a = r .temporaries in
@@ -138,7 +138,7 @@ module _ (o : Objects) (n : ℕ) (stack : List ℕ) (long : length stack ≡ n) 
       omega (arith, length-append (f .temporaries) (f .operands))
 
   -- a right frame is read back where it is laid, from every stack that agrees with it up to its end
-  module _ (isTop : Bool) (base : ℕ) (f : Frame) (rest : List Frame) (r : FrameRight o isTop f) (fit : Fits n base (frameSize o (f .method)))
+  module _ (isTop : Bool) (base : ℕ) (f : Frame) (rest : List Frame) (r : FrameRight e o isTop f) (fit : Fits n base (frameSize o (f .method)))
       (s′ : List ℕ) (same : take (base + frameSize o (f .method)) s′ ≡ take (base + frameSize o (f .method)) (laid stack base (f ∷ rest))) where
     abbrev under : List ℕ
     under = laid stack (f .sender) rest
@@ -164,12 +164,12 @@ module _ (o : Objects) (n : ℕ) (stack : List ℕ) (long : length stack ≡ n) 
         (subst (λ (k : ℕ). base + (6 + (temporaryCount o (f .method) + k)) ≤ base + frameSize o (f .method)) (sym d) (omega arith)))
         ∙ here
 
-    under-same : (e : ℕ) → e ≤ base → take e s′ ≡ take e under
+    under-same : (k : ℕ) → k ≤ base → take k s′ ≡ take k under
     unfolding laid
-    under-same e h =
-        sym (take-take e (base + frameSize o (f .method)) s′ (omega arith)) ∙ ap (take e) same
-        ∙ take-take e (base + frameSize o (f .method)) (laid stack base (f ∷ rest)) (omega arith)
-        ∙ below-base under base (frameImage f) inside′ e h
+    under-same k h =
+        sym (take-take k (base + frameSize o (f .method)) s′ (omega arith)) ∙ ap (take k) same
+        ∙ take-take k (base + frameSize o (f .method)) (laid stack base (f ∷ rest)) (omega arith)
+        ∙ below-base under base (frameImage f) inside′ k h
 
   -- stacks that agree with the laid frames up to the end of the uppermost
   abbrev pub SameTo : ℕ → List Frame → List ℕ → Type 0
@@ -177,14 +177,14 @@ module _ (o : Objects) (n : ℕ) (stack : List ℕ) (long : length stack ≡ n) 
   SameTo base (f ∷ rest) s′ = take (base + frameSize o (f .method)) s′ ≡ take (base + frameSize o (f .method)) (laid stack base (f ∷ rest))
 
   at-bottom : (base : ℕ) (fs : List Frame) → base ≡ 0 → unlessBottom base fs ≡ []
-  at-bottom zero fs e = refl
-  at-bottom (suc base) fs e = absurd (omega arith)
+  at-bottom zero fs z = refl
+  at-bottom (suc base) fs z = absurd (omega arith)
 
   not-bottom : (base : ℕ) (fs : List Frame) → 0 < base → unlessBottom base fs ≡ fs
   not-bottom zero fs h = absurd (omega arith)
   not-bottom (suc base) fs h = refl
 
-  pub frames-back : (fs : List Frame) (isTop : Bool) (base left : ℕ) → FramesRight o n isTop base fs → base < left
+  pub frames-back : (fs : List Frame) (isTop : Bool) (base left : ℕ) → FramesRight e o n isTop base fs → base < left
       → (s′ : List ℕ) → SameTo base fs s′ → framesFrom left o s′ base ≡ fs
   unfolding framesFrom
   frames-back [] isTop base left r h s′ same = absurd r
@@ -204,6 +204,6 @@ module _ (o : Objects) (n : ℕ) (stack : List ℕ) (long : length stack ≡ n) 
       (under-same isTop base f (g ∷ rest) (r .0) (r .1) s′ same (f .sender + frameSize o (g .method)) (omega arith)))
 
   -- the frames of a right state are read back from the stack in which they are laid
-  pub laid-back : (fs : List Frame) (top : ℕ) → FramesRight o n true top fs → framesFrom (suc top) o (laid stack top fs) top ≡ fs
+  pub laid-back : (fs : List Frame) (top : ℕ) → FramesRight e o n true top fs → framesFrom (suc top) o (laid stack top fs) top ≡ fs
   laid-back [] top r = absurd r
   laid-back (f ∷ rest) top r = frames-back (f ∷ rest) true top (suc top) r (omega arith) (laid stack top (f ∷ rest)) refl

@@ -43,15 +43,15 @@ last-passed false k e = absurd (refused-not k e)
 
 pub record Accepted (room : Room) (bytes : List ℕ) : Type 0 where
   pub long : length bytes ≡ imageBytes (imageHeader bytes .n) (imageHeader bytes .b)
-  pub edition : imageHeader bytes .edition ≡ 1
-  pub sizes : T (sizesFine 1 (imageHeader bytes .n) (imageHeader bytes .b))
+  pub edition : T (isEdition (imageHeader bytes .edition))
+  pub sizes : T (sizesFine (imageHeader bytes .edition) (imageHeader bytes .n) (imageHeader bytes .b))
   pub contents : entryWords * imageHeader bytes .n ≤ room .contents
   pub bodies : imageHeader bytes .b ≤ room .bodies
   pub cache : room .cache ≡ cacheWords
-  pub rule-4 : T (rule4 1 (imageObjects bytes))
-  pub rule-5 : T (rule5 1 (imageObjects bytes))
-  pub rule-6 : T (rule6 1 (imageObjects bytes))
-  pub rule-7 : T (rule7 1 (imageObjects bytes))
+  pub rule-4 : T (rule4 (imageHeader bytes .edition) (imageObjects bytes))
+  pub rule-5 : T (rule5 (imageHeader bytes .edition) (imageObjects bytes))
+  pub rule-6 : T (rule6 (imageHeader bytes .edition) (imageObjects bytes))
+  pub rule-7 : T (rule7 (imageHeader bytes .edition) (imageObjects bytes))
   pub rule-8 : T (rule8 (imageObjects bytes) (imageHeader bytes .receiver) (imageHeader bytes .selector) [])
 
 pub accepts : (room : Room) (bytes : List ℕ) → loadVerdict room bytes ≡ accepted → Accepted room bytes
@@ -61,7 +61,6 @@ accepts room bytes a =
     let o = imageObjects bytes in
     let one = passed (leb (2 * headerWords) (length bytes) && eqb (length bytes) (imageBytes (h .n) (h .b))) 1 _ a in
     let two = passed (headerFine (h .edition) (h .n) (h .b)) 2 _ (one .1) in
-    let e = eqb→eq (h .edition) 1 (and-left (isEdition (h .edition)) (sizesFine (h .edition) (h .n) (h .b)) (two .0)) in
     let c = leb (entryWords * h .n) (room .contents) in
     let b = leb (h .b) (room .bodies) in
     let k = eqb (room .cache) cacheWords in
@@ -73,18 +72,17 @@ accepts room bytes a =
     record {
       long = eqb→eq (length bytes) (imageBytes (h .n) (h .b)) (and-right (leb (2 * headerWords) (length bytes))
           (eqb (length bytes) (imageBytes (h .n) (h .b))) (one .0));
-      edition = e;
+      edition = and-left (isEdition (h .edition)) (sizesFine (h .edition) (h .n) (h .b)) (two .0);
       sizes = and-right (isEdition (h .edition)) (sizesFine (h .edition) (h .n) (h .b))
           (two .0);
       contents = leb→le (entryWords * h .n) (room .contents) (and-left c (b && k) (three .0));
       bodies = leb→le (h .b) (room .bodies)
           (and-left b k (and-right c (b && k) (three .0)));
       cache = eqb→eq (room .cache) cacheWords (and-right b k (and-right c (b && k) (three .0)));
-      rule-4 = subst
-          (λ (x : ℕ). T (rule4 x o)) e (four .0);
-      rule-5 = subst (λ (x : ℕ). T (rule5 x o)) e (five .0);
-      rule-6 = subst (λ (x : ℕ). T (rule6 x o)) e (six .0);
-      rule-7 = subst (λ (x : ℕ). T (rule7 x o)) e (seven .0);
+      rule-4 = four .0;
+      rule-5 = five .0;
+      rule-6 = six .0;
+      rule-7 = seven .0;
       rule-8 = last-passed (rule8 o (h .receiver) (h .selector) []) 8 (seven .1);
     }
 
@@ -97,6 +95,7 @@ loaded-right room bytes a =
     let l = a .long in
     record {
       image = record {
+        edition = a .edition;
         contents = length-part (wordsOf bytes) 5 (entryWords * n) (omega arith);
         bodies = length-part (wordsOf bytes)
             (5 + entryWords * n) b (omega arith);

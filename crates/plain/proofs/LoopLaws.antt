@@ -27,10 +27,10 @@ use Rattle.plain.proofs.TurnLaws.{own-stood, runs-out, runs-over, ends-
 use Rattle.plain.proofs.MadeLaws.{made-flat}
 
 -- the end of the top frame is a number of the buffers
-pub top-end-is : (receiver selector n b top : ℕ) (contents bodies stack cache : List ℕ)
-    → topEnd (plainOf (flat (runningWith receiver selector n b top) contents bodies stack cache)) ≡ top + frameSize (objectsAt n b contents bodies) (frameMethod stack top)
+pub top-end-is : (e receiver selector n b top : ℕ) (contents bodies stack cache : List ℕ)
+    → topEnd (plainOf (flat (runningWith e receiver selector n b top) contents bodies stack cache)) ≡ top + frameSize (objectsAt n b contents bodies) (frameMethod stack top)
 unfolding plainOf topEnd framesFrom frameAt
-top-end-is receiver selector n b top contents bodies stack cache = refl
+top-end-is e receiver selector n b top contents bodies stack cache = refl
 
 left-one : (grant count : ℕ) → count < grant → grant - count ≡ suc (grant - (count + 1))
 left-one grant count h = omega arith

@@ -24,11 +24,11 @@ use native.Mathlib.Omega.{arith}
 
 -- a bytecode that moves the top frame on, as one that was made
 pub moved-made : (n b top : ℕ) (contents bodies stack cache bodies′ stack′ : List ℕ) → Runs n b top contents bodies stack → Moved n b top contents bodies stack bodies′ stack′
-    → (receiver selector : ℕ) (room : Room)
-    → Made (step room (runningAt receiver selector n b top contents bodies stack)) (runningWith receiver selector n b top) contents bodies stack cache contents bodies′ stack′ cache
+    → (e receiver selector : ℕ) (room : Room)
+    → Made (step room (runningAt e receiver selector n b top contents bodies stack)) (runningWith e receiver selector n b top) contents bodies stack cache contents bodies′ stack′ cache
 unfolding filled
-moved-made n b top contents bodies stack cache bodies′ stack′ r m receiver selector room =
-    let x = m receiver selector room in
+moved-made n b top contents bodies stack cache bodies′ stack′ r m e receiver selector room =
+    let x = m e receiver selector room in
     record {
       state = x .state;
       lookup = noLookup;
@@ -54,22 +54,22 @@ pub made-flat : (r₀ : Registers) {x : Stepped} {r : Registers} {contents bodie
 made-flat r₀ m = λ i. flat (sym (m .registers) i) (m .entries i) (m .words i) (m .frames i) (m .cached i)
 
 -- What check says of a running state, for the functions of the interpreter
-module _ (receiver selector n b top : ℕ) (contents bodies stack cache : List ℕ) where
+module _ (e receiver selector n b top : ℕ) (contents bodies stack cache : List ℕ) where
   abbrev s : Flat
-  s = flat (runningWith receiver selector n b top) contents bodies stack cache
+  s = flat (runningWith e receiver selector n b top) contents bodies stack cache
 
-  pub running-is : plainOf s ≡ runningAt receiver selector n b top contents bodies stack
+  pub running-is : plainOf s ≡ runningAt e receiver selector n b top contents bodies stack
   unfolding plainOf
   running-is = refl
 
   pub running-runs : FlatRight s → Runs n b top contents bodies stack
   unfolding plainOf
-  running-runs r = record { right = r .plain .image; frames = by-stands (r .plain .stands) }
+  running-runs r = record { edition = e; right = r .plain .image; frames = by-stands (r .plain .stands) }
     where
       by-stands : Stands (length stack) (plainOf s)
-          → T (Rattle.plain.specs.Check.framesFine (objectsAt n b contents bodies) (length stack) true top (Rattle.plain.specs.Flat.framesFrom
+          → T (Rattle.plain.specs.Check.framesFine e (objectsAt n b contents bodies) (length stack) true top (Rattle.plain.specs.Flat.framesFrom
           (suc top) (objectsAt n b contents bodies) stack top))
-      by-stands (goes (runs x y f)) = right-frames (objectsAt n b contents bodies) (length stack) true top (Rattle.plain.specs.Flat.framesFrom (suc top)
+      by-stands (goes (runs x y f)) = right-frames e (objectsAt n b contents bodies) (length stack) true top (Rattle.plain.specs.Flat.framesFrom (suc top)
           (objectsAt n b contents bodies) stack top) f
       by-stands (goes (ends x y z f)) = absurd (omega arith)
       by-stands (rests x y z f) = absurd (omega arith)

@@ -81,20 +81,20 @@ decode-fine words size p =
     (λ e. tt)
 
 -- The instruction i of the top frame f, the next one at `position`
-pub record Now (o : Objects) (f : Frame) (position : ℕ) (i : Instruction) : Type 0 where
+pub record Now (e : ℕ) (o : Objects) (f : Frame) (position : ℕ) (i : Instruction) : Type 0 where
   pub usable : T (usable position i)
-  pub allowed : T (allowed o (f .method) i)
+  pub allowed : T (allowed e o (f .method) i)
   pub needs : need i ≤ f .depth
   pub constant : T (constantFine i)
-  pub goes : (q : ℕ) → List·Memᴰ q (successors position i) → noteAt (methodTable o (f .method)) q ≡ suc (depthAfter i (f .depth))
+  pub goes : (q : ℕ) → List·Memᴰ q (successors position i) → noteAt (methodTable e o (f .method)) q ≡ suc (depthAfter i (f .depth))
 
-pub now : (o : Objects) (f : Frame) → FrameRight o true f
-    → Now o f (nextAt (codeWords o (f .method)) (f .position)) (decodeAt (codeWords o (f .method)) (codeSize o (f .method)) (f .position))
+pub now : {e : ℕ} (o : Objects) (f : Frame) → FrameRight e o true f
+    → Now e o f (nextAt (codeWords o (f .method)) (f .position)) (decodeAt (codeWords o (f .method)) (codeSize o (f .method)) (f .position))
 unfolding rulesAt successorsAt depthAfterAt
-now o f r =
+now {e = e} o f r =
     let s = frame-spot o true f r in
     let t = rule (rulesAt (codeWords o (f .method)) (codeSize o (f .method)) (temporaryCount o (f .method)) (frameWords o (f .method))
-    (Rattle.model.specs.Rules.allowed o (f .method)) (f .position) (f .depth)) (s .kept) in
+    (Rattle.model.specs.Rules.allowed e o (f .method)) (f .position) (f .depth)) (s .kept) in
     record {
       usable = t 0;
       allowed = t 1;

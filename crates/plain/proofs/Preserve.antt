@@ -42,11 +42,11 @@ use Rattle.plain.proofs.NowLaws.{Now}
 use Rattle.plain.proofs.StepLaws.{Valid, valid-append, valid-one, valid-replicate, Finds, element, moved-right, stored-temporary, has-word, new-top, operand-finds, without-length, without-valid, arguments-length, arguments-valid}
 
 -- What a step needs of the objects, and of `After`, the relation to the objects after it. The model's laws give it (proofs/World.antt).
-pub record World (After : Objects → Objects → Type 0) (room : Room) (o : Objects) : Type 0 where
+pub record World (After : Objects → Objects → Type 0) (e : ℕ) (room : Room) (o : Objects) : Type 0 where
   pub least : 3 ≤ o .n
   pub self : After o o
-  pub keeps : (o′ : Objects) → After o o′ → (b : Bool) (f : Frame) → FrameRight o b f → FrameRight o′ b f
-  pub tables : (o′ : Objects) → After o o′ → (m : ℕ) → T (isKind o methodKind m) → methodTable o′ m ≡ methodTable o m
+  pub keeps : (o′ : Objects) → After o o′ → (b : Bool) (f : Frame) → FrameRight e o b f → FrameRight e o′ b f
+  pub tables : (o′ : Objects) → After o o′ → (m : ℕ) → T (isKind o methodKind m) → methodTable e o′ m ≡ methodTable e o m
   pub sizes : (o′ : Objects) → After o o′ → (m : ℕ) → T (isKind o methodKind m) → frameSize o′ m ≡ frameSize o m
   pub grows : (o′ : Objects) → After o o′ → (w : ℕ) → T (isValid (o .n) w) → T (isValid (o′ .n) w)
   pub fieldValid : (w i : ℕ) → T (isKind o fieldsKind w && ltb i (size o (objectNumber w))) → T (isValid (o .n) (bodyWord o (objectNumber w) i))
@@ -56,15 +56,15 @@ pub record World (After : Objects → Objects → Type 0) (room : Room) (o : Obj
   pub lookupMethod : (s c m : ℕ) → lookup o s c ≡ found m → T (isKind o methodKind m)
   pub lookupCount : (s c m count : ℕ) → lookup o s c ≡ found m → T (takesCount o s count) → argumentCount o m ≡ count
   pub arguments : (m : ℕ) → T (isKind o methodKind m) → argumentCount o m ≤ temporaryCount o m
-  pub runs : (m : ℕ) → T (isKind o methodKind m) → T (runsCode o m) → T (isSome (methodTable o m))
+  pub runs : (m : ℕ) → T (isKind o methodKind m) → T (runsCode o m) → T (isSome (methodTable e o m))
   pub computes : (k a b w : ℕ) → arithmetic k a b ≡ Word w → T (isValid (o .n) w)
   pub stores : (w i v : ℕ) → T (isKind o fieldsKind w && ltb i (size o (objectNumber w))) → T (isValid (o .n) v) → After o (storeWord o (objectNumber w) i v)
   pub performs : (k count w : ℕ) (arguments : List ℕ) (v : ℕ) (o′ : Objects) → T (isValid (o .n) w) → Valid (o .n) arguments → count ≡ length arguments
-      → primitive room o k count w arguments ≡ answers v o′ → After o o′ × T (isValid (o′ .n) v)
+      → primitive e room o k count w arguments ≡ answers v o′ → After o o′ × T (isValid (o′ .n) v)
 
 -- the flag of a method that is neither 5 nor 6 runs code
-runs-code : (h : ℕ) (o : Objects) (m : ℕ) → (flag o m ≡ receiverFlag → ⊥) → (flag o m ≡ fieldFlag → ⊥) → T (runsCode o m)
-runs-code h o m a b = by-flag (flag o m) (omega arith) a b
+runs-code : (o : Objects) (m : ℕ) → (flag o m ≡ receiverFlag → ⊥) → (flag o m ≡ fieldFlag → ⊥) → T (runsCode o m)
+runs-code o m a b = by-flag (flag o m) (omega arith) a b
   where
     by-flag : (k : ℕ) → k < 8 → (k ≡ receiverFlag → ⊥) → (k ≡ fieldFlag → ⊥) → T (leb k 4 || eqb k 7)
     by-flag zero l p q = tt
@@ -76,6 +76,26 @@ runs-code h o m a b = by-flag (flag o m) (omega arith) a b
     by-flag (suc (suc (suc (suc (suc (suc zero)))))) l p q = absurd (q refl)
     by-flag (suc (suc (suc (suc (suc (suc (suc zero))))))) l p q = tt
     by-flag (suc (suc (suc (suc (suc (suc (suc (suc k)))))))) l p q = absurd (omega arith)
+
+-- a method that is entered runs code
+pub entered-runs : (e : ℕ) (room : Room) (o : Objects) (m receiver : ℕ) (arguments : List ℕ) → activate e room o m receiver arguments ≡ entered → T (runsCode o m)
+unfolding activate
+entered-runs e room o m receiver arguments =
+    if-cases Runs (eqb (flag o m) receiverFlag) _ _ (λ h q. absurd (subst Entered (sym q) tt))
+    (λ n5. if-cases Runs (eqb (flag o m) fieldFlag) _ _ (λ h q. absurd (by-field (fieldOf o receiver (temporaryCount o m)) q))
+    (λ n6 q. runs-code o m (borrow.Author.Tests.eqb-false (flag o m) receiverFlag n5) (borrow.Author.Tests.eqb-false (flag o m) fieldFlag n6)))
+  where
+    Runs : Activation → Type 0
+    Runs x = x ≡ entered → T (runsCode o m)
+
+    Entered : Activation → Type 0
+    Entered (answered w o′) = ⊥
+    Entered entered = Unit {0}
+    Entered unfit = ⊥
+
+    by-field : (x : Option ℕ) → fieldAnswered o x ≡ entered → ⊥
+    by-field (some w) q = subst Entered (sym q) tt
+    by-field none q = subst Entered (sym q) tt
 
 pub small-valid : (n w : ℕ) → 3 ≤ n → T (isValid 3 w) → T (isValid n w)
 unfolding isValid isPointer
@@ -123,7 +143,7 @@ LookedRight o (looked s c m) = lookup o s c ≡ found m
 
 -- the shape of a state in phase 1 or 2
 pub data Shape (stack : ℕ) (s : Plain) : Type 0 where
-  runs : s .registers .phase ≡ running → s .registers .value ≡ 0 → FramesRight (objects s) stack true (s .registers .top) (s .frames) → Shape stack s
+  runs : s .registers .phase ≡ running → s .registers .value ≡ 0 → FramesRight (s .registers .edition) (objects s) stack true (s .registers .top) (s .frames) → Shape stack s
   ends : s .registers .phase ≡ finished → T (isValid (s .registers .n) (s .registers .value)) → s .registers .top ≡ 0 → s .frames ≡ [] → Shape stack s
 
 module _ (After : Objects → Objects → Type 0) (room : Room) (s : Plain) where
@@ -132,6 +152,7 @@ module _ (After : Objects → Objects → Type 0) (room : Room) (s : Plain) wher
     pub after : After (objects s) (objects s′)
     pub receiver : s′ .registers .startReceiver ≡ s .registers .startReceiver
     pub selector : s′ .registers .startSelector ≡ s .registers .startSelector
+    pub edition : s′ .registers .edition ≡ s .registers .edition
     pub shape : Shape (room .stack) s′
     pub level : s′ .registers .phase ≡ running → s′ .registers .top ≡ s .registers .top → topEnd s′ ≡ topEnd s
 
@@ -143,6 +164,9 @@ module _ (After : Objects → Objects → Type 0) (room : Room) (s : Plain) wher
   abbrev o : Objects
   o = objects s
 
+  abbrev edition : ℕ
+  edition = s .registers .edition
+
   goes-found : {A : Type 0} (r : Option A) (k : A → Stepped) (a : A) → r ≡ some a → Goes (k a) → Goes (r >>= k)
   goes-found r k a e g = subst (λ x. Goes (x >>= k)) (sym e) g
 
@@ -151,7 +175,7 @@ module _ (After : Objects → Objects → Type 0) (room : Room) (s : Plain) wher
   goes-provided false x t g = absurd t
 
   -- ---- activation
-  module _ (world : World After room o) where
+  module _ (world : World After edition room o) where
     -- what activation gives: an answer with the objects after it, or a method whose frame can be made
     abbrev pub Activates : ℕ → ℕ → Activation → Type 0
     Activates m receiver (answered w o′) = After o o′ × T (isValid (o′ .n) w)
@@ -177,25 +201,25 @@ module _ (After : Objects → Objects → Type 0) (room : Room) (s : Plain) wher
     field-answers m receiver (some w) e = (world .self, field-valid receiver (temporaryCount o m) w e)
 
     primitive-answers : (m receiver : ℕ) (arguments : List ℕ) → T (isValid (o .n) receiver) → Valid (o .n) arguments → argumentCount o m ≡ length arguments → T (runsCode o m)
-        → (x : Outcome) → primitive room o (primitiveNumber o m) (argumentCount o m) receiver arguments ≡ x → Activates m receiver (primitiveAnswered o m receiver x)
+        → (x : Outcome) → primitive edition room o (primitiveNumber o m) (argumentCount o m) receiver arguments ≡ x → Activates m receiver (primitiveAnswered o m receiver x)
     primitive-answers m receiver arguments v va c t (answers w o′) e = world .performs (primitiveNumber o m) (argumentCount o m) receiver arguments w o′ v va c e
     primitive-answers m receiver arguments v va c t fails e = enters m receiver t
 
     pub activates : (m receiver : ℕ) (arguments : List ℕ) → T (isValid (o .n) receiver) → Valid (o .n) arguments → argumentCount o m ≡ length arguments
-        → Activates m receiver (activate room o m receiver arguments)
+        → Activates m receiver (activate edition room o m receiver arguments)
     unfolding activate
     activates m receiver arguments v va c =
         if-cases (Activates m receiver) (eqb (flag o m) receiverFlag) _ _ (λ e. (world .self, v))
         (λ n5. if-cases (Activates m receiver) (eqb (flag o m) fieldFlag) _ _ (λ e. field-answers m receiver (fieldOf o receiver (temporaryCount o m)) refl)
         (λ n6.
-        let code = runs-code 0 o m (borrow.Author.Tests.eqb-false (flag o m) receiverFlag n5) (borrow.Author.Tests.eqb-false (flag o m) fieldFlag n6) in
+        let code = runs-code o m (borrow.Author.Tests.eqb-false (flag o m) receiverFlag n5) (borrow.Author.Tests.eqb-false (flag o m) fieldFlag n6) in
         if-cases (Activates m receiver) (eqb (flag o m) primitiveFlag) _ _
-        (λ e. primitive-answers m receiver arguments v va c code (primitive room o (primitiveNumber o m) (argumentCount o m) receiver arguments) refl)
+        (λ e. primitive-answers m receiver arguments v va c code (primitive edition room o (primitiveNumber o m) (argumentCount o m) receiver arguments) refl)
         (λ e. enters m receiver code)))
 
     -- the frame of a method that was found
     pub new-right : (m receiver : ℕ) (arguments : List ℕ) → T (isKind o methodKind m) → T (isValid (o .n) receiver) → Valid (o .n) arguments → argumentCount o m ≡ length arguments
-        → T (runsCode o m) → T (inChain o (home o m) (classOf o receiver)) → (sender : ℕ) → FrameRight o true (newFrame o sender m receiver arguments)
+        → T (runsCode o m) → T (inChain o (home o m) (classOf o receiver)) → (sender : ℕ) → FrameRight edition o true (newFrame o sender m receiver arguments)
     unfolding newFrame
     new-right m receiver arguments k v va c t h sender =
         record {
@@ -203,7 +227,7 @@ module _ (After : Objects → Objects → Type 0) (room : Room) (s : Plain) wher
           unmarked = refl;
           receiver = v;
           chain = h;
-          note = spot-start o m (world .runs m k t) ∙ sym (note-is true _);
+          note = spot-start edition o m (world .runs m k t) ∙ sym (note-is true _);
           temporaries = temps;
           depth = refl;
           validTemporaries = valid-append (o .n) arguments (replicate (temporaryCount o m - length arguments) nilWord) va
@@ -217,20 +241,20 @@ module _ (After : Objects → Objects → Type 0) (room : Room) (s : Plain) wher
             ∙ ap (λ (x : ℕ). length arguments + x) (length-replicate (temporaryCount o m - length arguments) nilWord)
             ∙ (let x = world .arguments m k in omega arith)
 
-  module _ (world : World After room o) (f : Frame) (rest : List Frame) (r : FrameRight o true f)
-      (fr : FramesRight o (room .stack) true (s .registers .top) (f ∷ rest)) (frames-are : s .frames ≡ f ∷ rest) where
+  module _ (world : World After edition room o) (f : Frame) (rest : List Frame) (r : FrameRight edition o true f)
+      (fr : FramesRight edition o (room .stack) true (s .registers .top) (f ∷ rest)) (frames-are : s .frames ≡ f ∷ rest) where
     -- the end of the top frame
     own-end : topEnd s ≡ s .registers .top + frameSize o (f .method)
     unfolding topEnd
     own-end = ap (λ (fs : List Frame). elim fs as (λ _. ℕ) [ [] ↦ 0 | g ∷ gs ↦ s .registers .top + frameSize o (g .method) ]) frames-are
 
     -- ---- the objects change, the frames stay
-    frames-keep : (o′ : Objects) → After o o′ → (b : Bool) (base : ℕ) (fs : List Frame) → FramesRight o (room .stack) b base fs → FramesRight o′ (room .stack) b base fs
+    frames-keep : (o′ : Objects) → After o o′ → (b : Bool) (base : ℕ) (fs : List Frame) → FramesRight edition o (room .stack) b base fs → FramesRight edition o′ (room .stack) b base fs
     frames-keep o′ a b base [] t = t
     frames-keep o′ a b base (g ∷ []) t =
         (world .keeps o′ a b g (t .0), subst (Fits (room .stack) base) (sym (world .sizes o′ a (g .method) (t .0 .isMethod))) (t .1), t .2, t .3)
     frames-keep o′ a b base (g ∷ h ∷ gs) t =
-        let u : FrameRight o false h = head-right h gs (t .3) in (
+        let u : FrameRight edition o false h = head-right h gs (t .3) in (
           world .keeps o′ a b g (t .0),
           subst (Fits (room .stack) base) (sym (world .sizes o′ a (g .method) (t .0 .isMethod))) (t .1),
           t .2
@@ -238,17 +262,18 @@ module _ (After : Objects → Objects → Type 0) (room : Room) (s : Plain) wher
           frames-keep o′ a false (g .sender) (h ∷ gs) (t .3),
         )
       where
-        head-right : (h : Frame) (gs : List Frame) → FramesRight o (room .stack) false (g .sender) (h ∷ gs) → FrameRight o false h
+        head-right : (h : Frame) (gs : List Frame) → FramesRight edition o (room .stack) false (g .sender) (h ∷ gs) → FrameRight edition o false h
         head-right h [] x = x .0
         head-right h (k ∷ gs) x = x .0
 
     -- a state that runs on with another top frame, of the same method and sender
-    run-on : (f′ : Frame) → f′ .sender ≡ f .sender → f′ .method ≡ f .method → FrameRight o true f′ → (l : Looked) → LookedRight o l → Goes (next (onTop s f′ rest) l)
+    run-on : (f′ : Frame) → f′ .sender ≡ f .sender → f′ .method ≡ f .method → FrameRight edition o true f′ → (l : Looked) → LookedRight o l → Goes (next (onTop s f′ rest) l)
     run-on f′ a b r′ l q = (
       record {
         after = world .self;
         receiver = refl;
         selector = refl;
+        edition = refl;
         shape = runs refl refl (new-top o (room .stack) true true (s .registers .top) f f′
             rest a b r′ fr);
         level = λ x y. unfold topEnd in (ap (λ (m : ℕ). s .registers .top + frameSize o m) b ∙ sym own-end);
@@ -257,13 +282,14 @@ module _ (After : Objects → Objects → Type 0) (room : Room) (s : Plain) wher
     )
 
     -- the same with other objects
-    run-on-with : (o′ : Objects) → After o o′ → (f′ : Frame) → f′ .sender ≡ f .sender → f′ .method ≡ f .method → FrameRight o′ true f′ → (l : Looked) → LookedRight o l
+    run-on-with : (o′ : Objects) → After o o′ → (f′ : Frame) → f′ .sender ≡ f .sender → f′ .method ≡ f .method → FrameRight edition o′ true f′ → (l : Looked) → LookedRight o l
         → Goes (next (withObjects (onTop s f′ rest) o′) l)
     run-on-with o′ x f′ a b r′ l q = (
       record {
         after = x;
         receiver = refl;
         selector = refl;
+        edition = refl;
         shape = runs refl refl (new-top o′ (room .stack) true true (s .registers .top) f f′ rest a b r′
             (frames-keep o′ x true (s .registers .top) (f ∷ rest) fr));
         level = λ y z. unfold topEnd in (ap (λ (m : ℕ). s .registers .top + frameSize o′ m) b
@@ -276,8 +302,8 @@ module _ (After : Objects → Objects → Type 0) (room : Room) (s : Plain) wher
     length-more : (ops : List ℕ) (w : ℕ) → length (ops ++ (w ∷ [])) ≡ suc (length ops)
     length-more ops w = length-append ops (w ∷ []) ∙ omega arith
 
-    pushed-right : (was : Bool) (f′ : Frame) → FrameRight o was f′ → (o′ : Objects) → After o o′ → (q : ℕ) (ops : List ℕ) (w : ℕ)
-        → noteAt (methodTable o (f′ .method)) q ≡ suc (suc (length ops)) → Valid (o .n) ops → T (isValid (o′ .n) w) → FrameRight o′ true (movedTo f′ q (ops ++ (w ∷ [])))
+    pushed-right : (was : Bool) (f′ : Frame) → FrameRight edition o was f′ → (o′ : Objects) → After o o′ → (q : ℕ) (ops : List ℕ) (w : ℕ)
+        → noteAt (methodTable edition o (f′ .method)) q ≡ suc (suc (length ops)) → Valid (o .n) ops → T (isValid (o′ .n) w) → FrameRight edition o′ true (movedTo f′ q (ops ++ (w ∷ [])))
     pushed-right was f′ r′ o′ x q ops w e v u =
         moved-right o′ was true f′ (world .keeps o′ x was f′ r′) q (ops ++ (w ∷ []))
         (ap (λ t. noteAt t q) (world .tables o′ x (f′ .method) (r′ .isMethod)) ∙ e ∙ ap suc (sym (length-more ops w)))
@@ -289,18 +315,18 @@ module _ (After : Objects → Objects → Type 0) (room : Room) (s : Plain) wher
             and-both (isValid (o′ .n) y) (every (isValid (o′ .n)) ws) (world .grows o′ x y (and-left (isValid (o .n) y) (every (isValid (o .n)) ws) t))
             (grown ws (and-right (isValid (o .n) y) (every (isValid (o .n)) ws) t))
 
-    pushes : (was : Bool) (f′ : Frame) → f′ .sender ≡ f .sender → f′ .method ≡ f .method → FrameRight o was f′ → (q : ℕ) (ops : List ℕ) (w : ℕ)
-        → noteAt (methodTable o (f′ .method)) q ≡ suc (suc (length ops)) → Valid (o .n) ops → T (isValid (o .n) w) → (l : Looked) → LookedRight o l → Goes (pushed s f′ rest q ops w l)
+    pushes : (was : Bool) (f′ : Frame) → f′ .sender ≡ f .sender → f′ .method ≡ f .method → FrameRight edition o was f′ → (q : ℕ) (ops : List ℕ) (w : ℕ)
+        → noteAt (methodTable edition o (f′ .method)) q ≡ suc (suc (length ops)) → Valid (o .n) ops → T (isValid (o .n) w) → (l : Looked) → LookedRight o l → Goes (pushed s f′ rest q ops w l)
     unfolding pushed
     pushes was f′ a b r′ q ops w e v u l k =
-        goes-provided (hasWord o f′ (length ops)) (next (onTop s (movedTo f′ q (ops ++ (w ∷ []))) rest) l) (has-word o (f′ .method) q (length ops) e)
+        goes-provided (hasWord o f′ (length ops)) (next (onTop s (movedTo f′ q (ops ++ (w ∷ []))) rest) l) (has-word edition o (f′ .method) q (length ops) e)
         (run-on (movedTo f′ q (ops ++ (w ∷ []))) a b (pushed-right was f′ r′ o (world .self) q ops w e v u) l k)
 
-    pushes-changed : (was : Bool) (f′ : Frame) → f′ .sender ≡ f .sender → f′ .method ≡ f .method → FrameRight o was f′ → (o′ : Objects) → After o o′ → (q : ℕ) (ops : List ℕ) (w : ℕ)
-        → noteAt (methodTable o (f′ .method)) q ≡ suc (suc (length ops)) → Valid (o .n) ops → T (isValid (o′ .n) w) → (l : Looked) → LookedRight o l → Goes (changed o′ (pushed s f′ rest q ops w l))
+    pushes-changed : (was : Bool) (f′ : Frame) → f′ .sender ≡ f .sender → f′ .method ≡ f .method → FrameRight edition o was f′ → (o′ : Objects) → After o o′ → (q : ℕ) (ops : List ℕ) (w : ℕ)
+        → noteAt (methodTable edition o (f′ .method)) q ≡ suc (suc (length ops)) → Valid (o .n) ops → T (isValid (o′ .n) w) → (l : Looked) → LookedRight o l → Goes (changed o′ (pushed s f′ rest q ops w l))
     unfolding pushed
     pushes-changed was f′ a b r′ o′ x q ops w e v u l k =
-        go (hasWord o f′ (length ops)) (has-word o (f′ .method) q (length ops) e)
+        go (hasWord o f′ (length ops)) (has-word edition o (f′ .method) q (length ops) e)
       where
         go : (t : Bool) → T t → Goes (changed o′ (provided t (next (onTop s (movedTo f′ q (ops ++ (w ∷ []))) rest) l)))
         go true y = run-on-with o′ x (movedTo f′ q (ops ++ (w ∷ []))) a b (pushed-right was f′ r′ o′ x q ops w e v u) l k
@@ -347,7 +373,7 @@ module _ (After : Objects → Objects → Type 0) (room : Room) (s : Plain) wher
         (y .0, ap (λ (z : Option ℕ). elim z as (λ _. Option ℕ) [ none ↦ none | some w ↦ fieldOf o w 1 ]) (x .1) ∙ y .1, y .2)
 
     -- a store by a frame f′ of the same method and sender
-    module _ (f′ : Frame) (a : f′ .sender ≡ f .sender) (b : f′ .method ≡ f .method) (r′ : FrameRight o true f′) where
+    module _ (f′ : Frame) (a : f′ .sender ≡ f .sender) (b : f′ .method ≡ f .method) (r′ : FrameRight edition o true f′) where
       field-stores : (v i w : ℕ) → T (isKind o fieldsKind v && ltb i (size o (objectNumber v))) → T (isValid (o .n) w) → Goes (storedField s f′ rest v i w)
       unfolding storedField
       field-stores v i w t u =
@@ -356,7 +382,7 @@ module _ (After : Objects → Objects → Type 0) (room : Room) (s : Plain) wher
           goes-found (fieldOf o v i) (λ old. next (withObjects (onTop s f′ rest) (storeWord o (objectNumber v) i w)) noLookup) (x .0) (x .1)
           (run-on-with (storeWord o (objectNumber v) i w) y f′ a b (world .keeps (storeWord o (objectNumber v) i w) y true f′ r′) noLookup tt)
 
-    stores-place : (q : ℕ) (ops : List ℕ) → FrameRight o true (movedTo f q ops) → (p : Place) (w : ℕ) → T (isWritable p && placeFine o (f .method) p) → T (isValid (o .n) w)
+    stores-place : (q : ℕ) (ops : List ℕ) → FrameRight edition o true (movedTo f q ops) → (p : Place) (w : ℕ) → T (isWritable p && placeFine o (f .method) p) → T (isValid (o .n) w)
         → Goes (stored s (movedTo f q ops) rest p w)
     unfolding stored placeFine
     stores-place q ops r′ (Field i) w t u = field-stores (movedTo f q ops) refl refl r′ (f .receiver) i w (own-field i t) u
@@ -376,13 +402,14 @@ module _ (After : Objects → Objects → Type 0) (room : Room) (s : Plain) wher
     -- ---- returns
     returns : (w : ℕ) → T (isValid (o .n) w) → (gs : List Frame) → gs ≡ rest → Goes (returned s f gs w)
     unfolding returned
-    returns w v [] e = (record { after = world .self; receiver = refl; selector = refl; shape = ends refl v refl refl; level = λ x y. absurd (omega arith) }, tt)
+    returns w v [] e = (record { after = world .self; receiver = refl; selector = refl; edition = refl; shape = ends refl v refl refl; level = λ x y. absurd (omega arith) }, tt)
     returns w v (g ∷ gs) e =
         goes-provided (hasWord o g (g .depth)) _ (lt→ltb (temporaryCount o (g .method) + g .depth) (frameWords o (g .method)) (let h = within o false g rg in omega arith)) (
           record {
             after = world .self;
             receiver = refl;
             selector = refl;
+            edition = refl;
             shape = runs refl refl (new-top o (room .stack) false true (f .sender) g g′ gs refl
                 refl rg′ below);
             level = λ x y. absurd (let z = parts .2 in omega arith);
@@ -390,24 +417,24 @@ module _ (After : Objects → Objects → Type 0) (room : Room) (s : Plain) wher
           tt,
         )
       where
-        parts : FrameRight o true f × Fits (room .stack) (s .registers .top) (frameSize o (f .method))
-            × (s .registers .top ≡ f .sender + frameSize o (g .method)) × FramesRight o (room .stack) false (f .sender) (g ∷ gs)
-        parts = subst (λ (x : List Frame). FramesRight o (room .stack) true (s .registers .top) (f ∷ x)) (sym e) fr
+        parts : FrameRight edition o true f × Fits (room .stack) (s .registers .top) (frameSize o (f .method))
+            × (s .registers .top ≡ f .sender + frameSize o (g .method)) × FramesRight edition o (room .stack) false (f .sender) (g ∷ gs)
+        parts = subst (λ (x : List Frame). FramesRight edition o (room .stack) true (s .registers .top) (f ∷ x)) (sym e) fr
 
-        below : FramesRight o (room .stack) false (f .sender) (g ∷ gs)
+        below : FramesRight edition o (room .stack) false (f .sender) (g ∷ gs)
         below = parts .3
 
-        head-right : (hs : List Frame) → FramesRight o (room .stack) false (f .sender) (g ∷ hs) → FrameRight o false g
+        head-right : (hs : List Frame) → FramesRight edition o (room .stack) false (f .sender) (g ∷ hs) → FrameRight edition o false g
         head-right [] x = x .0
         head-right (k ∷ hs) x = x .0
 
-        rg : FrameRight o false g
+        rg : FrameRight edition o false g
         rg = head-right gs below
 
         g′ : Frame
         g′ = movedTo g (g .position) (g .operands ++ (w ∷ []))
 
-        rg′ : FrameRight o true g′
+        rg′ : FrameRight edition o true g′
         rg′ =
             moved-right o false true g rg (g .position) (g .operands ++ (w ∷ []))
             (rg .note ∙ note-is false g ∙ ap (λ (k : ℕ). suc (suc k)) (sym (rg .depth)) ∙ ap suc (sym (length-more (g .operands) w)))
@@ -415,20 +442,20 @@ module _ (After : Objects → Objects → Type 0) (room : Room) (s : Plain) wher
 
     -- ---- sends
     -- a send by the frame f′, which is f at its next position without receiver and arguments
-    module _ (q n : ℕ) (needs : suc n ≤ f .depth) (noted : noteAt (methodTable o (f .method)) q ≡ suc (f .depth - suc n + 1)) where
+    module _ (q n : ℕ) (needs : suc n ≤ f .depth) (noted : noteAt (methodTable edition o (f .method)) q ≡ suc (f .depth - suc n + 1)) where
       abbrev f′ : Frame
       f′ = popped f q (suc n)
 
-      noted′ : noteAt (methodTable o (f .method)) q ≡ suc (suc (length (without f (suc n))))
+      noted′ : noteAt (methodTable edition o (f .method)) q ≡ suc (suc (length (without f (suc n))))
       noted′ = noted ∙ ap suc (let l = without-length o f r (suc n) needs in omega arith)
 
-      right′ : FrameRight o false f′
+      right′ : FrameRight edition o false f′
       right′ = moved-right o true false f r q (without f (suc n)) noted′ (without-valid o f r (suc n))
 
       abbrev arguments′ : List ℕ
       arguments′ = drop (f .depth - n) (f .operands)
 
-      framed-goes : (m receiver : ℕ) → FrameRight o true (newFrame o (s .registers .top) m receiver arguments′) → (l : Looked) → LookedRight o l
+      framed-goes : (m receiver : ℕ) → FrameRight edition o true (newFrame o (s .registers .top) m receiver arguments′) → (l : Looked) → LookedRight o l
           → Goes (framed room s f′ rest m receiver arguments′ l)
       unfolding framed newFrame
       framed-goes m receiver rn l k =
@@ -438,6 +465,7 @@ module _ (After : Objects → Objects → Type 0) (room : Room) (s : Plain) wher
               after = world .self;
               receiver = refl;
               selector = refl;
+              edition = refl;
               shape = runs refl refl (
                 rn,
                 fits (room .stack) (s .registers .top + frameSize o (f .method)) (frameSize o m) (true→T e),
@@ -465,7 +493,7 @@ module _ (After : Objects → Objects → Type 0) (room : Room) (s : Plain) wher
       found-goes selector class receiver t v Nothing e = tt
       found-goes selector class receiver t v (Method m) e =
           let c : argumentCount o (m .0) ≡ length arguments′ = world .lookupCount selector class (m .0) n e t ∙ sym (arguments-length o f r n (omega arith)) in
-          activated-goes selector class (m .0) receiver e c v (activate room o (m .0) receiver arguments′) (activates world (m .0) receiver arguments′ v (arguments-valid o f r n) c)
+          activated-goes selector class (m .0) receiver e c v (activate edition room o (m .0) receiver arguments′) (activates world (m .0) receiver arguments′ v (arguments-valid o f r n) c)
 
       send-goes : (from : ℕ → ℕ) (selector : ℕ) → T (takesCount o selector n) → Goes (sends room s f rest q from selector n)
       unfolding sends
@@ -479,11 +507,11 @@ module _ (After : Objects → Objects → Type 0) (room : Room) (s : Plain) wher
     send-count selector n t = and-right (Rattle.model.specs.Objects.isNilOr o Rattle.model.specs.Limits.bytesKind selector) (takesCount o selector n) t
 
     -- the answer of a special send that looks nothing up, over the k uppermost operands
-    answer-goes : (q k w : ℕ) → k ≤ f .depth → noteAt (methodTable o (f .method)) q ≡ suc (f .depth - k + 1) → T (isValid (o .n) w) → Goes (pushed s f rest q (without f k) w noLookup)
+    answer-goes : (q k w : ℕ) → k ≤ f .depth → noteAt (methodTable edition o (f .method)) q ≡ suc (f .depth - k + 1) → T (isValid (o .n) w) → Goes (pushed s f rest q (without f k) w noLookup)
     answer-goes q k w h e v =
         pushes true f refl refl r q (without f k) w (e ∙ ap suc (let l = without-length o f r k h in omega arith)) (without-valid o f r k) v noLookup tt
 
-    arithmetic-goes : (q k : ℕ) → 2 ≤ f .depth → noteAt (methodTable o (f .method)) q ≡ suc (f .depth - 2 + 1) → T (takesCount o (specialSelector o k) 1)
+    arithmetic-goes : (q k : ℕ) → 2 ≤ f .depth → noteAt (methodTable edition o (f .method)) q ≡ suc (f .depth - 2 + 1) → T (takesCount o (specialSelector o k) 1)
         → Goes (arithmeticSends room s f rest q k)
     unfolding arithmeticSends
     arithmetic-goes q k h e t =
@@ -501,13 +529,13 @@ module _ (After : Objects → Objects → Type 0) (room : Room) (s : Plain) wher
 
     -- ---- jumps, pops
     -- the frame moved on without the k uppermost operands
-    moves : (q k : ℕ) → k ≤ f .depth → noteAt (methodTable o (f .method)) q ≡ suc (f .depth - k) → Goes (next (onTop s (popped f q k) rest) noLookup)
+    moves : (q k : ℕ) → k ≤ f .depth → noteAt (methodTable edition o (f .method)) q ≡ suc (f .depth - k) → Goes (next (onTop s (popped f q k) rest) noLookup)
     moves q k h e =
         run-on (popped f q k) refl refl
         (moved-right o true true f r q (without f k) (e ∙ ap suc (sym (without-length o f r k h))) (without-valid o f r k)) noLookup tt
 
-    jump-goes : (q ahead : ℕ) (condition : Bool) → 1 ≤ f .depth → noteAt (methodTable o (f .method)) q ≡ suc (f .depth - 1)
-        → noteAt (methodTable o (f .method)) (q + ahead) ≡ suc (f .depth - 1) → Goes (jumps s f rest q condition ahead)
+    jump-goes : (q ahead : ℕ) (condition : Bool) → 1 ≤ f .depth → noteAt (methodTable edition o (f .method)) q ≡ suc (f .depth - 1)
+        → noteAt (methodTable edition o (f .method)) (q + ahead) ≡ suc (f .depth - 1) → Goes (jumps s f rest q condition ahead)
     unfolding jumps
     jump-goes q ahead condition h a b =
         let x = operand-finds o f r 0 h in
@@ -516,10 +544,10 @@ module _ (After : Objects → Objects → Type 0) (room : Room) (s : Plain) wher
         (λ e. if-cases Goes (eqb (x .0) Rattle.bytecode.specs.Constant.trueWord || eqb (x .0) Rattle.bytecode.specs.Constant.falseWord) _ _ (λ y. moves q 1 h a) (λ y. tt)))
 
     -- the frame moved on with all its operands
-    stays : (q : ℕ) → noteAt (methodTable o (f .method)) q ≡ suc (f .depth) → FrameRight o true (movedTo f q (f .operands))
+    stays : (q : ℕ) → noteAt (methodTable edition o (f .method)) q ≡ suc (f .depth) → FrameRight edition o true (movedTo f q (f .operands))
     stays q e = moved-right o true true f r q (f .operands) (e ∙ ap suc (sym (r .depth))) (r .validOperands)
 
-    special-goes : (q k : ℕ) → suc (specialCount k) ≤ f .depth → noteAt (methodTable o (f .method)) q ≡ suc (f .depth - suc (specialCount k) + 1)
+    special-goes : (q k : ℕ) → suc (specialCount k) ≤ f .depth → noteAt (methodTable edition o (f .method)) q ≡ suc (f .depth - suc (specialCount k) + 1)
         → T (isSame k || (isClass k || sendFine o (specialSelector o k) (specialCount k))) → Goes (specialSends room s f rest q k)
     unfolding specialSends
     special-goes q k h e t =
@@ -557,14 +585,14 @@ module _ (After : Objects → Objects → Type 0) (room : Room) (s : Plain) wher
             neither (isSame k) (isClass k) (sendFine o (specialSelector o k) (specialCount k))
             (borrow.Author.Tests.ne-eqb k 22 (λ p. omega arith)) (borrow.Author.Tests.ne-eqb k 23 (λ p. omega arith)) u
 
-    pushed-note : (q : ℕ) → noteAt (methodTable o (f .method)) q ≡ suc (f .depth - 0 + 1) → noteAt (methodTable o (f .method)) q ≡ suc (suc (length (f .operands)))
+    pushed-note : (q : ℕ) → noteAt (methodTable edition o (f .method)) q ≡ suc (f .depth - 0 + 1) → noteAt (methodTable edition o (f .method)) q ≡ suc (suc (length (f .operands)))
     pushed-note q e = e ∙ ap suc (let l = r .depth in omega arith)
 
-    sent-note : (q n : ℕ) → noteAt (methodTable o (f .method)) q ≡ suc (f .depth - (1 + n) + 1) → noteAt (methodTable o (f .method)) q ≡ suc (f .depth - suc n + 1)
+    sent-note : (q n : ℕ) → noteAt (methodTable edition o (f .method)) q ≡ suc (f .depth - (1 + n) + 1) → noteAt (methodTable edition o (f .method)) q ≡ suc (f .depth - suc n + 1)
     sent-note q n e = e ∙ ap suc (omega arith)
 
     -- ---- every instruction
-    pub executes : (q : ℕ) (i : Instruction) → Now o f q i → Goes (execute room s f rest q i)
+    pub executes : (q : ℕ) (i : Instruction) → Now edition o f q i → Goes (execute room s f rest q i)
     unfolding execute need leaves successors allowed usable
     executes q (Push p) now =
         let x = place-finds p (now .allowed) in

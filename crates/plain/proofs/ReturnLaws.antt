@@ -44,16 +44,16 @@ module _ {n b top : ℕ} {contents bodies stack : List ℕ} (r : Runs n b top co
   f = topFrame n b top contents bodies stack
 
   -- From the bottom frame: finished with the value
-  pub bottom-returns : (receiver selector w : ℕ) (cache : List ℕ) → top ≡ 0
-      → Made (returned (runningAt receiver selector n b top contents bodies stack) f (restFrames n b top contents bodies stack) w)
-      (finishedWith receiver selector n b w) contents bodies stack cache contents bodies stack cache
+  pub bottom-returns : (e receiver selector w : ℕ) (cache : List ℕ) → top ≡ 0
+      → Made (returned (runningAt e receiver selector n b top contents bodies stack) f (restFrames n b top contents bodies stack) w)
+      (finishedWith e receiver selector n b w) contents bodies stack cache contents bodies stack cache
   unfolding returned laid filled
-  bottom-returns receiver selector w cache e =
+  bottom-returns e receiver selector w cache z =
       record {
-        state = withFrames (runningAt receiver selector n b top contents bodies stack) [] finished 0 w;
+        state = withFrames (runningAt e receiver selector n b top contents bodies stack) [] finished 0 w;
         lookup = noLookup;
         steps = ap
-            (λ (t : ℕ). returned (runningAt receiver selector n b top contents bodies stack) f (unlessBottom t (framesFrom top o stack s)) w) e;
+            (λ (t : ℕ). returned (runningAt e receiver selector n b top contents bodies stack) f (unlessBottom t (framesFrom top o stack s)) w) z;
         registers = refl;
         entries = sym (front-same (entryWords * n) contents (contents-room n b contents bodies (r .right)));
         words = sym
@@ -71,7 +71,7 @@ module _ {n b top : ℕ} {contents bodies stack : List ℕ} (r : Runs n b top co
       stood : framesFrom top o stack s ≡ g ∷ gs
       base : top ≡ s + frameSize o (g .method)
       fits : Fits (length stack) s (frameSize o (g .method))
-      rights : FramesRight o (length stack) false s (g ∷ gs)
+      rights : FramesRight (r .edition) o (length stack) false s (g ∷ gs)
 
     not-bottom : (t : ℕ) (fs : List Frame) → 0 < t → unlessBottom t fs ≡ fs
     not-bottom zero fs h = absurd (omega arith)
@@ -84,14 +84,14 @@ module _ {n b top : ℕ} {contents bodies stack : List ℕ} (r : Runs n b top co
     below : Below
     below = go (restFrames n b top contents bodies stack) refl (all-right r)
       where
-        fits-of : (g : Frame) (gs : List Frame) → FramesRight o (length stack) false s (g ∷ gs) → Fits (length stack) s (frameSize o (g .method))
+        fits-of : (g : Frame) (gs : List Frame) → FramesRight (r .edition) o (length stack) false s (g ∷ gs) → Fits (length stack) s (frameSize o (g .method))
         fits-of g [] x = x .1
         fits-of g (h ∷ gs) x = x .1
 
-        go : (fs : List Frame) → restFrames n b top contents bodies stack ≡ fs → FramesRight o (length stack) true top (f ∷ fs) → Below
+        go : (fs : List Frame) → restFrames n b top contents bodies stack ≡ fs → FramesRight (r .edition) o (length stack) true top (f ∷ fs) → Below
         go [] e x = absurd (let z = x .2 in omega arith)
         go (g ∷ gs) e x =
-            let y : FramesRight o (length stack) false s (g ∷ gs) = subst (λ (k : ℕ). FramesRight o (length stack) false k (g ∷ gs)) sender-is (x .3) in
+            let y : FramesRight (r .edition) o (length stack) false s (g ∷ gs) = subst (λ (k : ℕ). FramesRight (r .edition) o (length stack) false k (g ∷ gs)) sender-is (x .3) in
             record {
               g = g;
               gs = gs;
@@ -104,10 +104,10 @@ module _ {n b top : ℕ} {contents bodies stack : List ℕ} (r : Runs n b top co
             }
 
     g-here : frameAt o stack s ≡ below .g
-    g-here = frame-here-at false o stack s top (below .g) (below .gs) (below .rights) (below .stood)
+    g-here = frame-here-at (r .edition) false o stack s top (below .g) (below .gs) (below .rights) (below .stood)
 
-    g-right : FrameRight o false (below .g)
-    g-right = frame-right-at false o stack s top (below .g) (below .gs) (below .rights) (below .stood)
+    g-right : FrameRight (r .edition) o false (below .g)
+    g-right = frame-right-at (r .edition) false o stack s top (below .g) (below .gs) (below .rights) (below .stood)
 
     method-g : frameMethod stack s ≡ below .g .method
     method-g = unfold frameAt in ap (λ (x : Frame). x .method) g-here
@@ -149,7 +149,7 @@ module _ {n b top : ℕ} {contents bodies stack : List ℕ} (r : Runs n b top co
     laid-is w =
         let x = limits in
         ap (λ (l : List ℕ). laid stack s (movedTo (below .g) (below .g .position) (l ++ (w ∷ [])) ∷ below .gs)) (sym (all-taken (below .g .depth) (below .g .operands) (g-right .depth)))
-        ∙ pushed-at false o stack s top (below .g) (below .gs) (below .rights) (below .stood) (below .g .position) (below .g .depth) w (omega arith) (let y = x .3 in omega arith)
+        ∙ pushed-at (r .edition) false o stack s top (below .g) (below .gs) (below .rights) (below .stood) (below .g .position) (below .g .depth) w (omega arith) (let y = x .3 in omega arith)
         ∙ ap (λ (m : ℕ). three m (below .g .depth) (below .g .position) w) (sym method-g)
         ∙ ap (λ (d : ℕ). three (frameMethod stack s) d (below .g .position) w) (sym depth-g)
         ∙ ap (λ (p : ℕ). three (frameMethod stack s) (frameDepth stack s) p w) (sym position-g)
@@ -162,12 +162,12 @@ module _ {n b top : ℕ} {contents bodies stack : List ℕ} (r : Runs n b top co
     provided-yes : (t : Bool) (x : Stepped) → t ≡ true → provided t x ≡ x
     provided-yes t x e = ap (λ (c : Bool). provided c x) e
 
-    pub sender-returns : (receiver selector w : ℕ) (cache : List ℕ)
-        → Made (returned (runningAt receiver selector n b top contents bodies stack) f (restFrames n b top contents bodies stack) w)
-        (runningWith receiver selector n b s) contents bodies stack cache contents bodies (after w) cache
+    pub sender-returns : (e receiver selector w : ℕ) (cache : List ℕ)
+        → Made (returned (runningAt e receiver selector n b top contents bodies stack) f (restFrames n b top contents bodies stack) w)
+        (runningWith e receiver selector n b s) contents bodies stack cache contents bodies (after w) cache
     unfolding returned filled frameAt
-    sender-returns receiver selector w cache =
-        let p = runningAt receiver selector n b top contents bodies stack in
+    sender-returns e receiver selector w cache =
+        let p = runningAt e receiver selector n b top contents bodies stack in
         record {
           state = withFrames p (movedTo (below .g) (below .g .position) (below .g .operands ++ (w ∷ [])) ∷ below .gs)
               Rattle.plain.specs.Registers.running s 0;

@@ -37,11 +37,11 @@ abbrev pub Stood : Plain → List ℕ → Type 0
 Stood p stack = hasFrames (p .registers .phase) ≡ true → framesFrom (suc (p .registers .top)) (objects p) stack (p .registers .top) ≡ p .frames
 
 -- the end of the uppermost frame is inside the stack
-top-inside : (room : Room) (p : Plain) → FramesRight (objects p) (room .stack) true (p .registers .top) (p .frames) → topEnd p ≤ room .stack
+top-inside : (room : Room) (p : Plain) → FramesRight (p .registers .edition) (objects p) (room .stack) true (p .registers .top) (p .frames) → topEnd p ≤ room .stack
 unfolding topEnd
 top-inside room p r = go (p .frames) r
   where
-    go : (fs : List Frame) → FramesRight (objects p) (room .stack) true (p .registers .top) fs
+    go : (fs : List Frame) → FramesRight (p .registers .edition) (objects p) (room .stack) true (p .registers .top) fs
         → elim fs as (λ _. ℕ) [ [] ↦ 0 | f ∷ rest ↦ p .registers .top + frameSize (objects p) (f .method) ] ≤ room .stack
     go [] x = absurd x
     go (f ∷ []) x = x .1 .inside
@@ -59,36 +59,36 @@ top-end room p (waits a b c f) = top-inside room p f
 
 -- What is needed of all objects that a run meets
 abbrev pub Worlds : Room → Type 0
-Worlds room = (o : Objects) → Right 1 o → entryWords * o .n ≤ room .contents → o .b ≤ room .bodies → World (After room) room o
+Worlds room = (e : ℕ) (o : Objects) → Right e o → entryWords * o .n ≤ room .contents → o .b ≤ room .bodies → World (After e room) e room o
 
 module _ (room : Room) (worlds : Worlds room) where
-  world : (p : Plain) → PlainRight room p → World (After room) room (objects p)
-  world p r = worlds (objects p) (r .image) (r .contents) (r .bodies)
+  world : (p : Plain) → PlainRight room p → World (After (p .registers .edition) room) (p .registers .edition) room (objects p)
+  world p r = worlds (p .registers .edition) (objects p) (r .image) (r .contents) (r .bodies)
 
   -- one step
-  frame-step : (p : Plain) → PlainRight room p → FramesRight (objects p) (room .stack) true (p .registers .top) (p .frames)
-      → Goes (After room) room p (step room p)
+  frame-step : (p : Plain) → PlainRight room p → FramesRight (p .registers .edition) (objects p) (room .stack) true (p .registers .top) (p .frames)
+      → Goes (After (p .registers .edition) room) room p (step room p)
   unfolding step
   frame-step p r f = go (p .frames) refl f
     where
-      head-right : (f : Frame) (rest : List Frame) → FramesRight (objects p) (room .stack) true (p .registers .top) (f ∷ rest) → FrameRight (objects p) true f
+      head-right : (f : Frame) (rest : List Frame) → FramesRight (p .registers .edition) (objects p) (room .stack) true (p .registers .top) (f ∷ rest) → FrameRight (p .registers .edition) (objects p) true f
       head-right f [] x = x .0
       head-right f (g ∷ rest) x = x .0
 
-      go : (fs : List Frame) → p .frames ≡ fs → FramesRight (objects p) (room .stack) true (p .registers .top) fs
-          → Goes (After room) room p (elim fs as (λ _. Stepped) [ [] ↦ missing | f ∷ rest ↦ stepFrame room p f rest ])
+      go : (fs : List Frame) → p .frames ≡ fs → FramesRight (p .registers .edition) (objects p) (room .stack) true (p .registers .top) fs
+          → Goes (After (p .registers .edition) room) room p (elim fs as (λ _. Stepped) [ [] ↦ missing | f ∷ rest ↦ stepFrame room p f rest ])
       go [] e x = absurd x
       go (f ∷ rest) e x =
           unfold stepFrame in
-          executes (After room) room p (world p r) f rest (head-right f rest x) x e
+          executes (After (p .registers .edition) room) room p (world p r) f rest (head-right f rest x) x e
           (nextAt (codeWords (objects p) (f .method)) (f .position))
           (decodeAt (codeWords (objects p) (f .method)) (codeSize (objects p) (f .method)) (f .position))
           (now (objects p) f (head-right f rest x))
 
-  pub step-goes : (p : Plain) → PlainRight room p → p .registers .phase ≡ running → Goes (After room) room p (step room p)
+  pub step-goes : (p : Plain) → PlainRight room p → p .registers .phase ≡ running → Goes (After (p .registers .edition) room) room p (step room p)
   step-goes p r e = by-stands (r .stands)
     where
-      by-stands : Stands (room .stack) p → Goes (After room) room p (step room p)
+      by-stands : Stands (room .stack) p → Goes (After (p .registers .edition) room) room p (step room p)
       by-stands (goes (runs a b f)) = frame-step p r f
       by-stands (goes (ends a b c f)) = absurd (omega arith)
       by-stands (rests a b c f) = absurd (omega arith)
@@ -186,7 +186,7 @@ module _ (room : Room) (worlds : Worlds room) where
 
   -- after a step the frames stand in the stack in which they were laid
   pub shape-stood : (p : Plain) (stack : List ℕ) → length stack ≡ room .stack → Shape (room .stack) p → Stood p (laid stack (p .registers .top) (p .frames))
-  shape-stood p stack h (runs a b f) q = laid-back (objects p) (room .stack) stack h (p .frames) (p .registers .top) f
+  shape-stood p stack h (runs a b f) q = laid-back (p .registers .edition) (objects p) (room .stack) stack h (p .frames) (p .registers .top) f
   shape-stood p stack h (ends a b c f) q = absurd (subst (λ (k : ℕ). T (Rattle.plain.specs.Registers.hasFrames k)) a (subst T (sym q) tt))
 
   pub runs-right : (n : ℕ) (p : Plain) (stack cache : List ℕ) → PlainRight room p → length stack ≡ room .stack → length cache ≡ cacheWords → Stood p stack → T (cacheFine (objects p) cache)
@@ -201,7 +201,7 @@ module _ (room : Room) (worlds : Worlds room) where
           (p₁ : Plain) (stack₁ cache₁ : List ℕ) → PlainRight room p₁ → length stack₁ ≡ room .stack → length cache₁ ≡ cacheWords → Stood p₁ stack₁ → T (cacheFine (objects p₁) cache₁)
           → RunGoes n p₁ stack₁ cache₁ (steps room n p₁)
 
-      after-step : (x : Stepped) → step room p ≡ x → Goes (After room) room p x → p .registers .phase ≡ running → Again → RunGoes (suc n) p stack cache (onward (λ s′. steps room n s′) p x)
+      after-step : (x : Stepped) → step room p ≡ x → Goes (After (p .registers .edition) room) room p x → p .registers .phase ≡ running → Again → RunGoes (suc n) p stack cache (onward (λ s′. steps room n s′) p x)
       after-step (next p₁ l) x g e again =
           let r₁ = kept-right room p p₁ r (g .0) in
           let ls₁ = length-laid stack (p₁ .registers .top) (p₁ .frames) in

@@ -48,14 +48,14 @@ module _ {n b top : ℕ} {contents bodies stack : List ℕ} (r : Runs n b top co
   unfolding framesFrom
   stood = refl
 
-  pub all-right : FramesRight o (length stack) true top (f ∷ rest)
-  all-right = subst (FramesRight o (length stack) true top) stood (frames-right o (length stack) true top (framesFrom (suc top) o stack top) (r .frames))
+  pub all-right : FramesRight (r .edition) o (length stack) true top (f ∷ rest)
+  all-right = subst (FramesRight (r .edition) o (length stack) true top) stood (frames-right (r .edition) o (length stack) true top (framesFrom (suc top) o stack top) (r .frames))
 
-  first-right : (fs : List Frame) → FramesRight o (length stack) true top (f ∷ fs) → FrameRight o true f × Fits (length stack) top (frameSize o (f .method))
+  first-right : (fs : List Frame) → FramesRight (r .edition) o (length stack) true top (f ∷ fs) → FrameRight (r .edition) o true f × Fits (length stack) top (frameSize o (f .method))
   first-right [] x = (x .0, x .1)
   first-right (g ∷ fs) x = (x .0, x .1)
 
-  pub top-right : FrameRight o true f
+  pub top-right : FrameRight (r .edition) o true f
   top-right = first-right rest all-right .0
 
   -- the top frame's fields are words of the stack
@@ -85,17 +85,17 @@ module _ {n b top position : ℕ} {contents bodies stack : List ℕ} {i : Instru
   abbrev fₐ : Frame
   fₐ = topFrame n b top contents bodies stack
 
-  pub step-is : (receiver selector : ℕ) (room : Room)
-      → step room (runningAt receiver selector n b top contents bodies stack) ≡ execute room (runningAt receiver selector n b top contents bodies stack) fₐ
+  pub step-is : (e receiver selector : ℕ) (room : Room)
+      → step room (runningAt e receiver selector n b top contents bodies stack) ≡ execute room (runningAt e receiver selector n b top contents bodies stack) fₐ
       (restFrames n b top contents bodies stack) position i
   unfolding step stepFrame framesFrom frameAt
-  step-is receiver selector room =
-      λ j. execute room (runningAt receiver selector n b top contents bodies stack) fₐ (restFrames n b top contents bodies stack) (sym (a .behind) j) (sym (a .decoded) j)
+  step-is e receiver selector room =
+      λ j. execute room (runningAt e receiver selector n b top contents bodies stack) fₐ (restFrames n b top contents bodies stack) (sym (a .behind) j) (sym (a .decoded) j)
 
   -- and what holds of it
-  pub now-is : Now oₐ fₐ position i
+  pub now-is : Now (a .runs .edition) oₐ fₐ position i
   unfolding frameAt
   now-is =
       let x = now oₐ fₐ (top-right (a .runs)) in
-      subst (λ (j : Instruction). Now oₐ fₐ position j) (sym (a .decoded))
-      (subst (λ (q : ℕ). Now oₐ fₐ q (decodeAt (codeWords oₐ (frameMethod stack top)) (codeSize oₐ (frameMethod stack top)) (framePosition stack top))) (sym (a .behind)) x)
+      subst (λ (j : Instruction). Now (a .runs .edition) oₐ fₐ position j) (sym (a .decoded))
+      (subst (λ (q : ℕ). Now (a .runs .edition) oₐ fₐ q (decodeAt (codeWords oₐ (frameMethod stack top)) (codeSize oₐ (frameMethod stack top)) (framePosition stack top))) (sym (a .behind)) x)

@@ -10,7 +10,7 @@ use lib.ListN.{length}
 use Rattle.bytecode.specs.Test.{if_then_else_, allOf}
 use Rattle.bytecode.proofs.Choice.{if-yes, if-no}
 use Rattle.bytecode.proofs.TestLaws.{and-left, and-right, and-both, rule, rules, T→true, true→T}
-use Rattle.model.specs.Limits.{entryWords}
+use Rattle.model.specs.Limits.{isEdition, entryWords}
 use Rattle.model.specs.Word.{isValid}
 use Rattle.model.specs.Objects.{Objects}
 use Rattle.model.specs.Rules.{sizesFine, rule4, rule5, rule6, rule7, rule8}
@@ -26,7 +26,7 @@ use Rattle.plain.proofs.Preserve.{Shape, runs, ends}
 pub data Stands (stack : ℕ) (s : Plain) : Type 0 where
   goes : Shape stack s → Stands stack s
   rests : s .registers .phase ≡ idle → s .registers .value ≡ 0 → s .registers .top ≡ 0 → s .frames ≡ [] → Stands stack s
-  waits : 3 ≤ s .registers .phase → s .registers .phase ≤ lastPhase → s .registers .value ≡ 0 → FramesRight (objects s) stack true (s .registers .top) (s .frames) → Stands stack s
+  waits : 3 ≤ s .registers .phase → s .registers .phase ≤ lastPhase → s .registers .value ≡ 0 → FramesRight (s .registers .edition) (objects s) stack true (s .registers .top) (s .frames) → Stands stack s
 
 -- A right state whose objects fit the buffers
 pub record PlainRight (room : Room) (s : Plain) : Type 0 where
@@ -52,12 +52,12 @@ pub image-right : (e : ℕ) (o : Objects) (receiver selector : ℕ) → length (
 unfolding imageRules
 image-right e o receiver selector c b t =
     let r = rule (imageRules e o receiver selector) t in
-    (record { contents = c; bodies = b; sizes = r 0; rule-4 = r 1; rule-5 = r 2; rule-6 = r 3; rule-7 = r 4 }, r 5)
+    (record { edition = and-left (isEdition e) (sizesFine e (o .n) (o .b)) (r 0); contents = c; bodies = b; sizes = and-right (isEdition e) (sizesFine e (o .n) (o .b)) (r 0); rule-4 = r 1; rule-5 = r 2; rule-6 = r 3; rule-7 = r 4 }, r 5)
 
 pub right-image : (e : ℕ) (o : Objects) (receiver selector : ℕ) → Right e o → T (rule8 o receiver selector []) → T (allOf (imageRules e o receiver selector))
 unfolding imageRules
 right-image e o receiver selector r s =
-    rules (imageRules e o receiver selector) (r .sizes, (r .rule-4, (r .rule-5, (r .rule-6, (r .rule-7, (s, tt))))))
+    rules (imageRules e o receiver selector) (and-both (isEdition e) (sizesFine e (o .n) (o .b)) (r .edition) (r .sizes), (r .rule-4, (r .rule-5, (r .rule-6, (r .rule-7, (s, tt))))))
 
 module _ (stack : ℕ) (s : Plain) where
   abbrev phase : ℕ
@@ -68,7 +68,7 @@ module _ (stack : ℕ) (s : Plain) where
 
   abbrev framesFineAt : ℕ → Bool
   framesFineAt p =
-      if hasFrames p then framesFine (objects s) stack true (s .registers .top) (s .frames) else eqb (s .registers .top) 0 && isEmpty (s .frames)
+      if hasFrames p then framesFine (s .registers .edition) (objects s) stack true (s .registers .top) (s .frames) else eqb (s .registers .top) 0 && isEmpty (s .frames)
 
   none-of : T (eqb (s .registers .top) 0 && isEmpty (s .frames)) → (s .registers .top ≡ 0) × (s .frames ≡ [])
   none-of t =
@@ -81,11 +81,11 @@ module _ (stack : ℕ) (s : Plain) where
   stands-by : (p : ℕ) → phase ≡ p → T (leb p lastPhase) → T (valueFine p) → T (framesFineAt p) → Stands stack s
   unfolding if_then_else_
   stands-by zero e a v f = rests e (eqb→eq (s .registers .value) 0 v) (none-of f .0) (none-of f .1)
-  stands-by (suc zero) e a v f = goes (runs e (eqb→eq (s .registers .value) 0 v) (frames-right (objects s) stack true (s .registers .top) (s .frames) f))
+  stands-by (suc zero) e a v f = goes (runs e (eqb→eq (s .registers .value) 0 v) (frames-right (s .registers .edition) (objects s) stack true (s .registers .top) (s .frames) f))
   stands-by (suc (suc zero)) e a v f = goes (ends e v (none-of f .0) (none-of f .1))
-  stands-by (suc (suc (suc zero))) e a v f = waits (omega arith) (omega arith) (eqb→eq (s .registers .value) 0 v) (frames-right (objects s) stack true (s .registers .top) (s .frames) f)
-  stands-by (suc (suc (suc (suc zero)))) e a v f = waits (omega arith) (omega arith) (eqb→eq (s .registers .value) 0 v) (frames-right (objects s) stack true (s .registers .top) (s .frames) f)
-  stands-by (suc (suc (suc (suc (suc zero))))) e a v f = waits (omega arith) (omega arith) (eqb→eq (s .registers .value) 0 v) (frames-right (objects s) stack true (s .registers .top) (s .frames) f)
+  stands-by (suc (suc (suc zero))) e a v f = waits (omega arith) (omega arith) (eqb→eq (s .registers .value) 0 v) (frames-right (s .registers .edition) (objects s) stack true (s .registers .top) (s .frames) f)
+  stands-by (suc (suc (suc (suc zero)))) e a v f = waits (omega arith) (omega arith) (eqb→eq (s .registers .value) 0 v) (frames-right (s .registers .edition) (objects s) stack true (s .registers .top) (s .frames) f)
+  stands-by (suc (suc (suc (suc (suc zero))))) e a v f = waits (omega arith) (omega arith) (eqb→eq (s .registers .value) 0 v) (frames-right (s .registers .edition) (objects s) stack true (s .registers .top) (s .frames) f)
   stands-by (suc (suc (suc (suc (suc (suc p)))))) e a v f = absurd (let h = leb→le (suc (suc (suc (suc (suc (suc p)))))) lastPhase a in omega arith)
 
   record Fine (p : ℕ) : Type 0 where
@@ -100,7 +100,7 @@ module _ (stack : ℕ) (s : Plain) where
   fine-by zero e (rests a v t f) = record { most = tt; value = eq→eqb (s .registers .value) 0 v; frames = of-none t f }
   fine-by zero e (waits a b v f) = absurd (omega arith)
   fine-by (suc zero) e (goes (runs a v f)) =
-      record { most = tt; value = eq→eqb (s .registers .value) 0 v; frames = right-frames (objects s) stack true (s .registers .top) (s .frames) f }
+      record { most = tt; value = eq→eqb (s .registers .value) 0 v; frames = right-frames (s .registers .edition) (objects s) stack true (s .registers .top) (s .frames) f }
   fine-by (suc zero) e (goes (ends a v t f)) = absurd (omega arith)
   fine-by (suc zero) e (rests a v t f) = absurd (omega arith)
   fine-by (suc zero) e (waits a b v f) = absurd (omega arith)
@@ -116,14 +116,14 @@ module _ (stack : ℕ) (s : Plain) where
         most = le→leb (suc (suc (suc p))) lastPhase (omega arith);
         value = not-two (eq→eqb (s .registers .value) 0 v);
         frames = framed p
-            (right-frames (objects s) stack true (s .registers .top) (s .frames) f);
+            (right-frames (s .registers .edition) (objects s) stack true (s .registers .top) (s .frames) f);
       }
     where
       not-two : T (eqb (s .registers .value) 0) → T (valueFine (suc (suc (suc p))))
       not-two t = subst T (sym (if-no (isValid (s .registers .n) (s .registers .value)) (eqb (s .registers .value) 0) (ne-eqb (suc (suc (suc p))) 2 (λ q. omega arith)))) t
 
-      framed : (p : ℕ) → T (framesFine (objects s) stack true (s .registers .top) (s .frames)) → T (framesFineAt (suc (suc (suc p))))
-      framed p t = subst T (sym (if-yes (framesFine (objects s) stack true (s .registers .top) (s .frames)) (eqb (s .registers .top) 0 && isEmpty (s .frames)) (live p))) t
+      framed : (p : ℕ) → T (framesFine (s .registers .edition) (objects s) stack true (s .registers .top) (s .frames)) → T (framesFineAt (suc (suc (suc p))))
+      framed p t = subst T (sym (if-yes (framesFine (s .registers .edition) (objects s) stack true (s .registers .top) (s .frames)) (eqb (s .registers .top) 0 && isEmpty (s .frames)) (live p))) t
         where
           live : (p : ℕ) → hasFrames (suc (suc (suc p))) ≡ true
           live p = ap (λ (x : Bool). not (x || eqb (suc (suc (suc p))) finished)) (ne-eqb (suc (suc (suc p))) idle (λ q. omega arith)) ∙ ap not (ne-eqb (suc (suc (suc p))) finished (λ q. omega arith))

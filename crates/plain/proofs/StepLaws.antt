@@ -73,22 +73,30 @@ valid-one n w v = and-both (isValid n w) true v tt
 
 -- ---- one frame
 
-module _ (o : Objects) where
-  -- the note of a frame that was moved
-  pub moved-note : (isTop : Bool) (f : Frame) (q : ℕ) (ops : List ℕ)
-      → noteAt (methodTable o (f .method)) q ≡ suc (tableDepth isTop (length ops)) → noteAt (methodTable o (f .method)) q ≡ Rattle.plain.specs.Check.noteOf isTop (movedTo f q ops)
-  moved-note isTop f q ops e = e ∙ sym (note-is isTop (movedTo f q ops))
+-- the note of a frame that was moved
+moved-note : (e : ℕ) (o : Objects) (isTop : Bool) (f : Frame) (q : ℕ) (ops : List ℕ)
+    → noteAt (methodTable e o (f .method)) q ≡ suc (tableDepth isTop (length ops)) → noteAt (methodTable e o (f .method)) q ≡ Rattle.plain.specs.Check.noteOf isTop (movedTo f q ops)
+moved-note e o isTop f q ops h = h ∙ sym (note-is isTop (movedTo f q ops))
 
+-- a noted position has room for the operands of its depth
+pub has-word : (e : ℕ) (o : Objects) (m p d : ℕ) → noteAt (methodTable e o m) p ≡ suc (suc d) → T (ltb (temporaryCount o m + d) (frameWords o m))
+unfolding rulesAt
+has-word e o m p d n =
+    let k = rule (rulesAt (codeWords o m) (codeSize o m) (temporaryCount o m) (frameWords o m) (allowed e o m) p (suc d)) (spot e o m p (suc d) n .kept) 3 in
+    let h = lib.Dec.leb→le (temporaryCount o m + suc d) (frameWords o m) k in
+    lt→ltb (temporaryCount o m + d) (frameWords o m) (omega arith)
+
+module _ {e : ℕ} (o : Objects) where
   -- a right frame at another noted position, with other operands
-  pub moved-right : (was isTop : Bool) (f : Frame) → FrameRight o was f → (q : ℕ) (ops : List ℕ)
-      → noteAt (methodTable o (f .method)) q ≡ suc (tableDepth isTop (length ops)) → Valid (o .n) ops → FrameRight o isTop (movedTo f q ops)
-  moved-right was isTop f r q ops e v =
+  pub moved-right : (was isTop : Bool) (f : Frame) → FrameRight e o was f → (q : ℕ) (ops : List ℕ)
+      → noteAt (methodTable e o (f .method)) q ≡ suc (tableDepth isTop (length ops)) → Valid (o .n) ops → FrameRight e o isTop (movedTo f q ops)
+  moved-right was isTop f r q ops h v =
       record {
         isMethod = r .isMethod;
         unmarked = r .unmarked;
         receiver = r .receiver;
         chain = r .chain;
-        note = moved-note isTop f q ops e;
+        note = moved-note e o isTop f q ops h;
         temporaries =
             r .temporaries;
         depth = refl;
@@ -97,7 +105,7 @@ module _ (o : Objects) where
       }
 
   -- and with another temporary
-  pub stored-temporary : (f : Frame) → FrameRight o true f → (i w : ℕ) → T (isValid (o .n) w) → FrameRight o true (withTemporaries f (set (f .temporaries) i w))
+  pub stored-temporary : (f : Frame) → FrameRight e o true f → (i w : ℕ) → T (isValid (o .n) w) → FrameRight e o true (withTemporaries f (set (f .temporaries) i w))
   stored-temporary f r i w v =
       record {
         isMethod = r .isMethod;
@@ -112,17 +120,9 @@ module _ (o : Objects) where
         validOperands = r .validOperands;
       }
 
-  -- a noted position has room for the operands of its depth
-  pub has-word : (m p d : ℕ) → noteAt (methodTable o m) p ≡ suc (suc d) → T (ltb (temporaryCount o m + d) (frameWords o m))
-  unfolding rulesAt
-  has-word m p d e =
-      let k = rule (rulesAt (codeWords o m) (codeSize o m) (temporaryCount o m) (frameWords o m) (allowed o m) p (suc d)) (spot o m p (suc d) e .kept) 3 in
-      let h = lib.Dec.leb→le (temporaryCount o m + suc d) (frameWords o m) k in
-      lt→ltb (temporaryCount o m + d) (frameWords o m) (omega arith)
-
   -- another frame of the same method and sender in the place of the uppermost
   pub new-top : (n : ℕ) (was isTop : Bool) (base : ℕ) (f f′ : Frame) (rest : List Frame) → f′ .sender ≡ f .sender → f′ .method ≡ f .method
-      → FrameRight o isTop f′ → FramesRight o n was base (f ∷ rest) → FramesRight o n isTop base (f′ ∷ rest)
+      → FrameRight e o isTop f′ → FramesRight e o n was base (f ∷ rest) → FramesRight e o n isTop base (f′ ∷ rest)
   new-top n was isTop base f f′ [] s m r fr =
       (r, subst (λ (k : ℕ). Fits n base (frameSize o k)) (sym m) (fr .1), fr .2, s ∙ fr .3)
   new-top n was isTop base f f′ (g ∷ rest) s m r fr = (
@@ -130,10 +130,10 @@ module _ (o : Objects) where
     subst (λ (k : ℕ). Fits n base (frameSize o k)) (sym m) (fr .1),
     fr .2 ∙ ap (λ (k : ℕ). k + frameSize o (g .method)) (sym s),
     subst
-        (λ (k : ℕ). FramesRight o n false k (g ∷ rest)) (sym s) (fr .3),
+        (λ (k : ℕ). FramesRight e o n false k (g ∷ rest)) (sym s) (fr .3),
   )
 
-  module _ (f : Frame) (r : FrameRight o true f) where
+  module _ (f : Frame) (r : FrameRight e o true f) where
     -- an operand that is there, the operands without some, the arguments
     pub operand-finds : (k : ℕ) → k < f .depth → Finds (o .n) (operand f k)
     unfolding operand

@@ -47,7 +47,7 @@ other-number a k h e = h (ap number-of e)
 
 -- ---- objects that are kept
 
-keeps : (o o′ : Objects) → Right 1 o → Right 1 o′ → Extends o o′ → Keeps o o′
+keeps : {e e′ : ℕ} (o o′ : Objects) → Right e o → Right e′ o′ → Extends o o′ → Keeps o o′
 keeps o o′ r r′ x =
     record { objects = x .grows; words = let a = r .bodies in let b = r′ .bodies in let c = x .longer in omega arith; entries = x .entries; bodies = x .bodies }
 
@@ -133,7 +133,7 @@ module _ (s : Flat) (right : FlatRight s) where
       by-shape : Shape (room .stack) p′ → framesFrom (suc (p′ .registers .top)) (objects p′) (laid (s .stack) 0 (p′ .frames)) (p′ .registers .top) ≡ p′ .frames
       by-shape (runs x y f) =
           ap (λ (k : ℕ). framesFrom (suc (p′ .registers .top)) (objects p′) (laid (s .stack) k (p′ .frames)) (p′ .registers .top)) (sym (b .bottom))
-          ∙ laid-back (objects p′) (room .stack) (s .stack) refl (p′ .frames) (p′ .registers .top) f
+          ∙ laid-back (p′ .registers .edition) (objects p′) (room .stack) (s .stack) refl (p′ .frames) (p′ .registers .top) f
       by-shape (ends x y z f) = absurd (subst (λ (k : ℕ). T (hasFrames k)) x (subst T (sym e) tt))
 
   begin-agrees : (receiver selector : ℕ) (arguments : List ℕ) (x : Begun) → BeginGoes room p x

@@ -103,9 +103,9 @@ module _ (s : Flat) (right : FlatRight s) (phase : s .registers .phase ≡ runni
   abbrev p : Plain
   p = plainOf s
 
-  goes-on : Goes (Rattle.plain.proofs.After.After room) room p (next p′ l)
+  goes-on : Goes (Rattle.plain.proofs.After.After (p .registers .edition) room) room p (next p′ l)
   unfolding plainOf
-  goes-on = subst (Goes (Rattle.plain.proofs.After.After room) room p) made (step-goes room (worlds room) p (right .plain) phase)
+  goes-on = subst (Goes (Rattle.plain.proofs.After.After (p .registers .edition) room) room p) made (step-goes room (worlds room) p (right .plain) phase)
 
   abbrev stack′ : List ℕ
   stack′ = laid (s .stack) (p′ .registers .top) (p′ .frames)

@@ -34,7 +34,7 @@ use Rattle.plain.proofs.After.{After}
 use Rattle.plain.proofs.RunLaws.{Worlds}
 
 -- a right frame is right in later objects
-frame-kept : (o o′ : Objects) → Right 1 o → Extends o o′ → (b : Bool) (f : Frame) → FrameRight o b f → FrameRight o′ b f
+frame-kept : {e : ℕ} (o o′ : Objects) → Right e o → Extends o o′ → (b : Bool) (f : Frame) → FrameRight e o b f → FrameRight e o′ b f
 frame-kept o o′ r x b f g =
     record {
       isMethod = kind-kept x methodKind (f .method) (g .isMethod);
@@ -65,7 +65,7 @@ frame-kept o o′ r x b f g =
 
 pub worlds : (room : Room) → Worlds room
 unfolding storeWord
-worlds room o r c b =
+worlds room e o r c b =
     record {
       least = let l = least r in omega arith;
       self = record { extends = extends-refl o; right = r; contents = c; bodies = b };
@@ -89,11 +89,11 @@ worlds room o r c b =
           m t .sound;
       computes = λ k v w x e. subst (ValidWord o) e (arithmetic-valid r k v w);
       stores = store;
-      performs = λ k n w arguments v o′ vw va e p. let q =
-          primitive-law room k n w v arguments r e vw va p in (record { extends = q .extends; right = q .right; contents = q .contents c; bodies = q .bodies b }, q .valid);
+      performs = λ k n w arguments v o′ vw va l p. let q =
+          primitive-law room k n w v arguments r l vw va p in (record { extends = q .extends; right = q .right; contents = q .contents c; bodies = q .bodies b }, q .valid);
     }
   where
-    store : (w i v : ℕ) → T (isKind o fieldsKind w && ltb i (size o (objectNumber w))) → T (isValid (o .n) v) → After room o (storeWord o (objectNumber w) i v)
+    store : (w i v : ℕ) → T (isKind o fieldsKind w && ltb i (size o (objectNumber w))) → T (isValid (o .n) v) → After e room o (storeWord o (objectNumber w) i v)
     store w i v t u =
         let h = named o fieldsKind w (and-left (isKind o fieldsKind w) (ltb i (size o (w / 2))) t) in
         let l = ltb→lt i (size o (w / 2)) (and-right (isKind o fieldsKind w) (ltb i (size o (w / 2))) t) in

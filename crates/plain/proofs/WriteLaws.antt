@@ -67,7 +67,7 @@ part-word : (l : List ℕ) (a n j : ℕ) → j < n → getD (part l a n) j 0 ≡
 part-word l a n j h = getD-take n (drop a l) j 0 h ∙ getD-drop a l j 0
 
 -- A frame that is read from the stack: its image's words are the stack's.
-module _ (o : Objects) (stack : List ℕ) (t : ℕ) (f : Frame) (isTop : Bool) (here : frameAt o stack t ≡ f) (r : FrameRight o isTop f) where
+module _ {e : ℕ} (o : Objects) (stack : List ℕ) (t : ℕ) (f : Frame) (isTop : Bool) (here : frameAt o stack t ≡ f) (r : FrameRight e o isTop f) where
   sender-here : getD stack t 0 ≡ f .sender
   sender-here = unfold frameAt in ap (λ (x : Frame). x .sender) here
 
@@ -175,11 +175,11 @@ stands-tail o stack base left f fs e = (ap (head-or f) e, ap tail-of e)
     tail-of [] = []
     tail-of (x ∷ xs) = xs
 
-pub laid-same : (o : Objects) (stack : List ℕ) (isTop : Bool) (base left : ℕ) (fs : List Frame) → FramesRight o (length stack) isTop base fs → framesFrom left o stack base ≡ fs
+pub laid-same : (e : ℕ) (o : Objects) (stack : List ℕ) (isTop : Bool) (base left : ℕ) (fs : List Frame) → FramesRight e o (length stack) isTop base fs → framesFrom left o stack base ≡ fs
     → laid stack base fs ≡ stack
 unfolding laid
-laid-same o stack isTop base left [] r e = absurd r
-laid-same o stack isTop base zero (f ∷ fs) r e = absurd (nil-cons e)
+laid-same e o stack isTop base left [] r q = absurd r
+laid-same e o stack isTop base zero (f ∷ fs) r q = absurd (nil-cons q)
   where
     nil-cons : framesFrom zero o stack base ≡ f ∷ fs → ⊥
     nil-cons q = unfold framesFrom in subst is-nil q tt
@@ -187,12 +187,12 @@ laid-same o stack isTop base zero (f ∷ fs) r e = absurd (nil-cons e)
         is-nil : List Frame → Type 0
         is-nil [] = Unit {0}
         is-nil (x ∷ xs) = ⊥
-laid-same o stack isTop base (suc left) (f ∷ []) r e =
-    frame-same-words o stack base f isTop (stands-tail o stack base left f [] e .0) (r .0) (r .1 .inside)
-laid-same o stack isTop base (suc left) (f ∷ g ∷ rest) r e =
-    let s = stands-tail o stack base left f (g ∷ rest) e in
+laid-same e o stack isTop base (suc left) (f ∷ []) r h =
+    frame-same-words o stack base f isTop (stands-tail o stack base left f [] h .0) (r .0) (r .1 .inside)
+laid-same e o stack isTop base (suc left) (f ∷ g ∷ rest) r h =
+    let s = stands-tail o stack base left f (g ∷ rest) h in
     let q : frameSender stack base ≡ f .sender = unfold frameAt in ap (λ (x : Frame). x .sender) (s .0) in
-    let below = laid-same o stack false (f .sender) left (g ∷ rest) (r .3) (ap (framesFrom left o stack) (sym q) ∙ sym (not-bottom base _ (let z = r .2 in omega arith)) ∙ s .1) in
+    let below = laid-same e o stack false (f .sender) left (g ∷ rest) (r .3) (ap (framesFrom left o stack) (sym q) ∙ sym (not-bottom base _ (let z = r .2 in omega arith)) ∙ s .1) in
     ap (λ (l : List ℕ). sets l base (frameImage f)) below ∙ frame-same-words o stack base f isTop (s .0) (r .0) (r .1 .inside)
   where
     not-bottom : (b : ℕ) (fs : List Frame) → 0 < b → unlessBottom b fs ≡ fs
@@ -201,15 +201,15 @@ laid-same o stack isTop base (suc left) (f ∷ g ∷ rest) r e =
 
 -- ---- frames f ∷ rest that stand in the stack, f at t, on top or below it
 
-module _ (isTop : Bool) (o : Objects) (stack : List ℕ) (t left : ℕ) (f : Frame) (rest : List Frame) (fr : FramesRight o (length stack) isTop t (f ∷ rest)) (stood : framesFrom left o stack t ≡ f ∷ rest) where
-  head-right : (fs : List Frame) → FramesRight o (length stack) isTop t (f ∷ fs) → FrameRight o isTop f
+module _ (e : ℕ) (isTop : Bool) (o : Objects) (stack : List ℕ) (t left : ℕ) (f : Frame) (rest : List Frame) (fr : FramesRight e o (length stack) isTop t (f ∷ rest)) (stood : framesFrom left o stack t ≡ f ∷ rest) where
+  head-right : (fs : List Frame) → FramesRight e o (length stack) isTop t (f ∷ fs) → FrameRight e o isTop f
   head-right [] x = x .0
   head-right (g ∷ fs) x = x .0
 
-  pub frame-right-at : FrameRight o isTop f
+  pub frame-right-at : FrameRight e o isTop f
   frame-right-at = head-right rest fr
 
-  fits-here : (fs : List Frame) → FramesRight o (length stack) isTop t (f ∷ fs) → t + frameSize o (f .method) ≤ length stack
+  fits-here : (fs : List Frame) → FramesRight e o (length stack) isTop t (f ∷ fs) → t + frameSize o (f .method) ≤ length stack
   fits-here [] x = x .1 .inside
   fits-here (g ∷ fs) x = x .1 .inside
 
@@ -231,9 +231,9 @@ module _ (isTop : Bool) (o : Objects) (stack : List ℕ) (t left : ℕ) (f : Fra
   pub rest-same-at : laid stack (f .sender) rest ≡ stack
   rest-same-at = go left rest fr stood
     where
-      go : (n : ℕ) (fs : List Frame) → FramesRight o (length stack) isTop t (f ∷ fs) → framesFrom n o stack t ≡ f ∷ fs → laid stack (f .sender) fs ≡ stack
-      go n [] x e = unfold laid in refl
-      go zero (g ∷ fs) x e = absurd (bad e)
+      go : (n : ℕ) (fs : List Frame) → FramesRight e o (length stack) isTop t (f ∷ fs) → framesFrom n o stack t ≡ f ∷ fs → laid stack (f .sender) fs ≡ stack
+      go n [] x y = unfold laid in refl
+      go zero (g ∷ fs) x y = absurd (bad y)
         where
           bad : framesFrom zero o stack t ≡ f ∷ g ∷ fs → ⊥
           bad q = unfold framesFrom in subst is-nil q tt
@@ -241,10 +241,10 @@ module _ (isTop : Bool) (o : Objects) (stack : List ℕ) (t left : ℕ) (f : Fra
               is-nil : List Frame → Type 0
               is-nil [] = Unit {0}
               is-nil (x ∷ xs) = ⊥
-      go (suc n) (g ∷ fs) x e =
-          let s = stands-tail o stack t n f (g ∷ fs) e in
-          let q : frameSender stack t ≡ f .sender = unfold frameAt in ap (λ (y : Frame). y .sender) (s .0) in
-          laid-same o stack false (f .sender) n (g ∷ fs) (x .3) (ap (framesFrom n o stack) (sym q) ∙ sym (not-bottom t _ (let z = x .2 in omega arith)) ∙ s .1)
+      go (suc n) (g ∷ fs) x y =
+          let s = stands-tail o stack t n f (g ∷ fs) y in
+          let q : frameSender stack t ≡ f .sender = unfold frameAt in ap (λ (h : Frame). h .sender) (s .0) in
+          laid-same e o stack false (f .sender) n (g ∷ fs) (x .3) (ap (framesFrom n o stack) (sym q) ∙ sym (not-bottom t _ (let z = x .2 in omega arith)) ∙ s .1)
         where
           not-bottom : (b : ℕ) (ys : List Frame) → 0 < b → unlessBottom b ys ≡ ys
           not-bottom zero ys h = absurd (omega arith)
@@ -373,14 +373,14 @@ module _ (isTop : Bool) (o : Objects) (stack : List ℕ) (t left : ℕ) (f : Fra
           ∙ operand-here o stack t f isTop frame-here-at frame-right-at j (omega arith) ∙ sym (getD-take k (f .operands) j 0 y)
 
 -- The same of the top frame
-module _ (o : Objects) (stack : List ℕ) (t left : ℕ) (f : Frame) (rest : List Frame) (fr : FramesRight o (length stack) true t (f ∷ rest)) (stood : framesFrom left o stack t ≡ f ∷ rest) where
+module _ (e : ℕ) (o : Objects) (stack : List ℕ) (t left : ℕ) (f : Frame) (rest : List Frame) (fr : FramesRight e o (length stack) true t (f ∷ rest)) (stood : framesFrom left o stack t ≡ f ∷ rest) where
   pub moved-writes : (q k : ℕ) → k ≤ f .depth → laid stack t (movedTo f q (take k (f .operands)) ∷ rest) ≡ set (set stack (t + 1) q) (t + 2) k
-  moved-writes = moved-at true o stack t left f rest fr stood
+  moved-writes = moved-at e true o stack t left f rest fr stood
 
   pub pushed-writes : (q k w : ℕ) → k ≤ f .depth → temporaryCount o (f .method) + k < Rattle.model.specs.Method.frameWords o (f .method)
       → laid stack t (movedTo f q (take k (f .operands) ++ (w ∷ [])) ∷ rest) ≡ set (set (set stack (t + (6 + (temporaryCount o (f .method) + k))) w) (t + 1) q) (t + 2) (suc k)
-  pushed-writes = pushed-at true o stack t left f rest fr stood
+  pushed-writes = pushed-at e true o stack t left f rest fr stood
 
   pub temporary-writes : (q k i w : ℕ) → k ≤ f .depth → i < temporaryCount o (f .method)
       → laid stack t (withTemporaries (movedTo f q (take k (f .operands))) (set (f .temporaries) i w) ∷ rest) ≡ set (set (set stack (t + (6 + i)) w) (t + 1) q) (t + 2) k
-  temporary-writes = temporary-at true o stack t left f rest fr stood
+  temporary-writes = temporary-at e true o stack t left f rest fr stood

@@ -41,7 +41,7 @@ abbrev pub beginFound : Room → Plain → ℕ → List ℕ → Found → Begun
 beginFound room s receiver arguments Nothing = declined 9
 beginFound room s receiver arguments (Method m) =
     if eqb (argumentCount (objects s) (m .0)) (length arguments)
-    then beginActivated room s (m .0) receiver arguments (activate room (objects s) (m .0) receiver arguments)
+    then beginActivated room s (m .0) receiver arguments (activate (s .registers .edition) room (objects s) (m .0) receiver arguments)
     else declined 10
 
 -- Begin is a send from no frame, all frames removed. 12 in phase 1, then 8, 9, 10, 13

@@ -68,11 +68,11 @@ Because room p f i notUnderstood =
     (s : Sent (objects p) f i)
     × ((lookup (objects p) (s .selector) (s .class) ≡ Nothing)
     ⊎ ((m : Pointer) × (lookup (objects p) (s .selector) (s .class) ≡ Method m)
-    × (activate room (objects p) (m .0) (s .receiver) (argumentsOf f (s .count)) ≡ unfit)))
+    × (activate (p .registers .edition) room (objects p) (m .0) (s .receiver) (argumentsOf f (s .count)) ≡ unfit)))
 Because room p f i noBoolean = IsJump i × (w : ℕ) × (operand f 0 ≡ some w) × (w ≢ trueWord) × (w ≢ falseWord)
 Because room p f i noStackRoom =
     (s : Sent (objects p) f i) × (m : Pointer) × (lookup (objects p) (s .selector) (s .class) ≡ Method m)
-    × (activate room (objects p) (m .0) (s .receiver) (argumentsOf f (s .count)) ≡ entered)
+    × (activate (p .registers .edition) room (objects p) (m .0) (s .receiver) (argumentsOf f (s .count)) ≡ entered)
     × (fitsStack (room .stack) (p .registers .top + frameSize (objects p) (f .method)) (frameSize (objects p) (m .0)) ≡ false)
 
 -- The state stands before a bytecode that cannot be made, for this cause.

@@ -18,7 +18,7 @@ use Rattle.plain.specs.State.{Frame, Plain, noMark, objects, fitsStack}
 use Rattle.plain.specs.Cache.{cacheFine}
 use Rattle.plain.specs.Flat.{Flat, roomOf, flatObjects, plainOf}
 
--- The image rules, and right start words
+-- The image rules of an edition, and right start words
 unfoldable pub imageRules : ℕ → Objects → ℕ → ℕ → List Bool
 imageRules e o receiver selector =
     headerFine e (o .n) (o .b) ∷ rule4 e o ∷ rule5 e o ∷ rule6 e o ∷ rule7 e o ∷ rule8 o receiver selector [] ∷ []
@@ -28,13 +28,13 @@ imageRules e o receiver selector =
 unfoldable pub noteOf : Bool → Frame → ℕ
 noteOf isTop f = if isTop then suc (f .depth) else suc (suc (f .depth))
 
-unfoldable pub frameRules : Objects → Bool → Frame → List Bool
-frameRules o isTop f =
+unfoldable pub frameRules : ℕ → Objects → Bool → Frame → List Bool
+frameRules e o isTop f =
     isKind o methodKind (f .method) ∷
     eqb (f .mark) noMark ∷
     isValid (o .n) (f .receiver) ∷
     inChain o (home o (f .method)) (classOf o (f .receiver)) ∷
-    eqb (noteAt (methodTable o (f .method)) (f .position)) (noteOf isTop f) ∷
+    eqb (noteAt (methodTable e o (f .method)) (f .position)) (noteOf isTop f) ∷
     eqb (length (f .temporaries)) (temporaryCount o (f .method)) ∷
     eqb (length (f .operands)) (f .depth) ∷
     every (isValid (o .n)) (f .temporaries) ∷
@@ -43,13 +43,13 @@ frameRules o isTop f =
 
 -- The bottom frame is at base 0 and has sender 0; each other starts where the one below it ends, and all fit. The frames stand top first,
 -- and the first is at `base`.
-unfoldable pub framesFine : Objects → ℕ → Bool → ℕ → List Frame → Bool
-framesFine o stack isTop base [] = false
-framesFine o stack isTop base (f ∷ []) =
-    allOf (frameRules o isTop f) && (fitsStack stack base (frameSize o (f .method)) && (eqb base 0 && eqb (f .sender) 0))
-framesFine o stack isTop base (f ∷ g ∷ rest) =
-    allOf (frameRules o isTop f) && (fitsStack stack base (frameSize o (f .method))
-    && (eqb base (f .sender + frameSize o (g .method)) && framesFine o stack false (f .sender) (g ∷ rest)))
+unfoldable pub framesFine : ℕ → Objects → ℕ → Bool → ℕ → List Frame → Bool
+framesFine e o stack isTop base [] = false
+framesFine e o stack isTop base (f ∷ []) =
+    allOf (frameRules e o isTop f) && (fitsStack stack base (frameSize o (f .method)) && (eqb base 0 && eqb (f .sender) 0))
+framesFine e o stack isTop base (f ∷ g ∷ rest) =
+    allOf (frameRules e o isTop f) && (fitsStack stack base (frameSize o (f .method))
+    && (eqb base (f .sender + frameSize o (g .method)) && framesFine e o stack false (f .sender) (g ∷ rest)))
 
 abbrev pub isEmpty : List Frame → Bool
 isEmpty [] = true
@@ -62,7 +62,7 @@ plainRules stack s =
     leb (s .registers .phase) lastPhase ∷
     (if eqb (s .registers .phase) finished then isValid (s .registers .n) (s .registers .value) else eqb (s .registers .value) 0) ∷
     (if hasFrames (s .registers .phase)
-    then framesFine (objects s) stack true (s .registers .top) (s .frames)
+    then framesFine (s .registers .edition) (objects s) stack true (s .registers .top) (s .frames)
     else eqb (s .registers .top) 0 && isEmpty (s .frames)) ∷
     []
 

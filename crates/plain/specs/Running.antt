@@ -22,23 +22,24 @@ use Rattle.plain.specs.Check.{framesFine}
 use Rattle.plain.specs.Cache.{filled}
 use Rattle.plain.specs.FlatCalls.{atFront, laid}
 
--- Right objects, and right frames from `top` down: what check says of a state in phase 1, but for the cache and the start words
+-- Right objects in some edition, and right frames from `top` down: what check says of a state in phase 1, but for the cache and the start words
 pub record Runs (n b top : ℕ) (contents bodies stack : List ℕ) : Type 0 where
-  pub right : Right 1 (objectsAt n b contents bodies)
-  pub frames : T (framesFine (objectsAt n b contents bodies) (length stack) true top (framesFrom (suc top) (objectsAt n b contents bodies) stack top))
+  pub edition : ℕ
+  pub right : Right edition (objectsAt n b contents bodies)
+  pub frames : T (framesFine edition (objectsAt n b contents bodies) (length stack) true top (framesFrom (suc top) (objectsAt n b contents bodies) stack top))
 
 -- The registers and the plain state of such buffers. No bytecode looks at the start words, so they may be any.
-abbrev pub runningWith : ℕ → ℕ → ℕ → ℕ → ℕ → Registers
-runningWith receiver selector n b top =
-    record { n = n; b = b; startReceiver = receiver; startSelector = selector; phase = running; top = top; value = 0 }
+abbrev pub runningWith : ℕ → ℕ → ℕ → ℕ → ℕ → ℕ → Registers
+runningWith e receiver selector n b top =
+    record { n = n; b = b; startReceiver = receiver; startSelector = selector; phase = running; top = top; value = 0; edition = e }
 
-abbrev pub finishedWith : ℕ → ℕ → ℕ → ℕ → ℕ → Registers
-finishedWith receiver selector n b w =
-    record { n = n; b = b; startReceiver = receiver; startSelector = selector; phase = finished; top = 0; value = w }
+abbrev pub finishedWith : ℕ → ℕ → ℕ → ℕ → ℕ → ℕ → Registers
+finishedWith e receiver selector n b w =
+    record { n = n; b = b; startReceiver = receiver; startSelector = selector; phase = finished; top = 0; value = w; edition = e }
 
-abbrev pub runningAt : ℕ → ℕ → ℕ → ℕ → ℕ → List ℕ → List ℕ → List ℕ → Plain
-runningAt receiver selector n b top contents bodies stack =
-    record { registers = runningWith receiver selector n b top; contents = take (entryWords * n) contents; bodies = take b bodies; frames = framesFrom (suc top) (objectsAt n b contents bodies) stack top }
+abbrev pub runningAt : ℕ → ℕ → ℕ → ℕ → ℕ → ℕ → List ℕ → List ℕ → List ℕ → Plain
+runningAt e receiver selector n b top contents bodies stack =
+    record { registers = runningWith e receiver selector n b top; contents = take (entryWords * n) contents; bodies = take b bodies; frames = framesFrom (suc top) (objectsAt n b contents bodies) stack top }
 
 -- The top frame, and the frames below it
 abbrev pub topFrame : ℕ → ℕ → ℕ → List ℕ → List ℕ → List ℕ → Frame
@@ -69,7 +70,7 @@ pub record Moves (room : Room) (p : Plain) (bodies stack bodies′ stack′ : Li
 
 abbrev pub Moved : ℕ → ℕ → ℕ → List ℕ → List ℕ → List ℕ → List ℕ → List ℕ → Type 0
 Moved n b top contents bodies stack bodies′ stack′ =
-    (receiver selector : ℕ) (room : Room) → Moves room (runningAt receiver selector n b top contents bodies stack) bodies stack bodies′ stack′
+    (e receiver selector : ℕ) (room : Room) → Moves room (runningAt e receiver selector n b top contents bodies stack) bodies stack bodies′ stack′
 
 -- Any bytecode that was made: the registers and the buffers after it
 pub record Made (x : Stepped) (r : Registers) (contents bodies stack cache contents′ bodies′ stack′ cache′ : List ℕ) : Type 0 where
@@ -99,7 +100,7 @@ sentReceiver n b top contents bodies stack count =
 pub record Sending (n b top : ℕ) (contents bodies stack : List ℕ) (selector count class position : ℕ) (sure : Bool) : Type 0 where
   pub runs : Runs n b top contents bodies stack
   pub needs : suc count ≤ frameDepth stack top
-  pub noted : noteAt (methodTable (objectsAt n b contents bodies) (frameMethod stack top)) position ≡ suc (suc (frameDepth stack top - suc count))
+  pub noted : noteAt (methodTable (runs .edition) (objectsAt n b contents bodies) (frameMethod stack top)) position ≡ suc (suc (frameDepth stack top - suc count))
   pub named : 1 ≤ selector
   pub starts : T (isNilOr (objectsAt n b contents bodies) classKind class)
   pub takes : T (takesCount (objectsAt n b contents bodies) selector count)
@@ -107,8 +108,8 @@ pub record Sending (n b top : ℕ) (contents bodies stack : List ℕ) (selector 
       → T (inChain (objectsAt n b contents bodies) (home (objectsAt n b contents bodies) m) (classOf (objectsAt n b contents bodies) (sentReceiver n b top contents bodies stack count)))
 
 -- and the step that it is
-abbrev pub sendStep : Room → ℕ → ℕ → ℕ → ℕ → ℕ → List ℕ → List ℕ → List ℕ → ℕ → ℕ → ℕ → ℕ → Stepped
-sendStep room receiver selector n b top contents bodies stack s count class position =
-    afterLookup room (runningAt receiver selector n b top contents bodies stack) (popped (topFrame n b top contents bodies stack) position (suc count)) (restFrames n b top contents bodies stack) s class
+abbrev pub sendStep : ℕ → Room → ℕ → ℕ → ℕ → ℕ → ℕ → List ℕ → List ℕ → List ℕ → ℕ → ℕ → ℕ → ℕ → Stepped
+sendStep e room receiver selector n b top contents bodies stack s count class position =
+    afterLookup room (runningAt e receiver selector n b top contents bodies stack) (popped (topFrame n b top contents bodies stack) position (suc count)) (restFrames n b top contents bodies stack) s class
     (sentReceiver n b top contents bodies stack count) (drop (topFrame n b top contents bodies stack .depth - count) (topFrame n b top contents bodies stack .operands))
     (lookup (objectsAt n b contents bodies) s class)

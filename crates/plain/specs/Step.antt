@@ -124,13 +124,13 @@ abbrev pub primitiveAnswered : Objects → ℕ → ℕ → Outcome → Activatio
 primitiveAnswered o m receiver (answers w o′) = answered w o′
 primitiveAnswered o m receiver fails = entering o m receiver
 
--- Flag 5 answers the receiver, flag 6 its field T. Where a primitive fails, the code runs.
-unfoldable pub activate : Room → Objects → ℕ → ℕ → List ℕ → Activation
-activate room o m receiver arguments =
+-- Flag 5 answers the receiver, flag 6 its field T; `e` is the edition. Where a primitive fails, the code runs.
+unfoldable pub activate : ℕ → Room → Objects → ℕ → ℕ → List ℕ → Activation
+activate e room o m receiver arguments =
     if eqb (flag o m) receiverFlag then answered receiver o else
     if eqb (flag o m) fieldFlag then fieldAnswered o (fieldOf o receiver (temporaryCount o m)) else
     if eqb (flag o m) primitiveFlag
-    then primitiveAnswered o m receiver (primitive room o (primitiveNumber o m) (argumentCount o m) receiver arguments)
+    then primitiveAnswered o m receiver (primitive e room o (primitiveNumber o m) (argumentCount o m) receiver arguments)
     else entering o m receiver
 
 -- A new frame above the top one, f, whose receiver and arguments are popped; phase 5 where it does not fit
@@ -157,7 +157,7 @@ activated room s f rest m receiver arguments l unfit = halts notUnderstood
 abbrev pub afterLookup : Room → Plain → Frame → List Frame → ℕ → ℕ → ℕ → List ℕ → Found → Stepped
 afterLookup room s f rest selector class receiver arguments Nothing = halts notUnderstood
 afterLookup room s f rest selector class receiver arguments (Method m) =
-    activated room s f rest (m .0) receiver arguments (looked selector class (m .0)) (activate room (objects s) (m .0) receiver arguments)
+    activated room s f rest (m .0) receiver arguments (looked selector class (m .0)) (activate (s .registers .edition) room (objects s) (m .0) receiver arguments)
 
 -- The frame at its next position without the k uppermost operands
 abbrev pub popped : Frame → ℕ → ℕ → Frame
