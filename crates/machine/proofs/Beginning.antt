@@ -19,7 +19,7 @@ use Rattle.plain.specs.State.{Frame, Plain, withObjects, withFrames}
 use Rattle.plain.specs.Flat.{Flat, flat, roomOf, flatObjects, framesFrom, ifFrames, plainOf}
 use Rattle.plain.specs.Check.{check}
 use Rattle.plain.specs.Calls as P
-use Rattle.plain.specs.FlatCalls.{Given, gives, checked, atFront, withPlain, laid, afterBegin, flatBegin}
+use Rattle.plain.specs.FlatCalls.{Given, gives, checked, atFront, withPlain, laid, flatAfterBegin, flatBegin}
 use Rattle.plain.proofs.StateLaws.{PlainRight}
 use Rattle.plain.proofs.FlatLaws.{FlatRight, check-right}
 use Rattle.plain.proofs.BeginLaws.{BegunRight, BeginGoes, begins}
@@ -44,7 +44,7 @@ module _ (r : Registers) (contents bodies stack cache : List ℕ) (w selector : 
   module _ (x : Checked) (e : checkGives x ≡ check s) where
     pub begins-not : (k : ℕ) → x ≡ C.Refused k → beginGives (B.Refused k r) contents bodies stack cache ≡ flatBegin s w selector arguments
     unfolding beginGives flatBegin
-    begins-not k q = ap (λ (v : Verdict). checked s v (afterBegin s (P.begin (roomOf s) (plainOf s) w selector arguments))) (was-refused r contents bodies stack cache x e k q)
+    begins-not k q = ap (λ (v : Verdict). checked s v (flatAfterBegin s (P.begin (roomOf s) (plainOf s) w selector arguments))) (was-refused r contents bodies stack cache x e k q)
 
     module _ (q : x ≡ C.Right) where
       yes : accepted ≡ check s
@@ -57,9 +57,9 @@ module _ (r : Registers) (contents bodies stack cache : List ℕ) (w selector : 
       unfolding plainOf
       begins-right = right .plain .image
 
-      begun-is : (y : P.Begun) → P.begin (roomOf s) (plainOf s) w selector arguments ≡ y → afterBegin s y ≡ flatBegin s w selector arguments
+      begun-is : (y : P.Begun) → P.begin (roomOf s) (plainOf s) w selector arguments ≡ y → flatAfterBegin s y ≡ flatBegin s w selector arguments
       unfolding flatBegin
-      begun-is y p = ap (afterBegin s) (sym p) ∙ passes (afterBegin s (P.begin (roomOf s) (plainOf s) w selector arguments)) yes
+      begun-is y p = ap (flatAfterBegin s) (sym p) ∙ passes (flatAfterBegin s (P.begin (roomOf s) (plainOf s) w selector arguments)) yes
 
       pub begins-12 : r .phase ≡ 1 → beginGives (B.Refused 12 r) contents bodies stack cache ≡ flatBegin s w selector arguments
       unfolding beginGives

@@ -13,7 +13,7 @@ use Rattle.plain.specs.Registers.{running, withPhase, withSizes}
 use Rattle.plain.specs.Flat.{Flat, flat, plainOf}
 use Rattle.plain.specs.Calls.{result}
 use Rattle.plain.specs.Check.{check}
-use Rattle.plain.specs.FlatCalls.{Given, gives, checked, runIf, flatRun, reachFine, runsFrom, endsFrom}
+use Rattle.plain.specs.FlatCalls.{Given, gives, checked, flatRunIf, flatRun, reachFine, runsFrom, endsFrom}
 use Rattle.plain.proofs.Preserve.{runs, ends}
 use Rattle.plain.proofs.StateLaws.{Stands, goes, rests, waits}
 use Rattle.plain.proofs.FlatLaws.{FlatRight, check-right}
@@ -44,15 +44,15 @@ module _ (r : Registers) (contents bodies stack cache : List ℕ) (n : ℕ) (x :
 
   pub runs-not : (k : ℕ) → x ≡ C.Refused k → (runGives (N.Refused k r) contents bodies stack cache ≡ flatRun s n) × ReachIs s n (N.Refused k r)
   unfolding runGives flatRun
-  runs-not k q = (ap (λ (v : Verdict). checked s v (runIf s n (eqb (r .phase) running))) (was-refused r contents bodies stack cache x e k q), tt)
+  runs-not k q = (ap (λ (v : Verdict). checked s v (flatRunIf s n (eqb (r .phase) running))) (was-refused r contents bodies stack cache x e k q), tt)
 
   module _ (q : x ≡ C.Right) where
     yes : accepted ≡ check s
     yes = was-right r contents bodies stack cache x e q
 
-    passes : (b : Bool) → eqb (r .phase) running ≡ b → runIf s n b ≡ flatRun s n
+    passes : (b : Bool) → eqb (r .phase) running ≡ b → flatRunIf s n b ≡ flatRun s n
     unfolding flatRun
-    passes b p = ap (runIf s n) (sym p) ∙ ap (λ (v : Verdict). checked s v (runIf s n (eqb (r .phase) running))) yes
+    passes b p = ap (flatRunIf s n) (sym p) ∙ ap (λ (v : Verdict). checked s v (flatRunIf s n (eqb (r .phase) running))) yes
 
     pub runs-12 : (r .phase ≡ 1 → ⊥) → (runGives (N.Refused 12 r) contents bodies stack cache ≡ flatRun s n) × ReachIs s n (N.Refused 12 r)
     unfolding runGives

@@ -99,7 +99,7 @@ unchanged : (s : Flat) (v : Verdict) (g : Given) → (IsRefused g → nextState 
 unchanged s accepted g h r = h r
 unchanged s (refused k) g h r = refl
 
-begin-keeps : (s : Flat) (v : Verdict) (x : Begun) → nextState s (checked s v (F.afterBegin s x)) .cache ≡ s .cache
+begin-keeps : (s : Flat) (v : Verdict) (x : Begun) → nextState s (checked s v (F.flatAfterBegin s x)) .cache ≡ s .cache
 begin-keeps s accepted (begun p) = refl
 begin-keeps s accepted (declined k) = refl
 begin-keeps s (refused k) x = refl
@@ -108,10 +108,10 @@ drop-keeps : (s : Flat) (v : Verdict) (p : Plain) → nextState s (checked s v (
 drop-keeps s accepted p = refl
 drop-keeps s (refused k) p = refl
 
-run-refused : (s : Flat) (n : ℕ) (b : Bool) → IsRefused (F.runIf s n b) → nextState s (F.runIf s n b) ≡ s
+run-refused : (s : Flat) (n : ℕ) (b : Bool) → IsRefused (F.flatRunIf s n b) → nextState s (F.flatRunIf s n b) ≡ s
 run-refused s n true r = go (steps (roomOf s) n (plainOf s)) r
   where
-    go : (x : Ran) → IsRefused (F.afterRun s x) → nextState s (F.afterRun s x) ≡ s
+    go : (x : Ran) → IsRefused (F.flatAfterRun s x) → nextState s (F.flatAfterRun s x) ≡ s
     go (ran k p ts) r = absurd r
     go stuck r = absurd r
 run-refused s n false r = refl
@@ -120,7 +120,7 @@ pub cache-kept : CacheKept
 unfolding flatCall flatBegin flatRun flatDrop flatForget
 cache-kept s (beginCall receiver selector arguments) h = begin-keeps s (check s) (begin (roomOf s) (plainOf s) receiver selector arguments)
 cache-kept s (runCall n) h =
-    ap (λ (x : Flat). x .cache) (unchanged s (check s) (F.runIf s n (eqb (s .registers .phase) running)) (run-refused s n (eqb (s .registers .phase) running)) (h tt))
+    ap (λ (x : Flat). x .cache) (unchanged s (check s) (F.flatRunIf s n (eqb (s .registers .phase) running)) (run-refused s n (eqb (s .registers .phase) running)) (h tt))
 cache-kept s dropCall h = drop-keeps s (check s) (dropped (plainOf s))
 cache-kept s forgetCall h = ap (λ (x : Flat). x .cache)
     (unchanged s (check s) (gives done (record { registers = s .registers; contents = s .contents; bodies = s .bodies; stack = s .stack; cache = emptyCache }))

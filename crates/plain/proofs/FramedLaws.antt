@@ -26,7 +26,7 @@ use Rattle.model.proofs.SendFacts.{FoundFacts, lookup-facts}
 use Rattle.model.proofs.Lent.{contents-room, bodies-room, front-same}
 use Rattle.plain.specs.Registers.{running, notUnderstood, noStackRoom}
 use Rattle.plain.specs.State.{Frame, Plain, withObjects, withFrames, movedTo, newFrame, fitsStack}
-use Rattle.plain.specs.Step.{looked, Stepped, next, halts, provided, without, hasWord, onTop, pushed, answered, entered, unfit, activate, framed, changed, activated, afterLookup, popped}
+use Rattle.plain.specs.Step.{looked, Stepped, leadsTo, halts, provided, without, hasWord, onTop, pushed, answered, entered, unfit, activate, framed, changed, activated, afterLookup, popped}
 use Rattle.plain.specs.Flat.{frameDepth, frameMethod, operandsStart, frameAt}
 use Rattle.plain.specs.FlatCalls.{atFront, laid}
 use Rattle.plain.specs.Cache.{filled}
@@ -206,11 +206,11 @@ module _ {n b top : ℕ} {contents bodies stack : List ℕ} {selector count clas
       answeredTop w = movedTo f position (take (f .depth - suc count) (f .operands) ++ (w ∷ []))
 
       send-answered : (w : ℕ) (o′ : Objects) → activate edition room o m receiver sentArguments ≡ answered w o′
-          → x ≡ next (withObjects (onTop p (answeredTop w) rest) o′) (looked selector class m)
+          → x ≡ leadsTo (withObjects (onTop p (answeredTop w) rest) o′) (looked selector class m)
       unfolding pushed frameAt
       send-answered w o′ a =
           send-found ∙ ap (activated room p (popped f position (suc count)) rest m receiver sentArguments (looked selector class m)) a
-          ∙ ap (λ (t : Bool). changed o′ (provided t (next (onTop p (answeredTop w) rest) (looked selector class m))))
+          ∙ ap (λ (t : Bool). changed o′ (provided t (leadsTo (onTop p (answeredTop w) rest) (looked selector class m))))
           (T→true (hasWord o (popped f position (suc count)) (length (without f (suc count)))) has)
         where
           long : length (without f (suc count)) ≡ depth - suc count
@@ -233,9 +233,9 @@ module _ {n b top : ℕ} {contents bodies stack : List ℕ} {selector count clas
 
       send-framed : (base : ℕ) → base ≡ top + frameSize o (frameMethod stack top) → activate edition room o m receiver sentArguments ≡ entered
           → fitsStack (room .stack) (top + frameSize o (frameMethod stack top)) (frameSize o m) ≡ true
-          → x ≡ next (enteredState base) (looked selector class m)
+          → x ≡ leadsTo (enteredState base) (looked selector class m)
       unfolding framed frameAt
-      send-framed base g a q = send-entered a ∙ if-yes _ _ q ∙ ap (λ (k : ℕ). next (enteredState k) (looked selector class m)) (sym g)
+      send-framed base g a q = send-entered a ∙ if-yes _ _ q ∙ ap (λ (k : ℕ). leadsTo (enteredState k) (looked selector class m)) (sym g)
 
       -- ---- the buffers after it
 

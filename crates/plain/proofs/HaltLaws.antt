@@ -32,13 +32,13 @@ use Rattle.model.specs.Arithmetic.{arithmetic}
 use Rattle.model.specs.Image.{Room}
 use Rattle.plain.specs.Registers.{Cause, notUnderstood, noBoolean, noStackRoom}
 use Rattle.plain.specs.State.{Frame, Plain, objects, fitsStack, movedTo}
-use Rattle.plain.specs.Step.{Looked, noLookup, looked, Stepped, next, halts, missing, _>>=_, provided, operand, without, literalOf, fieldOf, hasWord, pushed, read, storedField, stored, returned, Activation, answered, entered, unfit, activate, framed, changed, activated, afterLookup, popped, sends, aboveHome, triedPrimitive, orSends, arithmeticSends, specialSends, jumps, execute, stepFrame, step}
+use Rattle.plain.specs.Step.{Looked, noLookup, looked, Stepped, leadsTo, halts, missing, _>>=_, provided, operand, without, literalOf, fieldOf, hasWord, pushed, read, storedField, stored, returned, Activation, answered, entered, unfit, activate, framed, changed, activated, afterLookup, popped, sends, aboveHome, triedPrimitive, orSends, arithmeticSends, specialSends, jumps, execute, stepFrame, step}
 use Rattle.plain.specs.Calls.{halted}
 use Rattle.plain.specs.Causes.{SendsOf, Sent, argumentsOf, IsJump, Because, HaltsFor}
 
 -- Where a step halts, something holds of its cause.
 abbrev Caused : (Cause → Type 0) → Stepped → Type 0
-Caused C (next s l) = Unit {0}
+Caused C (leadsTo s l) = Unit {0}
 Caused C (halts c) = C c
 Caused C missing = Unit {0}
 
@@ -84,7 +84,7 @@ module _ (room : Room) (s : Plain) (f : Frame) (rest : List Frame) where
     C cause = Because room s f i cause
 
     changes : (o : Objects) (x : Stepped) → Caused C x → Caused C (changed o x)
-    changes o (next p l) h = tt
+    changes o (leadsTo p l) h = tt
     changes o (halts c) h = h
     changes o missing h = tt
 

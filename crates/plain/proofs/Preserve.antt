@@ -36,7 +36,7 @@ use Rattle.model.proofs.DepthLaws.{spot-start}
 use Rattle.plain.specs.Registers.{running, finished}
 use Rattle.plain.specs.FlatCalls.{topEnd}
 use Rattle.plain.specs.State.{Frame, Plain, objects, withObjects, withFrames, movedTo, withTemporaries, newFrame, fitsStack, noMark}
-use Rattle.plain.specs.Step.{Looked, noLookup, looked, Stepped, next, halts, missing, _>>=_, provided, operand, without, fieldOf, literalOf, onTop, hasWord, pushed, read, storedField, stored, returned, Activation, answered, entered, unfit, entering, fieldAnswered, primitiveAnswered, activate, framed, changed, activated, afterLookup, popped, sends, aboveHome, triedPrimitive, orSends, arithmeticSends, specialSends, jumps, execute}
+use Rattle.plain.specs.Step.{Looked, noLookup, looked, Stepped, leadsTo, halts, missing, _>>=_, provided, operand, without, fieldOf, literalOf, onTop, hasWord, pushed, read, storedField, stored, returned, Activation, answered, entered, unfit, entering, fieldAnswered, primitiveAnswered, activate, framed, changed, activated, afterLookup, popped, sends, aboveHome, triedPrimitive, orSends, arithmeticSends, specialSends, jumps, execute}
 use Rattle.plain.proofs.FrameLaws.{FrameRight, Fits, fits, FramesRight, tableDepth, note-is, within}
 use Rattle.plain.proofs.NowLaws.{Now}
 use Rattle.plain.proofs.StepLaws.{Valid, valid-append, valid-one, valid-replicate, Finds, element, moved-right, stored-temporary, has-word, new-top, operand-finds, without-length, without-valid, arguments-length, arguments-valid}
@@ -157,7 +157,7 @@ module _ (After : Objects → Objects → Type 0) (room : Room) (s : Plain) wher
     pub level : s′ .registers .phase ≡ running → s′ .registers .top ≡ s .registers .top → topEnd s′ ≡ topEnd s
 
   abbrev pub Goes : Stepped → Type 0
-  Goes (next s′ l) = Kept s′ × LookedRight (objects s) l
+  Goes (leadsTo s′ l) = Kept s′ × LookedRight (objects s) l
   Goes (halts c) = Unit {0}
   Goes missing = ⊥
 
@@ -267,7 +267,7 @@ module _ (After : Objects → Objects → Type 0) (room : Room) (s : Plain) wher
         head-right h (k ∷ gs) x = x .0
 
     -- a state that runs on with another top frame, of the same method and sender
-    run-on : (f′ : Frame) → f′ .sender ≡ f .sender → f′ .method ≡ f .method → FrameRight edition o true f′ → (l : Looked) → LookedRight o l → Goes (next (onTop s f′ rest) l)
+    run-on : (f′ : Frame) → f′ .sender ≡ f .sender → f′ .method ≡ f .method → FrameRight edition o true f′ → (l : Looked) → LookedRight o l → Goes (leadsTo (onTop s f′ rest) l)
     run-on f′ a b r′ l q = (
       record {
         after = world .self;
@@ -283,7 +283,7 @@ module _ (After : Objects → Objects → Type 0) (room : Room) (s : Plain) wher
 
     -- the same with other objects
     run-on-with : (o′ : Objects) → After o o′ → (f′ : Frame) → f′ .sender ≡ f .sender → f′ .method ≡ f .method → FrameRight edition o′ true f′ → (l : Looked) → LookedRight o l
-        → Goes (next (withObjects (onTop s f′ rest) o′) l)
+        → Goes (leadsTo (withObjects (onTop s f′ rest) o′) l)
     run-on-with o′ x f′ a b r′ l q = (
       record {
         after = x;
@@ -319,7 +319,7 @@ module _ (After : Objects → Objects → Type 0) (room : Room) (s : Plain) wher
         → noteAt (methodTable edition o (f′ .method)) q ≡ suc (suc (length ops)) → Valid (o .n) ops → T (isValid (o .n) w) → (l : Looked) → LookedRight o l → Goes (pushed s f′ rest q ops w l)
     unfolding pushed
     pushes was f′ a b r′ q ops w e v u l k =
-        goes-provided (hasWord o f′ (length ops)) (next (onTop s (movedTo f′ q (ops ++ (w ∷ []))) rest) l) (has-word edition o (f′ .method) q (length ops) e)
+        goes-provided (hasWord o f′ (length ops)) (leadsTo (onTop s (movedTo f′ q (ops ++ (w ∷ []))) rest) l) (has-word edition o (f′ .method) q (length ops) e)
         (run-on (movedTo f′ q (ops ++ (w ∷ []))) a b (pushed-right was f′ r′ o (world .self) q ops w e v u) l k)
 
     pushes-changed : (was : Bool) (f′ : Frame) → f′ .sender ≡ f .sender → f′ .method ≡ f .method → FrameRight edition o was f′ → (o′ : Objects) → After o o′ → (q : ℕ) (ops : List ℕ) (w : ℕ)
@@ -328,7 +328,7 @@ module _ (After : Objects → Objects → Type 0) (room : Room) (s : Plain) wher
     pushes-changed was f′ a b r′ o′ x q ops w e v u l k =
         go (hasWord o f′ (length ops)) (has-word edition o (f′ .method) q (length ops) e)
       where
-        go : (t : Bool) → T t → Goes (changed o′ (provided t (next (onTop s (movedTo f′ q (ops ++ (w ∷ []))) rest) l)))
+        go : (t : Bool) → T t → Goes (changed o′ (provided t (leadsTo (onTop s (movedTo f′ q (ops ++ (w ∷ []))) rest) l)))
         go true y = run-on-with o′ x (movedTo f′ q (ops ++ (w ∷ []))) a b (pushed-right was f′ r′ o′ x q ops w e v u) l k
         go false y = absurd y
 
@@ -379,7 +379,7 @@ module _ (After : Objects → Objects → Type 0) (room : Room) (s : Plain) wher
       field-stores v i w t u =
           let x = field-finds v i t in
           let y = world .stores v i w t u in
-          goes-found (fieldOf o v i) (λ old. next (withObjects (onTop s f′ rest) (storeWord o (objectNumber v) i w)) noLookup) (x .0) (x .1)
+          goes-found (fieldOf o v i) (λ old. leadsTo (withObjects (onTop s f′ rest) (storeWord o (objectNumber v) i w)) noLookup) (x .0) (x .1)
           (run-on-with (storeWord o (objectNumber v) i w) y f′ a b (world .keeps (storeWord o (objectNumber v) i w) y true f′ r′) noLookup tt)
 
     stores-place : (q : ℕ) (ops : List ℕ) → FrameRight edition o true (movedTo f q ops) → (p : Place) (w : ℕ) → T (isWritable p && placeFine o (f .method) p) → T (isValid (o .n) w)
@@ -388,7 +388,7 @@ module _ (After : Objects → Objects → Type 0) (room : Room) (s : Plain) wher
     stores-place q ops r′ (Field i) w t u = field-stores (movedTo f q ops) refl refl r′ (f .receiver) i w (own-field i t) u
     stores-place q ops r′ (Temporary i) w t u =
         let x = element (o .n) i (f .temporaries) (subst (λ (k : ℕ). i < k) (sym (r .temporaries)) (ltb→lt i (temporaryCount o (f .method)) t)) (r .validTemporaries) in
-        goes-found (getElem? (f .temporaries) i) (λ old. next (onTop s (withTemporaries (movedTo f q ops) (set (f .temporaries) i w)) rest) noLookup) (x .0) (x .1)
+        goes-found (getElem? (f .temporaries) i) (λ old. leadsTo (onTop s (withTemporaries (movedTo f q ops) (set (f .temporaries) i w)) rest) noLookup) (x .0) (x .1)
         (run-on (withTemporaries (movedTo f q ops) (set (f .temporaries) i w)) refl refl (stored-temporary o (movedTo f q ops) r′ i w u) noLookup tt)
     stores-place q ops r′ (Literal i) w t u = absurd t
     stores-place q ops r′ (LiteralVariable i) w t u =
@@ -529,7 +529,7 @@ module _ (After : Objects → Objects → Type 0) (room : Room) (s : Plain) wher
 
     -- ---- jumps, pops
     -- the frame moved on without the k uppermost operands
-    moves : (q k : ℕ) → k ≤ f .depth → noteAt (methodTable edition o (f .method)) q ≡ suc (f .depth - k) → Goes (next (onTop s (popped f q k) rest) noLookup)
+    moves : (q k : ℕ) → k ≤ f .depth → noteAt (methodTable edition o (f .method)) q ≡ suc (f .depth - k) → Goes (leadsTo (onTop s (popped f q k) rest) noLookup)
     moves q k h e =
         run-on (popped f q k) refl refl
         (moved-right o true true f r q (without f k) (e ∙ ap suc (sym (without-length o f r k h))) (without-valid o f r k)) noLookup tt

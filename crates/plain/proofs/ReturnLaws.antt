@@ -15,7 +15,7 @@ use Rattle.model.specs.Rules.{Right}
 use Rattle.model.proofs.Lent.{contents-room, bodies-room, front-same}
 use Rattle.plain.specs.Registers.{Registers, finished}
 use Rattle.plain.specs.State.{Frame, Plain, movedTo, withFrames}
-use Rattle.plain.specs.Step.{Stepped, next, noLookup, provided, returned}
+use Rattle.plain.specs.Step.{Stepped, leadsTo, noLookup, provided, returned}
 use Rattle.plain.specs.Flat.{frameSender, framePosition, frameDepth, frameMethod, frameAt, framesFrom, unlessBottom}
 use Rattle.plain.specs.FlatCalls.{atFront, laid}
 use Rattle.plain.specs.Cache.{filled}

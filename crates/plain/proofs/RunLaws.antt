@@ -17,7 +17,7 @@ use Rattle.model.proofs.Extends.{Extends, extends-refl, extends-trans}
 use Rattle.model.proofs.Unchanged.{lookup-same}
 use Rattle.plain.specs.Registers.{idle, running, hasFrames, Cause, notUnderstood, noBoolean, noStackRoom, phaseOf}
 use Rattle.plain.specs.State.{Frame, Plain, objects}
-use Rattle.plain.specs.Step.{Looked, Stepped, next, halts, missing, stepFrame, step}
+use Rattle.plain.specs.Step.{Looked, Stepped, leadsTo, halts, missing, stepFrame, step}
 use Rattle.plain.specs.Calls.{Taken, taken, Ran, ran, stuck, counted, halted, onward, ifRunning, steps}
 use Rattle.plain.specs.Flat.{framesFrom}
 use Rattle.plain.specs.Cache.{filled, cacheFine}
@@ -202,7 +202,7 @@ module _ (room : Room) (worlds : Worlds room) where
           → RunGoes n p₁ stack₁ cache₁ (steps room n p₁)
 
       after-step : (x : Stepped) → step room p ≡ x → Goes (After (p .registers .edition) room) room p x → p .registers .phase ≡ running → Again → RunGoes (suc n) p stack cache (onward (λ s′. steps room n s′) p x)
-      after-step (next p₁ l) x g e again =
+      after-step (leadsTo p₁ l) x g e again =
           let r₁ = kept-right room p p₁ r (g .0) in
           let ls₁ = length-laid stack (p₁ .registers .top) (p₁ .frames) in
           let lc₁ = length-filled cache l in

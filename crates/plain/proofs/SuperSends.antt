@@ -8,7 +8,7 @@ use Rattle.bytecode.specs.Constant.{nilWord}
 use Rattle.model.specs.Image.{Verdict, accepted, refused}
 use Rattle.plain.specs.Registers.{notUnderstood}
 use Rattle.plain.specs.State.{Plain, Frame}
-use Rattle.plain.specs.Step.{Stepped, next, halts, missing, Activation, entered, activated, looked, popped, step}
+use Rattle.plain.specs.Step.{Stepped, leadsTo, halts, missing, Activation, entered, activated, looked, popped, step}
 use Rattle.plain.specs.Flat.{Flat, roomOf, plainOf}
 use Rattle.plain.specs.Check.{check}
 use Rattle.plain.specs.FlatCalls.{laid, withPlain, flatLoad, flatBegin, flatRun}
@@ -70,7 +70,7 @@ byLetter s [] = missing
 byLetter s (f ∷ rest) = activated (roomOf s) (plainOf s) (popped f 3 1) rest 32 3 [] (looked 26 18 32) entered
 
 abbrev afterStep : Flat → Stepped → Flat
-afterStep s (next p l) = withPlain s p (laid (s .stack) (p .registers .top) (p .frames)) (s .cache)
+afterStep s (leadsTo p l) = withPlain s p (laid (s .stack) (p .registers .top) (p .frames)) (s .cache)
 afterStep s (halts c) = s
 afterStep s missing = s
 

@@ -137,7 +137,7 @@ module _ (s : Flat) (right : FlatRight s) where
       by-shape (ends x y z f) = absurd (subst (λ (k : ℕ). T (hasFrames k)) x (subst T (sym e) tt))
 
   begin-agrees : (receiver selector : ℕ) (arguments : List ℕ) (x : Begun) → BeginGoes room p x
-      → Both (beginCall receiver selector arguments) (F.afterBegin s x) (afterBegin p x)
+      → Both (beginCall receiver selector arguments) (F.flatAfterBegin s x) (afterBegin p x)
   unfolding highestEnd number-of
   begin-agrees receiver selector arguments (begun p′) g =
       leads (beginCall receiver selector arguments) done p′ [] (laid (s .stack) 0 (p′ .frames)) (s .cache) (g .right) (g .extends) (begin-stood p′ g)
@@ -146,7 +146,7 @@ module _ (s : Flat) (right : FlatRight s) where
   begin-agrees receiver selector arguments (declined k) g = refuses (beginCall receiver selector arguments) k g tt
 
   -- run
-  run-agrees : (n : ℕ) → p .registers .phase ≡ running → (x : Ran) → RunGoes room (worlds room) n p (s .stack) (s .cache) x → Both (runCall n) (F.afterRun s x) (afterRun x)
+  run-agrees : (n : ℕ) → p .registers .phase ≡ running → (x : Ran) → RunGoes room (worlds room) n p (s .stack) (s .cache) x → Both (runCall n) (F.flatAfterRun s x) (afterRun x)
   unfolding number-of
   run-agrees n i (ran k p′ ts) g =
       leads (runCall n) (result (p′ .registers .phase) k (p′ .registers .value)) p′ ts (stackAfter (s .stack) ts) (cacheAfter (s .cache) ts) (g .right) (g .extends) (g .stood)
@@ -155,7 +155,7 @@ module _ (s : Flat) (right : FlatRight s) where
       (run-ends room n k p′ (g .made) (g .whole) (g .busy (λ e. omega arith)) (g .halts (omega arith)) (g .right .stands)) (g .reach)
   run-agrees n i stuck g = absurd g
 
-  run-by : (n : ℕ) (b : Bool) → eqb (s .registers .phase) running ≡ b → Both (runCall n) (F.runIf s n b) (runIf room n p b)
+  run-by : (n : ℕ) (b : Bool) → eqb (s .registers .phase) running ≡ b → Both (runCall n) (F.flatRunIf s n b) (runIf room n p b)
   unfolding plainOf
   run-by n true e =
       run-agrees n (eqb-true (s .registers .phase) running e) (steps room n p)
@@ -206,10 +206,10 @@ module _ (s : Flat) (right : FlatRight s) where
   unfolding flatCall call flatBegin flatRun flatDrop flatForget
   call-agrees (beginCall receiver selector arguments) =
       subst (λ (g : Given). Both (beginCall receiver selector arguments) g (afterBegin p (begin room p receiver selector arguments)))
-      (sym (passes (F.afterBegin s (begin room p receiver selector arguments))))
+      (sym (passes (F.flatAfterBegin s (begin room p receiver selector arguments))))
       (begin-agrees receiver selector arguments (begin room p receiver selector arguments) (begins room (worlds room) p (right .plain) receiver selector arguments))
   call-agrees (runCall n) =
-      subst (λ (g : Given). Both (runCall n) g (runIf room n p (eqb (p .registers .phase) running))) (sym (passes (F.runIf s n (eqb (s .registers .phase) running))))
+      subst (λ (g : Given). Both (runCall n) g (runIf room n p (eqb (p .registers .phase) running))) (sym (passes (F.flatRunIf s n (eqb (s .registers .phase) running))))
       (unfold plainOf in run-by n (eqb (s .registers .phase) running) refl)
   call-agrees dropCall =
       subst (λ (g : Given). Both dropCall g (called done (dropped p) [])) (sym (passes (gives done (withPlain s (dropped p) (s .stack) (s .cache))))) dropped-agrees

@@ -15,11 +15,11 @@ use Rattle.model.proofs.Extends.{Extends}
 use Rattle.model.proofs.Unchanged.{lookup-same}
 use Rattle.plain.specs.Registers.{Registers, running, Cause, phaseOf, withPhase}
 use Rattle.plain.specs.State.{Frame, Plain, objects, withFrames}
-use Rattle.plain.specs.Step.{Looked, Stepped, next, halts, missing, step}
+use Rattle.plain.specs.Step.{Looked, Stepped, leadsTo, halts, missing, step}
 use Rattle.plain.specs.Calls.{Taken, taken, Ran, ran, stuck, counted, halted, onward, ifRunning, steps, Answer, result}
 use Rattle.plain.specs.Cache.{filled, cacheFine}
 use Rattle.plain.specs.Flat.{Flat, roomOf, flatObjects, plainOf, framesFrom, ifFrames}
-use Rattle.plain.specs.FlatCalls.{Given, gives, noAnswer, atFront, withPlain, laid, stackAfter, cacheAfter, topEnd, highestEnd, afterRunFrom, runsFrom, highestOf, endsFrom}
+use Rattle.plain.specs.FlatCalls.{Given, gives, noAnswer, atFront, withPlain, laid, stackAfter, cacheAfter, topEnd, highestEnd, flatAfterRunFrom, runsFrom, highestOf, endsFrom}
 use Rattle.plain.proofs.LaidLaws.{length-laid}
 use Rattle.plain.proofs.Preserve.{Goes, Kept}
 use Rattle.plain.proofs.StateLaws.{PlainRight}
@@ -61,7 +61,7 @@ no-more : (left k : ℕ) (s : Flat) → FlatRight s → steps (roomOf s) left (p
     → runsFrom left k s ≡ gives (result (s .registers .phase) k (s .registers .value)) s
 unfolding runsFrom stackAfter cacheAfter plainOf
 no-more left k s r e =
-    ap (afterRunFrom k s) e ∙ ap₂ (λ (c : ℕ) (t : Flat). gives (result (s .registers .phase) c (s .registers .value)) t) (none k) (plain-same s r)
+    ap (flatAfterRunFrom k s) e ∙ ap₂ (λ (c : ℕ) (t : Flat). gives (result (s .registers .phase) c (s .registers .value)) t) (none k) (plain-same s r)
   where
     none : (k : ℕ) → k + 0 ≡ k
     none k = omega arith
@@ -96,14 +96,14 @@ highest-least q [] = omega arith
 highest-least q (taken l q′ ∷ ts) = omega arith
 
 -- One bytecode that was made
-module _ (s : Flat) (right : FlatRight s) (phase : s .registers .phase ≡ running) (p′ : Plain) (l : Looked) (made : step (roomOf s) (plainOf s) ≡ next p′ l) where
+module _ (s : Flat) (right : FlatRight s) (phase : s .registers .phase ≡ running) (p′ : Plain) (l : Looked) (made : step (roomOf s) (plainOf s) ≡ leadsTo p′ l) where
   abbrev room : Room
   room = roomOf s
 
   abbrev p : Plain
   p = plainOf s
 
-  goes-on : Goes (Rattle.plain.proofs.After.After (p .registers .edition) room) room p (next p′ l)
+  goes-on : Goes (Rattle.plain.proofs.After.After (p .registers .edition) room) room p (leadsTo p′ l)
   unfolding plainOf
   goes-on = subst (Goes (Rattle.plain.proofs.After.After (p .registers .edition) room) room p) made (step-goes room (worlds room) p (right .plain) phase)
 
@@ -146,7 +146,7 @@ module _ (s : Flat) (right : FlatRight s) (phase : s .registers .phase ≡ runni
 
   -- the rest of the run, from either state
   counted-from : (k : ℕ) (x : Ran) → ((j : ℕ) (q : Plain) (ts : List Taken) → x ≡ ran j q ts → (length (p′ .contents) ≤ length (q .contents)) × (length (p′ .bodies) ≤ length (q .bodies)))
-      → afterRunFrom k s (counted (taken l p′) x) ≡ afterRunFrom (k + 1) s′ x
+      → flatAfterRunFrom k s (counted (taken l p′) x) ≡ flatAfterRunFrom (k + 1) s′ x
   unfolding stackAfter cacheAfter
   counted-from k (ran j q ts) h =
       let g = h j q ts refl in
@@ -188,10 +188,10 @@ module _ (s : Flat) (right : FlatRight s) (phase : s .registers .phase ≡ runni
   pub turn-runs : (left k : ℕ) → runsFrom (suc left) k s ≡ runsFrom left (k + 1) s′
   unfolding runsFrom
   turn-runs left k =
-      ap (afterRunFrom k s) (steps-more left)
+      ap (flatAfterRunFrom k s) (steps-more left)
       ∙ counted-from k (steps room left p′) (grown left (steps room left p′) (runs-right room (worlds room) left p′ stack′ cache′ right-p
       (length-laid (s .stack) (p′ .registers .top) (p′ .frames)) (length-filled (s .cache) l ∙ right .cacheLength) stood-p cached-p))
-      ∙ ap (afterRunFrom (k + 1) s′) (same-steps left)
+      ∙ ap (flatAfterRunFrom (k + 1) s′) (same-steps left)
 
   -- and the highest end
   pub turn-ends : (left h : ℕ) → topEnd p ≤ h → endsFrom (suc left) h s ≡ endsFrom left (max h (topEnd p′)) s′
@@ -224,7 +224,7 @@ module _ (s : Flat) (right : FlatRight s) (phase : s .registers .phase ≡ runni
       })
   unfolding runsFrom stackAfter cacheAfter plainOf
   halt-runs left k =
-      ap (afterRunFrom k s) (halt-steps left)
+      ap (flatAfterRunFrom k s) (halt-steps left)
       ∙ (λ i. gives (result (phaseOf c) (none k i) 0) (record {
         registers = withPhase (s .registers) (phaseOf c) (s .registers .top) 0;
         contents = plain-same s
@@ -242,11 +242,11 @@ module _ (s : Flat) (right : FlatRight s) (phase : s .registers .phase ≡ runni
   halt-ends left h t = ap (λ (x : Ran). max h (highestOf (plainOf s) x)) (halt-steps left) ∙ omega arith
 
 -- A whole run is what is left of it at its start.
-pub whole-run : (n : ℕ) (s : Flat) → runsFrom n 0 s ≡ Rattle.plain.specs.FlatCalls.afterRun s (steps (roomOf s) n (plainOf s))
+pub whole-run : (n : ℕ) (s : Flat) → runsFrom n 0 s ≡ Rattle.plain.specs.FlatCalls.flatAfterRun s (steps (roomOf s) n (plainOf s))
 unfolding runsFrom
 whole-run n s = go (steps (roomOf s) n (plainOf s))
   where
-    go : (x : Ran) → afterRunFrom 0 s x ≡ Rattle.plain.specs.FlatCalls.afterRun s x
+    go : (x : Ran) → flatAfterRunFrom 0 s x ≡ Rattle.plain.specs.FlatCalls.flatAfterRun s x
     go (ran k p ts) = ap (λ (j : ℕ). gives (result (p .registers .phase) j (p .registers .value)) (withPlain s p (stackAfter (s .stack) ts) (cacheAfter (s .cache) ts))) (zero-plus k)
       where
         zero-plus : (k : ℕ) → 0 + k ≡ k

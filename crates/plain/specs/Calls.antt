@@ -14,7 +14,7 @@ use Rattle.model.specs.Rules.{rule8}
 use Rattle.model.specs.Image.{Room, imageHeader, imageObjects}
 use Rattle.plain.specs.Registers.{Registers, idle, running, finished, Cause, phaseOf}
 use Rattle.plain.specs.State.{Frame, Plain, objects, withObjects, withFrames, newFrame, fitsStack}
-use Rattle.plain.specs.Step.{Looked, Stepped, next, halts, missing, Activation, answered, entered, unfit, activate, step}
+use Rattle.plain.specs.Step.{Looked, Stepped, leadsTo, halts, missing, Activation, answered, entered, unfit, activate, step}
 
 -- The machine starts with the image's objects and start words, no frames, phase and value 0.
 unfoldable pub loaded : List ℕ → Plain
@@ -71,7 +71,7 @@ halted s cause = withFrames s (s .frames) (phaseOf cause) (s .registers .top) 0
 
 -- What follows a step; `again` is the rest of the run, as a function so that it waits.
 abbrev pub onward : (Plain → Ran) → Plain → Stepped → Ran
-onward again s (next s′ l) = counted (taken l s′) (again s′)
+onward again s (leadsTo s′ l) = counted (taken l s′) (again s′)
 onward again s (halts cause) = ran 0 (halted s cause) []
 onward again s missing = stuck
 

@@ -53,25 +53,25 @@ checked s accepted g = g
 checked s (refused k) g = gives (refusedBy k) s
 
 -- Begin: the words of the first frame, or none. It does not touch the cache.
-abbrev pub afterBegin : Flat → Begun → Given
-afterBegin s (begun p) = gives done (withPlain s p (laid (s .stack) 0 (p .frames)) (s .cache))
-afterBegin s (declined k) = gives (refusedBy k) s
+abbrev pub flatAfterBegin : Flat → Begun → Given
+flatAfterBegin s (begun p) = gives done (withPlain s p (laid (s .stack) 0 (p .frames)) (s .cache))
+flatAfterBegin s (declined k) = gives (refusedBy k) s
 
 unfoldable pub flatBegin : Flat → ℕ → ℕ → List ℕ → Given
-flatBegin s receiver selector arguments = checked s (check s) (afterBegin s (begin (roomOf s) (plainOf s) receiver selector arguments))
+flatBegin s receiver selector arguments = checked s (check s) (flatAfterBegin s (begin (roomOf s) (plainOf s) receiver selector arguments))
 
 -- Run: phase, count, value and reach; reach is left to the program.
-abbrev pub afterRun : Flat → Ran → Given
-afterRun s (ran k p ts) =
+abbrev pub flatAfterRun : Flat → Ran → Given
+flatAfterRun s (ran k p ts) =
     gives (result (p .registers .phase) k (p .registers .value)) (withPlain s p (stackAfter (s .stack) ts) (cacheAfter (s .cache) ts))
-afterRun s stuck = noAnswer
+flatAfterRun s stuck = noAnswer
 
-abbrev pub runIf : Flat → ℕ → Bool → Given
-runIf s n true = afterRun s (steps (roomOf s) n (plainOf s))
-runIf s n false = gives (refusedBy 12) s
+abbrev pub flatRunIf : Flat → ℕ → Bool → Given
+flatRunIf s n true = flatAfterRun s (steps (roomOf s) n (plainOf s))
+flatRunIf s n false = gives (refusedBy 12) s
 
 unfoldable pub flatRun : Flat → ℕ → Given
-flatRun s n = checked s (check s) (runIf s n (eqb (s .registers .phase) running))
+flatRun s n = checked s (check s) (flatRunIf s n (eqb (s .registers .phase) running))
 
 -- What holds of reach (01's term): it is between the end of the highest frame that stood in the run and the stack's length.
 unfoldable pub topEnd : Plain → ℕ
@@ -89,13 +89,13 @@ unfoldable pub reachFine : Flat → ℕ → ℕ → Bool
 reachFine s n reach = reachOf s (steps (roomOf s) n (plainOf s)) reach
 
 -- What is left of a run from a state on, k bytecodes having been made; and the highest end of a frame, with h that of the frames so far
-abbrev pub afterRunFrom : ℕ → Flat → Ran → Given
-afterRunFrom k s (ran j p ts) =
+abbrev pub flatAfterRunFrom : ℕ → Flat → Ran → Given
+flatAfterRunFrom k s (ran j p ts) =
     gives (result (p .registers .phase) (k + j) (p .registers .value)) (withPlain s p (stackAfter (s .stack) ts) (cacheAfter (s .cache) ts))
-afterRunFrom k s stuck = noAnswer
+flatAfterRunFrom k s stuck = noAnswer
 
 unfoldable pub runsFrom : ℕ → ℕ → Flat → Given
-runsFrom left k s = afterRunFrom k s (steps (roomOf s) left (plainOf s))
+runsFrom left k s = flatAfterRunFrom k s (steps (roomOf s) left (plainOf s))
 
 abbrev pub highestOf : Plain → Ran → ℕ
 highestOf p (ran k p′ ts) = highestEnd p ts

@@ -16,7 +16,7 @@ use Rattle.model.specs.Rules.{Right, takesCount, methodTable}
 use Rattle.model.specs.Image.{Room}
 use Rattle.plain.specs.Registers.{Registers, running, finished}
 use Rattle.plain.specs.State.{Frame, Plain}
-use Rattle.plain.specs.Step.{Looked, noLookup, Stepped, next, afterLookup, popped, step}
+use Rattle.plain.specs.Step.{Looked, noLookup, Stepped, leadsTo, afterLookup, popped, step}
 use Rattle.plain.specs.Flat.{frameSender, framePosition, frameDepth, frameMethod, operandsStart, frameAt, unlessBottom, framesFrom}
 use Rattle.plain.specs.Check.{framesFine}
 use Rattle.plain.specs.Cache.{filled}
@@ -62,7 +62,7 @@ pub record At (n b top : ℕ) (contents bodies stack : List ℕ) (position : ℕ
 -- A bytecode that leaves N, B, the entries and the base of the top frame: the bodies and the stack after it
 pub record Moves (room : Room) (p : Plain) (bodies stack bodies′ stack′ : List ℕ) : Type 0 where
   pub state : Plain
-  pub steps : step room p ≡ next state noLookup
+  pub steps : step room p ≡ leadsTo state noLookup
   pub registers : state .registers ≡ p .registers
   pub contents : state .contents ≡ p .contents
   pub words : bodies′ ≡ atFront (state .bodies) bodies
@@ -76,7 +76,7 @@ Moved n b top contents bodies stack bodies′ stack′ =
 pub record Made (x : Stepped) (r : Registers) (contents bodies stack cache contents′ bodies′ stack′ cache′ : List ℕ) : Type 0 where
   pub state : Plain
   pub lookup : Looked
-  pub steps : x ≡ next state lookup
+  pub steps : x ≡ leadsTo state lookup
   pub registers : state .registers ≡ r
   pub entries : contents′ ≡ atFront (state .contents) contents
   pub words : bodies′ ≡ atFront (state .bodies) bodies

@@ -36,7 +36,7 @@ pub data Looked : Type 0 where
 
 -- A step leads to a state; or halts, which leaves the state before the bytecode; or does not exist.
 pub data Stepped : Type 0 where
-  next : Plain → Looked → Stepped
+  leadsTo : Plain → Looked → Stepped
   halts : Cause → Stepped
   missing : Stepped
 
@@ -76,7 +76,7 @@ hasWord o f depth = ltb (temporaryCount o (f .method) + depth) (frameWords o (f 
 
 unfoldable pub pushed : Plain → Frame → List Frame → ℕ → List ℕ → ℕ → Looked → Stepped
 pushed s f rest position operands w l =
-    provided (hasWord (objects s) f (length operands)) (next (onTop s (movedTo f position (operands ++ (w ∷ []))) rest) l)
+    provided (hasWord (objects s) f (length operands)) (leadsTo (onTop s (movedTo f position (operands ++ (w ∷ []))) rest) l)
 
 -- The value of a place
 unfoldable pub read : Objects → Frame → Place → Option ℕ
@@ -89,21 +89,21 @@ read o f (LiteralVariable i) = elim (literalOf o (f .method) i) [ none ↦ none 
 unfoldable pub storedField : Plain → Frame → List Frame → ℕ → ℕ → ℕ → Stepped
 storedField s f rest v i w =
     fieldOf (objects s) v i >>= λ old.
-    next (withObjects (onTop s f rest) (storeWord (objects s) (objectNumber v) i w)) noLookup
+    leadsTo (withObjects (onTop s f rest) (storeWord (objects s) (objectNumber v) i w)) noLookup
 
 unfoldable pub stored : Plain → Frame → List Frame → Place → ℕ → Stepped
 stored s f rest (Field i) w = storedField s f rest (f .receiver) i w
 stored s f rest (Temporary i) w =
-    getElem? (f .temporaries) i >>= λ old. next (onTop s (withTemporaries f (set (f .temporaries) i w)) rest) noLookup
+    getElem? (f .temporaries) i >>= λ old. leadsTo (onTop s (withTemporaries f (set (f .temporaries) i w)) rest) noLookup
 stored s f rest (Literal i) w = missing
 stored s f rest (LiteralVariable i) w = literalOf (objects s) (f .method) i >>= λ v. storedField s f rest v 1 w
 
 -- A return pushes on the sender and does nothing else; from the bottom frame it finishes with the value.
 unfoldable pub returned : Plain → Frame → List Frame → ℕ → Stepped
-returned s f [] w = next (withFrames s [] finished 0 w) noLookup
+returned s f [] w = leadsTo (withFrames s [] finished 0 w) noLookup
 returned s f (g ∷ rest) w =
     provided (hasWord (objects s) g (g .depth))
-    (next (withFrames s (movedTo g (g .position) (g .operands ++ (w ∷ [])) ∷ rest) running (f .sender) 0) noLookup)
+    (leadsTo (withFrames s (movedTo g (g .position) (g .operands ++ (w ∷ [])) ∷ rest) running (f .sender) 0) noLookup)
 
 -- What a method does on a receiver and arguments: it answers without a frame, or runs in a new one; or the receiver is not one that it
 -- can run on, which only a super send can meet (docs/DECISIONS.md, "Super sends to another receiver").
@@ -137,14 +137,14 @@ activate e room o m receiver arguments =
 unfoldable pub framed : Room → Plain → Frame → List Frame → ℕ → ℕ → List ℕ → Looked → Stepped
 framed room s f rest m receiver arguments l =
     if fitsStack (room .stack) (s .registers .top + frameSize (objects s) (f .method)) (frameSize (objects s) m)
-    then next
+    then leadsTo
     (withFrames s (newFrame (objects s) (s .registers .top) m receiver arguments ∷ f ∷ rest) running
     (s .registers .top + frameSize (objects s) (f .method)) 0) l
     else halts noStackRoom
 
 -- The same step with the objects that a primitive left
 abbrev pub changed : Objects → Stepped → Stepped
-changed o (next s l) = next (withObjects s o) l
+changed o (leadsTo s l) = leadsTo (withObjects s o) l
 changed o (halts c) = halts c
 changed o missing = missing
 
@@ -206,8 +206,8 @@ specialSends room s f rest position k =
 unfoldable pub jumps : Plain → Frame → List Frame → ℕ → Bool → ℕ → Stepped
 jumps s f rest position condition ahead =
     operand f 0 >>= λ w.
-    if eqb w (booleanWord condition) then next (onTop s (popped f (position + ahead) 1) rest) noLookup else
-    if eqb w trueWord || eqb w falseWord then next (onTop s (popped f position 1) rest) noLookup else
+    if eqb w (booleanWord condition) then leadsTo (onTop s (popped f (position + ahead) 1) rest) noLookup else
+    if eqb w trueWord || eqb w falseWord then leadsTo (onTop s (popped f position 1) rest) noLookup else
     halts noBoolean
 
 -- One instruction, the next one at `position`
@@ -220,10 +220,10 @@ execute room s f rest position (PushConstant w) = pushed s f rest position (f .o
 execute room s f rest position ReturnSelf = returned s f rest (f .receiver)
 execute room s f rest position (ReturnConstant w) = returned s f rest w
 execute room s f rest position ReturnTop = operand f 0 >>= λ w. returned s f rest w
-execute room s f rest position Pop = operand f 0 >>= λ w. next (onTop s (popped f position 1) rest) noLookup
+execute room s f rest position Pop = operand f 0 >>= λ w. leadsTo (onTop s (popped f position 1) rest) noLookup
 execute room s f rest position Duplicate = operand f 0 >>= λ w. pushed s f rest position (f .operands) w noLookup
 execute room s f rest position (Jump ahead back) =
-    provided (leb back (position + ahead)) (next (onTop s (movedTo f (position + ahead - back) (f .operands)) rest) noLookup)
+    provided (leb back (position + ahead)) (leadsTo (onTop s (movedTo f (position + ahead - back) (f .operands)) rest) noLookup)
 execute room s f rest position (JumpOn condition ahead) = jumps s f rest position condition ahead
 execute room s f rest position (Send l n) =
     literalOf (objects s) (f .method) l >>= λ w. sends room s f rest position (classOf (objects s)) w n

@@ -20,7 +20,7 @@ use Rattle.plain.specs.Step.{Activation, answered, entered, unfit, activate}
 use Rattle.plain.specs.Calls.{Begun, begun, declined, beginActivated, beginFound, begin, Ran, ran, stuck, steps, Answer, done, refusedBy, result, wrote}
 use Rattle.plain.specs.Flat.{Flat, roomOf, plainOf}
 use Rattle.plain.specs.Check.{stateFine, check}
-use Rattle.plain.specs.FlatCalls.{Given, gives, noAnswer, checked, afterBegin, flatBegin, afterRun, runIf, flatRun, flatDrop, flatForget, afterLoad, flatLoad, Saved, saved, afterSave, saveVerdict, flatSave}
+use Rattle.plain.specs.FlatCalls.{Given, gives, noAnswer, checked, flatAfterBegin, flatBegin, flatAfterRun, flatRunIf, flatRun, flatDrop, flatForget, afterLoad, flatLoad, Saved, saved, afterSave, saveVerdict, flatSave}
 
 abbrev pub Numbered : Answer → Type 0
 Numbered done = Unit {0}
@@ -111,7 +111,7 @@ pub begin-number : (s : Flat) (w selector : ℕ) (arguments : List ℕ) → Numb
 unfolding flatBegin
 begin-number s w selector arguments = after-check s (check s) _ (check-numbered s) (go (begin (roomOf s) (plainOf s) w selector arguments) (begin-numbered (roomOf s) (plainOf s) w selector arguments))
   where
-    go : (x : Begun) → NumberedBegun x → NumberedIn (afterBegin s x)
+    go : (x : Begun) → NumberedBegun x → NumberedIn (flatAfterBegin s x)
     go (begun p) t = tt
     go (declined k) t = t
 
@@ -119,11 +119,11 @@ pub run-number : (s : Flat) (n : ℕ) → NumberedIn (flatRun s n)
 unfolding flatRun
 run-number s n = after-check s (check s) _ (check-numbered s) (go (eqb (s .registers .phase) running))
   where
-    after : (x : Ran) → NumberedIn (afterRun s x)
+    after : (x : Ran) → NumberedIn (flatAfterRun s x)
     after (ran k p ts) = tt
     after stuck = tt
 
-    go : (b : Bool) → NumberedIn (runIf s n b)
+    go : (b : Bool) → NumberedIn (flatRunIf s n b)
     go true = after (steps (roomOf s) n (plainOf s))
     go false = omega arith
 

@@ -15,7 +15,7 @@ use Rattle.model.specs.Rules.{methodTable}
 use Rattle.model.specs.Primitive.{storeWord}
 use Rattle.model.specs.Image.{Room}
 use Rattle.plain.specs.State.{Frame, Plain, movedTo, withTemporaries, withObjects}
-use Rattle.plain.specs.Step.{Stepped, next, noLookup, provided, onTop, hasWord, pushed, without, popped, execute}
+use Rattle.plain.specs.Step.{Stepped, leadsTo, noLookup, provided, onTop, hasWord, pushed, without, popped, execute}
 use Rattle.plain.specs.Flat.{frameMethod, frameAt}
 use Rattle.plain.specs.FlatCalls.{laid, atFront}
 use Rattle.plain.specs.Running.{Moved, runningAt, topFrame, restFrames}
@@ -62,7 +62,7 @@ module _ {n b top : ℕ} {contents bodies stack : List ℕ} {h : Here} {i : Inst
   Does x = (receiver selector : ℕ) (room : Room) → execute room (at receiver selector) f rest (h .next) i ≡ x (at receiver selector) room
 
   -- the top frame becomes another one
-  pub moves : (f′ : Frame) (stack′ : List ℕ) → Does (λ s room. next (onTop s f′ rest) noLookup) → stack′ ≡ laid stack top (f′ ∷ rest)
+  pub moves : (f′ : Frame) (stack′ : List ℕ) → Does (λ s room. leadsTo (onTop s f′ rest) noLookup) → stack′ ≡ laid stack top (f′ ∷ rest)
       → Moved n b top contents bodies stack bodies stack′
   moves f′ stack′ e l receiver selector room =
       record {
@@ -75,7 +75,7 @@ module _ {n b top : ℕ} {contents bodies stack : List ℕ} {h : Here} {i : Inst
       }
 
   -- and a word of an object another word
-  pub moves-storing : (f′ : Frame) (stack′ bodies′ : List ℕ) (k j w : ℕ) → Does (λ s room. next (withObjects (onTop s f′ rest) (storeWord o k j w)) noLookup)
+  pub moves-storing : (f′ : Frame) (stack′ bodies′ : List ℕ) (k j w : ℕ) → Does (λ s room. leadsTo (withObjects (onTop s f′ rest) (storeWord o k j w)) noLookup)
       → stack′ ≡ laid stack top (f′ ∷ rest) → bodies′ ≡ atFront (storeWord o k j w .bodies) bodies → Moved n b top contents bodies stack bodies′ stack′
   unfolding storeWord
   moves-storing f′ stack′ bodies′ k j w e l x receiver selector room =
@@ -104,28 +104,28 @@ module _ {n b top : ℕ} {contents bodies stack : List ℕ} {h : Here} {i : Inst
   all-operands k e = take-all k (f .operands) (let x = right .depth in let y = depth-of in omega arith)
 
   -- The frame moves on to q with the first k operands.
-  pub goes-on : (q k : ℕ) → k ≤ h .depth → Does (λ s room. next (onTop s (movedTo f q (take k (f .operands))) rest) noLookup)
+  pub goes-on : (q k : ℕ) → k ≤ h .depth → Does (λ s room. leadsTo (onTop s (movedTo f q (take k (f .operands))) rest) noLookup)
       → Moved n b top contents bodies stack bodies (set (set stack (top + 1) q) (top + 2) k)
   goes-on q k l e =
       moves (movedTo f q (take k (f .operands))) (set (set stack (top + 1) q) (top + 2) k) e
       (sym (moved-writes o stack top (suc top) f rest (all-right (a .at .runs)) (stood (a .at .runs)) q k (let x = depth-of in omega arith)))
 
   -- It moves on with all its operands.
-  pub goes-whole : (q : ℕ) → Does (λ s room. next (onTop s (movedTo f q (f .operands)) rest) noLookup)
+  pub goes-whole : (q : ℕ) → Does (λ s room. leadsTo (onTop s (movedTo f q (f .operands)) rest) noLookup)
       → Moved n b top contents bodies stack bodies (set (set stack (top + 1) q) (top + 2) (h .depth))
   goes-whole q e =
       goes-on q (h .depth) (omega arith) (λ receiver selector room. e receiver selector room
-      ∙ ap (λ (l : List ℕ). next (onTop (at receiver selector) (movedTo f q l) rest) noLookup) (sym (all-operands (h .depth) refl)))
+      ∙ ap (λ (l : List ℕ). leadsTo (onTop (at receiver selector) (movedTo f q l) rest) noLookup) (sym (all-operands (h .depth) refl)))
 
   -- It moves on without the uppermost operand.
-  pub goes-popped : (q : ℕ) → Does (λ s room. next (onTop s (popped f q 1) rest) noLookup)
+  pub goes-popped : (q : ℕ) → Does (λ s room. leadsTo (onTop s (popped f q 1) rest) noLookup)
       → Moved n b top contents bodies stack bodies (set (set stack (top + 1) q) (top + 2) (h .depth - 1))
   goes-popped q e =
       goes-on q (h .depth - 1) (omega arith) (λ receiver selector room. e receiver selector room
-      ∙ ap (λ (k : ℕ). next (onTop (at receiver selector) (movedTo f q (take (k - 1) (f .operands))) rest) noLookup) depth-of)
+      ∙ ap (λ (k : ℕ). leadsTo (onTop (at receiver selector) (movedTo f q (take (k - 1) (f .operands))) rest) noLookup) depth-of)
 
   -- It moves on with the first k operands, and a word of an object is stored.
-  pub goes-storing : (q k v j w : ℕ) (bodies′ : List ℕ) → k ≤ h .depth → Does (λ s room. next (withObjects (onTop s (movedTo f q (take k (f .operands))) rest) (storeWord o v j w)) noLookup)
+  pub goes-storing : (q k v j w : ℕ) (bodies′ : List ℕ) → k ≤ h .depth → Does (λ s room. leadsTo (withObjects (onTop s (movedTo f q (take k (f .operands))) rest) (storeWord o v j w)) noLookup)
       → bodies′ ≡ atFront (storeWord o v j w .bodies) bodies → Moved n b top contents bodies stack bodies′ (set (set stack (top + 1) q) (top + 2) k)
   goes-storing q k v j w bodies′ l e x =
       moves-storing (movedTo f q (take k (f .operands))) (set (set stack (top + 1) q) (top + 2) k) bodies′ v j w e
@@ -133,7 +133,7 @@ module _ {n b top : ℕ} {contents bodies stack : List ℕ} {h : Here} {i : Inst
 
   -- It moves on with the first k operands, and a temporary is stored.
   pub goes-temporary : (q k j w : ℕ) → k ≤ h .depth → j < temporaryCount o (frameMethod stack top)
-      → Does (λ s room. next (onTop s (withTemporaries (movedTo f q (take k (f .operands))) (set (f .temporaries) j w)) rest) noLookup)
+      → Does (λ s room. leadsTo (onTop s (withTemporaries (movedTo f q (take k (f .operands))) (set (f .temporaries) j w)) rest) noLookup)
       → Moved n b top contents bodies stack bodies (set (set (set stack (top + 6 + j) w) (top + 1) q) (top + 2) k)
   goes-temporary q k j w l t e =
       moves (withTemporaries (movedTo f q (take k (f .operands))) (set (f .temporaries) j w)) (set (set (set stack (top + 6 + j) w) (top + 1) q) (top + 2) k) e
@@ -161,7 +161,7 @@ module _ {n b top : ℕ} {contents bodies stack : List ℕ} {h : Here} {i : Inst
   answers taken w l e d =
       moves (movedTo f (h .next) (without f taken ++ (w ∷ []))) (answered stack top h taken w)
       (λ receiver selector room. d receiver selector room ∙ provided-holds (hasWord o f (length (without f taken)))
-      (next (onTop (at receiver selector) (movedTo f (h .next) (without f taken ++ (w ∷ []))) rest) noLookup) has)
+      (leadsTo (onTop (at receiver selector) (movedTo f (h .next) (without f taken ++ (w ∷ []))) rest) noLookup) has)
       (same-three stack (let x = first-of in let y = depth-of in omega arith) refl refl refl refl (let y = depth-of in omega arith)
       ∙ sym (pushed-writes o stack top (suc top) f rest (all-right (a .at .runs)) (stood (a .at .runs)) (h .next) (f .depth - taken) w (omega arith) room))
     where

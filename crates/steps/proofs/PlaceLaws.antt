@@ -23,7 +23,7 @@ use Rattle.model.specs.Rules.{allowed, placeFine, variableFine, isWritable}
 use Rattle.model.specs.Primitive.{storeWord}
 use Rattle.model.proofs.SendFacts.{receiver-fields}
 use Rattle.plain.specs.State.{Frame, movedTo, withObjects}
-use Rattle.plain.specs.Step.{next, noLookup, _>>=_, onTop, popped, fieldOf, literalOf, read, storedField, stored, execute}
+use Rattle.plain.specs.Step.{leadsTo, noLookup, _>>=_, onTop, popped, fieldOf, literalOf, read, storedField, stored, execute}
 use Rattle.plain.specs.Flat.{frameMethod, frameReceiver, frameAt}
 use Rattle.plain.specs.FlatCalls.{atFront}
 use Rattle.plain.specs.Running.{Runs, Moved, runningAt, topFrame, restFrames}
@@ -222,5 +222,5 @@ module _ {n b top : ℕ} {contents bodies stack : List ℕ} {h : Here} {p : Plac
   stores-in v j bodies′ q d e =
       goes-storing (z .here) (h .next) left (objectNumber v) j top-word bodies′ store-left
       (λ receiver selector room. d receiver selector room
-      ∙ ap (λ (x : Option ℕ). x >>= λ old. next (withObjects (onTop (runningAt receiver selector n b top contents bodies stack)
+      ∙ ap (λ (x : Option ℕ). x >>= λ old. leadsTo (withObjects (onTop (runningAt receiver selector n b top contents bodies stack)
       (movedTo fₛ (h .next) (take left (fₛ .operands))) restₛ) (storeWord oₛ (objectNumber v) j top-word)) noLookup) (field-is store-runs q)) e

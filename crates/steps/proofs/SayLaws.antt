@@ -23,7 +23,7 @@ use Rattle.model.specs.Rules.{methodTable}
 use Rattle.model.specs.Image.{Room}
 use Rattle.plain.specs.Registers.{noBoolean}
 use Rattle.plain.specs.State.{Frame, Plain}
-use Rattle.plain.specs.Step.{Stepped, next, halts, noLookup, _>>=_, popped, onTop, pushed, read, returned, jumps, execute}
+use Rattle.plain.specs.Step.{Stepped, leadsTo, halts, noLookup, _>>=_, popped, onTop, pushed, read, returned, jumps, execute}
 use Rattle.plain.specs.Flat.{frameMethod, frameReceiver, frameAt}
 use Rattle.plain.specs.Running.{Moved, runningAt, topFrame, restFrames}
 use Rattle.plain.proofs.NowLaws.{Now}
@@ -137,7 +137,7 @@ module _ {n b top : ℕ} {contents bodies stack : List ℕ} {h : Here} where
   pop-says a stack′ q =
       subst (λ (l : List ℕ). Moved n b top contents bodies stack bodies l) (sym q)
       (goes-popped a (h .next) (λ receiver selector room. ap
-      (λ (x : Option ℕ). x >>= λ y. next (onTop (runningAt receiver selector n b top contents bodies stack) (popped (topFrame n b top contents bodies stack)
+      (λ (x : Option ℕ). x >>= λ y. leadsTo (onTop (runningAt receiver selector n b top contents bodies stack) (popped (topFrame n b top contents bodies stack)
       (h .next) 1) (restFrames n b top contents bodies stack)) noLookup) (operand-is a 0 (h .operands + (h .depth - 1)) (pop-needs a) refl)))
 
   jump-test : {ahead back : ℕ} → HereAt n b top contents bodies stack h (Jump ahead back) → T (leb back (h .next + ahead))
@@ -169,8 +169,8 @@ module _ {n b top : ℕ} {contents bodies stack : List ℕ} {h : Here} where
     -- what the step does with the boolean
     abbrev chosen : Plain → ℕ → Stepped
     chosen s w =
-        if eqb w (booleanWord condition) then next (onTop s (popped (topFrame n b top contents bodies stack) (h .next + ahead) 1) (restFrames n b top contents bodies stack)) noLookup else
-        if eqb w trueWord || eqb w falseWord then next (onTop s (popped (topFrame n b top contents bodies stack) (h .next) 1) (restFrames n b top contents bodies stack)) noLookup else
+        if eqb w (booleanWord condition) then leadsTo (onTop s (popped (topFrame n b top contents bodies stack) (h .next + ahead) 1) (restFrames n b top contents bodies stack)) noLookup else
+        if eqb w trueWord || eqb w falseWord then leadsTo (onTop s (popped (topFrame n b top contents bodies stack) (h .next) 1) (restFrames n b top contents bodies stack)) noLookup else
         halts noBoolean
 
     chooses : Does a (λ s room. chosen s tested)

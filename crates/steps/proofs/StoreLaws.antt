@@ -10,7 +10,7 @@ use Rattle.model.specs.Objects.{objectsAt}
 use Rattle.model.specs.Method.{literal}
 use Rattle.model.specs.Primitive.{storeWord}
 use Rattle.plain.specs.State.{movedTo, withTemporaries}
-use Rattle.plain.specs.Step.{next, noLookup, _>>=_, onTop, storedField, stored}
+use Rattle.plain.specs.Step.{leadsTo, noLookup, _>>=_, onTop, storedField, stored}
 use Rattle.plain.specs.Flat.{frameReceiver}
 use Rattle.plain.specs.FlatCalls.{atFront}
 use Rattle.plain.specs.Running.{Moved, runningAt, topFrame, restFrames}
@@ -38,7 +38,7 @@ module _ {n b top : ℕ} {contents bodies stack : List ℕ} {h : Here} {left : �
       subst (λ (l : List ℕ). Moved n b top contents bodies stack bodies l) (sym q)
       (goes-temporary (z .here) (h .next) left j (getD stack (h .operands + (h .depth - 1)) 0) (store-left z) (temporary-below (store-runs z) j (store-place z))
       (λ receiver selector room. stores z receiver selector room
-      ∙ ap (λ (x : Option ℕ). x >>= λ old. next (onTop (runningAt receiver selector n b top contents bodies stack)
+      ∙ ap (λ (x : Option ℕ). x >>= λ old. leadsTo (onTop (runningAt receiver selector n b top contents bodies stack)
       (withTemporaries (movedTo (topFrame n b top contents bodies stack) (h .next) (take left (topFrame n b top contents bodies stack .operands)))
       (set (topFrame n b top contents bodies stack .temporaries) j (getD stack (h .operands + (h .depth - 1)) 0))) (restFrames n b top contents bodies stack))
       noLookup) (temporary-at (store-runs z) j (store-place z))))
