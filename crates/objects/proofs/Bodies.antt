@@ -10,7 +10,7 @@ use Rattle.model.specs.Limits.{entryWords, fieldsKind, classKind, listKind, met
 use Rattle.model.specs.Word.{isPointer, isValid, pointer, objectNumber}
 use Rattle.model.specs.Objects.{objectsAt, start, size}
 use Rattle.model.specs.Method.{literalCount}
-use Rattle.model.specs.Rules.{Right}
+use Rattle.model.specs.Rules.{IsRight}
 use Rattle.model.proofs.ChainLaws.{named}
 use Rattle.bytecode.proofs.TestLaws.{true→T, and-left, and-right}
 use Rattle.model.proofs.Facts.{Valid, odd, names, valid-cases, in-words, least, inside, inside-selectors, class-words, method-words, method-facts, list-words}
@@ -26,27 +26,27 @@ pub record Room (n b : ℕ) (contents bodies : List ℕ) (w i : ℕ) : Type 0 wh
 module _ {n b : ℕ} {contents bodies : List ℕ} where
   pub room : {w i : ℕ} → Inside n b contents bodies w i → Room n b contents bodies w i
   room {w} {i} h =
-      let q = inside (h .right) (objectNumber w) (h .least) (h .most) in
+      let q = inside (h .right .1) (objectNumber w) (h .least) (h .most) in
       let l = h .word in
-      record { entries = contents-room n b contents bodies (h .right); below = omega arith; words = bodies-room n b contents bodies (h .right) }
+      record { entries = contents-room n b contents bodies (h .right .1); below = omega arith; words = bodies-room n b contents bodies (h .right .1) }
 
   pub class-inside : {c : ℕ} (i : ℕ) → i < 4 → Holds classKind n b contents bodies c → Inside n b contents bodies c i
   class-inside {c} i l h =
       let q = named (objectsAt n b contents bodies) classKind c (h .kinds) in
-      let s = class-words (h .right) c (h .kinds) in
+      let s = class-words (h .right .1) c (h .kinds) in
       record { right = h .right; least = q .least; most = q .most; word = omega arith }
 
   pub method-inside : {m : ℕ} (i : ℕ) → i < 2 + literalCount (objectsAt n b contents bodies) m → Holds methodKind n b contents bodies m → Inside n b contents bodies m i
   method-inside {m} i l h =
       let q = named (objectsAt n b contents bodies) methodKind m (h .kinds) in
-      let s = method-words (h .right) m (h .kinds) in
-      let f = method-facts (h .right) m (h .kinds) .holds in
+      let s = method-words (h .right .1) m (h .kinds) in
+      let f = method-facts (h .right .1) m (h .kinds) .holds in
       record { right = h .right; least = q .least; most = q .most; word = omega arith }
 
   pub list-inside : {d : ℕ} (i : ℕ) → i < size (objectsAt n b contents bodies) (objectNumber d) → Holds listKind n b contents bodies d → Inside n b contents bodies d i
   list-inside {d} i l h =
       let q = named (objectsAt n b contents bodies) listKind d (h .kinds) in
-      let s = list-words (h .right) d (h .kinds) in
+      let s = list-words (h .right .1) d (h .kinds) in
       record { right = h .right; least = q .least; most = q .most; word = omega arith }
 
   pub field-inside : {w : ℕ} (i : ℕ) → i < size (objectsAt n b contents bodies) (objectNumber w) → Holds fieldsKind n b contents bodies w → Inside n b contents bodies w i
@@ -57,18 +57,18 @@ module _ {n b : ℕ} {contents bodies : List ℕ} where
       record { right = h .right; least = q .least; most = q .most; word = omega arith }
 
   pub inside-listed : {w i : ℕ} → Inside n b contents bodies w i → Listed n contents w
-  inside-listed h = record { least = h .least; most = h .most; room = contents-room n b contents bodies (h .right) }
+  inside-listed h = record { least = h .least; most = h .most; room = contents-room n b contents bodies (h .right .1) }
 
   pub holds-listed : {k w : ℕ} → Holds k n b contents bodies w → Listed n contents w
   holds-listed {k} {w} h =
       let q = named (objectsAt n b contents bodies) k w (h .kinds) in
-      record { least = q .least; most = q .most; room = contents-room n b contents bodies (h .right) }
+      record { least = q .least; most = q .most; room = contents-room n b contents bodies (h .right .1) }
 
 -- the special selectors, by the word of object 5
-pub special-inside : (n b : ℕ) (contents bodies : List ℕ) (k : ℕ) → Right 1 (objectsAt n b contents bodies) → k < specialSelectors → Inside n b contents bodies (pointer selectorsObject) k
+pub special-inside : (n b : ℕ) (contents bodies : List ℕ) (k : ℕ) → IsRight (objectsAt n b contents bodies) → k < specialSelectors → Inside n b contents bodies (pointer selectorsObject) k
 special-inside n b contents bodies k r l =
-    let m = least r in
-    record { right = r; least = omega arith; most = omega arith; word = inside-selectors r k l }
+    let m = least (r .1) in
+    record { right = r; least = omega arith; most = omega arith; word = inside-selectors (r .1) k l }
 
 -- a word that is a pointer
 pub pointer-listed : (n : ℕ) (contents : List ℕ) (w : ℕ) → true ≡ isPointer n w → entryWords * n ≤ length contents → Listed n contents w

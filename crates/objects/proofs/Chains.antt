@@ -53,7 +53,7 @@ module _ {n b : ℕ} {contents bodies : List ℕ} {d : ℕ} (h : Holds listKind 
   pair-room k l = let r = room (list-inside (2 * k + 1) (omega arith) h) .below in omega arith
 
   pub pair-fits : (k : ℕ) → k < count → from + 2 * k + 1 < length bodies
-  pair-fits k l = let r = pair-room k l in let s = bodies-room n b contents bodies (h .right) in omega arith
+  pair-fits k l = let r = pair-room k l in let s = bodies-room n b contents bodies (h .right .1) in omega arith
 
   selector-at : (k : ℕ) → k < count → getD bodies (from + 2 * k) 0 ≡ pairSelector (objectsAt n b contents bodies) d k
   selector-at k l = let r = pair-room k l in word-at n b contents bodies (objectNumber d) (2 * k) (from + 2 * k) (omega arith) (omega arith)

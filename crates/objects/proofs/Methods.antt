@@ -70,11 +70,11 @@ module _ {n b : ℕ} {contents bodies : List ℕ} {m : ℕ} (h : Holds methodKin
       → CodeAt n b contents bodies m (record { from = st + 2 + count; end = st + (sz + 1) / 2; size = sz - 4 - 2 * count })
   unfolding codeWords codeSize
   code-at count st sz p q s =
-      let w = method-words (h .right) m (h .kinds) in
-      let f = method-facts (h .right) m (h .kinds) .holds in
+      let w = method-words (h .right .1) m (h .kinds) in
+      let f = method-facts (h .right .1) m (h .kinds) .holds in
       let g = named (objectsAt n b contents bodies) methodKind m (h .kinds) in
-      let i = inside (h .right) (objectNumber m) (g .least) (g .most) in
-      let r = bodies-room n b contents bodies (h .right) in
+      let i = inside (h .right .1) (objectNumber m) (g .least) (g .most) in
+      let r = bodies-room n b contents bodies (h .right .1) in
       record {
         from = omega arith;
         end = omega arith;
@@ -91,17 +91,17 @@ module _ {n b : ℕ} {contents bodies : List ℕ} {m : ℕ} (h : Holds methodKin
       places = omega arith
 
       lengths : st + (sz + 1) / 2 - (st + 2 + count) ≡ bodyWords (objectsAt n b contents bodies) (objectNumber m) - (2 + literalCount (objectsAt n b contents bodies) m)
-      lengths = let w = method-words (h .right) m (h .kinds) in omega arith
+      lengths = let w = method-words (h .right .1) m (h .kinds) in omega arith
 
   pub code-fits : (count st sz : ℕ) → count ≡ literalCount (objectsAt n b contents bodies) m → st ≡ start (objectsAt n b contents bodies) (objectNumber m)
       → sz ≡ size (objectsAt n b contents bodies) (objectNumber m)
       → (4 + 2 * count ≤ sz) × (st + (sz + 1) / 2 ≤ length bodies)
   code-fits count st sz p q s =
-      let w = method-words (h .right) m (h .kinds) in
-      let f = method-facts (h .right) m (h .kinds) .holds in
+      let w = method-words (h .right .1) m (h .kinds) in
+      let f = method-facts (h .right .1) m (h .kinds) .holds in
       let g = named (objectsAt n b contents bodies) methodKind m (h .kinds) in
-      let i = inside (h .right) (objectNumber m) (g .least) (g .most) in
-      let r = bodies-room n b contents bodies (h .right) in (omega arith, omega arith)
+      let i = inside (h .right .1) (objectNumber m) (g .least) (g .most) in
+      let r = bodies-room n b contents bodies (h .right .1) in (omega arith, omega arith)
 
   pub two-literals : flag (objectsAt n b contents bodies) m ≡ primitiveFlag → 2 ≤ literalCount (objectsAt n b contents bodies) m
-  two-literals e = method-facts (h .right) m (h .kinds) .extended e .two
+  two-literals e = method-facts (h .right .1) m (h .kinds) .extended e .two

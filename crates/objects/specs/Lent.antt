@@ -9,7 +9,7 @@ use Rattle.model.specs.Limits.{entryWords, smallFrameWords, largeFrameWords}
 use Rattle.model.specs.Word.{objectNumber}
 use Rattle.model.specs.Objects.{objectsAt, start, bodyWords, isKind}
 use Rattle.model.specs.Method.{literalCount, codeWords, codeSize}
-use Rattle.model.specs.Rules.{Right}
+use Rattle.model.specs.Rules.{IsRight}
 use Rattle.objects.specs.declared.Code.{Code}
 
 -- w names an object whose entry is in the buffer.
@@ -20,14 +20,14 @@ pub record Listed (n : ℕ) (contents : List ℕ) (w : ℕ) : Type 0 where
 
 -- Word i of the object that w names is a word of its body.
 pub record Inside (n b : ℕ) (contents bodies : List ℕ) (w i : ℕ) : Type 0 where
-  pub right : Right 1 (objectsAt n b contents bodies)
+  pub right : IsRight (objectsAt n b contents bodies)
   pub least : 1 ≤ objectNumber w
   pub most : objectNumber w ≤ n
   pub word : i < bodyWords (objectsAt n b contents bodies) (objectNumber w)
 
 -- w names an object of kind k.
 pub record Holds (k n b : ℕ) (contents bodies : List ℕ) (w : ℕ) : Type 0 where
-  pub right : Right 1 (objectsAt n b contents bodies)
+  pub right : IsRight (objectsAt n b contents bodies)
   pub kinds : T (isKind (objectsAt n b contents bodies) k w)
 
 -- Where the code of method m stands in bodies

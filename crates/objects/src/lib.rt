@@ -11,7 +11,7 @@ ghost use Rattle.model.specs.Word.{isPointer, isValid, objectNumber};
 ghost use Rattle.model.specs.Objects.{objectsAt, classOf, isKind, isNilOr, kind, start, size, bodyWord, superclassWord, dictionaryWord, fieldCount, form, entriesAt, atFront};
 ghost use Rattle.model.specs.Method.{header, home, literal, flag, literalCount, extension, primitiveNumber, argumentCount};
 ghost use Rattle.model.specs.Lookup.{findIn, lookup, inChain};
-ghost use Rattle.model.specs.Rules.{Right};
+ghost use Rattle.model.specs.Rules.{IsRight};
 ghost use Rattle.model.specs.Primitive.{storeWord, objectByte, storeByte};
 ghost use Rattle.objects.specs.Lent.{Listed, Inside, Holds, CodeAt, flagOf, temporariesOf, literalsOf, frameOf};
 use model::Found;
@@ -306,7 +306,7 @@ pub fn find_in(contents: &[u16], bodies: &[u16], n: usize, b: usize, d: Pointer,
 
 // The method under a selector in a class or the nearest class above it that has one.
 pub fn lookup(contents: &[u16], bodies: &[u16], n: usize, b: usize, s: u16, class: Pointer) -> Found
-    requires { ⌜ Right 1 (objectsAt n b (now contents) (now bodies)) × T (isNilOr (objectsAt n b (now contents) (now bodies)) classKind (class .0)) ⌝ }
+    requires { ⌜ IsRight (objectsAt n b (now contents) (now bodies)) × T (isNilOr (objectsAt n b (now contents) (now bodies)) classKind (class .0)) ⌝ }
     ensures { λ r. ⌜ r ≡ lookup (objectsAt n b (now (contents .entry)) (now (bodies .entry))) s (class .0) ⌝ }
 {
     let mut c = class;
@@ -337,7 +337,7 @@ pub fn in_chain(
     a: Pointer,
     class: Pointer,
 ) -> bool
-    requires { ⌜ Right 1 (objectsAt n b (now contents) (now bodies)) × T (isNilOr (objectsAt n b (now contents) (now bodies)) classKind (class .0)) ⌝ }
+    requires { ⌜ IsRight (objectsAt n b (now contents) (now bodies)) × T (isNilOr (objectsAt n b (now contents) (now bodies)) classKind (class .0)) ⌝ }
     ensures { λ r. ⌜ r ≡ inChain (objectsAt n b (now (contents .entry)) (now (bodies .entry))) (a .0) (class .0) ⌝ }
 {
     let mut c = class;

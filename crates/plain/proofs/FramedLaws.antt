@@ -189,7 +189,7 @@ module _ {n b top : ℕ} {contents bodies stack : List ℕ} {selector count clas
     p = runningAt edition receiver₀ selector₀ n b top contents bodies stack
 
     abbrev x : Stepped
-    x = sendStep edition room receiver₀ selector₀ n b top contents bodies stack selector count class position
+    x = sendStep room edition receiver₀ selector₀ n b top contents bodies stack selector count class position
 
     pub send-none : lookup o selector class ≡ Nothing → x ≡ halts notUnderstood
     send-none e = ap (afterLookup room p (popped f position (suc count)) rest selector class receiver sentArguments) e

@@ -108,8 +108,8 @@ pub record Sending (n b top : ℕ) (contents bodies stack : List ℕ) (selector 
       → T (inChain (objectsAt n b contents bodies) (home (objectsAt n b contents bodies) m) (classOf (objectsAt n b contents bodies) (sentReceiver n b top contents bodies stack count)))
 
 -- and the step that it is
-abbrev pub sendStep : ℕ → Room → ℕ → ℕ → ℕ → ℕ → ℕ → List ℕ → List ℕ → List ℕ → ℕ → ℕ → ℕ → ℕ → Stepped
-sendStep e room receiver selector n b top contents bodies stack s count class position =
+abbrev pub sendStep : Room → ℕ → ℕ → ℕ → ℕ → ℕ → ℕ → List ℕ → List ℕ → List ℕ → ℕ → ℕ → ℕ → ℕ → Stepped
+sendStep room e receiver selector n b top contents bodies stack s count class position =
     afterLookup room (runningAt e receiver selector n b top contents bodies stack) (popped (topFrame n b top contents bodies stack) position (suc count)) (restFrames n b top contents bodies stack) s class
     (sentReceiver n b top contents bodies stack count) (drop (topFrame n b top contents bodies stack .depth - count) (topFrame n b top contents bodies stack .operands))
     (lookup (objectsAt n b contents bodies) s class)

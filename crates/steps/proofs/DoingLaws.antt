@@ -183,7 +183,7 @@ module _ {n b : ℕ} {contents bodies stack : List ℕ} {a : Active} {next : ℕ
       st : Stands n b contents bodies stack a
       st = r .stands
 
-      right : Right 1 o
+      right : Right (r .runs .edition) o
       right = r .runs .right
 
       m : ℕ

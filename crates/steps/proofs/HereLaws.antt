@@ -60,9 +60,9 @@ module _ {n b top : ℕ} {contents bodies stack : List ℕ} (r : Runs n b top co
   p = framePosition stack top
 
   pub holds-method : (w : ℕ) → w ≡ m → Holds methodKind n b contents bodies w
-  holds-method w e = record { right = r .right; kinds = subst (λ (x : ℕ). T (Rattle.model.specs.Objects.isKind o methodKind x)) (sym e) (is-method r) }
+  holds-method w e = record { right = (r .edition, r .right); kinds = subst (λ (x : ℕ). T (Rattle.model.specs.Objects.isKind o methodKind x)) (sym e) (is-method r) }
 
-  spot-here : Spot o m p (frameDepth stack top)
+  spot-here : Spot (r .edition) o m p (frameDepth stack top)
   unfolding frameAt
   spot-here = frame-spot o true f (top-right r)
 
@@ -84,20 +84,20 @@ module _ {n b top : ℕ} {contents bodies stack : List ℕ} (r : Runs n b top co
       record { small = omega arith; words = omega arith; least = omega arith; ends = i }
 
   -- a noted position is inside the code
-  pub noted-inside : (q d : ℕ) → noteAt (methodTable o m) q ≡ suc d → q < codeSize o m
+  pub noted-inside : (q d : ℕ) → noteAt (methodTable (r .edition) o m) q ≡ suc d → q < codeSize o m
   unfolding fineAt
-  noted-inside q d e = fine-inside (codeWords o m) (codeSize o m) (temporaryCount o m) (frameWords o m) (allowed o m) q d (spot o m q d e .kept)
+  noted-inside q d e = fine-inside (codeWords o m) (codeSize o m) (temporaryCount o m) (frameWords o m) (allowed (r .edition) o m) q d (spot (r .edition) o m q d e .kept)
 
-  pub noted-small : (q d : ℕ) → noteAt (methodTable o m) q ≡ suc d → q < 65536
+  pub noted-small : (q d : ℕ) → noteAt (methodTable (r .edition) o m) q ≡ suc d → q < 65536
   noted-small q d e = let x = noted-inside q d e in let y = coded .small in omega arith
 
   pub position-inside : p < codeSize o m
   unfolding fineAt
-  position-inside = fine-inside (codeWords o m) (codeSize o m) (temporaryCount o m) (frameWords o m) (allowed o m) p (frameDepth stack top) (spot-here .kept)
+  position-inside = fine-inside (codeWords o m) (codeSize o m) (temporaryCount o m) (frameWords o m) (allowed (r .edition) o m) p (frameDepth stack top) (spot-here .kept)
 
   usable-here : T (usable (nextAt (codeWords o m) p) (decodeAt (codeWords o m) (codeSize o m) p))
   unfolding rulesAt
-  usable-here = rule (rulesAt (codeWords o m) (codeSize o m) (temporaryCount o m) (frameWords o m) (allowed o m) p (frameDepth stack top)) (spot-here .kept) 0
+  usable-here = rule (rulesAt (codeWords o m) (codeSize o m) (temporaryCount o m) (frameWords o m) (allowed (r .edition) o m) p (frameDepth stack top)) (spot-here .kept) 0
 
   pub next-inside : nextAt (codeWords o m) p ≤ codeSize o m
   next-inside = go (decLt (codeSize o m) (nextAt (codeWords o m) p))

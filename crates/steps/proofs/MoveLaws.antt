@@ -54,20 +54,20 @@ module _ {n b top : ℕ} {contents bodies stack : List ℕ} {h : Here} {i : Inst
   abbrev rest : List Frame
   rest = restFrames n b top contents bodies stack
 
-  abbrev at : ℕ → ℕ → Plain
-  at receiver selector = runningAt receiver selector n b top contents bodies stack
+  abbrev at : ℕ → ℕ → ℕ → Plain
+  at edition receiver selector = runningAt edition receiver selector n b top contents bodies stack
 
   -- what the instruction does
   abbrev pub Does : (Plain → Room → Stepped) → Type 0
-  Does x = (receiver selector : ℕ) (room : Room) → execute room (at receiver selector) f rest (h .next) i ≡ x (at receiver selector) room
+  Does x = (edition receiver selector : ℕ) (room : Room) → execute room (at edition receiver selector) f rest (h .next) i ≡ x (at edition receiver selector) room
 
   -- the top frame becomes another one
   pub moves : (f′ : Frame) (stack′ : List ℕ) → Does (λ s room. leadsTo (onTop s f′ rest) noLookup) → stack′ ≡ laid stack top (f′ ∷ rest)
       → Moved n b top contents bodies stack bodies stack′
-  moves f′ stack′ e l receiver selector room =
+  moves f′ stack′ e l edition receiver selector room =
       record {
-        state = onTop (at receiver selector) f′ rest;
-        steps = step-is (a .at) receiver selector room ∙ e receiver selector room;
+        state = onTop (at edition receiver selector) f′ rest;
+        steps = step-is (a .at) edition receiver selector room ∙ e edition receiver selector room;
         registers = refl;
         contents = refl;
         words = sym (front-same b bodies (bodies-room n b contents bodies (a .at .runs .right)));
@@ -78,18 +78,18 @@ module _ {n b top : ℕ} {contents bodies stack : List ℕ} {h : Here} {i : Inst
   pub moves-storing : (f′ : Frame) (stack′ bodies′ : List ℕ) (k j w : ℕ) → Does (λ s room. leadsTo (withObjects (onTop s f′ rest) (storeWord o k j w)) noLookup)
       → stack′ ≡ laid stack top (f′ ∷ rest) → bodies′ ≡ atFront (storeWord o k j w .bodies) bodies → Moved n b top contents bodies stack bodies′ stack′
   unfolding storeWord
-  moves-storing f′ stack′ bodies′ k j w e l x receiver selector room =
+  moves-storing f′ stack′ bodies′ k j w e l x edition receiver selector room =
       record {
-        state = withObjects (onTop (at receiver selector) f′ rest) (storeWord o k j w);
-        steps = step-is (a .at) receiver selector room
-            ∙ e receiver selector room;
+        state = withObjects (onTop (at edition receiver selector) f′ rest) (storeWord o k j w);
+        steps = step-is (a .at) edition receiver selector room
+            ∙ e edition receiver selector room;
         registers = refl;
         contents = refl;
         words = x;
         frames = l;
       }
 
-  abbrev right : FrameRight o true f
+  abbrev right : FrameRight (a .at .runs .edition) o true f
   right = top-right (a .at .runs)
 
   pub depth-of : f .depth ≡ h .depth
@@ -108,28 +108,28 @@ module _ {n b top : ℕ} {contents bodies stack : List ℕ} {h : Here} {i : Inst
       → Moved n b top contents bodies stack bodies (set (set stack (top + 1) q) (top + 2) k)
   goes-on q k l e =
       moves (movedTo f q (take k (f .operands))) (set (set stack (top + 1) q) (top + 2) k) e
-      (sym (moved-writes o stack top (suc top) f rest (all-right (a .at .runs)) (stood (a .at .runs)) q k (let x = depth-of in omega arith)))
+      (sym (moved-writes (a .at .runs .edition) o stack top (suc top) f rest (all-right (a .at .runs)) (stood (a .at .runs)) q k (let x = depth-of in omega arith)))
 
   -- It moves on with all its operands.
   pub goes-whole : (q : ℕ) → Does (λ s room. leadsTo (onTop s (movedTo f q (f .operands)) rest) noLookup)
       → Moved n b top contents bodies stack bodies (set (set stack (top + 1) q) (top + 2) (h .depth))
   goes-whole q e =
-      goes-on q (h .depth) (omega arith) (λ receiver selector room. e receiver selector room
-      ∙ ap (λ (l : List ℕ). leadsTo (onTop (at receiver selector) (movedTo f q l) rest) noLookup) (sym (all-operands (h .depth) refl)))
+      goes-on q (h .depth) (omega arith) (λ edition receiver selector room. e edition receiver selector room
+      ∙ ap (λ (l : List ℕ). leadsTo (onTop (at edition receiver selector) (movedTo f q l) rest) noLookup) (sym (all-operands (h .depth) refl)))
 
   -- It moves on without the uppermost operand.
   pub goes-popped : (q : ℕ) → Does (λ s room. leadsTo (onTop s (popped f q 1) rest) noLookup)
       → Moved n b top contents bodies stack bodies (set (set stack (top + 1) q) (top + 2) (h .depth - 1))
   goes-popped q e =
-      goes-on q (h .depth - 1) (omega arith) (λ receiver selector room. e receiver selector room
-      ∙ ap (λ (k : ℕ). leadsTo (onTop (at receiver selector) (movedTo f q (take (k - 1) (f .operands))) rest) noLookup) depth-of)
+      goes-on q (h .depth - 1) (omega arith) (λ edition receiver selector room. e edition receiver selector room
+      ∙ ap (λ (k : ℕ). leadsTo (onTop (at edition receiver selector) (movedTo f q (take (k - 1) (f .operands))) rest) noLookup) depth-of)
 
   -- It moves on with the first k operands, and a word of an object is stored.
   pub goes-storing : (q k v j w : ℕ) (bodies′ : List ℕ) → k ≤ h .depth → Does (λ s room. leadsTo (withObjects (onTop s (movedTo f q (take k (f .operands))) rest) (storeWord o v j w)) noLookup)
       → bodies′ ≡ atFront (storeWord o v j w .bodies) bodies → Moved n b top contents bodies stack bodies′ (set (set stack (top + 1) q) (top + 2) k)
   goes-storing q k v j w bodies′ l e x =
       moves-storing (movedTo f q (take k (f .operands))) (set (set stack (top + 1) q) (top + 2) k) bodies′ v j w e
-      (sym (moved-writes o stack top (suc top) f rest (all-right (a .at .runs)) (stood (a .at .runs)) q k (let y = depth-of in omega arith))) x
+      (sym (moved-writes (a .at .runs .edition) o stack top (suc top) f rest (all-right (a .at .runs)) (stood (a .at .runs)) q k (let y = depth-of in omega arith))) x
 
   -- It moves on with the first k operands, and a temporary is stored.
   pub goes-temporary : (q k j w : ℕ) → k ≤ h .depth → j < temporaryCount o (frameMethod stack top)
@@ -138,15 +138,15 @@ module _ {n b top : ℕ} {contents bodies stack : List ℕ} {h : Here} {i : Inst
   goes-temporary q k j w l t e =
       moves (withTemporaries (movedTo f q (take k (f .operands))) (set (f .temporaries) j w)) (set (set (set stack (top + 6 + j) w) (top + 1) q) (top + 2) k) e
       (same-three stack (omega arith) refl refl refl refl refl
-      ∙ sym (temporary-writes o stack top (suc top) f rest (all-right (a .at .runs)) (stood (a .at .runs)) q k j w (let y = depth-of in omega arith)
+      ∙ sym (temporary-writes (a .at .runs .edition) o stack top (suc top) f rest (all-right (a .at .runs)) (stood (a .at .runs)) q k j w (let y = depth-of in omega arith)
       (subst (λ (x : ℕ). j < temporaryCount o x) (sym (method-is (a .at .runs))) t)))
 
   -- A word in the place of the `taken` uppermost operands
-  room-for : (taken : ℕ) → noteAt (methodTable o (frameMethod stack top)) (h .next) ≡ suc (suc (h .depth - taken)) → temporaryCount o (frameMethod stack top) +
+  room-for : (taken : ℕ) → noteAt (methodTable (a .at .runs .edition) o (frameMethod stack top)) (h .next) ≡ suc (suc (h .depth - taken)) → temporaryCount o (frameMethod stack top) +
       (h .depth - taken) < frameWords o (frameMethod stack top)
-  room-for taken e = ltb→lt (temporaryCount o (frameMethod stack top) + (h .depth - taken)) (frameWords o (frameMethod stack top)) (has-word o (frameMethod stack top) (h .next) (h .depth - taken) e)
+  room-for taken e = ltb→lt (temporaryCount o (frameMethod stack top) + (h .depth - taken)) (frameWords o (frameMethod stack top)) (has-word (a .at .runs .edition) o (frameMethod stack top) (h .next) (h .depth - taken) e)
 
-  pub answer-room : (taken : ℕ) → taken ≤ h .depth → noteAt (methodTable o (frameMethod stack top)) (h .next) ≡ suc (suc (h .depth - taken)) → Answers top stack h taken
+  pub answer-room : (taken : ℕ) → taken ≤ h .depth → noteAt (methodTable (a .at .runs .edition) o (frameMethod stack top)) (h .next) ≡ suc (suc (h .depth - taken)) → Answers top stack h taken
   answer-room taken l e =
       let w = room-for taken e in
       let t = top-bounds (a .at .runs) in
@@ -154,16 +154,16 @@ module _ {n b top : ℕ} {contents bodies stack : List ℕ} {h : Here} {i : Inst
       let k = bounds a in
       (omega arith, l, omega arith, omega arith, omega arith, omega arith)
 
-  pub answers : (taken w : ℕ) → taken ≤ h .depth → noteAt (methodTable o (frameMethod stack top)) (h .next) ≡ suc (suc (h .depth - taken))
+  pub answers : (taken w : ℕ) → taken ≤ h .depth → noteAt (methodTable (a .at .runs .edition) o (frameMethod stack top)) (h .next) ≡ suc (suc (h .depth - taken))
       → Does (λ s room. pushed s f rest (h .next) (without f taken) w noLookup)
       → Moved n b top contents bodies stack bodies (answered stack top h taken w)
   unfolding pushed
   answers taken w l e d =
       moves (movedTo f (h .next) (without f taken ++ (w ∷ []))) (answered stack top h taken w)
-      (λ receiver selector room. d receiver selector room ∙ provided-holds (hasWord o f (length (without f taken)))
-      (leadsTo (onTop (at receiver selector) (movedTo f (h .next) (without f taken ++ (w ∷ []))) rest) noLookup) has)
+      (λ edition receiver selector room. d edition receiver selector room ∙ provided-holds (hasWord o f (length (without f taken)))
+      (leadsTo (onTop (at edition receiver selector) (movedTo f (h .next) (without f taken ++ (w ∷ []))) rest) noLookup) has)
       (same-three stack (let x = first-of in let y = depth-of in omega arith) refl refl refl refl (let y = depth-of in omega arith)
-      ∙ sym (pushed-writes o stack top (suc top) f rest (all-right (a .at .runs)) (stood (a .at .runs)) (h .next) (f .depth - taken) w (omega arith) room))
+      ∙ sym (pushed-writes (a .at .runs .edition) o stack top (suc top) f rest (all-right (a .at .runs)) (stood (a .at .runs)) (h .next) (f .depth - taken) w (omega arith) room))
     where
       room : temporaryCount o (f .method) + (f .depth - taken) < frameWords o (f .method)
       room =
@@ -176,9 +176,9 @@ module _ {n b top : ℕ} {contents bodies stack : List ℕ} {h : Here} {i : Inst
           lib.Dec.lt→ltb (temporaryCount o (f .method) + length (without f taken)) (frameWords o (f .method)) (let y = room in omega arith)
 
   -- the same with nothing taken
-  pub pushes : (w : ℕ) → noteAt (methodTable o (frameMethod stack top)) (h .next) ≡ suc (suc (h .depth - 0)) → Does (λ s room. pushed s f rest (h .next) (f .operands) w noLookup)
+  pub pushes : (w : ℕ) → noteAt (methodTable (a .at .runs .edition) o (frameMethod stack top)) (h .next) ≡ suc (suc (h .depth - 0)) → Does (λ s room. pushed s f rest (h .next) (f .operands) w noLookup)
       → Moved n b top contents bodies stack bodies (answered stack top h 0 w)
   pushes w e d =
       answers 0 w (omega arith) e
-      (λ receiver selector room. d receiver selector room ∙ ap (λ (l : List ℕ). pushed (at receiver selector) f rest (h .next) l w noLookup)
+      (λ edition receiver selector room. d edition receiver selector room ∙ ap (λ (l : List ℕ). pushed (at edition receiver selector) f rest (h .next) l w noLookup)
       (sym (all-operands (f .depth - 0) (let y = depth-of in omega arith))))

@@ -51,7 +51,7 @@ module _ {n b top : ℕ} {contents bodies stack : List ℕ} (r : Runs n b top co
   m = frameMethod stack top
 
   pub field-inner : {w j : ℕ} → HasField n b contents bodies w j → Inside n b contents bodies w j
-  field-inner {w} {j} h = field-inside j (h .below) (record { right = r .right; kinds = h .kinds })
+  field-inner {w} {j} h = field-inside j (h .below) (record { right = (r .edition, r .right); kinds = h .kinds })
 
   pub field-is : {w j : ℕ} → HasField n b contents bodies w j → fieldOf o w j ≡ some (bodyWord o (objectNumber w) j)
   unfolding fieldOf
@@ -199,19 +199,19 @@ module _ {n b top : ℕ} {contents bodies stack : List ℕ} {h : Here} {p : Plac
   -- the step is the store of a word by the frame moved on
   pub stores : Does (z .here) (λ s room. stored s (movedTo fₛ (h .next) (take left (fₛ .operands))) restₛ p top-word)
   unfolding execute
-  stores receiver selector room = go (z .pop) (z .here) (z .after)
+  stores edition receiver selector room = go (z .pop) (z .here) (z .after)
     where
       go : (pop : Bool) (a : HereAt n b top contents bodies stack h (storing pop p)) → left ≡ leftBy pop (h .depth)
-          → execute room (runningAt receiver selector n b top contents bodies stack) fₛ restₛ (h .next) (storing pop p) ≡ stored
-          (runningAt receiver selector n b top contents bodies stack) (movedTo fₛ (h .next) (take left (fₛ .operands))) restₛ p top-word
+          → execute room (runningAt edition receiver selector n b top contents bodies stack) fₛ restₛ (h .next) (storing pop p) ≡ stored
+          (runningAt edition receiver selector n b top contents bodies stack) (movedTo fₛ (h .next) (take left (fₛ .operands))) restₛ p top-word
       go true a e =
-          ap (λ (x : Option ℕ). x >>= λ w. stored (runningAt receiver selector n b top contents bodies stack) (popped fₛ (h .next) 1) restₛ p w)
+          ap (λ (x : Option ℕ). x >>= λ w. stored (runningAt edition receiver selector n b top contents bodies stack) (popped fₛ (h .next) 1) restₛ p w)
           (operand-is a 0 (h .operands + (h .depth - 1)) store-needs refl)
-          ∙ ap (λ (k : ℕ). stored (runningAt receiver selector n b top contents bodies stack) (movedTo fₛ (h .next) (take k (fₛ .operands))) restₛ p top-word) (one-less a e)
+          ∙ ap (λ (k : ℕ). stored (runningAt edition receiver selector n b top contents bodies stack) (movedTo fₛ (h .next) (take k (fₛ .operands))) restₛ p top-word) (one-less a e)
       go false a e =
-          ap (λ (x : Option ℕ). x >>= λ w. stored (runningAt receiver selector n b top contents bodies stack) (movedTo fₛ (h .next) (fₛ .operands)) restₛ p w)
+          ap (λ (x : Option ℕ). x >>= λ w. stored (runningAt edition receiver selector n b top contents bodies stack) (movedTo fₛ (h .next) (fₛ .operands)) restₛ p w)
           (operand-is a 0 (h .operands + (h .depth - 1)) store-needs refl)
-          ∙ ap (λ (l : List ℕ). stored (runningAt receiver selector n b top contents bodies stack) (movedTo fₛ (h .next) l) restₛ p top-word) (sym (all-operands a left e))
+          ∙ ap (λ (l : List ℕ). stored (runningAt edition receiver selector n b top contents bodies stack) (movedTo fₛ (h .next) l) restₛ p top-word) (sym (all-operands a left e))
 
   -- a word that has the field
   pub stores-in : (v j : ℕ) (bodies′ : List ℕ) → HasField n b contents bodies v j
@@ -221,6 +221,6 @@ module _ {n b top : ℕ} {contents bodies stack : List ℕ} {h : Here} {p : Plac
   unfolding storedField
   stores-in v j bodies′ q d e =
       goes-storing (z .here) (h .next) left (objectNumber v) j top-word bodies′ store-left
-      (λ receiver selector room. d receiver selector room
-      ∙ ap (λ (x : Option ℕ). x >>= λ old. leadsTo (withObjects (onTop (runningAt receiver selector n b top contents bodies stack)
+      (λ edition receiver selector room. d edition receiver selector room
+      ∙ ap (λ (x : Option ℕ). x >>= λ old. leadsTo (withObjects (onTop (runningAt edition receiver selector n b top contents bodies stack)
       (movedTo fₛ (h .next) (take left (fₛ .operands))) restₛ) (storeWord oₛ (objectNumber v) j top-word)) noLookup) (field-is store-runs q)) e

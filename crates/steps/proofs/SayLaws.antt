@@ -44,10 +44,10 @@ module _ {n b top : ℕ} {contents bodies stack : List ℕ} {h : Here} {i : Inst
   abbrev m : ℕ
   m = frameMethod stack top
 
-  abbrev now : Now o f (h .next) i
+  abbrev now : Now (a .at .runs .edition) o f (h .next) i
   now = now-is (a .at)
 
-  pub noted : (q : ℕ) → List·Memᴰ q (successors (h .next) i) → noteAt (methodTable o m) q ≡ suc (h .depth - need i + leaves i)
+  pub noted : (q : ℕ) → List·Memᴰ q (successors (h .next) i) → noteAt (methodTable (a .at .runs .edition) o m) q ≡ suc (h .depth - need i + leaves i)
   unfolding frameAt
   noted q t = now .goes q t ∙ ap (λ (d : ℕ). suc (d - need i + leaves i)) (depth-of a)
 
@@ -55,18 +55,18 @@ module _ {n b top : ℕ} {contents bodies stack : List ℕ} {h : Here} {i : Inst
   needed = let x = now .needs in let y = depth-of a in omega arith
 
   -- an instruction that leaves one operand more than it needs
-  one-more : List·Memᴰ (h .next) (successors (h .next) i) → leaves i ≡ suc (need i) → noteAt (methodTable o m) (h .next) ≡ suc (suc (h .depth - 0))
+  one-more : List·Memᴰ (h .next) (successors (h .next) i) → leaves i ≡ suc (need i) → noteAt (methodTable (a .at .runs .edition) o m) (h .next) ≡ suc (suc (h .depth - 0))
   one-more t e = noted (h .next) t ∙ ap suc (let x = needed in omega arith)
 
-  done : (x : Plain → Room → Stepped) → Does a x → (receiver selector : ℕ) (room : Room) → stepAt room receiver selector n b top contents bodies stack ≡ x
-      (runningAt receiver selector n b top contents bodies stack) room
-  done x d receiver selector room = step-is (a .at) receiver selector room ∙ d receiver selector room
+  done : (x : Plain → Room → Stepped) → Does a x → (edition receiver selector : ℕ) (room : Room) → stepAt room edition receiver selector n b top contents bodies stack ≡ x
+      (runningAt edition receiver selector n b top contents bodies stack) room
+  done x d edition receiver selector room = step-is (a .at) edition receiver selector room ∙ d edition receiver selector room
 
 abbrev Returns : ℕ → ℕ → ℕ → List ℕ → List ℕ → List ℕ → ℕ → Type 0
 Returns n b top contents bodies stack w =
     Becomes n b top contents bodies stack bodies stack
-    (λ room receiver selector.
-    returned (runningAt receiver selector n b top contents bodies stack) (topFrame n b top contents bodies stack) (restFrames n b top contents bodies stack) w)
+    (λ room edition receiver selector.
+    returned (runningAt edition receiver selector n b top contents bodies stack) (topFrame n b top contents bodies stack) (restFrames n b top contents bodies stack) w)
 
 -- ---- pushes, by the word that is pushed
 
@@ -82,7 +82,7 @@ module _ {n b top : ℕ} {contents bodies stack : List ℕ} {h : Here} where
   push-says a w stack′ e q =
       subst (λ (l : List ℕ). Moved n b top contents bodies stack bodies l) (sym q)
       (pushes a w (one-more a (List·Memᴰ·head refl) refl)
-      (λ receiver selector room. ap (λ (x : Option ℕ). x >>= λ y. pushed (runningAt receiver selector n b top contents bodies stack)
+      (λ edition receiver selector room. ap (λ (x : Option ℕ). x >>= λ y. pushed (runningAt edition receiver selector n b top contents bodies stack)
       (topFrame n b top contents bodies stack) (restFrames n b top contents bodies stack) (h .next) (topFrame n b top contents bodies stack .operands) y noLookup) e))
 
   pub self-room : HereAt n b top contents bodies stack h PushSelf → Answers top stack h 0
@@ -95,7 +95,7 @@ module _ {n b top : ℕ} {contents bodies stack : List ℕ} {h : Here} where
   self-says a stack′ q =
       subst (λ (l : List ℕ). Moved n b top contents bodies stack bodies l) (sym q)
       (pushes a (frameReceiver stack top) (one-more a (List·Memᴰ·head refl) refl)
-      (λ receiver selector room. ap (λ (x : ℕ). pushed (runningAt receiver selector n b top contents bodies stack) (topFrame n b top contents bodies stack)
+      (λ edition receiver selector room. ap (λ (x : ℕ). pushed (runningAt edition receiver selector n b top contents bodies stack) (topFrame n b top contents bodies stack)
       (restFrames n b top contents bodies stack) (h .next) (topFrame n b top contents bodies stack .operands) x noLookup) (receiver-is (a .at .runs))))
 
   pub constant-room : {w : ℕ} → HereAt n b top contents bodies stack h (PushConstant w) → Answers top stack h 0
@@ -105,7 +105,7 @@ module _ {n b top : ℕ} {contents bodies stack : List ℕ} {h : Here} where
   pub constant-says : {w : ℕ} (a : HereAt n b top contents bodies stack h (PushConstant w)) (stack′ : List ℕ)
       → stack′ ≡ answered stack top h 0 w → Moved n b top contents bodies stack bodies stack′
   unfolding execute successors need leaves
-  constant-says {w} a stack′ q = subst (λ (l : List ℕ). Moved n b top contents bodies stack bodies l) (sym q) (pushes a w (one-more a (List·Memᴰ·head refl) refl) (λ receiver selector room. refl))
+  constant-says {w} a stack′ q = subst (λ (l : List ℕ). Moved n b top contents bodies stack bodies l) (sym q) (pushes a w (one-more a (List·Memᴰ·head refl) refl) (λ edition receiver selector room. refl))
 
   pub duplicate-needs : HereAt n b top contents bodies stack h Duplicate → 1 ≤ h .depth
   unfolding need
@@ -121,7 +121,7 @@ module _ {n b top : ℕ} {contents bodies stack : List ℕ} {h : Here} where
   duplicate-says a stack′ q =
       subst (λ (l : List ℕ). Moved n b top contents bodies stack bodies l) (sym q)
       (pushes a (getD stack (h .operands + (h .depth - 1)) 0) (one-more a (List·Memᴰ·head refl) refl)
-      (λ receiver selector room. ap (λ (x : Option ℕ). x >>= λ y. pushed (runningAt receiver selector n b top contents bodies stack)
+      (λ edition receiver selector room. ap (λ (x : Option ℕ). x >>= λ y. pushed (runningAt edition receiver selector n b top contents bodies stack)
       (topFrame n b top contents bodies stack) (restFrames n b top contents bodies stack) (h .next) (topFrame n b top contents bodies stack .operands) y
       noLookup) (operand-is a 0 (h .operands + (h .depth - 1)) (duplicate-needs a) refl)))
 
@@ -136,8 +136,8 @@ module _ {n b top : ℕ} {contents bodies stack : List ℕ} {h : Here} where
   unfolding execute
   pop-says a stack′ q =
       subst (λ (l : List ℕ). Moved n b top contents bodies stack bodies l) (sym q)
-      (goes-popped a (h .next) (λ receiver selector room. ap
-      (λ (x : Option ℕ). x >>= λ y. leadsTo (onTop (runningAt receiver selector n b top contents bodies stack) (popped (topFrame n b top contents bodies stack)
+      (goes-popped a (h .next) (λ edition receiver selector room. ap
+      (λ (x : Option ℕ). x >>= λ y. leadsTo (onTop (runningAt edition receiver selector n b top contents bodies stack) (popped (topFrame n b top contents bodies stack)
       (h .next) 1) (restFrames n b top contents bodies stack)) noLookup) (operand-is a 0 (h .operands + (h .depth - 1)) (pop-needs a) refl)))
 
   jump-test : {ahead back : ℕ} → HereAt n b top contents bodies stack h (Jump ahead back) → T (leb back (h .next + ahead))
@@ -152,7 +152,7 @@ module _ {n b top : ℕ} {contents bodies stack : List ℕ} {h : Here} where
   unfolding execute
   jump-says {ahead} {back} a stack′ q =
       subst (λ (l : List ℕ). Moved n b top contents bodies stack bodies l) (sym q)
-      (goes-whole a (h .next + ahead - back) (λ receiver selector room. provided-holds (leb back (h .next + ahead)) _ (jump-test a)))
+      (goes-whole a (h .next + ahead - back) (λ edition receiver selector room. provided-holds (leb back (h .next + ahead)) _ (jump-test a)))
 
   module _ {condition : Bool} {ahead : ℕ} (a : HereAt n b top contents bodies stack h (JumpOn condition ahead)) where
     pub on-needs : 1 ≤ h .depth
@@ -175,19 +175,19 @@ module _ {n b top : ℕ} {contents bodies stack : List ℕ} {h : Here} where
 
     chooses : Does a (λ s room. chosen s tested)
     unfolding execute jumps
-    chooses receiver selector room = ap (λ (x : Option ℕ). x >>= chosen (runningAt receiver selector n b top contents bodies stack)) (operand-is a 0 (h .operands + (h .depth - 1)) on-needs refl)
+    chooses edition receiver selector room = ap (λ (x : Option ℕ). x >>= chosen (runningAt edition receiver selector n b top contents bodies stack)) (operand-is a 0 (h .operands + (h .depth - 1)) on-needs refl)
 
     pub on-jumps : (w : ℕ) (stack′ : List ℕ) → w ≡ booleanWord condition → tested ≡ w → stack′ ≡ set (set stack (top + 1) (h .next + ahead)) (top + 2)
         (h .depth - 1) → Moved n b top contents bodies stack bodies stack′
     on-jumps w stack′ e t q =
         subst (λ (l : List ℕ). Moved n b top contents bodies stack bodies l) (sym q)
-        (goes-popped a (h .next + ahead) (λ receiver selector room. chooses receiver selector room ∙ if-yes _ _ (eq-eqb tested (booleanWord condition) (t ∙ e))))
+        (goes-popped a (h .next + ahead) (λ edition receiver selector room. chooses edition receiver selector room ∙ if-yes _ _ (eq-eqb tested (booleanWord condition) (t ∙ e))))
 
     pub on-stays : (w : ℕ) (stack′ : List ℕ) → w ≡ booleanWord condition → (tested ≡ w → ⊥) → (tested ≡ trueWord) ⊎ (tested ≡ falseWord)
         → stack′ ≡ set (set stack (top + 1) (h .next)) (top + 2) (h .depth - 1) → Moved n b top contents bodies stack bodies stack′
     on-stays w stack′ e t u q =
         subst (λ (l : List ℕ). Moved n b top contents bodies stack bodies l) (sym q)
-        (goes-popped a (h .next) (λ receiver selector room. chooses receiver selector room ∙ if-no _ _ (ne-eqb tested (booleanWord condition) (λ x. t (x ∙ sym e))) ∙ if-yes _ _ (either u)))
+        (goes-popped a (h .next) (λ edition receiver selector room. chooses edition receiver selector room ∙ if-no _ _ (ne-eqb tested (booleanWord condition) (λ x. t (x ∙ sym e))) ∙ if-yes _ _ (either u)))
       where
         either : (tested ≡ trueWord) ⊎ (tested ≡ falseWord) → (eqb tested trueWord || eqb tested falseWord) ≡ true
         either (inl x) = ap (λ (y : Bool). y || eqb tested falseWord) (eq-eqb tested trueWord x)
@@ -198,12 +198,12 @@ module _ {n b top : ℕ} {contents bodies stack : List ℕ} {h : Here} where
             or-true false = refl
 
     pub on-halts : (w : ℕ) → w ≡ booleanWord condition → (tested ≡ w → ⊥) → (tested ≡ trueWord → ⊥) → (tested ≡ falseWord → ⊥)
-        → Becomes n b top contents bodies stack bodies stack (λ room receiver selector. halts noBoolean)
+        → Becomes n b top contents bodies stack bodies stack (λ room edition receiver selector. halts noBoolean)
     on-halts w e t u v =
         record {
           words = refl;
           frames = refl;
-          steps = λ receiver selector room. done a (λ s room. chosen s tested) chooses receiver selector room
+          steps = λ edition receiver selector room. done a (λ s room. chosen s tested) chooses edition receiver selector room
               ∙ if-no _ _ (ne-eqb tested (booleanWord condition) (λ x. t (x ∙ sym e))) ∙ if-no _ _ (ap₂ _||_ (ne-eqb tested trueWord u) (ne-eqb tested falseWord v));
         }
 
@@ -215,14 +215,14 @@ module _ {n b top : ℕ} {contents bodies stack : List ℕ} {h : Here} where
       record {
         words = refl;
         frames = refl;
-        steps = λ receiver selector room. step-is (a .at) receiver selector room
-            ∙ ap (λ (x : ℕ). returned (runningAt receiver selector n b top contents bodies stack) (topFrame n b top contents bodies stack)
+        steps = λ edition receiver selector room. step-is (a .at) edition receiver selector room
+            ∙ ap (λ (x : ℕ). returned (runningAt edition receiver selector n b top contents bodies stack) (topFrame n b top contents bodies stack)
             (restFrames n b top contents bodies stack) x) (receiver-is (a .at .runs));
       }
 
   pub constant-returns : {w : ℕ} → HereAt n b top contents bodies stack h (ReturnConstant w) → Returns n b top contents bodies stack w
   unfolding execute
-  constant-returns a = record { words = refl; frames = refl; steps = λ receiver selector room. step-is (a .at) receiver selector room }
+  constant-returns a = record { words = refl; frames = refl; steps = λ edition receiver selector room. step-is (a .at) edition receiver selector room }
 
   pub top-needs : HereAt n b top contents bodies stack h ReturnTop → 1 ≤ h .depth
   unfolding need
@@ -234,8 +234,8 @@ module _ {n b top : ℕ} {contents bodies stack : List ℕ} {h : Here} where
       record {
         words = refl;
         frames = refl;
-        steps = λ receiver selector room. step-is (a .at) receiver selector room
-            ∙ ap (λ (x : Option ℕ). x >>= λ y. returned (runningAt receiver selector n b top contents bodies stack) (topFrame n b top contents bodies stack)
+        steps = λ edition receiver selector room. step-is (a .at) edition receiver selector room
+            ∙ ap (λ (x : Option ℕ). x >>= λ y. returned (runningAt edition receiver selector n b top contents bodies stack) (topFrame n b top contents bodies stack)
             (restFrames n b top contents bodies stack) y) (operand-is a 0 (h .operands + (h .depth - 1)) (top-needs a) refl);
       }
 

@@ -82,18 +82,18 @@ module _ {n b top : ℕ} {contents bodies stack : List ℕ} {h : Here} {i : Inst
       operand-is a count (operandsStart o m top + (frameDepth stack top - suc count)) (let y = a .isDepth in omega arith) (let x = a .isOperands in let y = a .isDepth in omega arith)
 
   becomes-send : (from : ℕ → ℕ) (s count class : ℕ) → suc count ≤ frameDepth stack top → class ≡ from (own count)
-      → ((receiver selector : ℕ) (room : Room) → stepAt room receiver selector n b top contents bodies stack ≡ sends room
-      (runningAt receiver selector n b top contents bodies stack) f rest (h .next) from s count)
-      → Becomes n b top contents bodies stack bodies stack (λ room receiver selector. sendStep room receiver selector n b top contents bodies stack s count class (h .next))
+      → ((edition receiver selector : ℕ) (room : Room) → stepAt room edition receiver selector n b top contents bodies stack ≡ sends room
+      (runningAt edition receiver selector n b top contents bodies stack) f rest (h .next) from s count)
+      → Becomes n b top contents bodies stack bodies stack (λ room edition receiver selector. sendStep room edition receiver selector n b top contents bodies stack s count class (h .next))
   unfolding sends
   becomes-send from s count class l c e =
       record {
         words = refl;
         frames = refl;
-        steps = λ receiver selector room. e receiver selector room
-            ∙ ap (λ (x : Option ℕ). x >>= λ w. afterLookup room (runningAt receiver selector n b top contents bodies stack) (popped f (h .next) (suc count))
+        steps = λ edition receiver selector room. e edition receiver selector room
+            ∙ ap (λ (x : Option ℕ). x >>= λ w. afterLookup room (runningAt edition receiver selector n b top contents bodies stack) (popped f (h .next) (suc count))
             rest s (from w) w (drop (f .depth - count) (f .operands)) (lookup o s (from w))) (receiver-found count l)
-            ∙ ap (λ (x : ℕ). afterLookup room (runningAt receiver selector n b top contents bodies stack) (popped f (h .next) (suc count)) rest s x (own count)
+            ∙ ap (λ (x : ℕ). afterLookup room (runningAt edition receiver selector n b top contents bodies stack) (popped f (h .next) (suc count)) rest s x (own count)
             (drop (f .depth - count) (f .operands)) (lookup o s x)) (sym c);
       }
 
@@ -107,7 +107,7 @@ module _ {n b top : ℕ} {contents bodies stack : List ℕ} {h : Here} {s count 
 
   pub sent-says : (at class : ℕ) → at ≡ h .operands + (h .depth - 1 - count) → class ≡ classOf (objectsAt n b contents bodies) (getD stack at 0)
       → Sending n b top contents bodies stack s count class (h .next) true
-      × Becomes n b top contents bodies stack bodies stack (λ room receiver selector. sendStep room receiver selector n b top contents bodies stack s count class (h .next))
+      × Becomes n b top contents bodies stack bodies stack (λ room edition receiver selector. sendStep room edition receiver selector n b top contents bodies stack s count class (h .next))
   sent-says at class e c =
       let r = z .here .at .runs .right in
       let v = receiver-valid (z .here) count (z .needs) in
@@ -145,7 +145,7 @@ module _ {n b top : ℕ} {contents bodies stack : List ℕ} {h : Here} {l k : �
   unfolding need
   send-needs = let x = needed a in omega arith
 
-  send-noted : noteAt (methodTable (objectsAt n b contents bodies) (frameMethod stack top)) (h .next) ≡ suc (h .depth - (1 + k) + 1)
+  send-noted : noteAt (methodTable (a .at .runs .edition) (objectsAt n b contents bodies) (frameMethod stack top)) (h .next) ≡ suc (h .depth - (1 + k) + 1)
   unfolding successors need leaves
   send-noted = noted a (h .next) (List·Memᴰ·head refl)
 
@@ -160,8 +160,8 @@ module _ {n b top : ℕ} {contents bodies stack : List ℕ} {h : Here} {l k : �
         fine = subst (λ (x : ℕ). T (sendFine (objectsAt n b contents bodies) x k))
             (sym (e ∙ ap (λ (x : ℕ). literal (objectsAt n b contents bodies) x l) (a .isMethod)))
             (and-right (ltb l (literalCount (objectsAt n b contents bodies) (frameMethod stack top))) _ send-allowed);
-        steps = λ receiver selector room. step-is (a .at) receiver selector room
-            ∙ ap (λ (x : Option ℕ). x >>= λ w. sends room (runningAt receiver selector n b top contents bodies stack) (topFrame n b top contents bodies stack)
+        steps = λ edition receiver selector room. step-is (a .at) edition receiver selector room
+            ∙ ap (λ (x : Option ℕ). x >>= λ w. sends room (runningAt edition receiver selector n b top contents bodies stack) (topFrame n b top contents bodies stack)
             (restFrames n b top contents bodies stack) (h .next) (classOf (objectsAt n b contents bodies)) w k)
             (literal-at (a .at .runs) l s (h .method) (a .isMethod) send-below e);
       }
@@ -183,7 +183,7 @@ module _ {n b top : ℕ} {contents bodies stack : List ℕ} {h : Here} {l k : �
   unfolding need
   super-needs = let x = needed a in omega arith
 
-  super-noted : noteAt (methodTable (objectsAt n b contents bodies) (frameMethod stack top)) (h .next) ≡ suc (h .depth - (1 + k) + 1)
+  super-noted : noteAt (methodTable (a .at .runs .edition) (objectsAt n b contents bodies) (frameMethod stack top)) (h .next) ≡ suc (h .depth - (1 + k) + 1)
   unfolding successors need leaves
   super-noted = noted a (h .next) (List·Memᴰ·head refl)
 
@@ -196,7 +196,7 @@ module _ {n b top : ℕ} {contents bodies stack : List ℕ} {h : Here} {l k : �
   pub holds-home : (c : ℕ) → c ≡ home (objectsAt n b contents bodies) (h .method) → Holds classKind n b contents bodies c
   holds-home c e =
       record {
-        right = a .at .runs .right;
+        right = (a .at .runs .edition, a .at .runs .right);
         kinds = subst (λ (x : ℕ). T (isKind (objectsAt n b contents bodies) classKind x))
             (sym (e ∙ ap (home (objectsAt n b contents bodies)) (a .isMethod))) home-class;
       }
@@ -216,7 +216,7 @@ module _ {n b top : ℕ} {contents bodies stack : List ℕ} {h : Here} {l k : �
   pub super-says : (at s c class : ℕ) → at ≡ h .operands + (h .depth - 1 - k) → s ≡ literal (objectsAt n b contents bodies) (h .method) l
       → c ≡ home (objectsAt n b contents bodies) (h .method) → class ≡ superclassWord (objectsAt n b contents bodies) c
       → Sending n b top contents bodies stack s k class (h .next) (eqb (getD stack at 0) (frameReceiver stack top))
-      × Becomes n b top contents bodies stack bodies stack (λ room receiver selector. sendStep room receiver selector n b top contents bodies stack s k class (h .next))
+      × Becomes n b top contents bodies stack bodies stack (λ room edition receiver selector. sendStep room edition receiver selector n b top contents bodies stack s k class (h .next))
   unfolding execute
   super-says at s c class e p q d = (
     record {
@@ -236,8 +236,8 @@ module _ {n b top : ℕ} {contents bodies stack : List ℕ} {h : Here} {l k : �
     becomes-send a (λ x. superclassWord (objectsAt n b contents bodies)
         (home (objectsAt n b contents bodies) (topFrame n b top contents bodies stack .method))) s k class super-depth
         (same ∙ ap (λ (x : ℕ). superclassWord (objectsAt n b contents bodies) (home (objectsAt n b contents bodies) x)) (sym (method-is (a .at .runs))))
-        (λ receiver selector room. step-is (a .at) receiver selector room
-        ∙ ap (λ (x : Option ℕ). x >>= λ w. sends room (runningAt receiver selector n b top contents bodies stack) (topFrame n b top contents bodies stack)
+        (λ edition receiver selector room. step-is (a .at) edition receiver selector room
+        ∙ ap (λ (x : Option ℕ). x >>= λ w. sends room (runningAt edition receiver selector n b top contents bodies stack) (topFrame n b top contents bodies stack)
         (restFrames n b top contents bodies stack) (h .next) (λ x. superclassWord (objectsAt n b contents bodies)
         (home (objectsAt n b contents bodies) (topFrame n b top contents bodies stack .method))) w k)
         (literal-at (a .at .runs) l s (h .method) (a .isMethod) (subst (λ (x : ℕ). l < literalCount (objectsAt n b contents bodies) x) (a .isMethod) super-below) p)),

@@ -27,7 +27,7 @@ module _ {n b top : ℕ} {contents bodies stack : List ℕ} {h : Here} {left : �
   store-field {j} z bodies′ stack′ e q =
       subst (λ (l : List ℕ). Moved n b top contents bodies stack bodies′ l) (sym q)
       (stores-in z (frameReceiver stack top) j bodies′ (own-field (store-runs z) j (store-place z))
-      (λ receiver selector room. stores z receiver selector room ∙ ap (λ (x : ℕ). storedField (runningAt receiver selector n b top contents bodies stack)
+      (λ edition receiver selector room. stores z edition receiver selector room ∙ ap (λ (x : ℕ). storedField (runningAt edition receiver selector n b top contents bodies stack)
       (movedTo (topFrame n b top contents bodies stack) (h .next) (take left (topFrame n b top contents bodies stack .operands)))
       (restFrames n b top contents bodies stack) x j (getD stack (h .operands + (h .depth - 1)) 0)) (receiver-is (store-runs z))) e)
 
@@ -37,8 +37,8 @@ module _ {n b top : ℕ} {contents bodies stack : List ℕ} {h : Here} {left : �
   store-temporary {j} z stack′ q =
       subst (λ (l : List ℕ). Moved n b top contents bodies stack bodies l) (sym q)
       (goes-temporary (z .here) (h .next) left j (getD stack (h .operands + (h .depth - 1)) 0) (store-left z) (temporary-below (store-runs z) j (store-place z))
-      (λ receiver selector room. stores z receiver selector room
-      ∙ ap (λ (x : Option ℕ). x >>= λ old. leadsTo (onTop (runningAt receiver selector n b top contents bodies stack)
+      (λ edition receiver selector room. stores z edition receiver selector room
+      ∙ ap (λ (x : Option ℕ). x >>= λ old. leadsTo (onTop (runningAt edition receiver selector n b top contents bodies stack)
       (withTemporaries (movedTo (topFrame n b top contents bodies stack) (h .next) (take left (topFrame n b top contents bodies stack .operands)))
       (set (topFrame n b top contents bodies stack .temporaries) j (getD stack (h .operands + (h .depth - 1)) 0))) (restFrames n b top contents bodies stack))
       noLookup) (temporary-at (store-runs z) j (store-place z))))
@@ -51,8 +51,8 @@ module _ {n b top : ℕ} {contents bodies stack : List ℕ} {h : Here} {left : �
   store-variable {j} z v bodies′ stack′ p e q =
       subst (λ (l : List ℕ). Moved n b top contents bodies stack bodies′ l) (sym q)
       (stores-in z v 1 bodies′ (variable-field (store-runs z) j v (h .method) (z .here .isMethod) (store-place z) p)
-      (λ receiver selector room. stores z receiver selector room
-      ∙ ap (λ (x : Option ℕ). x >>= λ y. storedField (runningAt receiver selector n b top contents bodies stack)
+      (λ edition receiver selector room. stores z edition receiver selector room
+      ∙ ap (λ (x : Option ℕ). x >>= λ y. storedField (runningAt edition receiver selector n b top contents bodies stack)
       (movedTo (topFrame n b top contents bodies stack) (h .next) (take left (topFrame n b top contents bodies stack .operands)))
       (restFrames n b top contents bodies stack) y 1 (getD stack (h .operands + (h .depth - 1)) 0))
       (literal-at (store-runs z) j v (h .method) (z .here .isMethod) (variable-below (store-runs z) j (store-place z)) p)) e)

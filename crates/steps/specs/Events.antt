@@ -79,8 +79,8 @@ pub record Pushed (stack : List ℕ) (a : Active) (next w : ℕ) (stack′ : Lis
   pub words : stack′ ≡ set stack (a .end .0) w
 
 -- The step that buffers are about to make
-abbrev pub stepAt : Room → ℕ → ℕ → ℕ → ℕ → ℕ → List ℕ → List ℕ → List ℕ → Stepped
-stepAt room receiver selector n b top contents bodies stack = step room (runningAt receiver selector n b top contents bodies stack)
+abbrev pub stepAt : Room → ℕ → ℕ → ℕ → ℕ → ℕ → ℕ → List ℕ → List ℕ → List ℕ → Stepped
+stepAt room edition receiver selector n b top contents bodies stack = step room (runningAt edition receiver selector n b top contents bodies stack)
 
 -- The stack in which a word stands in the place of the `taken` uppermost operands and the frame goes on
 abbrev pub answered : List ℕ → ℕ → Here → ℕ → ℕ → List ℕ
@@ -111,11 +111,11 @@ pub record SendsAt (n b top : ℕ) (contents bodies stack : List ℕ) (h : Here)
   pub instruction : Instruction
   pub here : HereAt n b top contents bodies stack h instruction
   pub needs : suc count ≤ frameDepth stack top
-  pub noted : noteAt (methodTable (objectsAt n b contents bodies) (frameMethod stack top)) (h .next) ≡ suc (suc (frameDepth stack top - suc count))
+  pub noted : noteAt (methodTable (here .at .runs .edition) (objectsAt n b contents bodies) (frameMethod stack top)) (h .next) ≡ suc (suc (frameDepth stack top - suc count))
   pub fine : T (sendFine (objectsAt n b contents bodies) s count)
-  pub steps : (receiver selector : ℕ) (room : Room)
-      → stepAt room receiver selector n b top contents bodies stack
-      ≡ sends room (runningAt receiver selector n b top contents bodies stack) (topFrame n b top contents bodies stack) (restFrames n b top contents bodies stack) (h .next) (classOf (objectsAt n b contents bodies)) s count
+  pub steps : (edition receiver selector : ℕ) (room : Room)
+      → stepAt room edition receiver selector n b top contents bodies stack
+      ≡ sends room (runningAt edition receiver selector n b top contents bodies stack) (topFrame n b top contents bodies stack) (restFrames n b top contents bodies stack) (h .next) (classOf (objectsAt n b contents bodies)) s count
 
 -- The numbers of the frame that the loop holds
 abbrev pub hereOf : List ℕ → Active → ℕ → Here
@@ -126,10 +126,10 @@ pub record Sends (n b : ℕ) (contents bodies stack : List ℕ) (a : Active) (ne
   pub sends : SendsAt n b (a .base .0) contents bodies (written a stack) (hereOf stack a next) s count
 
 -- Nothing is written, and the step is another one.
-pub record Becomes (n b top : ℕ) (contents bodies stack bodies′ stack′ : List ℕ) (x : Room → ℕ → ℕ → Stepped) : Type 0 where
+pub record Becomes (n b top : ℕ) (contents bodies stack bodies′ stack′ : List ℕ) (x : Room → ℕ → ℕ → ℕ → Stepped) : Type 0 where
   pub words : bodies′ ≡ bodies
   pub frames : stack′ ≡ stack
-  pub steps : (receiver selector : ℕ) (room : Room) → stepAt room receiver selector n b top contents bodies stack ≡ x room receiver selector
+  pub steps : (edition receiver selector : ℕ) (room : Room) → stepAt room edition receiver selector n b top contents bodies stack ≡ x room edition receiver selector
 
 -- What an event says: the bytecode is done, or it is a send that is to be made, or a return of a word, or it halts.
 abbrev pub Says : ℕ → ℕ → List ℕ → Active → List ℕ → List ℕ → List ℕ → List ℕ → Event → Type 0
@@ -138,10 +138,10 @@ Says n b contents a bodies stack bodies′ stack′ (Next q e) =
     × Stands n b contents bodies′ stack′ (movedOn a q e)
 Says n b contents a bodies stack bodies′ stack′ (Send s k c q sure) =
     Sending n b (a .base .0) contents bodies (written a stack) s k (c .0) (q .0) sure
-    × Becomes n b (a .base .0) contents bodies (written a stack) bodies′ (written a stack′) (λ room receiver selector. sendStep room receiver selector n b (a .base .0) contents bodies (written a stack) s k (c .0) (q .0))
+    × Becomes n b (a .base .0) contents bodies (written a stack) bodies′ (written a stack′) (λ room edition receiver selector. sendStep room edition receiver selector n b (a .base .0) contents bodies (written a stack) s k (c .0) (q .0))
 Says n b contents a bodies stack bodies′ stack′ (Return w) =
     Becomes n b (a .base .0) contents bodies (written a stack) bodies′ (written a stack′)
-    (λ room receiver selector.
-    returned (runningAt receiver selector n b (a .base .0) contents bodies (written a stack)) (topFrame n b (a .base .0) contents bodies (written a stack)) (restFrames n b (a .base .0) contents bodies (written a stack)) w)
+    (λ room edition receiver selector.
+    returned (runningAt edition receiver selector n b (a .base .0) contents bodies (written a stack)) (topFrame n b (a .base .0) contents bodies (written a stack)) (restFrames n b (a .base .0) contents bodies (written a stack)) w)
 Says n b contents a bodies stack bodies′ stack′ NoBoolean =
-    Becomes n b (a .base .0) contents bodies (written a stack) bodies′ (written a stack′) (λ room receiver selector. halts noBoolean)
+    Becomes n b (a .base .0) contents bodies (written a stack) bodies′ (written a stack′) (λ room edition receiver selector. halts noBoolean)
