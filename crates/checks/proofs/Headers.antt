@@ -32,16 +32,16 @@ use Rattle.plain.specs.State.{Frame, noMark}
 use Rattle.plain.specs.Flat.{frameAt, frameMethod, framePosition, frameDepth, frameReceiver}
 use Rattle.plain.specs.Check.{noteOf, frameRules}
 use Rattle.plain.proofs.FrameLaws.{FrameRight, frame-right, right-frame, tableDepth, note-is}
-use Rattle.checks.specs.Frame.{standsAt, headerFine, Noted, Stands}
+use Rattle.checks.specs.Frame.{standsAt, sixWordsFine, Noted, Stands}
 use Rattle.checks.proofs.Standing.{standing}
 
 -- the six words and the method of a frame that stands
-module _ {n b base : ℕ} {contents bodies stack notes : List ℕ} (h : Stands n b contents bodies stack notes base) where
+module _ {e n b base : ℕ} {contents bodies stack notes : List ℕ} (h : Stands e n b contents bodies stack notes base) where
   pub header-inside : base + 18 ≤ length stack
   header-inside = standing (objectsAt n b contents bodies) stack base (h .frame) .header
 
   pub holds-method : Holds methodKind n b contents bodies (frameMethod stack base)
-  holds-method = record { right = h .image .right; kinds = standing (objectsAt n b contents bodies) stack base (h .frame) .kinds }
+  holds-method = record { right = (e, h .image .right); kinds = standing (objectsAt n b contents bodies) stack base (h .frame) .kinds }
 
 pub valid-read : (n w : ℕ) (x : Bool) → x ≡ isValid n w → not x ≡ false → T (isValid n w)
 valid-read n w x p q = true→T (sym p ∙ not-false x q)
@@ -52,35 +52,35 @@ class-named {e} {o} r w c x p n q =
     or-right (eqb c nilWord) (isKind o classKind c) (subst (λ (k : ℕ). T (isKind o classKind k)) (sym q) (class-kind r w (valid-read (o .n) w x p n)))
 
 -- a note is inside the code
-module _ (o : Objects) (m p : ℕ) where
-  noted-inside : (d : ℕ) → noteAt (methodTable o m) p ≡ suc d → p < codeSize o m
-  noted-inside d e =
-      fine-inside (codeWords o m) (codeSize o m) (temporaryCount o m) (frameWords o m) (allowed o m) p d
-      (unfold fineAt in spot o m p d e .kept)
+module _ (e : ℕ) (o : Objects) (m p : ℕ) where
+  noted-inside : (d : ℕ) → noteAt (methodTable e o m) p ≡ suc d → p < codeSize o m
+  noted-inside d n =
+      fine-inside (codeWords o m) (codeSize o m) (temporaryCount o m) (frameWords o m) (allowed e o m) p d
+      (unfold fineAt in spot e o m p d n .kept)
 
   -- with temporaries and operands in the frame
-  pub noted-within : (d : ℕ) → noteAt (methodTable o m) p ≡ suc d → temporaryCount o m + d ≤ frameWords o m
+  pub noted-within : (d : ℕ) → noteAt (methodTable e o m) p ≡ suc d → temporaryCount o m + d ≤ frameWords o m
   unfolding rulesAt
-  noted-within d e =
+  noted-within d n =
       leb→le (temporaryCount o m + d) (frameWords o m)
-      (rule (rulesAt (codeWords o m) (codeSize o m) (temporaryCount o m) (frameWords o m) (allowed o m) p d) (spot o m p d e .kept) 3)
+      (rule (rulesAt (codeWords o m) (codeSize o m) (temporaryCount o m) (frameWords o m) (allowed e o m) p d) (spot e o m p d n .kept) 3)
 
-  pub none-outside : codeSize o m ≤ p → 0 ≡ noteAt (methodTable o m) p
-  none-outside h = go (noteAt (methodTable o m) p) refl
+  pub none-outside : codeSize o m ≤ p → 0 ≡ noteAt (methodTable e o m) p
+  none-outside h = go (noteAt (methodTable e o m) p) refl
     where
-      go : (x : ℕ) → noteAt (methodTable o m) p ≡ x → 0 ≡ noteAt (methodTable o m) p
-      go zero e = sym e
-      go (suc d) e = let i = noted-inside d e in absurd (omega arith)
+      go : (x : ℕ) → noteAt (methodTable e o m) p ≡ x → 0 ≡ noteAt (methodTable e o m) p
+      go zero q = sym q
+      go (suc d) q = let i = noted-inside d q in absurd (omega arith)
 
 -- where the note stands
-module _ {n b : ℕ} {contents bodies notes : List ℕ} (i : Noted n b contents bodies notes) (m : ℕ) (k : T (isKind (objectsAt n b contents bodies) methodKind m))
+module _ {e n b : ℕ} {contents bodies notes : List ℕ} (i : Noted e n b contents bodies notes) (m : ℕ) (k : T (isKind (objectsAt n b contents bodies) methodKind m))
     (c : Code) (a : CodeAt n b contents bodies m c) (p : ℕ)
   where
     abbrev here : Objects
     here = objectsAt n b contents bodies
 
-    pub note-outside : c .size ≤ p → 0 ≡ noteAt (methodTable here m) p
-    note-outside h = let s = a .size in none-outside here m p (omega arith)
+    pub note-outside : c .size ≤ p → 0 ≡ noteAt (methodTable e here m) p
+    note-outside h = let s = a .size in none-outside e here m p (omega arith)
 
     pub note-room : p < c .size → 2 * c .from + p < length notes
     unfolding codeSize
@@ -94,54 +94,54 @@ module _ {n b : ℕ} {contents bodies notes : List ℕ} (i : Noted n b contents 
         let z = method-facts (i .right) m k .holds in
         omega arith
 
-    pub note-read : p < c .size → getD notes (2 * c .from + p) 0 ≡ noteAt (methodTable here m) p
+    pub note-read : p < c .size → getD notes (2 * c .from + p) 0 ≡ noteAt (methodTable e here m) p
     note-read h =
         let s = a .size in
         let g = named here methodKind m k in
-        let q : MethodNoted here notes m = subst (MethodNoted here notes) (whole (g .even)) (i .noted (objectNumber m) (g .least) (omega arith) (g .kinds)) in
+        let q : MethodNoted e here notes m = subst (MethodNoted e here notes) (whole (g .even)) (i .noted (objectNumber m) (g .least) (omega arith) (g .kinds)) in
         ap (λ (x : ℕ). getD notes (2 * x + p) 0) (a .from) ∙ q p (omega arith)
       where
         whole : m % 2 ≡ 0 → pointer (objectNumber m) ≡ m
-        whole e = omega arith
+        whole q = omega arith
 
-module _ (o : Objects) (stack : List ℕ) (base : ℕ) (isTop : Bool) where
+module _ (e : ℕ) (o : Objects) (stack : List ℕ) (base : ℕ) (isTop : Bool) where
   abbrev frame : Frame
   frame = frameAt o stack base
 
   -- the tests of the header, one after another
-  pub mark-no : (getD stack (base + 4) 0 ≡ 0 → ⊥) → false ≡ headerFine o isTop frame
-  unfolding headerFine frameAt
+  pub mark-no : (getD stack (base + 4) 0 ≡ 0 → ⊥) → false ≡ sixWordsFine e o isTop frame
+  unfolding sixWordsFine frameAt
   mark-no h = simp (ne-eqb (getD stack (base + 4) 0) 0 h)
 
   module _ (unmarked : getD stack (base + 4) 0 ≡ 0) (x : Bool) (v : x ≡ isValid (o .n) (frameReceiver stack base)) where
-    pub receiver-no : not x ≡ true → false ≡ headerFine o isTop frame
-    unfolding headerFine frameAt
+    pub receiver-no : not x ≡ true → false ≡ sixWordsFine e o isTop frame
+    unfolding sixWordsFine frameAt
     receiver-no q = simp (eq-eqb (getD stack (base + 4) 0) 0 unmarked, sym v ∙ not-true x q)
 
     module _ (q : not x ≡ false) (h c : ℕ) (p : h ≡ home o (frameMethod stack base)) (r : c ≡ classOf o (frameReceiver stack base)) (y : Bool) (s : y ≡ inChain o h c) where
       chain-is : inChain o (home o (frameMethod stack base)) (classOf o (frameReceiver stack base)) ≡ y
       chain-is = sym (s ∙ ap₂ (inChain o) p r)
 
-      pub chain-no : not y ≡ true → false ≡ headerFine o isTop frame
-      unfolding headerFine frameAt
+      pub chain-no : not y ≡ true → false ≡ sixWordsFine e o isTop frame
+      unfolding sixWordsFine frameAt
       chain-no t = simp (eq-eqb (getD stack (base + 4) 0) 0 unmarked, sym v ∙ not-false x q, chain-is ∙ not-true y t)
 
-      pub header-note : not y ≡ false → (z w : ℕ) → z ≡ noteAt (methodTable o (frameMethod stack base)) (framePosition stack base) → w ≡ noteOf isTop frame
-          → eqb z w ≡ headerFine o isTop frame
-      unfolding headerFine frameAt
-      header-note t z w e f =
-          ap₂ eqb e f ∙ simp (eq-eqb (getD stack (base + 4) 0) 0 unmarked, sym v ∙ not-false x q, chain-is ∙ not-false y t)
+      pub header-note : not y ≡ false → (z w : ℕ) → z ≡ noteAt (methodTable e o (frameMethod stack base)) (framePosition stack base) → w ≡ noteOf isTop frame
+          → eqb z w ≡ sixWordsFine e o isTop frame
+      unfolding sixWordsFine frameAt
+      header-note t z w g f =
+          ap₂ eqb g f ∙ simp (eq-eqb (getD stack (base + 4) 0) 0 unmarked, sym v ∙ not-false x q, chain-is ∙ not-false y t)
 
   pub note-top : isTop ≡ true → frameDepth stack base + 1 ≡ noteOf isTop frame
   unfolding noteOf frameAt
-  note-top e = one (frameDepth stack base) ∙ sym (if-yes _ _ e)
+  note-top q = one (frameDepth stack base) ∙ sym (if-yes _ _ q)
     where
       one : (d : ℕ) → d + 1 ≡ suc d
       one d = omega arith
 
   pub note-below : isTop ≡ false → frameDepth stack base + 2 ≡ noteOf isTop frame
   unfolding noteOf frameAt
-  note-below e = two (frameDepth stack base) ∙ sym (if-no _ _ e)
+  note-below q = two (frameDepth stack base) ∙ sym (if-no _ _ q)
     where
       two : (d : ℕ) → d + 2 ≡ suc (suc d)
       two d = omega arith
@@ -150,44 +150,44 @@ module _ (o : Objects) (stack : List ℕ) (base : ℕ) (isTop : Bool) where
     unmarked : frame .mark ≡ noMark
     receiver : T (isValid (o .n) (frame .receiver))
     chain : T (inChain o (home o (frame .method)) (classOf o (frame .receiver)))
-    note : noteAt (methodTable o (frame .method)) (frame .position) ≡ noteOf isTop frame
+    note : noteAt (methodTable e o (frame .method)) (frame .position) ≡ noteOf isTop frame
 
-  header-right : T (headerFine o isTop frame) → HeaderRight
-  unfolding headerFine
+  header-right : T (sixWordsFine e o isTop frame) → HeaderRight
+  unfolding sixWordsFine
   header-right t =
       let a = eqb (frame .mark) noMark in
       let b = isValid (o .n) (frame .receiver) in
       let c = inChain o (home o (frame .method)) (classOf o (frame .receiver)) in
-      let d = eqb (noteAt (methodTable o (frame .method)) (frame .position)) (noteOf isTop frame) in
+      let d = eqb (noteAt (methodTable e o (frame .method)) (frame .position)) (noteOf isTop frame) in
       let u = and-right a (b && (c && d)) t in
       let v = and-right b (c && d) u in
       record {
         unmarked = eqb→eq (frame .mark) noMark (and-left a (b && (c && d)) t);
         receiver = and-left b (c && d) u;
         chain = and-left c d v;
-        note = eqb→eq (noteAt (methodTable o (frame .method)) (frame .position)) (noteOf isTop frame) (and-right c d v);
+        note = eqb→eq (noteAt (methodTable e o (frame .method)) (frame .position)) (noteOf isTop frame) (and-right c d v);
       }
 
-  right-header : FrameRight o isTop frame → T (headerFine o isTop frame)
-  unfolding headerFine
+  right-header : FrameRight e o isTop frame → T (sixWordsFine e o isTop frame)
+  unfolding sixWordsFine
   right-header r =
       let c = inChain o (home o (frame .method)) (classOf o (frame .receiver)) in
-      let d = eqb (noteAt (methodTable o (frame .method)) (frame .position)) (noteOf isTop frame) in
+      let d = eqb (noteAt (methodTable e o (frame .method)) (frame .position)) (noteOf isTop frame) in
       and-both (eqb (frame .mark) noMark) (isValid (o .n) (frame .receiver) && (c && d)) (true→T (eq-eqb (frame .mark) noMark (r .unmarked)))
       (and-both (isValid (o .n) (frame .receiver)) (c && d) (r .receiver)
-      (and-both c d (r .chain) (true→T (eq-eqb (noteAt (methodTable o (frame .method)) (frame .position)) (noteOf isTop frame) (r .note)))))
+      (and-both c d (r .chain) (true→T (eq-eqb (noteAt (methodTable e o (frame .method)) (frame .position)) (noteOf isTop frame) (r .note)))))
 
-  pub rules-no : (x : Bool) → x ≡ headerFine o isTop frame → not x ≡ true → false ≡ allOf (frameRules o isTop frame)
+  pub rules-no : (x : Bool) → x ≡ sixWordsFine e o isTop frame → not x ≡ true → false ≡ allOf (frameRules e o isTop frame)
   rules-no x p q =
-      sym (never (allOf (frameRules o isTop frame)) (λ t. failed (sym p ∙ not-true x q) (right-header (frame-right o isTop frame t))))
+      sym (never (allOf (frameRules e o isTop frame)) (λ t. failed (sym p ∙ not-true x q) (right-header (frame-right e o isTop frame t))))
 
-  module _ (s : T (standsAt o stack base)) (x : Bool) (p : x ≡ headerFine o isTop frame) (q : not x ≡ false) where
-    h : T (headerFine o isTop frame)
+  module _ (s : T (standsAt o stack base)) (x : Bool) (p : x ≡ sixWordsFine e o isTop frame) (q : not x ≡ false) where
+    h : T (sixWordsFine e o isTop frame)
     h = true→T (sym p ∙ not-false x q)
 
     within : temporaryCount o (frameMethod stack base) + frameDepth stack base ≤ frameWords o (frameMethod stack base)
     unfolding frameAt
-    within = go isTop (noted-within o (frameMethod stack base) (framePosition stack base) (tableDepth isTop (frameDepth stack base)) (header-right h .note ∙ note-is isTop frame))
+    within = go isTop (noted-within e o (frameMethod stack base) (framePosition stack base) (tableDepth isTop (frameDepth stack base)) (header-right h .note ∙ note-is isTop frame))
       where
         go : (x : Bool) → temporaryCount o (frameMethod stack base) + tableDepth x (frameDepth stack base) ≤ frameWords o (frameMethod stack base)
             → temporaryCount o (frameMethod stack base) + frameDepth stack base ≤ frameWords o (frameMethod stack base)
@@ -243,7 +243,7 @@ module _ (o : Objects) (stack : List ℕ) (base : ℕ) (isTop : Bool) where
         (λ i l. subst (λ (x : ℕ). T (isValid (o .n) x)) (word-at (temporaryCount o (frameMethod stack base) + i) (omega arith)
         ∙ sym (operand-at i (omega arith))) (every-at (isValid (o .n)) words t (temporaryCount o (frameMethod stack base) + i) (omega arith)))
 
-    valid-words : FrameRight o isTop frame → T (every (isValid (o .n)) words)
+    valid-words : FrameRight e o isTop frame → T (every (isValid (o .n)) words)
     valid-words r =
         let q = words-long in
         at-every (isValid (o .n)) words (λ i l. subst (λ (x : ℕ). T (isValid (o .n) x)) (sym (word-at i (omega arith))) (go i (omega arith) (decLt i (temporaryCount o (frameMethod stack base)))))
@@ -261,7 +261,7 @@ module _ (o : Objects) (stack : List ℕ) (base : ℕ) (isTop : Bool) where
             subst (λ (x : ℕ). T (isValid (o .n) x)) (operand-at j (omega arith) ∙ ap (λ (k : ℕ). getD stack (base + 6 + k) 0) (back i (omega arith)))
             (every-at (isValid (o .n)) (frame .operands) (r .validOperands) j (omega arith))
 
-    all-right : T (every (isValid (o .n)) words) → FrameRight o isTop frame
+    all-right : T (every (isValid (o .n)) words) → FrameRight e o isTop frame
     unfolding frameAt
     all-right t =
         let r = header-right h in
@@ -277,20 +277,20 @@ module _ (o : Objects) (stack : List ℕ) (base : ℕ) (isTop : Bool) where
           validOperands = valid-operands t;
         }
 
-    rules-all : every (isValid (o .n)) words ≡ allOf (frameRules o isTop frame)
+    rules-all : every (isValid (o .n)) words ≡ allOf (frameRules e o isTop frame)
     rules-all =
-        same-test (every (isValid (o .n)) words) (allOf (frameRules o isTop frame)) (λ t. right-frame o isTop frame (all-right t)) (λ t. valid-words (frame-right o isTop frame t))
+        same-test (every (isValid (o .n)) words) (allOf (frameRules e o isTop frame)) (λ t. right-frame e o isTop frame (all-right t)) (λ t. valid-words (frame-right e o isTop frame t))
 
     -- the words from the first temporary to the last operand, by the count that the header gives
-    module _ (g count : ℕ) (e : g ≡ header o (frameMethod stack base)) (f : count ≡ temporariesOf g) where
+    module _ (g count : ℕ) (d : g ≡ header o (frameMethod stack base)) (f : count ≡ temporariesOf g) where
       count-is : count ≡ temporaryCount o (frameMethod stack base)
-      count-is = f ∙ ap temporariesOf e
+      count-is = f ∙ ap temporariesOf d
 
       pub words-end : base + 6 + (count + frameDepth stack base) ≤ length stack
       words-end = let i = words-inside in let k = count-is in omega arith
 
       pub rules-here : (y : Bool) → y ≡ every (isValid (o .n)) (part stack (base + 6) (base + 6 + (count + frameDepth stack base) - (base + 6)))
-          → y ≡ allOf (frameRules o isTop frame)
+          → y ≡ allOf (frameRules e o isTop frame)
       rules-here y r = r ∙ ap (λ (k : ℕ). every (isValid (o .n)) (part stack (base + 6) k)) same ∙ rules-all
         where
           same : base + 6 + (count + frameDepth stack base) - (base + 6) ≡ temporaryCount o (frameMethod stack base) + frameDepth stack base

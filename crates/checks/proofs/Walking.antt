@@ -21,41 +21,41 @@ use Rattle.checks.specs.Frame.{standsAt, frameEnd}
 use Rattle.checks.proofs.Standing.{positive, stands, end-stands, end-is, frame-least}
 
 -- the first frame keeps its rules and fits
-first : (o : Objects) (stack : ℕ) (isTop : Bool) (base : ℕ) (f : Frame) (fs : List Frame) → T (framesFine o stack isTop base (f ∷ fs))
-    → T (allOf (frameRules o isTop f)) × T (fitsStack stack base (frameSize o (f .method)))
+first : (edition : ℕ) (o : Objects) (stack : ℕ) (isTop : Bool) (base : ℕ) (f : Frame) (fs : List Frame) → T (framesFine edition o stack isTop base (f ∷ fs))
+    → T (allOf (frameRules edition o isTop f)) × T (fitsStack stack base (frameSize o (f .method)))
 unfolding framesFine
-first o stack isTop base f [] t =
-    let a = allOf (frameRules o isTop f) in
+first edition o stack isTop base f [] t =
+    let a = allOf (frameRules edition o isTop f) in
     let b = fitsStack stack base (frameSize o (f .method)) in
     let c = eqb base 0 && eqb (f .sender) 0 in
     (and-left a (b && c) t, and-left b c (and-right a (b && c) t))
-first o stack isTop base f (g ∷ rest) t =
-    let a = allOf (frameRules o isTop f) in
+first edition o stack isTop base f (g ∷ rest) t =
+    let a = allOf (frameRules edition o isTop f) in
     let b = fitsStack stack base (frameSize o (f .method)) in
-    let c = eqb base (f .sender + frameSize o (g .method)) && framesFine o stack false (f .sender) (g ∷ rest) in
+    let c = eqb base (f .sender + frameSize o (g .method)) && framesFine edition o stack false (f .sender) (g ∷ rest) in
     (and-left a (b && c) t, and-left b c (and-right a (b && c) t))
 
-module _ (o : Objects) (stack : List ℕ) where
+module _ (edition : ℕ) (o : Objects) (stack : List ℕ) where
   -- the frames from one on, at most so many below it
   abbrev pub fineFrom : Bool → ℕ → ℕ → Bool
-  fineFrom isTop left base = framesFine o (length stack) isTop base (framesFrom (suc left) o stack base)
+  fineFrom isTop left base = framesFine edition o (length stack) isTop base (framesFrom (suc left) o stack base)
 
-  standing-by : (isTop : Bool) (base : ℕ) → T (allOf (frameRules o isTop (frameAt o stack base)))
+  standing-by : (isTop : Bool) (base : ℕ) → T (allOf (frameRules edition o isTop (frameAt o stack base)))
       → T (fitsStack (length stack) base (frameSize o (frameAt o stack base .method))) → T (standsAt o stack base)
   unfolding frameAt
   standing-by isTop base r f =
-      stands o stack base (frame-right o isTop (frameAt o stack base) r .isMethod) (fits (length stack) base (frameSize o (frameMethod stack base)) f)
+      stands o stack base (frame-right edition o isTop (frameAt o stack base) r .isMethod) (fits (length stack) base (frameSize o (frameMethod stack base)) f)
 
-  from-first : (isTop : Bool) (left base : ℕ) → T (fineFrom isTop left base) → T (allOf (frameRules o isTop (frameAt o stack base))) × T (standsAt o stack base)
+  from-first : (isTop : Bool) (left base : ℕ) → T (fineFrom isTop left base) → T (allOf (frameRules edition o isTop (frameAt o stack base))) × T (standsAt o stack base)
   unfolding framesFrom
   from-first isTop left base t =
-      let k = first o (length stack) isTop base (frameAt o stack base) (unlessBottom base (framesFrom left o stack (frameSender stack base))) t in
+      let k = first edition o (length stack) isTop base (frameAt o stack base) (unlessBottom base (framesFrom left o stack (frameSender stack base))) t in
       (k .0, standing-by isTop base (k .0) (k .1))
 
   pub from-unstood : (isTop : Bool) (left base : ℕ) → standsAt o stack base ≡ false → false ≡ fineFrom isTop left base
   from-unstood isTop left base e = sym (never (fineFrom isTop left base) (λ t. failed e (from-first isTop left base t .1)))
 
-  pub from-wrong : (isTop : Bool) (left base : ℕ) → allOf (frameRules o isTop (frameAt o stack base)) ≡ false → false ≡ fineFrom isTop left base
+  pub from-wrong : (isTop : Bool) (left base : ℕ) → allOf (frameRules edition o isTop (frameAt o stack base)) ≡ false → false ≡ fineFrom isTop left base
   from-wrong isTop left base e = sym (never (fineFrom isTop left base) (λ t. failed e (from-first isTop left base t .0)))
 
   fits-there : (base : ℕ) → T (standsAt o stack base) → fitsStack (length stack) base (frameSize o (frameMethod stack base)) ≡ true
@@ -65,34 +65,34 @@ module _ (o : Objects) (stack : List ℕ) where
 
   -- the frame at 0
   bottom-is : (isTop : Bool) (left : ℕ) → fineFrom isTop left 0
-      ≡ (allOf (frameRules o isTop (frameAt o stack 0)) && (fitsStack (length stack) 0 (frameSize o (frameMethod stack 0)) && eqb (frameSender stack 0) 0))
+      ≡ (allOf (frameRules edition o isTop (frameAt o stack 0)) && (fitsStack (length stack) 0 (frameSize o (frameMethod stack 0)) && eqb (frameSender stack 0) 0))
   unfolding framesFine framesFrom frameAt
   bottom-is isTop left = refl
 
-  pub from-bottom : (isTop : Bool) (left base : ℕ) → base ≡ 0 → T (standsAt o stack base) → allOf (frameRules o isTop (frameAt o stack base)) ≡ true
+  pub from-bottom : (isTop : Bool) (left base : ℕ) → base ≡ 0 → T (standsAt o stack base) → allOf (frameRules edition o isTop (frameAt o stack base)) ≡ true
       → eqb (getD stack base 0) 0 ≡ fineFrom isTop left base
-  from-bottom isTop left base z s r = subst (λ (x : ℕ). T (standsAt o stack x) → allOf (frameRules o isTop (frameAt o stack x)) ≡ true → eqb (getD stack x 0) 0 ≡ fineFrom isTop left x) (sym z) go s r
+  from-bottom isTop left base z s r = subst (λ (x : ℕ). T (standsAt o stack x) → allOf (frameRules edition o isTop (frameAt o stack x)) ≡ true → eqb (getD stack x 0) 0 ≡ fineFrom isTop left x) (sym z) go s r
     where
-      go : T (standsAt o stack 0) → allOf (frameRules o isTop (frameAt o stack 0)) ≡ true → eqb (getD stack 0 0) 0 ≡ fineFrom isTop left 0
+      go : T (standsAt o stack 0) → allOf (frameRules edition o isTop (frameAt o stack 0)) ≡ true → eqb (getD stack 0 0) 0 ≡ fineFrom isTop left 0
       go s r =
-          sym (bottom-is isTop left ∙ pass (allOf (frameRules o isTop (frameAt o stack 0))) (fitsStack (length stack) 0 (frameSize o (frameMethod stack 0)) && eqb (frameSender stack 0) 0) r
+          sym (bottom-is isTop left ∙ pass (allOf (frameRules edition o isTop (frameAt o stack 0))) (fitsStack (length stack) 0 (frameSize o (frameMethod stack 0)) && eqb (frameSender stack 0) 0) r
           ∙ pass (fitsStack (length stack) 0 (frameSize o (frameMethod stack 0))) (eqb (frameSender stack 0) 0) (fits-there 0 s))
 
   -- a frame above 0
   above-is : (isTop : Bool) (left base : ℕ) → fineFrom isTop (suc left) (suc base)
-      ≡ (allOf (frameRules o isTop (frameAt o stack (suc base))) && (fitsStack (length stack) (suc base) (frameSize o (frameMethod stack (suc base)))
+      ≡ (allOf (frameRules edition o isTop (frameAt o stack (suc base))) && (fitsStack (length stack) (suc base) (frameSize o (frameMethod stack (suc base)))
       && (eqb (suc base) (frameSender stack (suc base) + frameSize o (frameMethod stack (frameSender stack (suc base)))) && fineFrom false left (frameSender stack (suc base)))))
   unfolding framesFine framesFrom frameAt
   above-is isTop left base = refl
 
-  above : (isTop : Bool) (left base : ℕ) → 0 < base → base ≤ left → T (standsAt o stack base) → allOf (frameRules o isTop (frameAt o stack base)) ≡ true
+  above : (isTop : Bool) (left base : ℕ) → 0 < base → base ≤ left → T (standsAt o stack base) → allOf (frameRules edition o isTop (frameAt o stack base)) ≡ true
       → fineFrom isTop left base ≡ (eqb base (frameSender stack base + frameSize o (frameMethod stack (frameSender stack base))) && fineFrom false (left - 1) (frameSender stack base))
   above isTop zero base h l s r = absurd (omega arith)
   above isTop (suc left) zero h l s r = absurd (omega arith)
   above isTop (suc left) (suc base) h l s r =
       let x = eqb (suc base) (frameSender stack (suc base) + frameSize o (frameMethod stack (frameSender stack (suc base)))) && fineFrom false left (frameSender stack (suc base)) in
       above-is isTop left base
-      ∙ pass (allOf (frameRules o isTop (frameAt o stack (suc base)))) (fitsStack (length stack) (suc base) (frameSize o (frameMethod stack (suc base))) && x) r
+      ∙ pass (allOf (frameRules edition o isTop (frameAt o stack (suc base)))) (fitsStack (length stack) (suc base) (frameSize o (frameMethod stack (suc base))) && x) r
       ∙ pass (fitsStack (length stack) (suc base) (frameSize o (frameMethod stack (suc base)))) x (fits-there (suc base) s)
       ∙ ap (λ (k : ℕ). eqb (suc base) (frameSender stack (suc base) + frameSize o (frameMethod stack (frameSender stack (suc base)))) && fineFrom false k (frameSender stack (suc base))) (less left)
     where
@@ -110,19 +110,19 @@ module _ (o : Objects) (stack : List ℕ) where
   going-first top e p q = record { left = top; enough = omega arith; stands = end-stands o stack top e p (positive e q); rest = refl }
 
   module _ {top base : ℕ} {isTop : Bool} (g : Going top base isTop) where
-    pub going-wrong : (x : Bool) → x ≡ allOf (frameRules o isTop (frameAt o stack base)) → not x ≡ true → false ≡ fineFrom true top top
+    pub going-wrong : (x : Bool) → x ≡ allOf (frameRules edition o isTop (frameAt o stack base)) → not x ≡ true → false ≡ fineFrom true top top
     going-wrong x f q = from-wrong isTop (g .left) base (sym f ∙ not-true x q) ∙ g .rest
 
-    pub going-bottom : (x : Bool) → x ≡ allOf (frameRules o isTop (frameAt o stack base)) → not x ≡ false → base ≡ 0 → eqb (getD stack base 0) 0 ≡ fineFrom true top top
+    pub going-bottom : (x : Bool) → x ≡ allOf (frameRules edition o isTop (frameAt o stack base)) → not x ≡ false → base ≡ 0 → eqb (getD stack base 0) 0 ≡ fineFrom true top top
     going-bottom x f q z = from-bottom isTop (g .left) base z (g .stands) (sym f ∙ not-false x q) ∙ g .rest
 
-    module _ (x : Bool) (f : x ≡ allOf (frameRules o isTop (frameAt o stack base))) (n : not x ≡ false) (z : base ≡ 0 → ⊥) (e : ℕ)
+    module _ (x : Bool) (f : x ≡ allOf (frameRules edition o isTop (frameAt o stack base))) (n : not x ≡ false) (z : base ≡ 0 → ⊥) (e : ℕ)
         (p : e ≡ frameEnd o stack (getD stack base 0))
       where
         h : 0 < base
         h = positive base z
 
-        r : allOf (frameRules o isTop (frameAt o stack base)) ≡ true
+        r : allOf (frameRules edition o isTop (frameAt o stack base)) ≡ true
         r = sym f ∙ not-false x n
 
         abbrev sender : ℕ

@@ -27,20 +27,20 @@ unfoldable pub frameEnd : Objects → List ℕ → ℕ → ℕ
 frameEnd o stack base = if standsAt o stack base then base + frameSize o (frameMethod stack base) else 0
 
 -- Its words but for temporaries and operands
-unfoldable pub headerFine : Objects → Bool → Frame → Bool
-headerFine o isTop f =
+unfoldable pub sixWordsFine : ℕ → Objects → Bool → Frame → Bool
+sixWordsFine e o isTop f =
     eqb (f .mark) noMark
     && (isValid (o .n) (f .receiver)
     && (inChain o (home o (f .method)) (classOf o (f .receiver))
-    && eqb (noteAt (methodTable o (f .method)) (f .position)) (noteOf isTop f)))
+    && eqb (noteAt (methodTable e o (f .method)) (f .position)) (noteOf isTop f)))
 
 -- Right objects with the notes of all methods
-pub record Noted (n b : ℕ) (contents bodies notes : List ℕ) : Type 0 where
-  pub right : Right 1 (objectsAt n b contents bodies)
-  pub noted : NotedBefore (objectsAt n b contents bodies) notes (suc n)
+pub record Noted (e n b : ℕ) (contents bodies notes : List ℕ) : Type 0 where
+  pub right : Right e (objectsAt n b contents bodies)
+  pub noted : NotedBefore e (objectsAt n b contents bodies) notes (suc n)
   pub room : 2 * b ≤ length notes
 
 -- and a frame in the stack
-pub record Stands (n b : ℕ) (contents bodies stack notes : List ℕ) (base : ℕ) : Type 0 where
-  pub image : Noted n b contents bodies notes
+pub record Stands (e n b : ℕ) (contents bodies stack notes : List ℕ) (base : ℕ) : Type 0 where
+  pub image : Noted e n b contents bodies notes
   pub frame : T (standsAt (objectsAt n b contents bodies) stack base)

@@ -8,10 +8,10 @@ ghost use Rattle.bytecode.specs.Test.{allOf};
 ghost use Rattle.model.specs.Limits.{methodKind};
 ghost use Rattle.model.specs.Objects.{objectsAt, isKind};
 ghost use Rattle.model.specs.Depth.{noteAt};
-ghost use Rattle.model.specs.Rules.{Right, methodTable};
+ghost use Rattle.model.specs.Rules.{IsRight, methodTable};
 ghost use Rattle.plain.specs.Flat.{frameAt, framesFrom};
 ghost use Rattle.plain.specs.Check.{frameRules, framesFine};
-ghost use Rattle.checks.specs.Frame.{frameEnd, headerFine, Noted, Stands};
+ghost use Rattle.checks.specs.Frame.{frameEnd, sixWordsFine, Noted, Stands};
 use model::CodePosition;
 use model::Pointer;
 use model::StackPosition;
@@ -25,7 +25,7 @@ fn frame_end(
     b: usize,
     at: StackPosition,
 ) -> StackPosition
-    requires { ⌜ Right 1 (objectsAt n b (now contents) (now bodies)) ⌝ }
+    requires { ⌜ IsRight (objectsAt n b (now contents) (now bodies)) ⌝ }
     ensures { λ r. ⌜ r .0 ≡ frameEnd (objectsAt n b (now (contents .entry)) (now (bodies .entry))) (now (stack .entry)) (at .0) ⌝ }
 {
     let base = at.0;
@@ -56,13 +56,14 @@ fn note_at(
     contents: &[u16],
     bodies: &[u16],
     notes: &[u8],
+    edition: u16,
     n: usize,
     b: usize,
     m: Pointer,
     at: CodePosition,
 ) -> usize
-    requires { ⌜ Noted n b (now contents) (now bodies) (now notes) × T (isKind (objectsAt n b (now contents) (now bodies)) methodKind (m .0)) ⌝ }
-    ensures { λ r. ⌜ r ≡ noteAt (methodTable (objectsAt n b (now (contents .entry)) (now (bodies .entry))) (m .0)) (at .0) ⌝ }
+    requires { ⌜ Noted edition n b (now contents) (now bodies) (now notes) × T (isKind (objectsAt n b (now contents) (now bodies)) methodKind (m .0)) ⌝ }
+    ensures { λ r. ⌜ r ≡ noteAt (methodTable edition (objectsAt n b (now (contents .entry)) (now (bodies .entry))) (m .0)) (at .0) ⌝ }
 {
     let code = objects::code_of(contents, bodies, n, b, m);
     let p = at.0;
@@ -74,18 +75,19 @@ fn note_at(
 }
 
 // The words of a frame but for temporaries and operands.
-fn header_fine(
+fn six_words_fine(
     contents: &[u16],
     bodies: &[u16],
     stack: &[u16],
     notes: &[u8],
+    edition: u16,
     n: usize,
     b: usize,
     at: StackPosition,
     uppermost: bool,
 ) -> bool
-    requires { ⌜ Stands n b (now contents) (now bodies) (now stack) (now notes) (at .0) ⌝ }
-    ensures { λ r. ⌜ r ≡ headerFine (objectsAt n b (now (contents .entry)) (now (bodies .entry))) uppermost (frameAt (objectsAt n b (now (contents .entry)) (now (bodies .entry))) (now (stack .entry)) (at .0)) ⌝ }
+    requires { ⌜ Stands edition n b (now contents) (now bodies) (now stack) (now notes) (at .0) ⌝ }
+    ensures { λ r. ⌜ r ≡ sixWordsFine edition (objectsAt n b (now (contents .entry)) (now (bodies .entry))) uppermost (frameAt (objectsAt n b (now (contents .entry)) (now (bodies .entry))) (now (stack .entry)) (at .0)) ⌝ }
 {
     let base = at.0;
     if stack[base + 4] != 0 {
@@ -102,7 +104,7 @@ fn header_fine(
         return false;
     }
     let p = stack[base + 1] as usize;
-    let note = note_at(contents, bodies, notes, n, b, Pointer(m), CodePosition(p));
+    let note = note_at(contents, bodies, notes, edition, n, b, Pointer(m), CodePosition(p));
     let depth = stack[base + 2] as usize;
     if uppermost {
         return note == depth + 1;
@@ -116,15 +118,16 @@ fn frame_fine(
     bodies: &[u16],
     stack: &[u16],
     notes: &[u8],
+    edition: u16,
     n: usize,
     b: usize,
     at: StackPosition,
     uppermost: bool,
 ) -> bool
-    requires { ⌜ Stands n b (now contents) (now bodies) (now stack) (now notes) (at .0) ⌝ }
-    ensures { λ r. ⌜ r ≡ allOf (frameRules (objectsAt n b (now (contents .entry)) (now (bodies .entry))) uppermost (frameAt (objectsAt n b (now (contents .entry)) (now (bodies .entry))) (now (stack .entry)) (at .0))) ⌝ }
+    requires { ⌜ Stands edition n b (now contents) (now bodies) (now stack) (now notes) (at .0) ⌝ }
+    ensures { λ r. ⌜ r ≡ allOf (frameRules edition (objectsAt n b (now (contents .entry)) (now (bodies .entry))) uppermost (frameAt (objectsAt n b (now (contents .entry)) (now (bodies .entry))) (now (stack .entry)) (at .0))) ⌝ }
 {
-    if !header_fine(contents, bodies, stack, notes, n, b, at, uppermost) {
+    if !six_words_fine(contents, bodies, stack, notes, edition, n, b, at, uppermost) {
         return false;
     }
     let base = at.0;
@@ -142,12 +145,13 @@ pub fn frames_fine(
     bodies: &[u16],
     stack: &[u16],
     notes: &[u8],
+    edition: u16,
     n: usize,
     b: usize,
     top: StackPosition,
 ) -> bool
-    requires { ⌜ Noted n b (now contents) (now bodies) (now notes) ⌝ }
-    ensures { λ r. ⌜ r ≡ framesFine (objectsAt n b (now (contents .entry)) (now (bodies .entry))) (length (now (stack .entry))) true (top .0) (framesFrom (suc (top .0)) (objectsAt n b (now (contents .entry)) (now (bodies .entry))) (now (stack .entry)) (top .0)) ⌝ }
+    requires { ⌜ Noted edition n b (now contents) (now bodies) (now notes) ⌝ }
+    ensures { λ r. ⌜ r ≡ framesFine edition (objectsAt n b (now (contents .entry)) (now (bodies .entry))) (length (now (stack .entry))) true (top .0) (framesFrom (suc (top .0)) (objectsAt n b (now (contents .entry)) (now (bodies .entry))) (now (stack .entry)) (top .0)) ⌝ }
 {
     let end = frame_end(contents, bodies, stack, n, b, top);
     if end.0 == 0 {
@@ -161,6 +165,7 @@ pub fn frames_fine(
             bodies,
             stack,
             notes,
+            edition,
             n,
             b,
             StackPosition(base),

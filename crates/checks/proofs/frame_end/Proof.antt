@@ -35,7 +35,7 @@ shared-slice-read-m c = search needs
 is-kind-requires : tie.Need-is-kind-requires
 is-kind-requires c κs =
     let at-start = c .before .before .before .before .before .before in
-    let a = at-start .args in contents-room (a .n) (a .b) (a .contents .now) (a .bodies .now) (at-start .pre)
+    let a = at-start .args in contents-room (a .n) (a .b) (a .contents .now) (a .bodies .now) (at-start .pre .1)
 
 returns-3 : tie.Need-returns-3
 returns-3 c =

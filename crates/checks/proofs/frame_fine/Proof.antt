@@ -7,13 +7,13 @@ use borrow.Author.Needs.{needs}
 use Rattle.checks.proofs.frame_fine.Statement.{statement}
 use Rattle.checks.proofs.frame_fine.Tie as tie
 
-header-fine-requires : tie.Need-header-fine-requires
-header-fine-requires c κs = search needs
+six-words-fine-requires : tie.Need-six-words-fine-requires
+six-words-fine-requires c κs = search needs
 
 returns : tie.Need-returns
 returns c =
     let a = c .before .before .before .before .before .before .args in
-    rules-no (objectsAt (a .n) (a .b) (a .contents .now) (a .bodies .now)) (a .stack .now) (a .at .0) (a .uppermost) _ (c .before .header-fine .ensures) (c .if1 .taken)
+    rules-no (a .edition) (objectsAt (a .n) (a .b) (a .contents .now) (a .bodies .now)) (a .stack .now) (a .at .0) (a .uppermost) _ (c .before .six-words-fine .ensures) (c .if1 .taken)
 
 add-m : tie.Need-add-m
 add-m c = let h = header-inside (c .before .before .before .before .before .before .pre) in omega arith
@@ -48,20 +48,20 @@ temporary-count-requires c κs = search needs
 add-end : tie.Need-add-end
 add-end c =
     let at-if1 = c .before .before .before .before in
-    let at-header-fine = at-if1 .before in
-    let at-start = at-header-fine .before .before .before .before .before in
+    let at-six-words-fine = at-if1 .before in
+    let at-start = at-six-words-fine .before .before .before .before .before in
     let a = at-start .args in
-    let w = words-end (objectsAt (a .n) (a .b) (a .contents .now) (a .bodies .now)) (a .stack .now) (a .at .0) (a .uppermost) ((at-start .pre) .frame) _
-    (at-header-fine .header-fine .ensures) (at-if1 .if1 .left) _ _ (c .before .header .ensures) (c .temporary-count .ensures) in omega arith
+    let w = words-end (a .edition) (objectsAt (a .n) (a .b) (a .contents .now) (a .bodies .now)) (a .stack .now) (a .at .0) (a .uppermost) ((at-start .pre) .frame) _
+    (at-six-words-fine .six-words-fine .ensures) (at-if1 .if1 .left) _ _ (c .before .header .ensures) (c .temporary-count .ensures) in omega arith
 
 add-end-2 : tie.Need-add-end-2
 add-end-2 c =
     let at-if1 = c .before .before .before .before in
-    let at-header-fine = at-if1 .before in
-    let at-start = at-header-fine .before .before .before .before .before in
+    let at-six-words-fine = at-if1 .before in
+    let at-start = at-six-words-fine .before .before .before .before .before in
     let a = at-start .args in
-    let w = words-end (objectsAt (a .n) (a .b) (a .contents .now) (a .bodies .now)) (a .stack .now) (a .at .0) (a .uppermost) ((at-start .pre) .frame) _
-    (at-header-fine .header-fine .ensures) (at-if1 .if1 .left) _ _ (c .before .header .ensures) (c .temporary-count .ensures) in omega arith
+    let w = words-end (a .edition) (objectsAt (a .n) (a .b) (a .contents .now) (a .bodies .now)) (a .stack .now) (a .at .0) (a .uppermost) ((at-start .pre) .frame) _
+    (at-six-words-fine .six-words-fine .ensures) (at-if1 .if1 .left) _ _ (c .before .header .ensures) (c .temporary-count .ensures) in omega arith
 
 mul-valid-words : tie.Need-mul-valid-words
 mul-valid-words c =
@@ -76,11 +76,11 @@ part-valid-words-start c = search needs
 part-valid-words-end : tie.Need-part-valid-words-end
 part-valid-words-end c =
     let at-if1 = c .before .before .before .before in
-    let at-header-fine = at-if1 .before in
-    let at-start = at-header-fine .before .before .before .before .before in
+    let at-six-words-fine = at-if1 .before in
+    let at-start = at-six-words-fine .before .before .before .before .before in
     let a = at-start .args in
-    let w = words-end (objectsAt (a .n) (a .b) (a .contents .now) (a .bodies .now)) (a .stack .now) (a .at .0) (a .uppermost) ((at-start .pre) .frame) _
-    (at-header-fine .header-fine .ensures) (at-if1 .if1 .left) _ _ (c .before .header .ensures) (c .temporary-count .ensures) in omega arith
+    let w = words-end (a .edition) (objectsAt (a .n) (a .b) (a .contents .now) (a .bodies .now)) (a .stack .now) (a .at .0) (a .uppermost) ((at-start .pre) .frame) _
+    (at-six-words-fine .six-words-fine .ensures) (at-if1 .if1 .left) _ _ (c .before .header .ensures) (c .temporary-count .ensures) in omega arith
 
 valid-words-requires : tie.Need-valid-words-requires
 valid-words-requires c κs = search needs
@@ -88,18 +88,18 @@ valid-words-requires c κs = search needs
 returns-2 : tie.Need-returns-2
 returns-2 c =
     let at-if1 = c .before .before .before .before .before .before in
-    let at-header-fine = at-if1 .before in
-    let at-start = at-header-fine .before .before .before .before .before in
+    let at-six-words-fine = at-if1 .before in
+    let at-start = at-six-words-fine .before .before .before .before .before in
     let a = at-start .args in
-    rules-here (objectsAt (a .n) (a .b) (a .contents .now) (a .bodies .now)) (a .stack .now) (a .at .0) (a .uppermost) ((at-start .pre) .frame) _
-    (at-header-fine .header-fine .ensures) (at-if1 .if1 .left) _ _ (c .before .before .before .header .ensures) (c .before .before .temporary-count .ensures) _
+    rules-here (a .edition) (objectsAt (a .n) (a .b) (a .contents .now) (a .bodies .now)) (a .stack .now) (a .at .0) (a .uppermost) ((at-start .pre) .frame) _
+    (at-six-words-fine .six-words-fine .ensures) (at-if1 .if1 .left) _ _ (c .before .before .before .header .ensures) (c .before .before .temporary-count .ensures) _
     (c .valid-words .ensures)
 
 pub frame-fine-spec : {M : Type 1} → statement M
 frame-fine-spec =
     tie.close
     (tie.spec
-    header-fine-requires
+    six-words-fine-requires
     returns
     add-m
     mul-m

@@ -8,24 +8,24 @@ use Rattle.checks.proofs.frames_fine.Statement.{statement}
 use Rattle.checks.proofs.frames_fine.Tie as tie
 
 abbrev Inv-loop : tie.InvT-loop
-Inv-loop contents bodies stack notes n b base₀ uppermost₀ base uppermost = Going (objectsAt n b contents bodies) stack base₀ base uppermost
+Inv-loop contents bodies stack notes edition n b base₀ uppermost₀ base uppermost = Going edition (objectsAt n b contents bodies) stack base₀ base uppermost
 
 abbrev μ-loop : tie.MeasureT-loop
-μ-loop contents bodies stack notes n b base₀ uppermost₀ base uppermost = base
+μ-loop contents bodies stack notes edition n b base₀ uppermost₀ base uppermost = base
 
 frame-end-requires : tie.Need-frame-end-requires Inv-loop μ-loop
-frame-end-requires c κs = (c .before .before .before .before .pre) .right
+frame-end-requires c κs = (_, (c .before .before .before .before .pre) .right)
 
 returns : tie.Need-returns Inv-loop μ-loop
 returns c =
     let a = c .before .before .before .before .before .before .before .args in
     let o = objectsAt (a .n) (a .b) (a .contents .now) (a .bodies .now) in
-    from-unstood o (a .stack .now) true (a .top .0) (a .top .0) (end-no o (a .stack .now) (a .top .0) _ (c .before .before .frame-end .ensures) (c .if1 .taken))
+    from-unstood (a .edition) o (a .stack .now) true (a .top .0) (a .top .0) (end-no o (a .stack .now) (a .top .0) _ (c .before .before .frame-end .ensures) (c .if1 .taken))
 
 loop-holds : tie.Need-loop-holds Inv-loop μ-loop
 loop-holds c =
     let a = c .before .before .before .before .before .before .before .args in
-    going-first (objectsAt (a .n) (a .b) (a .contents .now) (a .bodies .now)) (a .stack .now) (a .top .0) _ (c .before .before .frame-end .ensures) (c .if1 .left)
+    going-first (a .edition) (objectsAt (a .n) (a .b) (a .contents .now) (a .bodies .now)) (a .stack .now) (a .top .0) _ (c .before .before .frame-end .ensures) (c .if1 .left)
 
 frame-fine-requires : tie.Need-frame-fine-requires Inv-loop μ-loop
 frame-fine-requires c κs = record { image = c .before .before .before .before .before .before .before .before .pre; frame = c .loop .inv .stands }
@@ -34,7 +34,7 @@ returns-2 : tie.Need-returns-2 Inv-loop μ-loop
 returns-2 c =
     let at-start = c .before .before .before .before .before .before .before .before .before .before in
     let a = at-start .args in
-    going-wrong (objectsAt (a .n) (a .b) (a .contents .now) (a .bodies .now)) (a .stack .now) (c .before .before .loop .inv) _ (c .before .frame-fine .ensures) (c .if2 .taken)
+    going-wrong (a .edition) (objectsAt (a .n) (a .b) (a .contents .now) (a .bodies .now)) (a .stack .now) (c .before .before .loop .inv) _ (c .before .frame-fine .ensures) (c .if2 .taken)
 
 mul-sender : tie.Need-mul-sender Inv-loop μ-loop
 mul-sender c =
@@ -59,11 +59,11 @@ returns-3 c =
     let at-loop = at-frame-fine .before in
     let at-start = at-loop .before .before .before .before .before .before .before .before in
     let a = at-start .args in
-    going-bottom (objectsAt (a .n) (a .b) (a .contents .now) (a .bodies .now)) (a .stack .now) (at-loop .loop .inv) _ (at-frame-fine .frame-fine .ensures)
+    going-bottom (a .edition) (objectsAt (a .n) (a .b) (a .contents .now) (a .bodies .now)) (a .stack .now) (at-loop .loop .inv) _ (at-frame-fine .frame-fine .ensures)
     (c .before .before .if2 .left) (c .if3 .taken)
 
 frame-end-requires-2 : tie.Need-frame-end-requires-2 Inv-loop μ-loop
-frame-end-requires-2 c κs = (c .before .before .before .before .before .before .before .before .before .before .before .before .pre) .right
+frame-end-requires-2 c κs = (_, (c .before .before .before .before .before .before .before .before .before .before .before .before .pre) .right)
 
 returns-4 : tie.Need-returns-4 Inv-loop μ-loop
 returns-4 c =
@@ -73,7 +73,7 @@ returns-4 c =
     let at-loop = at-frame-fine .before in
     let at-start = at-loop .before .before .before .before .before .before .before .before in
     let a = at-start .args in
-    going-apart (objectsAt (a .n) (a .b) (a .contents .now) (a .bodies .now)) (a .stack .now) (at-loop .loop .inv) _ (at-frame-fine .frame-fine .ensures)
+    going-apart (a .edition) (objectsAt (a .n) (a .b) (a .contents .now) (a .bodies .now)) (a .stack .now) (at-loop .loop .inv) _ (at-frame-fine .frame-fine .ensures)
     (at-if2 .if2 .left) (at-if3 .if3 .left) _ (c .before .before .frame-end2 .ensures) (c .if4 .taken)
 
 loop-less : tie.Need-loop-less Inv-loop μ-loop
@@ -84,7 +84,7 @@ loop-less c =
     let at-loop = at-frame-fine .before in
     let at-start = at-loop .before .before .before .before .before .before .before .before in
     let a = at-start .args in
-    going-lower (objectsAt (a .n) (a .b) (a .contents .now) (a .bodies .now)) (a .stack .now) (at-loop .loop .inv) _ (at-frame-fine .frame-fine .ensures)
+    going-lower (a .edition) (objectsAt (a .n) (a .b) (a .contents .now) (a .bodies .now)) (a .stack .now) (at-loop .loop .inv) _ (at-frame-fine .frame-fine .ensures)
     (at-if2 .if2 .left) (at-if3 .if3 .left) _ (c .before .before .frame-end2 .ensures) (c .if4 .left)
 
 loop-again : tie.Need-loop-again Inv-loop μ-loop
@@ -95,7 +95,7 @@ loop-again c =
     let at-loop = at-frame-fine .before in
     let at-start = at-loop .before .before .before .before .before .before .before .before in
     let a = at-start .args in
-    going-down (objectsAt (a .n) (a .b) (a .contents .now) (a .bodies .now)) (a .stack .now) (at-loop .loop .inv) _ (at-frame-fine .frame-fine .ensures)
+    going-down (a .edition) (objectsAt (a .n) (a .b) (a .contents .now) (a .bodies .now)) (a .stack .now) (at-loop .loop .inv) _ (at-frame-fine .frame-fine .ensures)
     (at-if2 .if2 .left) (at-if3 .if3 .left) _ (c .before .before .frame-end2 .ensures) (c .if4 .left)
 
 pub frames-fine-spec : {M : Type 1} → statement M

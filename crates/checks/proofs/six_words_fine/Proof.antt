@@ -5,8 +5,8 @@ use native.Mathlib.Omega.{arith}
 use Rattle.model.specs.Objects.{objectsAt}
 use Rattle.objects.proofs.Buffers.{contents-room}
 use borrow.Author.Needs.{needs}
-use Rattle.checks.proofs.header_fine.Statement.{statement}
-use Rattle.checks.proofs.header_fine.Tie as tie
+use Rattle.checks.proofs.six_words_fine.Statement.{statement}
+use Rattle.checks.proofs.six_words_fine.Tie as tie
 
 add-if1 : tie.Need-add-if1
 add-if1 c = let h = header-inside (c .before .before .before .before .pre) in omega arith
@@ -20,7 +20,7 @@ shared-slice-read-if1 c = let h = header-inside (c .before .before .before .befo
 returns : tie.Need-returns
 returns c =
     let a = c .before .before .before .before .before .before .args in
-    mark-no (objectsAt (a .n) (a .b) (a .contents .now) (a .bodies .now)) (a .stack .now) (a .at .0) (a .uppermost) (c .if1 .taken)
+    mark-no (a .edition) (objectsAt (a .n) (a .b) (a .contents .now) (a .bodies .now)) (a .stack .now) (a .at .0) (a .uppermost) (c .if1 .taken)
 
 add-receiver : tie.Need-add-receiver
 add-receiver c = let h = header-inside (c .before .before .before .before .before .before .pre) in omega arith
@@ -39,7 +39,7 @@ returns-2 c =
     let at-if1 = c .before .before .before in
     let at-start = at-if1 .before .before .before .before .before .before in
     let a = at-start .args in
-    receiver-no (objectsAt (a .n) (a .b) (a .contents .now) (a .bodies .now)) (a .stack .now) (a .at .0) (a .uppermost) (at-if1 .if1 .left) _ (c .before .is-valid .ensures) (c .if2 .taken)
+    receiver-no (a .edition) (objectsAt (a .n) (a .b) (a .contents .now) (a .bodies .now)) (a .stack .now) (a .at .0) (a .uppermost) (at-if1 .if1 .left) _ (c .before .is-valid .ensures) (c .if2 .taken)
 
 add-m : tie.Need-add-m
 add-m c = let h = header-inside (c .before .before .before .before .before .before .before .before .before .pre) in omega arith
@@ -64,7 +64,7 @@ in-chain-requires c κs =
     let at-is-valid = c .before .before .before .before in
     let at-start = at-is-valid .before .before .before .before .before .before .before .before in
     let a = at-start .args in (
-      (at-start .pre) .image .right,
+      (_, (at-start .pre) .image .right),
       class-named ((at-start .pre) .image .right) _ _ _ (at-is-valid .is-valid .ensures) (c .before .before .before .if2 .left)
           (c .class-of .ensures (a .b) (a .bodies .now)),
     )
@@ -77,7 +77,7 @@ returns-3 c =
     let at-if1 = at-is-valid .before .before in
     let at-start = at-if1 .before .before .before .before .before .before in
     let a = at-start .args in
-    chain-no (objectsAt (a .n) (a .b) (a .contents .now) (a .bodies .now)) (a .stack .now) (a .at .0) (a .uppermost) (at-if1 .if1 .left) _
+    chain-no (a .edition) (objectsAt (a .n) (a .b) (a .contents .now) (a .bodies .now)) (a .stack .now) (a .at .0) (a .uppermost) (at-if1 .if1 .left) _
     (at-is-valid .is-valid .ensures) (at-if2 .if2 .left) _ _ (at-home .home .ensures) (c .before .before .class-of .ensures (a .b) (a .bodies .now)) _
     (c .before .in-chain .ensures) (c .if3 .taken)
 
@@ -131,9 +131,9 @@ returns-4 c =
     let at-start = at-if1 .before .before .before .before .before .before in
     let a = at-start .args in
     let o = (objectsAt (a .n) (a .b) (a .contents .now) (a .bodies .now)) in
-    header-note o (a .stack .now) (a .at .0) (a .uppermost) (at-if1 .if1 .left) _ (at-is-valid .is-valid .ensures) (at-if2 .if2 .left) _ _
+    header-note (a .edition) o (a .stack .now) (a .at .0) (a .uppermost) (at-if1 .if1 .left) _ (at-is-valid .is-valid .ensures) (at-if2 .if2 .left) _ _
     (at-home .home .ensures) (at-class-of .class-of .ensures (a .b) (a .bodies .now)) _ (at-in-chain .in-chain .ensures) (at-if3 .if3 .left) _ _
-    (c .before .before .note-at .ensures) (note-top o (a .stack .now) (a .at .0) (a .uppermost) (c .if4 .taken))
+    (c .before .before .note-at .ensures) (note-top (a .edition) o (a .stack .now) (a .at .0) (a .uppermost) (c .if4 .taken))
 
 add-result-2 : tie.Need-add-result-2
 add-result-2 c =
@@ -152,12 +152,12 @@ returns-5 c =
     let at-start = at-if1 .before .before .before .before .before .before in
     let a = at-start .args in
     let o = (objectsAt (a .n) (a .b) (a .contents .now) (a .bodies .now)) in
-    header-note o (a .stack .now) (a .at .0) (a .uppermost) (at-if1 .if1 .left) _ (at-is-valid .is-valid .ensures) (at-if2 .if2 .left) _ _
+    header-note (a .edition) o (a .stack .now) (a .at .0) (a .uppermost) (at-if1 .if1 .left) _ (at-is-valid .is-valid .ensures) (at-if2 .if2 .left) _ _
     (at-home .home .ensures) (at-class-of .class-of .ensures (a .b) (a .bodies .now)) _ (at-in-chain .in-chain .ensures) (at-if3 .if3 .left) _ _
-    (c .before .before .note-at .ensures) (note-below o (a .stack .now) (a .at .0) (a .uppermost) (c .if4 .left))
+    (c .before .before .note-at .ensures) (note-below (a .edition) o (a .stack .now) (a .at .0) (a .uppermost) (c .if4 .left))
 
-pub header-fine-spec : {M : Type 1} → statement M
-header-fine-spec =
+pub six-words-fine-spec : {M : Type 1} → statement M
+six-words-fine-spec =
     tie.close
     (tie.spec
     add-if1
