@@ -6,7 +6,7 @@ use lib.Dec.{T}
 use lib.ListN.{length}
 use Rattle.model.specs.Limits.{cacheWords, classKind}
 use Rattle.model.specs.Objects.{objectsAt, isNilOr}
-use Rattle.model.specs.Rules.{Right}
+use Rattle.model.specs.Rules.{IsRight}
 use Rattle.plain.specs.Cache.{cacheFine}
 
 -- A cache of the lookups of these objects
@@ -16,7 +16,7 @@ pub record Caches (n b : ℕ) (contents bodies cache : List ℕ) : Type 0 where
 
 -- A lookup that can be asked for
 pub record Asks (n b : ℕ) (contents bodies cache : List ℕ) (selector class : ℕ) : Type 0 where
-  pub right : Right 1 (objectsAt n b contents bodies)
+  pub right : IsRight (objectsAt n b contents bodies)
   pub starts : T (isNilOr (objectsAt n b contents bodies) classKind class)
   pub caches : Caches n b contents bodies cache
   pub named : 1 ≤ selector

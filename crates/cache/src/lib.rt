@@ -7,7 +7,7 @@ ghost use lib.ListN.{length};
 ghost use Rattle.model.specs.Limits.{cacheEntries, cacheWords};
 ghost use Rattle.model.specs.Objects.{objectsAt};
 ghost use Rattle.model.specs.Lookup.{lookup};
-ghost use Rattle.model.specs.Rules.{Right};
+ghost use Rattle.model.specs.Rules.{IsRight};
 ghost use Rattle.plain.specs.Step.{looked};
 ghost use Rattle.plain.specs.Cache.{cacheEntryOf, filled, cachedRight, cacheFine};
 ghost use Rattle.cache.specs.Caches.{Asks};
@@ -72,7 +72,7 @@ fn is_empty(s: u16, class: u16, m: u16) -> bool
 }
 
 // An entry of the cache: selector, class, method.
-fn entry_fine(
+fn cached_right(
     contents: &[u16],
     bodies: &[u16],
     n: usize,
@@ -81,7 +81,7 @@ fn entry_fine(
     class: u16,
     m: u16,
 ) -> bool
-    requires { ⌜ Right 1 (objectsAt n b (now contents) (now bodies)) ⌝ }
+    requires { ⌜ IsRight (objectsAt n b (now contents) (now bodies)) ⌝ }
     ensures { λ r. ⌜ r ≡ cachedRight (objectsAt n b (now (contents .entry)) (now (bodies .entry))) s class m ⌝ }
 {
     if is_empty(s, class, m) {
@@ -98,13 +98,13 @@ fn entry_fine(
 
 // Every entry of the cache is empty or what lookup finds.
 pub fn cache_fine(contents: &[u16], bodies: &[u16], cache: &[u16], n: usize, b: usize) -> bool
-    requires { ⌜ Right 1 (objectsAt n b (now contents) (now bodies)) × (length (now cache) ≡ cacheWords) ⌝ }
+    requires { ⌜ IsRight (objectsAt n b (now contents) (now bodies)) × (length (now cache) ≡ cacheWords) ⌝ }
     ensures { λ r. ⌜ r ≡ cacheFine (objectsAt n b (now (contents .entry)) (now (bodies .entry))) (now (cache .entry)) ⌝ }
 {
     let mut i = 0;
     while i < CACHE_ENTRIES {
         let at = CACHE_ENTRY_WORDS * i;
-        if !entry_fine(
+        if !cached_right(
             contents,
             bodies,
             n,

@@ -72,7 +72,7 @@ entered l at c k s z h =
     three-long = let a = length-append (p ++ (c ∷ []) ++ (k ∷ [])) (s ∷ []) in let b = two-long in omega arith
 
 -- What a failure leaves, and one outcome for another
-pub does-none : (n b : ℕ) (contents bodies : List ℕ) {z : Outcome} → Right 1 (objectsAt n b contents bodies) → fails ≡ z
+pub does-none : {e : ℕ} (n b : ℕ) (contents bodies : List ℕ) {z : Outcome} → Right e (objectsAt n b contents bodies) → fails ≡ z
     → Does (objectsAt n b contents bodies) z (record { answer = Failed; n = n; b = b }) contents bodies contents bodies
 unfolding answerOf objectsAfter
 does-none n b contents bodies r p =

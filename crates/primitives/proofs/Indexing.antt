@@ -186,7 +186,7 @@ module _ (o : Objects) (w x i count : ℕ) (s : count ≡ size o (objectNumber w
 -- Its place is inside.
 module _ {n b : ℕ} {contents bodies : List ℕ} {w : ℕ} (r : Receives n b contents bodies w) where
   pub receiver-listed : w % 2 ≢ 1 → Listed n contents w
-  receiver-listed d = valid-listed n contents w (r .valid) d (contents-room n b contents bodies (r .right))
+  receiver-listed d = valid-listed n contents w (r .valid) d (contents-room n b contents bodies (r .right .1))
 
   class-is : w % 2 ≢ 1 → classOf (objectsAt n b contents bodies) w ≡ classWord (objectsAt n b contents bodies) (objectNumber w)
   unfolding classOf
@@ -195,12 +195,12 @@ module _ {n b : ℕ} {contents bodies : List ℕ} {w : ℕ} (r : Receives n b co
   pub receiver-class : (c : ℕ) → w % 2 ≢ 1 → c ≡ classOf (objectsAt n b contents bodies) w → Holds 2 n b contents bodies c
   receiver-class c d e =
       let l = receiver-listed d in
-      record { right = r .right; kinds = subst (λ (x : ℕ). T (isKind (objectsAt n b contents bodies) 2 x)) (sym (e ∙ class-is d)) (entry-class (r .right) (objectNumber w) (l .least) (l .most)) }
+      record { right = r .right; kinds = subst (λ (x : ℕ). T (isKind (objectsAt n b contents bodies) 2 x)) (sym (e ∙ class-is d)) (entry-class (r .right .1) (objectNumber w) (l .least) (l .most)) }
 
   fitting : w % 2 ≢ 1 → Fits (objectsAt n b contents bodies) (objectNumber w) (classOf (objectsAt n b contents bodies) w)
   fitting d =
       let l = receiver-listed d in
-      subst (Fits (objectsAt n b contents bodies) (objectNumber w)) (sym (class-is d)) (entry-fits (r .right) (objectNumber w) (l .least) (l .most))
+      subst (Fits (objectsAt n b contents bodies) (objectNumber w)) (sym (class-is d)) (entry-fits (r .right .1) (objectNumber w) (l .least) (l .most))
 
   pub word-inside : (f x i : ℕ) → Taken (objectsAt n b contents bodies) w f → Indexed (objectsAt n b contents bodies) w x i → f ≢ 2 → Inside n b contents bodies w (i - 1)
   word-inside f x i t k d =
@@ -309,7 +309,7 @@ module _ (o : Objects) (w x : ℕ) where
 pub puts-none : {n b : ℕ} {contents bodies : List ℕ} {w : ℕ} {z : Outcome} → Receives n b contents bodies w → fails ≡ z → Puts (objectsAt n b contents bodies) z Failed bodies bodies
 unfolding answerOf objectsAfter
 puts-none {n} {b} {contents} {bodies} h p =
-    subst (λ (z : Outcome). Puts (objectsAt n b contents bodies) z Failed bodies bodies) p (record { answer = refl; words = sym (front-same b bodies (bodies-room n b contents bodies (h .right))) })
+    subst (λ (z : Outcome). Puts (objectsAt n b contents bodies) z Failed bodies bodies) p (record { answer = refl; words = sym (front-same b bodies (bodies-room n b contents bodies (h .right .1))) })
 
 pub puts-some : {o o′ : Objects} {v : ℕ} {bodies after : List ℕ} {z : Outcome} → after ≡ atFront (o′ .bodies) bodies → answers v o′ ≡ z → Puts o z (Word v) bodies after
 unfolding answerOf objectsAfter

@@ -24,7 +24,7 @@ use Rattle.primitives.specs.Outcomes.{answerOf, objectsAfter, roomOf, Pu
 use Rattle.primitives.proofs.Growing.{does-none}
 
 -- An outcome that leaves the objects
-pub does-computed : (n b : ℕ) (contents bodies : List ℕ) (r : Computed) {z : Outcome} → Right 1 (objectsAt n b contents bodies) → computed (objectsAt n b contents bodies) r ≡ z
+pub does-computed : {e : ℕ} (n b : ℕ) (contents bodies : List ℕ) (r : Computed) {z : Outcome} → Right e (objectsAt n b contents bodies) → computed (objectsAt n b contents bodies) r ≡ z
     → Does (objectsAt n b contents bodies) z (record { answer = r; n = n; b = b }) contents bodies contents bodies
 unfolding answerOf objectsAfter
 does-computed n b contents bodies (Word v) h p =
@@ -54,7 +54,7 @@ put-stays o w x v =
     (λ q. record { n = refl; b = refl; contents = refl }))
     (λ p. record { n = refl; b = refl; contents = refl })
 
-pub does-put : (n b : ℕ) (contents bodies after : List ℕ) (r : Computed) (w x v : ℕ) {z : Outcome} → Right 1 (objectsAt n b contents bodies) → atPut (objectsAt n b contents bodies) w x v ≡ z
+pub does-put : {e : ℕ} (n b : ℕ) (contents bodies after : List ℕ) (r : Computed) (w x v : ℕ) {z : Outcome} → Right e (objectsAt n b contents bodies) → atPut (objectsAt n b contents bodies) w x v ≡ z
     → Puts (objectsAt n b contents bodies) (atPut (objectsAt n b contents bodies) w x v) r bodies after
     → Does (objectsAt n b contents bodies) z (record { answer = r; n = n; b = b }) contents bodies contents after
 does-put n b contents bodies after r w x v h p q =
@@ -69,39 +69,39 @@ does-put n b contents bodies after r w x v h p q =
     })
 
 -- The primitive of a number
-module _ (room : Room) (o : Objects) (k w x y : ℕ) where
-  there : (j : ℕ) (z : Outcome) → z ≡ perform room o j w x y → k ≡ j → z ≡ perform room o k w x y
-  there j z p e = p ∙ ap (λ (i : ℕ). perform room o i w x y) (sym e)
+module _ (edition : ℕ) (room : Room) (o : Objects) (k w x y : ℕ) where
+  there : (j : ℕ) (z : Outcome) → z ≡ perform edition room o j w x y → k ≡ j → z ≡ perform edition room o k w x y
+  there j z p e = p ∙ ap (λ (i : ℕ). perform edition room o i w x y) (sym e)
 
-  pub is-60 : k ≡ 60 → at o w x ≡ perform room o k w x y
+  pub is-60 : k ≡ 60 → at o w x ≡ perform edition room o k w x y
   unfolding perform if_then_else_
   is-60 e = there 60 (at o w x) refl e
 
-  pub is-61 : k ≡ 61 → atPut o w x y ≡ perform room o k w x y
+  pub is-61 : k ≡ 61 → atPut o w x y ≡ perform edition room o k w x y
   unfolding perform if_then_else_
   is-61 e = there 61 (atPut o w x y) refl e
 
-  pub is-62 : k ≡ 62 → sizeAnswer o w ≡ perform room o k w x y
+  pub is-62 : k ≡ 62 → sizeAnswer o w ≡ perform edition room o k w x y
   unfolding perform if_then_else_
   is-62 e = there 62 (sizeAnswer o w) refl e
 
-  pub is-70 : k ≡ 70 → new room o w ≡ perform room o k w x y
+  pub is-70 : k ≡ 70 → new room o w ≡ perform edition room o k w x y
   unfolding perform if_then_else_
   is-70 e = there 70 (new room o w) refl e
 
-  pub is-71 : k ≡ 71 → newWith room o w x ≡ perform room o k w x y
+  pub is-71 : k ≡ 71 → newWith room o w x ≡ perform edition room o k w x y
   unfolding perform if_then_else_
   is-71 e = there 71 (newWith room o w x) refl e
 
-  pub is-110 : k ≡ 110 → answers (booleanWord (eqb w x)) o ≡ perform room o k w x y
+  pub is-110 : k ≡ 110 → answers (booleanWord (eqb w x)) o ≡ perform edition room o k w x y
   unfolding perform if_then_else_
   is-110 e = there 110 (answers (booleanWord (eqb w x)) o) refl e
 
-  pub is-111 : k ≡ 111 → answers (classOf o w) o ≡ perform room o k w x y
+  pub is-111 : k ≡ 111 → answers (classOf o w) o ≡ perform edition room o k w x y
   unfolding perform if_then_else_
   is-111 e = there 111 (answers (classOf o w) o) refl e
 
-  pub is-none : (1 ≤ k → 17 < k) → k ≢ 60 → k ≢ 61 → k ≢ 62 → k ≢ 70 → k ≢ 71 → k ≢ 110 → k ≢ 111 → fails ≡ perform room o k w x y
+  pub is-none : (1 ≤ k → 17 < k) → k ≢ 60 → k ≢ 61 → k ≢ 62 → k ≢ 70 → k ≢ 71 → k ≢ 110 → k ≢ 111 → fails ≡ perform edition room o k w x y
   unfolding perform
   is-none h a b c d e f g =
       sym (if-no _ _ (low (decLe 1 k)) ∙ if-no _ _ (ne-eqb k 60 a) ∙ if-no _ _ (ne-eqb k 61 b) ∙ if-no _ _ (ne-eqb k 62 c) ∙ if-no _ _ (ne-eqb k 70 d) ∙ if-no _ _ (ne-eqb k 71 e)
@@ -111,26 +111,26 @@ module _ (room : Room) (o : Objects) (k w x y : ℕ) where
       low (yes q) = ap₂ _&&_ (le-leb 1 k q) (lt-leb k 17 (h q))
       low (no q) = ap (λ (t : Bool). t && leb k 17) (lt-leb 1 k (omega arith))
 
-  pub other-count : (count : ℕ) → count ≢ primitiveCount k → fails ≡ primitive room o k count w (x ∷ y ∷ [])
+  pub other-count : (count : ℕ) → count ≢ primitiveCount k → fails ≡ primitive edition room o k count w (x ∷ y ∷ [])
   unfolding primitive
   other-count count d = sym (if-no _ _ (ne-eqb count (primitiveCount k) d))
 
-  pub own-count : (count : ℕ) → count ≡ primitiveCount k → perform room o k w x y ≡ primitive room o k count w (x ∷ y ∷ [])
+  pub own-count : (count : ℕ) → count ≡ primitiveCount k → perform edition room o k w x y ≡ primitive edition room o k count w (x ∷ y ∷ [])
   unfolding primitive
   own-count count e = sym (if-yes _ _ (eq-eqb count (primitiveCount k) e))
 
 -- Only two lengths matter to a primitive, and of the arguments those that it takes.
-pub room-same : (room : Room) (contents bodies : List ℕ) (o : Objects) (k w x y : ℕ) → room .contents ≡ length contents → room .bodies ≡ length bodies
-    → perform (roomOf contents bodies) o k w x y ≡ perform room o k w x y
+pub room-same : (edition : ℕ) (room : Room) (contents bodies : List ℕ) (o : Objects) (k w x y : ℕ) → room .contents ≡ length contents → room .bodies ≡ length bodies
+    → perform edition (roomOf contents bodies) o k w x y ≡ perform edition room o k w x y
 unfolding perform new newWith make hasRoom
-room-same room contents bodies o k w x y p q =
-    ap₂ (λ (c b : ℕ). perform (record { contents = c; bodies = b; stack = 0; cache = 0 }) o k w x y) (sym p) (sym q)
+room-same edition room contents bodies o k w x y p q =
+    ap₂ (λ (c b : ℕ). perform edition (record { contents = c; bodies = b; stack = 0; cache = 0 }) o k w x y) (sym p) (sym q)
 
-pub primitive-same : (room : Room) (contents bodies : List ℕ) (o : Objects) (k count w : ℕ) (arguments : List ℕ) → room .contents ≡ length contents → room .bodies ≡ length bodies
-    → primitive (roomOf contents bodies) o k count w (getD arguments 0 0 ∷ getD arguments 1 0 ∷ []) ≡ primitive room o k count w arguments
+pub primitive-same : (edition : ℕ) (room : Room) (contents bodies : List ℕ) (o : Objects) (k count w : ℕ) (arguments : List ℕ) → room .contents ≡ length contents → room .bodies ≡ length bodies
+    → primitive edition (roomOf contents bodies) o k count w (getD arguments 0 0 ∷ getD arguments 1 0 ∷ []) ≡ primitive edition room o k count w arguments
 unfolding primitive
-primitive-same room contents bodies o k count w arguments p q =
-    ap (λ (z : Outcome). if eqb count (primitiveCount k) then z else fails) (room-same room contents bodies o k w (getD arguments 0 0) (getD arguments 1 0) p q)
+primitive-same edition room contents bodies o k count w arguments p q =
+    ap (λ (z : Outcome). if eqb count (primitiveCount k) then z else fails) (room-same edition room contents bodies o k w (getD arguments 0 0) (getD arguments 1 0) p q)
 
 -- the counts, by the tests of the code
 counted : (k j c : ℕ) → c ≡ primitiveCount j → k ≡ j → c ≡ primitiveCount k

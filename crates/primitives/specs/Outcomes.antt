@@ -11,7 +11,7 @@ use Rattle.model.specs.declared.Computed.the-variants.{Word, Failed}
 use Rattle.model.specs.Limits.{largestInteger}
 use Rattle.model.specs.Word.{isNatural, isValid}
 use Rattle.model.specs.Objects.{Objects, objectsAt, classOf, form, atFront}
-use Rattle.model.specs.Rules.{Right}
+use Rattle.model.specs.Rules.{IsRight}
 use Rattle.model.specs.Image.{Room}
 use Rattle.model.specs.Primitive.{Outcome, answers, fails, isIndexable}
 use Rattle.primitives.specs.declared.Done.{Done}
@@ -31,7 +31,7 @@ roomOf contents bodies = record { contents = length contents; bodies = length bo
 
 -- Right objects, and a valid word as receiver
 pub record Receives (n b : ℕ) (contents bodies : List ℕ) (w : ℕ) : Type 0 where
-  pub right : Right 1 (objectsAt n b contents bodies)
+  pub right : IsRight (objectsAt n b contents bodies)
   pub valid : T (isValid n w)
 
 -- An outcome that leaves entries, n and b

@@ -5,7 +5,7 @@ ghost use Prim.Native.Nat.{_+_, _*_, _<_, _≤_};
 ghost use lib.ListN.{length, take, replicate};
 ghost use Rattle.model.specs.Limits.{entryWords};
 ghost use Rattle.model.specs.Objects.{objectsAt, atFront};
-ghost use Rattle.model.specs.Rules.{Right};
+ghost use Rattle.model.specs.Rules.{IsRight};
 ghost use Rattle.model.specs.Primitive.{at, atPut, sizeAnswer, make, new, newWith, computed, perform, primitiveCount, primitive};
 ghost use Rattle.model.specs.Word.{booleanWord};
 ghost use lib.Dec.{eqb};
@@ -170,7 +170,7 @@ fn make(
     count: usize,
     w: u16,
 ) -> Done
-    requires { ⌜ Right 1 (objectsAt n b (now contents) (now bodies)) × (count < 65536) ⌝ }
+    requires { ⌜ IsRight (objectsAt n b (now contents) (now bodies)) × (count < 65536) ⌝ }
     ensures { λ r. ⌜ Does (objectsAt n b (now (contents .entry)) (now (bodies .entry))) (make (roomOf (now (contents .entry)) (now (bodies .entry))) (objectsAt n b (now (contents .entry)) (now (bodies .entry))) (class .0) kind size count w) r (now (contents .entry)) (now (bodies .entry)) (now (contents .exit)) (now (bodies .exit)) ⌝ }
 {
     if 2047 <= n {
@@ -212,7 +212,7 @@ fn make(
 
 // 70
 pub fn new_object(contents: &mut [u16], bodies: &mut [u16], n: usize, b: usize, w: u16) -> Done
-    requires { ⌜ Right 1 (objectsAt n b (now contents) (now bodies)) ⌝ }
+    requires { ⌜ IsRight (objectsAt n b (now contents) (now bodies)) ⌝ }
     ensures { λ r. ⌜ Does (objectsAt n b (now (contents .entry)) (now (bodies .entry))) (new (roomOf (now (contents .entry)) (now (bodies .entry))) (objectsAt n b (now (contents .entry)) (now (bodies .entry))) w) r (now (contents .entry)) (now (bodies .entry)) (now (contents .exit)) (now (bodies .exit)) ⌝ }
 {
     if !objects::is_kind(contents, n, 2, w) {
@@ -253,7 +253,7 @@ pub fn new_with(
     w: u16,
     x: u16,
 ) -> Done
-    requires { ⌜ Right 1 (objectsAt n b (now contents) (now bodies)) ⌝ }
+    requires { ⌜ IsRight (objectsAt n b (now contents) (now bodies)) ⌝ }
     ensures { λ r. ⌜ Does (objectsAt n b (now (contents .entry)) (now (bodies .entry))) (newWith (roomOf (now (contents .entry)) (now (bodies .entry))) (objectsAt n b (now (contents .entry)) (now (bodies .entry))) w x) r (now (contents .entry)) (now (bodies .entry)) (now (contents .exit)) (now (bodies .exit)) ⌝ }
 {
     if !objects::is_kind(contents, n, 2, w) {
@@ -346,6 +346,7 @@ fn same(w: u16, x: u16) -> u16
 pub fn perform(
     contents: &mut [u16],
     bodies: &mut [u16],
+    edition: u16,
     n: usize,
     b: usize,
     k: usize,
@@ -354,7 +355,7 @@ pub fn perform(
     y: u16,
 ) -> Done
     requires { ⌜ Receives n b (now contents) (now bodies) w × (1 ≤ k → 17 < k) ⌝ }
-    ensures { λ r. ⌜ Does (objectsAt n b (now (contents .entry)) (now (bodies .entry))) (perform (roomOf (now (contents .entry)) (now (bodies .entry))) (objectsAt n b (now (contents .entry)) (now (bodies .entry))) k w x y) r (now (contents .entry)) (now (bodies .entry)) (now (contents .exit)) (now (bodies .exit)) ⌝ }
+    ensures { λ r. ⌜ Does (objectsAt n b (now (contents .entry)) (now (bodies .entry))) (perform edition (roomOf (now (contents .entry)) (now (bodies .entry))) (objectsAt n b (now (contents .entry)) (now (bodies .entry))) k w x y) r (now (contents .entry)) (now (bodies .entry)) (now (contents .exit)) (now (bodies .exit)) ⌝ }
 {
     if k == 60 {
         let answer = at(contents, bodies, n, b, w, x);
@@ -412,6 +413,7 @@ pub fn perform(
 pub fn primitive(
     contents: &mut [u16],
     bodies: &mut [u16],
+    edition: u16,
     n: usize,
     b: usize,
     k: usize,
@@ -421,7 +423,7 @@ pub fn primitive(
     y: u16,
 ) -> Done
     requires { ⌜ Receives n b (now contents) (now bodies) w × (1 ≤ k → 17 < k) ⌝ }
-    ensures { λ r. ⌜ Does (objectsAt n b (now (contents .entry)) (now (bodies .entry))) (primitive (roomOf (now (contents .entry)) (now (bodies .entry))) (objectsAt n b (now (contents .entry)) (now (bodies .entry))) k count w (x ∷ y ∷ [])) r (now (contents .entry)) (now (bodies .entry)) (now (contents .exit)) (now (bodies .exit)) ⌝ }
+    ensures { λ r. ⌜ Does (objectsAt n b (now (contents .entry)) (now (bodies .entry))) (primitive edition (roomOf (now (contents .entry)) (now (bodies .entry))) (objectsAt n b (now (contents .entry)) (now (bodies .entry))) k count w (x ∷ y ∷ [])) r (now (contents .entry)) (now (bodies .entry)) (now (contents .exit)) (now (bodies .exit)) ⌝ }
 {
     let takes = primitive_count(k);
     if count != takes {
@@ -431,5 +433,5 @@ pub fn primitive(
             b: b,
         };
     }
-    perform(contents, bodies, n, b, k, w, x, y)
+    perform(contents, bodies, edition, n, b, k, w, x, y)
 }

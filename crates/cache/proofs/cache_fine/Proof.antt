@@ -21,32 +21,32 @@ loop-holds c = let a = c .before .before .before .args in (omega arith, before-n
 mul-at : tie.Need-mul-at Inv-loop μ-loop
 mul-at c = omega arith
 
-mul-entry-fine : tie.Need-mul-entry-fine Inv-loop μ-loop
-mul-entry-fine c = omega (arith, (c .before .before .before .before .before .pre) .1)
+mul-cached-right : tie.Need-mul-cached-right Inv-loop μ-loop
+mul-cached-right c = omega (arith, (c .before .before .before .before .before .pre) .1)
 
-shared-slice-read-entry-fine : tie.Need-shared-slice-read-entry-fine Inv-loop μ-loop
-shared-slice-read-entry-fine c = omega (arith, (c .before .before .before .before .before .before .pre) .1)
+shared-slice-read-cached-right : tie.Need-shared-slice-read-cached-right Inv-loop μ-loop
+shared-slice-read-cached-right c = omega (arith, (c .before .before .before .before .before .before .pre) .1)
 
-add-entry-fine : tie.Need-add-entry-fine Inv-loop μ-loop
-add-entry-fine c = omega (arith, (c .before .before .before .before .before .before .pre) .1)
+add-cached-right : tie.Need-add-cached-right Inv-loop μ-loop
+add-cached-right c = omega (arith, (c .before .before .before .before .before .before .pre) .1)
 
-mul-entry-fine-2 : tie.Need-mul-entry-fine-2 Inv-loop μ-loop
-mul-entry-fine-2 c = omega (arith, (c .before .before .before .before .before .before .pre) .1)
+mul-cached-right-2 : tie.Need-mul-cached-right-2 Inv-loop μ-loop
+mul-cached-right-2 c = omega (arith, (c .before .before .before .before .before .before .pre) .1)
 
-shared-slice-read-entry-fine-2 : tie.Need-shared-slice-read-entry-fine-2 Inv-loop μ-loop
-shared-slice-read-entry-fine-2 c = omega (arith, (c .before .before .before .before .before .before .before .pre) .1)
+shared-slice-read-cached-right-2 : tie.Need-shared-slice-read-cached-right-2 Inv-loop μ-loop
+shared-slice-read-cached-right-2 c = omega (arith, (c .before .before .before .before .before .before .before .pre) .1)
 
-add-entry-fine-2 : tie.Need-add-entry-fine-2 Inv-loop μ-loop
-add-entry-fine-2 c = omega (arith, (c .before .before .before .before .before .before .before .pre) .1)
+add-cached-right-2 : tie.Need-add-cached-right-2 Inv-loop μ-loop
+add-cached-right-2 c = omega (arith, (c .before .before .before .before .before .before .before .pre) .1)
 
-mul-entry-fine-3 : tie.Need-mul-entry-fine-3 Inv-loop μ-loop
-mul-entry-fine-3 c = omega (arith, (c .before .before .before .before .before .before .before .pre) .1)
+mul-cached-right-3 : tie.Need-mul-cached-right-3 Inv-loop μ-loop
+mul-cached-right-3 c = omega (arith, (c .before .before .before .before .before .before .before .pre) .1)
 
-shared-slice-read-entry-fine-3 : tie.Need-shared-slice-read-entry-fine-3 Inv-loop μ-loop
-shared-slice-read-entry-fine-3 c = omega (arith, (c .before .before .before .before .before .before .before .before .pre) .1)
+shared-slice-read-cached-right-3 : tie.Need-shared-slice-read-cached-right-3 Inv-loop μ-loop
+shared-slice-read-cached-right-3 c = omega (arith, (c .before .before .before .before .before .before .before .before .pre) .1)
 
-entry-fine-requires : tie.Need-entry-fine-requires Inv-loop μ-loop
-entry-fine-requires c κs = (c .before .before .before .before .before .before .before .before .pre) .0
+cached-right-requires : tie.Need-cached-right-requires Inv-loop μ-loop
+cached-right-requires c κs = (c .before .before .before .before .before .before .before .before .pre) .0
 
 returns : tie.Need-returns Inv-loop μ-loop
 returns c =
@@ -55,7 +55,7 @@ returns c =
     let at-start = at-loop .before .before .before .before in
     let a = at-start .args in
     cache-no (objectsAt (a .n) (a .b) (a .contents .now) (a .bodies .now)) (a .cache .now) (at-loop .loop .i) _ (omega (arith, at-loop-test .loop-test .taken))
-    (c .before .entry-fine .ensures) (c .if1 .taken)
+    (c .before .cached-right .ensures) (c .if1 .taken)
 
 add-i : tie.Need-add-i Inv-loop μ-loop
 add-i c = omega arith
@@ -68,7 +68,7 @@ loop-again c =
     let at-loop = c .before .before .before .before .before .before in
     let at-start = at-loop .before .before .before .before in
     let a = at-start .args in
-    (omega arith, cache-more (objectsAt (a .n) (a .b) (a .contents .now) (a .bodies .now)) (a .cache .now) (at-loop .loop .i) _ (at-loop .loop .inv .1) (c .before .entry-fine .ensures) (c .if1 .left))
+    (omega arith, cache-more (objectsAt (a .n) (a .b) (a .contents .now) (a .bodies .now)) (a .cache .now) (at-loop .loop .i) _ (at-loop .loop .inv .1) (c .before .cached-right .ensures) (c .if1 .left))
 
 returns-2 : tie.Need-returns-2 Inv-loop μ-loop
 returns-2 c =
@@ -83,15 +83,15 @@ cache-fine-spec =
     μ-loop
     loop-holds
     mul-at
-    mul-entry-fine
-    shared-slice-read-entry-fine
-    add-entry-fine
-    mul-entry-fine-2
-    shared-slice-read-entry-fine-2
-    add-entry-fine-2
-    mul-entry-fine-3
-    shared-slice-read-entry-fine-3
-    entry-fine-requires
+    mul-cached-right
+    shared-slice-read-cached-right
+    add-cached-right
+    mul-cached-right-2
+    shared-slice-read-cached-right-2
+    add-cached-right-2
+    mul-cached-right-3
+    shared-slice-read-cached-right-3
+    cached-right-requires
     returns
     add-i
     loop-less

@@ -20,7 +20,7 @@ class-of-requires : tie.Need-class-of-requires
 class-of-requires c κs =
     let at-start = c .before .before .before .before .before in
     let args = at-start .args in
-    (at-start .pre .valid, contents-room (args .n) (args .b) (args .contents .now) (args .bodies .now) (at-start .pre .right))
+    (at-start .pre .valid, contents-room (args .n) (args .b) (args .contents .now) (args .bodies .now) (at-start .pre .right .1))
 
 form-of-requires : tie.Need-form-of-requires
 form-of-requires c κs = receiver-class (c .before .before .before .before .before .before .pre) _ (c .before .before .before .if1 .left) (c .class-of .ensures _ _)

@@ -10,16 +10,16 @@ returns : tie.Need-returns
 returns c =
     let at-start = c .before .before .before in
     let args = at-start .args in
-    does-none (args .n) (args .b) (args .contents .now) (args .bodies .now) (at-start .pre .0) (no-room _ _ _ _ _ _ _ (λ h. (let q = h .objects in omega (arith, c .if1 .taken))))
+    does-none (args .n) (args .b) (args .contents .now) (args .bodies .now) (at-start .pre .0 .1) (no-room _ _ _ _ _ _ _ (λ h. (let q = h .objects in omega (arith, c .if1 .taken))))
 
 add-if2 : tie.Need-add-if2
-add-if2 c = let m = most-words (c .before .before .before .pre .0) in omega arith
+add-if2 c = let m = most-words (c .before .before .before .pre .0 .1) in omega arith
 
 returns-2 : tie.Need-returns-2
 returns-2 c =
     let at-start = c .before .before .before .before in
     let args = at-start .args in
-    does-none (args .n) (args .b) (args .contents .now) (args .bodies .now) (at-start .pre .0) (no-room _ _ _ _ _ _ _ (λ h. (let q = h .words in omega (arith, c .if2 .taken))))
+    does-none (args .n) (args .b) (args .contents .now) (args .bodies .now) (at-start .pre .0 .1) (no-room _ _ _ _ _ _ _ (λ h. (let q = h .words in omega (arith, c .if2 .taken))))
 
 add-if3 : tie.Need-add-if3
 add-if3 c = search needs
@@ -31,7 +31,7 @@ returns-3 : tie.Need-returns-3
 returns-3 c =
     let at-start = c .before .before .before .before .before in
     let args = at-start .args in
-    does-none (args .n) (args .b) (args .contents .now) (args .bodies .now) (at-start .pre .0) (no-room _ _ _ _ _ _ _ (λ h. (let q = h .contents in omega (arith, c .if3 .taken))))
+    does-none (args .n) (args .b) (args .contents .now) (args .bodies .now) (at-start .pre .0 .1) (no-room _ _ _ _ _ _ _ (λ h. (let q = h .contents in omega (arith, c .if3 .taken))))
 
 add-if4 : tie.Need-add-if4
 add-if4 c = search needs
@@ -40,7 +40,7 @@ returns-4 : tie.Need-returns-4
 returns-4 c =
     let at-start = c .before .before .before .before .before .before in
     let args = at-start .args in
-    does-none (args .n) (args .b) (args .contents .now) (args .bodies .now) (at-start .pre .0) (no-room _ _ _ _ _ _ _ (λ h. (let q = h .bodies in omega (arith, c .if4 .taken))))
+    does-none (args .n) (args .b) (args .contents .now) (args .bodies .now) (at-start .pre .0 .1) (no-room _ _ _ _ _ _ _ (λ h. (let q = h .bodies in omega (arith, c .if4 .taken))))
 
 cast-enter : tie.Need-cast-enter
 cast-enter c = search needs

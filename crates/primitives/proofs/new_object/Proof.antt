@@ -14,7 +14,7 @@ is-kind-requires : tie.Need-is-kind-requires
 is-kind-requires c κs =
     let at-start = c .before .before .before in
     let args = at-start .args in
-    contents-room (args .n) (args .b) (args .contents .now) (args .bodies .now) (at-start .pre)
+    contents-room (args .n) (args .b) (args .contents .now) (args .bodies .now) (at-start .pre .1)
 
 same-length : tie.Need-same-length
 same-length c = search needs
@@ -23,7 +23,7 @@ returns : tie.Need-returns
 returns c =
     let at-start = c .before .before .before .before .before in
     let args = at-start .args in
-    does-none (args .n) (args .b) (args .contents .now) (args .bodies .now) (at-start .pre)
+    does-none (args .n) (args .b) (args .contents .now) (args .bodies .now) (at-start .pre .1)
     (new-no-class _ _ _ (sym (c .before .is-kind .ensures (args .b) (args .bodies .now)) ∙ not-true _ (c .if1 .taken)))
 
 form-of-requires : tie.Need-form-of-requires
@@ -43,7 +43,7 @@ returns-2 c =
     let at-is-kind = at-if1 .before in
     let at-start = at-is-kind .before .before .before .before in
     let args = at-start .args in
-    does-none (args .n) (args .b) (args .contents .now) (args .bodies .now) (at-start .pre)
+    does-none (args .n) (args .b) (args .contents .now) (args .bodies .now) (at-start .pre .1)
     (new-other _ _ _ (sym (at-is-kind .is-kind .ensures (args .b) (args .bodies .now)) ∙ not-false _ (at-if1 .if1 .left)) _ (c .before .form-of .ensures) (c .if2 .taken))
 
 field-count-requires : tie.Need-field-count-requires
@@ -59,7 +59,7 @@ cast-make c =
     let at-is-kind = at-if1 .before in
     let at-start = at-is-kind .before .before .before .before in
     let args = at-start .args in
-    let f = class-facts (at-start .pre) (args .w) (true→T (sym (at-is-kind .is-kind .ensures (args .b) (args .bodies .now))
+    let f = class-facts (at-start .pre .1) (args .w) (true→T (sym (at-is-kind .is-kind .ensures (args .b) (args .bodies .now))
     ∙ not-false _ (at-if1 .if1 .left))) .fields in let e = c .before .before .field-count .ensures in omega arith
 
 make-requires : tie.Need-make-requires
@@ -68,7 +68,7 @@ make-requires c κs =
     let at-is-kind = at-if1 .before in
     let at-start = at-is-kind .before .before .before .before in
     let args = at-start .args in
-    let f = class-facts (at-start .pre) (args .w) (true→T (sym (at-is-kind .is-kind .ensures (args .b) (args .bodies .now))
+    let f = class-facts (at-start .pre .1) (args .w) (true→T (sym (at-is-kind .is-kind .ensures (args .b) (args .bodies .now))
     ∙ not-false _ (at-if1 .if1 .left))) .fields in let e = c .before .before .field-count .ensures in (at-start .pre, omega arith)
 
 same-length-4 : tie.Need-same-length-4

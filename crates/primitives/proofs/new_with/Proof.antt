@@ -14,7 +14,7 @@ is-kind-requires : tie.Need-is-kind-requires
 is-kind-requires c κs =
     let at-start = c .before .before .before in
     let args = at-start .args in
-    contents-room (args .n) (args .b) (args .contents .now) (args .bodies .now) (at-start .pre)
+    contents-room (args .n) (args .b) (args .contents .now) (args .bodies .now) (at-start .pre .1)
 
 same-length : tie.Need-same-length
 same-length c = search needs
@@ -23,7 +23,7 @@ returns : tie.Need-returns
 returns c =
     let at-start = c .before .before .before .before .before in
     let args = at-start .args in
-    does-none (args .n) (args .b) (args .contents .now) (args .bodies .now) (at-start .pre)
+    does-none (args .n) (args .b) (args .contents .now) (args .bodies .now) (at-start .pre .1)
     (with-no-class _ _ _ _ (sym (c .before .is-kind .ensures (args .b) (args .bodies .now)) ∙ not-true _ (c .if1 .taken)))
 
 same-length-2 : tie.Need-same-length-2
@@ -33,7 +33,7 @@ returns-2 : tie.Need-returns-2
 returns-2 c =
     let at-start = c .before .before .before .before .before .before in
     let args = at-start .args in
-    does-none (args .n) (args .b) (args .contents .now) (args .bodies .now) (at-start .pre)
+    does-none (args .n) (args .b) (args .contents .now) (args .bodies .now) (at-start .pre .1)
     (with-even _ _ _ (sym (c .before .before .is-kind .ensures (args .b) (args .bodies .now)) ∙ not-false _ (c .before .if1 .left)) _ (c .if2 .taken))
 
 same-length-3 : tie.Need-same-length-3
@@ -43,7 +43,7 @@ returns-3 : tie.Need-returns-3
 returns-3 c =
     let at-start = c .before .before .before .before .before .before .before in
     let args = at-start .args in
-    does-none (args .n) (args .b) (args .contents .now) (args .bodies .now) (at-start .pre)
+    does-none (args .n) (args .b) (args .contents .now) (args .bodies .now) (at-start .pre .1)
     (with-large _ _ _ (sym (c .before .before .before .is-kind .ensures (args .b) (args .bodies .now)) ∙ not-false _ (c .before .before .if1 .left)) _
     (c .before .if2 .left) (c .if3 .taken))
 
@@ -67,7 +67,7 @@ add-count c =
     let at-is-kind = at-if1 .before in
     let at-start = at-is-kind .before .before .before .before in
     let args = at-start .args in
-    let f = class-facts (at-start .pre) (args .w) (true→T (sym (at-is-kind .is-kind .ensures (args .b) (args .bodies .now))
+    let f = class-facts (at-start .pre .1) (args .w) (true→T (sym (at-is-kind .is-kind .ensures (args .b) (args .bodies .now))
     ∙ not-false _ (at-if1 .if1 .left))) .fields in let e = c .field-count .ensures in omega arith
 
 cast-make : tie.Need-cast-make
@@ -76,7 +76,7 @@ cast-make c =
     let at-is-kind = at-if1 .before in
     let at-start = at-is-kind .before .before .before .before in
     let args = at-start .args in
-    let f = class-facts (at-start .pre) (args .w) (true→T (sym (at-is-kind .is-kind .ensures (args .b) (args .bodies .now))
+    let f = class-facts (at-start .pre .1) (args .w) (true→T (sym (at-is-kind .is-kind .ensures (args .b) (args .bodies .now))
     ∙ not-false _ (at-if1 .if1 .left))) .fields in let e = c .before .before .field-count .ensures in omega arith
 
 make-requires : tie.Need-make-requires
@@ -85,7 +85,7 @@ make-requires c κs =
     let at-is-kind = at-if1 .before in
     let at-start = at-is-kind .before .before .before .before in
     let args = at-start .args in
-    let f = class-facts (at-start .pre) (args .w) (true→T (sym (at-is-kind .is-kind .ensures (args .b) (args .bodies .now))
+    let f = class-facts (at-start .pre .1) (args .w) (true→T (sym (at-is-kind .is-kind .ensures (args .b) (args .bodies .now))
     ∙ not-false _ (at-if1 .if1 .left))) .fields in let e = c .before .before .field-count .ensures in (at-start .pre, omega arith)
 
 same-length-4 : tie.Need-same-length-4
@@ -150,7 +150,7 @@ returns-6 c =
     let at-is-kind = at-if1 .before in
     let at-start = at-is-kind .before .before .before .before in
     let args = at-start .args in
-    does-none (args .n) (args .b) (args .contents .now) (args .bodies .now) (at-start .pre)
+    does-none (args .n) (args .b) (args .contents .now) (args .bodies .now) (at-start .pre .1)
     (with-other _ _ _ (sym (at-is-kind .is-kind .ensures (args .b) (args .bodies .now)) ∙ not-false _ (at-if1 .if1 .left)) _ _ (at-if2 .if2 .left)
     (at-if3 .if3 .left) (c .before .before .form-of .ensures) (c .before .if4 .left) (c .if5 .left))
 

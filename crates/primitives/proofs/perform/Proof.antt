@@ -25,8 +25,8 @@ returns : tie.Need-returns
 returns c =
     let at-start = c .before .before .before .before .before .before in
     let args = at-start .args in
-    does-computed (args .n) (args .b) (args .contents .now) (args .bodies .now) _ (at-start .pre .0 .right)
-    (c .at .ensures ∙ is-60 (roomOf (args .contents .now) (args .bodies .now)) (objectsAt (args .n) (args .b) (args .contents .now) (args .bodies .now))
+    does-computed (args .n) (args .b) (args .contents .now) (args .bodies .now) _ (at-start .pre .0 .right .1)
+    (c .at .ensures ∙ is-60 (args .edition) (roomOf (args .contents .now) (args .bodies .now)) (objectsAt (args .n) (args .b) (args .contents .now) (args .bodies .now))
     (args .k) (args .w) (args .x) (args .y) (c .before .before .before .if1 .taken))
 
 at-put-requires : tie.Need-at-put-requires
@@ -43,8 +43,8 @@ returns-2 c =
     let at-if2 = c .before .before .before .before .before in
     let at-start = at-if2 .before .before .before .before in
     let args = at-start .args in
-    does-put (args .n) (args .b) (args .contents .now) (args .bodies .now) _ _ _ _ _ (at-start .pre .0 .right)
-    (is-61 (roomOf (args .contents .now) (args .bodies .now)) (objectsAt (args .n) (args .b) (args .contents .now) (args .bodies .now)) (args .k) (args .w)
+    does-put (args .n) (args .b) (args .contents .now) (args .bodies .now) _ _ _ _ _ (at-start .pre .0 .right .1)
+    (is-61 (args .edition) (roomOf (args .contents .now) (args .bodies .now)) (objectsAt (args .n) (args .b) (args .contents .now) (args .bodies .now)) (args .k) (args .w)
     (args .x) (args .y) (at-if2 .if2 .taken)) (c .before .before .at-put .ensures)
 
 size-answer-requires : tie.Need-size-answer-requires
@@ -60,8 +60,8 @@ returns-3 : tie.Need-returns-3
 returns-3 c =
     let at-start = c .before .before .before .before .before .before .before .before in
     let args = at-start .args in
-    does-computed (args .n) (args .b) (args .contents .now) (args .bodies .now) _ (at-start .pre .0 .right) (c .size-answer .ensures
-    ∙ is-62 (roomOf (args .contents .now) (args .bodies .now)) (objectsAt (args .n) (args .b) (args .contents .now) (args .bodies .now)) (args .k) (args .w)
+    does-computed (args .n) (args .b) (args .contents .now) (args .bodies .now) _ (at-start .pre .0 .right .1) (c .size-answer .ensures
+    ∙ is-62 (args .edition) (roomOf (args .contents .now) (args .bodies .now)) (objectsAt (args .n) (args .b) (args .contents .now) (args .bodies .now)) (args .k) (args .w)
     (args .x) (args .y) (c .before .before .before .if3 .taken))
 
 new-object-requires : tie.Need-new-object-requires
@@ -79,7 +79,7 @@ returns-4 c =
     let at-if4 = at-new-object .before .before .before in
     let at-start = at-if4 .before .before .before .before .before .before in
     let args = at-start .args in
-    does-same (is-70 (roomOf (args .contents .now) (args .bodies .now)) (objectsAt (args .n) (args .b) (args .contents .now) (args .bodies .now)) (args .k)
+    does-same (is-70 (args .edition) (roomOf (args .contents .now) (args .bodies .now)) (objectsAt (args .n) (args .b) (args .contents .now) (args .bodies .now)) (args .k)
     (args .w) (args .x) (args .y) (at-if4 .if4 .taken)) (at-new-object .new-object .ensures)
 
 new-with-requires : tie.Need-new-with-requires
@@ -97,7 +97,7 @@ returns-5 c =
     let at-if5 = at-new-with .before .before .before in
     let at-start = at-if5 .before .before .before .before .before .before .before in
     let args = at-start .args in
-    does-same (is-71 (roomOf (args .contents .now) (args .bodies .now)) (objectsAt (args .n) (args .b) (args .contents .now) (args .bodies .now)) (args .k)
+    does-same (is-71 (args .edition) (roomOf (args .contents .now) (args .bodies .now)) (objectsAt (args .n) (args .b) (args .contents .now) (args .bodies .now)) (args .k)
     (args .w) (args .x) (args .y) (at-if5 .if5 .taken)) (at-new-with .new-with .ensures)
 
 same-requires : tie.Need-same-requires
@@ -107,16 +107,16 @@ returns-6 : tie.Need-returns-6
 returns-6 c =
     let at-start = c .before .before .before .before .before .before .before .before .before in
     let args = at-start .args in
-    does-computed (args .n) (args .b) (args .contents .now) (args .bodies .now) (Word (c .same .result)) (at-start .pre .0 .right)
+    does-computed (args .n) (args .b) (args .contents .now) (args .bodies .now) (Word (c .same .result)) (at-start .pre .0 .right .1)
     (ap (λ (v : ℕ). answers v (objectsAt (args .n) (args .b) (args .contents .now) (args .bodies .now))) (c .same .ensures)
-    ∙ is-110 (roomOf (args .contents .now) (args .bodies .now)) (objectsAt (args .n) (args .b) (args .contents .now) (args .bodies .now)) (args .k) (args .w)
+    ∙ is-110 (args .edition) (roomOf (args .contents .now) (args .bodies .now)) (objectsAt (args .n) (args .b) (args .contents .now) (args .bodies .now)) (args .k) (args .w)
     (args .x) (args .y) (c .before .if6 .taken))
 
 class-of-requires : tie.Need-class-of-requires
 class-of-requires c κs =
     let at-start = c .before .before .before .before .before .before .before .before .before .before in
     let args = at-start .args in
-    (at-start .pre .0 .valid, contents-room (args .n) (args .b) (args .contents .now) (args .bodies .now) (at-start .pre .0 .right))
+    (at-start .pre .0 .valid, contents-room (args .n) (args .b) (args .contents .now) (args .bodies .now) (at-start .pre .0 .right .1))
 
 same-length-11 : tie.Need-same-length-11
 same-length-11 c = search needs
@@ -125,9 +125,9 @@ returns-7 : tie.Need-returns-7
 returns-7 c =
     let at-start = c .before .before .before .before .before .before .before .before .before .before .before in
     let args = at-start .args in
-    does-computed (args .n) (args .b) (args .contents .now) (args .bodies .now) (Word (c .class-of .result .0)) (at-start .pre .0 .right)
+    does-computed (args .n) (args .b) (args .contents .now) (args .bodies .now) (Word (c .class-of .result .0)) (at-start .pre .0 .right .1)
     (ap (λ (v : ℕ). answers v (objectsAt (args .n) (args .b) (args .contents .now) (args .bodies .now))) (c .class-of .ensures (args .b) (args .bodies .now))
-    ∙ is-111 (roomOf (args .contents .now) (args .bodies .now)) (objectsAt (args .n) (args .b) (args .contents .now) (args .bodies .now)) (args .k) (args .w)
+    ∙ is-111 (args .edition) (roomOf (args .contents .now) (args .bodies .now)) (objectsAt (args .n) (args .b) (args .contents .now) (args .bodies .now)) (args .k) (args .w)
     (args .x) (args .y) (c .before .before .if7 .taken))
 
 returns-8 : tie.Need-returns-8
@@ -137,8 +137,8 @@ returns-8 c =
     let at-if1 = at-if2 .before in
     let at-start = at-if1 .before .before .before in
     let args = at-start .args in
-    does-none (args .n) (args .b) (args .contents .now) (args .bodies .now) (at-start .pre .0 .right)
-    (is-none (roomOf (args .contents .now) (args .bodies .now)) (objectsAt (args .n) (args .b) (args .contents .now) (args .bodies .now)) (args .k) (args .w)
+    does-none (args .n) (args .b) (args .contents .now) (args .bodies .now) (at-start .pre .0 .right .1)
+    (is-none (args .edition) (roomOf (args .contents .now) (args .bodies .now)) (objectsAt (args .n) (args .b) (args .contents .now) (args .bodies .now)) (args .k) (args .w)
     (args .x) (args .y) (at-start .pre .1) (at-if1 .if1 .left) (at-if2 .if2 .left) (at-if3 .if3 .left) (c .before .before .before .if4 .left)
     (c .before .before .if5 .left) (c .before .if6 .left) (c .if7 .left))
 

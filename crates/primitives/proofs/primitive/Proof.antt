@@ -15,8 +15,8 @@ returns : tie.Need-returns
 returns c =
     let at-start = c .before .before .before .before in
     let args = at-start .args in
-    does-none (args .n) (args .b) (args .contents .now) (args .bodies .now) (at-start .pre .0 .right)
-    (other-count (roomOf (args .contents .now) (args .bodies .now)) (objectsAt (args .n) (args .b) (args .contents .now) (args .bodies .now)) (args .k)
+    does-none (args .n) (args .b) (args .contents .now) (args .bodies .now) (at-start .pre .0 .right .1)
+    (other-count (args .edition) (roomOf (args .contents .now) (args .bodies .now)) (objectsAt (args .n) (args .b) (args .contents .now) (args .bodies .now)) (args .k)
     (args .w) (args .x) (args .y) (args .count) (λ q. (c .if1 .taken) (q ∙ sym (c .before .primitive-count .ensures))))
 
 perform-requires : tie.Need-perform-requires
@@ -35,7 +35,7 @@ returns-2 c =
     let at-primitive-count = at-if1 .before in
     let at-start = at-primitive-count .before .before .before in
     let args = at-start .args in
-    does-same (own-count (roomOf (args .contents .now) (args .bodies .now)) (objectsAt (args .n) (args .b) (args .contents .now) (args .bodies .now)) (args .k)
+    does-same (own-count (args .edition) (roomOf (args .contents .now) (args .bodies .now)) (objectsAt (args .n) (args .b) (args .contents .now) (args .bodies .now)) (args .k)
     (args .w) (args .x) (args .y) (args .count) (at-if1 .if1 .left ∙ at-primitive-count .primitive-count .ensures)) (at-perform .perform .ensures)
 
 pub primitive-spec : {M : Type 1} → statement M

@@ -9,8 +9,8 @@ use Rattle.model.proofs.Parts.{or-right}
 use Rattle.objects.proofs.Buffers.{contents-room}
 use Rattle.cache.proofs.Entries.{entry-empty, entry-other, entry-found, entry-nothing}
 use borrow.Author.Needs.{needs}
-use Rattle.cache.proofs.entry_fine.Statement.{statement}
-use Rattle.cache.proofs.entry_fine.Tie as tie
+use Rattle.cache.proofs.cached_right.Statement.{statement}
+use Rattle.cache.proofs.cached_right.Tie as tie
 
 is-empty-requires : tie.Need-is-empty-requires
 is-empty-requires c κs = search needs
@@ -23,7 +23,7 @@ returns c =
 is-kind-requires : tie.Need-is-kind-requires
 is-kind-requires c κs =
     let a = c .before .before .before .before .args in
-    contents-room (a .n) (a .b) (a .contents .now) (a .bodies .now) (c .before .before .before .before .pre)
+    contents-room (a .n) (a .b) (a .contents .now) (a .bodies .now) (c .before .before .before .before .pre .1)
 
 returns-2 : tie.Need-returns-2
 returns-2 c =
@@ -67,8 +67,8 @@ returns-4 c =
     entry-nothing (objectsAt (a .n) (a .b) (a .contents .now) (a .bodies .now)) (a .s) (a .class) (a .m) _ (at-is-empty .is-empty .ensures) _
     (at-if1 .if1 .left) (c .before .before .lookup .ensures) (c .enum-told .given .1)
 
-pub entry-fine-spec : {M : Type 1} → statement M
-entry-fine-spec =
+pub cached-right-spec : {M : Type 1} → statement M
+cached-right-spec =
     tie.close
     (tie.spec
     is-empty-requires
