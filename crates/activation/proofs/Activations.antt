@@ -50,16 +50,16 @@ one-argument : (k : ℕ) → k ≤ 17 → primitiveCount k ≡ 1
 one-argument k h =
     sym (Rattle.primitives.proofs.Performing.count-one k (λ q. omega arith) (λ q. omega arith) (λ q. omega arith) (λ q. omega arith))
 
-pub arithmetic-is : (room : Room) (o : Objects) (k count w x y : ℕ) (r : Computed) → (1 ≤ k) × (k ≤ 17) → count ≡ 1 → r ≡ arithmetic k w x
-    → computed o r ≡ primitive room o k count w (x ∷ y ∷ [])
+pub arithmetic-is : (edition : ℕ) (room : Room) (o : Objects) (k count w x y : ℕ) (r : Computed) → (1 ≤ k) × (k ≤ 17) → count ≡ 1 → r ≡ arithmetic k w x
+    → computed o r ≡ primitive edition room o k count w (x ∷ y ∷ [])
 unfolding perform
-arithmetic-is room o k count w x y r h c e = ap (computed o) e ∙ here ∙ own-count room o k w x y count (c ∙ sym (one-argument k (h .1)))
+arithmetic-is edition room o k count w x y r h c e = ap (computed o) e ∙ here ∙ own-count edition room o k w x y count (c ∙ sym (one-argument k (h .1)))
   where
-    here : computed o (arithmetic k w x) ≡ perform room o k w x y
+    here : computed o (arithmetic k w x) ≡ perform edition room o k w x y
     here = sym (if-yes _ _ (ap₂ _&&_ (le-leb 1 k (h .0)) (le-leb k 17 (h .1))))
 
-pub arithmetic-other : (room : Room) (o : Objects) (k count w x y : ℕ) → (1 ≤ k) × (k ≤ 17) → count ≢ 1 → fails ≡ primitive room o k count w (x ∷ y ∷ [])
-arithmetic-other room o k count w x y h d = other-count room o k w x y count (λ q. d (q ∙ one-argument k (h .1)))
+pub arithmetic-other : (edition : ℕ) (room : Room) (o : Objects) (k count w x y : ℕ) → (1 ≤ k) × (k ≤ 17) → count ≢ 1 → fails ≡ primitive edition room o k count w (x ∷ y ∷ [])
+arithmetic-other edition room o k count w x y h d = other-count edition room o k w x y count (λ q. d (q ∙ one-argument k (h .1)))
 
 -- ---- the flags
 
@@ -71,7 +71,7 @@ module _ {n b : ℕ} {contents bodies : List ℕ} {m receiver : ℕ} (a : Activa
   holds-method = record { right = a .right; kinds = a .method }
 
   pub entries-room : entryWords * n ≤ length contents
-  entries-room = contents-room n b contents bodies (a .right)
+  entries-room = contents-room n b contents bodies (a .right .1)
 
   -- an answer that leaves the objects
   pub answers-same : (x : Activation) (w : ℕ) → x ≡ answered w o → Answers x w n b contents bodies contents bodies
@@ -81,54 +81,54 @@ module _ {n b : ℕ} {contents bodies : List ℕ} {m receiver : ℕ} (a : Activa
         answer = e;
         count = refl;
         size = refl;
-        entries = sym (front-same (entryWords * n) contents (contents-room n b contents bodies (a .right)));
-        words = sym (front-same b bodies (bodies-room n b contents bodies (a .right)));
+        entries = sym (front-same (entryWords * n) contents (contents-room n b contents bodies (a .right .1)));
+        words = sym (front-same b bodies (bodies-room n b contents bodies (a .right .1)));
       }
 
   -- the primitive that was performed is the method's, on its arguments
-  pub performed : {r : Done} {k count x y : ℕ} {contents′ bodies′ : List ℕ} (arguments : List ℕ) → k ≡ primitiveNumber o m → count ≡ argumentCount o m → x ≡ getD arguments 0 0 → y ≡ getD arguments 1 0
-      → Does o (primitive (roomOf contents bodies) o k count receiver (x ∷ y ∷ [])) r contents bodies contents′ bodies′
-      → Does o (primitive (roomOf contents bodies) o (primitiveNumber o m) (argumentCount o m) receiver (getD arguments 0 0 ∷ getD arguments 1 0 ∷ [])) r contents bodies contents′ bodies′
-  performed {r} {k} {count} {x} {y} {contents′} {bodies′} arguments p q s t d =
+  pub performed : {r : Done} {k count x y : ℕ} {contents′ bodies′ : List ℕ} (edition : ℕ) (arguments : List ℕ) → k ≡ primitiveNumber o m → count ≡ argumentCount o m → x ≡ getD arguments 0 0 → y ≡ getD arguments 1 0
+      → Does o (primitive edition (roomOf contents bodies) o k count receiver (x ∷ y ∷ [])) r contents bodies contents′ bodies′
+      → Does o (primitive edition (roomOf contents bodies) o (primitiveNumber o m) (argumentCount o m) receiver (getD arguments 0 0 ∷ getD arguments 1 0 ∷ [])) r contents bodies contents′ bodies′
+  performed {r} {k} {count} {x} {y} {contents′} {bodies′} edition arguments p q s t d =
       subst (λ (z : Outcome). Does o z r contents bodies contents′ bodies′)
-      (λ i. primitive (roomOf contents bodies) o (p i) (q i) receiver (s i ∷ t i ∷ [])) d
+      (λ i. primitive edition (roomOf contents bodies) o (p i) (q i) receiver (s i ∷ t i ∷ [])) d
 
-  module _ (room : Room) (arguments : List ℕ) (f : ℕ) (e : f ≡ flag o m) where
-    pub by-receiver : f ≡ 5 → activate room o m receiver arguments ≡ answered receiver o
+  module _ (edition : ℕ) (room : Room) (arguments : List ℕ) (f : ℕ) (e : f ≡ flag o m) where
+    pub by-receiver : f ≡ 5 → activate edition room o m receiver arguments ≡ answered receiver o
     unfolding activate
     by-receiver h = if-yes _ _ (eq-eqb (flag o m) receiverFlag (sym e ∙ h))
 
-    by-field : f ≡ 6 → activate room o m receiver arguments ≡ fieldAnswered o (fieldOf o receiver (temporaryCount o m))
+    by-field : f ≡ 6 → activate edition room o m receiver arguments ≡ fieldAnswered o (fieldOf o receiver (temporaryCount o m))
     unfolding activate
     by-field h =
         let g : flag o m ≡ 6 = sym e ∙ h in
         if-no _ _ (ne-eqb (flag o m) receiverFlag (λ q. omega arith)) ∙ if-yes _ _ (eq-eqb (flag o m) fieldFlag g)
 
-    by-primitive : f ≢ 5 → f ≢ 6 → f ≡ 7 → activate room o m receiver arguments ≡ primitiveAnswered o m receiver (primitive room o (primitiveNumber o m) (argumentCount o m) receiver arguments)
+    by-primitive : f ≢ 5 → f ≢ 6 → f ≡ 7 → activate edition room o m receiver arguments ≡ primitiveAnswered o m receiver (primitive edition room o (primitiveNumber o m) (argumentCount o m) receiver arguments)
     unfolding activate
     by-primitive p q h =
         if-no _ _ (ne-eqb (flag o m) receiverFlag (λ z. p (e ∙ z))) ∙ if-no _ _ (ne-eqb (flag o m) fieldFlag (λ z. q (e ∙ z))) ∙ if-yes _ _ (eq-eqb (flag o m) primitiveFlag (sym e ∙ h))
 
-    pub by-code : f ≢ 5 → f ≢ 6 → f ≢ 7 → activate room o m receiver arguments ≡ entering o m receiver
+    pub by-code : f ≢ 5 → f ≢ 6 → f ≢ 7 → activate edition room o m receiver arguments ≡ entering o m receiver
     unfolding activate
     by-code p q h =
         if-no _ _ (ne-eqb (flag o m) receiverFlag (λ z. p (e ∙ z))) ∙ if-no _ _ (ne-eqb (flag o m) fieldFlag (λ z. q (e ∙ z))) ∙ if-no _ _ (ne-eqb (flag o m) primitiveFlag (λ z. h (e ∙ z)))
 
-    pub below-flags : f < 5 → Leaves (activate room o m receiver arguments) (entering o m receiver) contents bodies contents bodies
+    pub below-flags : f < 5 → Leaves (activate edition room o m receiver arguments) (entering o m receiver) contents bodies contents bodies
     below-flags h = record { leads = by-code (λ q. omega arith) (λ q. omega arith) (λ q. omega arith); entries = refl; words = refl }
 
     -- flag 6
-    pub no-fields : f ≡ 6 → isKind o fieldsKind receiver ≡ false → activate room o m receiver arguments ≡ unfit
+    pub no-fields : f ≡ 6 → isKind o fieldsKind receiver ≡ false → activate edition room o m receiver arguments ≡ unfit
     unfolding fieldOf
     no-fields h k = by-field h ∙ ap (fieldAnswered o) (if-no _ _ (ap (λ (t : Bool). t && ltb (temporaryCount o m) (size o (objectNumber receiver))) k))
 
-    pub no-field : f ≡ 6 → isKind o fieldsKind receiver ≡ true → size o (objectNumber receiver) ≤ temporaryCount o m → activate room o m receiver arguments ≡ unfit
+    pub no-field : f ≡ 6 → isKind o fieldsKind receiver ≡ true → size o (objectNumber receiver) ≤ temporaryCount o m → activate edition room o m receiver arguments ≡ unfit
     unfolding fieldOf
     no-field h k l =
         by-field h ∙ ap (fieldAnswered o) (if-no _ _ (ap₂ _&&_ k (le-ltb (temporaryCount o m) (size o (objectNumber receiver)) l)))
 
     pub the-field : f ≡ 6 → isKind o fieldsKind receiver ≡ true → (i : ℕ) → i ≡ temporaryCount o m → (w : ℕ) → w ≡ bodyWord o (objectNumber receiver) i
-        → temporaryCount o m < size o (objectNumber receiver) → activate room o m receiver arguments ≡ answered w o
+        → temporaryCount o m < size o (objectNumber receiver) → activate edition room o m receiver arguments ≡ answered w o
     unfolding fieldOf
     the-field h k i g w q l =
         by-field h ∙ ap (fieldAnswered o) (if-yes _ _ (ap₂ _&&_ k (lt-ltb (temporaryCount o m) (size o (objectNumber receiver)) l)))
@@ -137,17 +137,17 @@ module _ {n b : ℕ} {contents bodies : List ℕ} {m receiver : ℕ} (a : Activa
     -- flag 7
     module _ (p : f ≢ 5) (q : f ≢ 6) (h : f ≡ 7) (s : room .contents ≡ length contents) (t : room .bodies ≡ length bodies) (r : Done) (contents′ bodies′ : List ℕ) where
       abbrev done : Outcome
-      done = primitive (roomOf contents bodies) o (primitiveNumber o m) (argumentCount o m) receiver (getD arguments 0 0 ∷ getD arguments 1 0 ∷ [])
+      done = primitive edition (roomOf contents bodies) o (primitiveNumber o m) (argumentCount o m) receiver (getD arguments 0 0 ∷ getD arguments 1 0 ∷ [])
 
-      is-outcome : activate room o m receiver arguments ≡ primitiveAnswered o m receiver done
-      is-outcome = by-primitive p q h ∙ ap (primitiveAnswered o m receiver) (sym (primitive-same room contents bodies o (primitiveNumber o m) (argumentCount o m) receiver arguments s t))
+      is-outcome : activate edition room o m receiver arguments ≡ primitiveAnswered o m receiver done
+      is-outcome = by-primitive p q h ∙ ap (primitiveAnswered o m receiver) (sym (primitive-same edition room contents bodies o (primitiveNumber o m) (argumentCount o m) receiver arguments s t))
 
       module _ (d : Does o done r contents bodies contents′ bodies′) where
-        pub primitive-word : (w : ℕ) → r .answer ≡ Word w → Answers (activate room o m receiver arguments) w (r .n) (r .b) contents bodies contents′ bodies′
+        pub primitive-word : (w : ℕ) → r .answer ≡ Word w → Answers (activate edition room o m receiver arguments) w (r .n) (r .b) contents bodies contents′ bodies′
         unfolding answerOf objectsAfter
         primitive-word w g = go done refl (sym g ∙ d .answer)
           where
-            go : (z : Outcome) → done ≡ z → Word w ≡ answerOf done → Answers (activate room o m receiver arguments) w (r .n) (r .b) contents bodies contents′ bodies′
+            go : (z : Outcome) → done ≡ z → Word w ≡ answerOf done → Answers (activate edition room o m receiver arguments) w (r .n) (r .b) contents bodies contents′ bodies′
             go (answers v o′) z y =
                 let u : Word w ≡ answerOf (answers v o′) = y ∙ ap answerOf z in
                 let after : objectsAfter o done ≡ o′ = ap (objectsAfter o) z in
@@ -164,11 +164,11 @@ module _ {n b : ℕ} {contents bodies : List ℕ} {m receiver : ℕ} (a : Activa
                 let u : Word w ≡ answerOf fails = y ∙ ap answerOf z in
                 let bad : _≡_ {A = ℕ} 0 1 = cc in absurd (omega arith)
 
-        pub primitive-failed : r .answer ≡ Failed → Leaves (activate room o m receiver arguments) (entering o m receiver) contents bodies contents′ bodies′
+        pub primitive-failed : r .answer ≡ Failed → Leaves (activate edition room o m receiver arguments) (entering o m receiver) contents bodies contents′ bodies′
         unfolding answerOf objectsAfter
         primitive-failed g = go done refl (sym g ∙ d .answer)
           where
-            go : (z : Outcome) → done ≡ z → Failed ≡ answerOf done → Leaves (activate room o m receiver arguments) (entering o m receiver) contents bodies contents′ bodies′
+            go : (z : Outcome) → done ≡ z → Failed ≡ answerOf done → Leaves (activate edition room o m receiver arguments) (entering o m receiver) contents bodies contents′ bodies′
             go (answers v o′) z y =
                 let u : Failed ≡ answerOf (answers v o′) = y ∙ ap answerOf z in
                 let bad : _≡_ {A = ℕ} 0 1 = cc in absurd (omega arith)
@@ -176,6 +176,6 @@ module _ {n b : ℕ} {contents bodies : List ℕ} {m receiver : ℕ} (a : Activa
                 let after : objectsAfter o done ≡ o = ap (objectsAfter o) z in
                 record {
                   leads = is-outcome ∙ ap (primitiveAnswered o m receiver) z;
-                  entries = d .entries ∙ ap (λ (k : Objects). atFront (k .contents) contents) after ∙ front-same (entryWords * n) contents (contents-room n b contents bodies (a .right));
-                  words = d .words ∙ ap (λ (k : Objects). atFront (k .bodies) bodies) after ∙ front-same b bodies (bodies-room n b contents bodies (a .right));
+                  entries = d .entries ∙ ap (λ (k : Objects). atFront (k .contents) contents) after ∙ front-same (entryWords * n) contents (contents-room n b contents bodies (a .right .1));
+                  words = d .words ∙ ap (λ (k : Objects). atFront (k .bodies) bodies) after ∙ front-same b bodies (bodies-room n b contents bodies (a .right .1));
                 }

@@ -7,7 +7,7 @@ use lib.ListN.{length, getD}
 use Rattle.model.specs.Limits.{methodKind}
 use Rattle.model.specs.Word.{isValid}
 use Rattle.model.specs.Objects.{Objects, objectsAt, isKind}
-use Rattle.model.specs.Rules.{Right}
+use Rattle.model.specs.Rules.{IsRight}
 use Rattle.model.specs.Image.{Room}
 use Rattle.plain.specs.Step.{Activation, answered, unfit, entering, activate}
 use Rattle.plain.specs.FlatCalls.{atFront}
@@ -16,7 +16,7 @@ use Rattle.activation.specs.declared.Activated.the-variants.{Answer, Fra
 
 -- Right objects, a method and a valid receiver
 pub record Activable (n b : ℕ) (contents bodies : List ℕ) (m receiver : ℕ) : Type 0 where
-  pub right : Right 1 (objectsAt n b contents bodies)
+  pub right : IsRight (objectsAt n b contents bodies)
   pub method : T (isKind (objectsAt n b contents bodies) methodKind m)
   pub valid : T (isValid n receiver)
 
@@ -40,8 +40,8 @@ ActivatedIs x frame contents bodies contents′ bodies′ (Answer w n b) = Answe
 ActivatedIs x frame contents bodies contents′ bodies′ Frame = Leaves x frame contents bodies contents′ bodies′
 ActivatedIs x frame contents bodies contents′ bodies′ Unfit = Leaves x unfit contents bodies contents′ bodies′
 
--- for all arguments of which these are the first two, 0 where there are fewer, and whatever the lengths of stack and cache
-abbrev pub Activates : ℕ → ℕ → List ℕ → List ℕ → ℕ → ℕ → ℕ → ℕ → List ℕ → List ℕ → Activated → Type 0
-Activates n b contents bodies m receiver first second contents′ bodies′ r =
+-- in an edition, for all arguments of which these are the first two, 0 where there are fewer, and whatever the lengths of stack and cache
+abbrev pub Activates : ℕ → ℕ → ℕ → List ℕ → List ℕ → ℕ → ℕ → ℕ → ℕ → List ℕ → List ℕ → Activated → Type 0
+Activates e n b contents bodies m receiver first second contents′ bodies′ r =
     (arguments : List ℕ) → first ≡ getD arguments 0 0 → second ≡ getD arguments 1 0 → (room : Room) → room .contents ≡ length contents → room .bodies ≡ length bodies
-    → ActivatedIs (activate room (objectsAt n b contents bodies) m receiver arguments) (entering (objectsAt n b contents bodies) m receiver) contents bodies contents′ bodies′ r
+    → ActivatedIs (activate e room (objectsAt n b contents bodies) m receiver arguments) (entering (objectsAt n b contents bodies) m receiver) contents bodies contents′ bodies′ r

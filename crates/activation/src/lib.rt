@@ -26,9 +26,10 @@ fn is_arithmetic(k: usize) -> bool
 }
 
 // A primitive on a receiver and two arguments, those that it takes: 1 to 17 only compute.
-pub fn perform(
+pub fn try_primitive(
     contents: &mut [u16],
     bodies: &mut [u16],
+    edition: u16,
     n: usize,
     b: usize,
     k: usize,
@@ -38,10 +39,10 @@ pub fn perform(
     y: u16,
 ) -> Done
     requires { ⌜ Receives n b (now contents) (now bodies) w ⌝ }
-    ensures { λ r. ⌜ Does (objectsAt n b (now (contents .entry)) (now (bodies .entry))) (primitive (roomOf (now (contents .entry)) (now (bodies .entry))) (objectsAt n b (now (contents .entry)) (now (bodies .entry))) k count w (x ∷ y ∷ [])) r (now (contents .entry)) (now (bodies .entry)) (now (contents .exit)) (now (bodies .exit)) ⌝ }
+    ensures { λ r. ⌜ Does (objectsAt n b (now (contents .entry)) (now (bodies .entry))) (primitive edition (roomOf (now (contents .entry)) (now (bodies .entry))) (objectsAt n b (now (contents .entry)) (now (bodies .entry))) k count w (x ∷ y ∷ [])) r (now (contents .entry)) (now (bodies .entry)) (now (contents .exit)) (now (bodies .exit)) ⌝ }
 {
     if !is_arithmetic(k) {
-        return primitives::primitive(contents, bodies, n, b, k, count, w, x, y);
+        return primitives::primitive(contents, bodies, edition, n, b, k, count, w, x, y);
     }
     if count != 1 {
         return Done {
@@ -62,6 +63,7 @@ pub fn perform(
 pub fn activate(
     contents: &mut [u16],
     bodies: &mut [u16],
+    edition: u16,
     n: usize,
     b: usize,
     method: Pointer,
@@ -70,7 +72,7 @@ pub fn activate(
     y: u16,
 ) -> Activated
     requires { ⌜ Activable n b (now contents) (now bodies) (method .0) receiver ⌝ }
-    ensures { λ r. ⌜ Activates n b (now (contents .entry)) (now (bodies .entry)) (method .0) receiver x y (now (contents .exit)) (now (bodies .exit)) r ⌝ }
+    ensures { λ r. ⌜ Activates edition n b (now (contents .entry)) (now (bodies .entry)) (method .0) receiver x y (now (contents .exit)) (now (bodies .exit)) r ⌝ }
 {
     let header = objects::header(contents, bodies, n, b, method);
     let flag = objects::flag(header);
@@ -102,7 +104,7 @@ pub fn activate(
     }
     let k = objects::primitive_number(contents, bodies, n, b, method);
     let count = objects::argument_count(contents, bodies, n, b, method);
-    let done = perform(contents, bodies, n, b, k, count, receiver, x, y);
+    let done = try_primitive(contents, bodies, edition, n, b, k, count, receiver, x, y);
     let answer = done.answer;
     match answer {
         Computed::Word(w) => Activated::Answer {

@@ -24,7 +24,7 @@ same-length-2 c = search needs
 returns : tie.Need-returns
 returns c =
     let at-start = c .before .before .before .before .before .before .before in
-    λ arguments p q room s t. answers-same (at-start .pre) _ _ (by-receiver (at-start .pre) room arguments _ (c .before .flag .ensures
+    λ arguments p q room s t. answers-same (at-start .pre) _ _ (by-receiver (at-start .pre) _ room arguments _ (c .before .flag .ensures
     ∙ ap flagOf (c .before .before .header .ensures)) (c .if1 .taken))
 
 temporary-count-requires : tie.Need-temporary-count-requires
@@ -46,7 +46,7 @@ returns-2 c =
     let at-header = at-flag .before in
     let at-start = at-header .before .before .before .before .before in
     λ arguments p q room s t. record {
-      leads = no-fields (at-start .pre) room arguments _ (at-flag .flag .ensures ∙ ap flagOf (at-header .header .ensures))
+      leads = no-fields (at-start .pre) _ room arguments _ (at-flag .flag .ensures ∙ ap flagOf (at-header .header .ensures))
           (at-if2 .if2 .taken) (sym (c .before .is-kind .ensures (at-start .args .b) (at-start .args .bodies .now)) ∙ not-true _ (c .if3 .taken));
       entries = refl;
       words = refl;
@@ -76,7 +76,7 @@ returns-3 c =
     let at-header = at-flag .before in
     let at-start = at-header .before .before .before .before .before in
     λ arguments p q room s t. record {
-      leads = no-field (at-start .pre) room arguments _ (at-flag .flag .ensures ∙ ap flagOf (at-header .header .ensures))
+      leads = no-field (at-start .pre) _ room arguments _ (at-flag .flag .ensures ∙ ap flagOf (at-header .header .ensures))
           (at-if2 .if2 .taken) (sym (at-is-kind .is-kind .ensures (at-start .args .b) (at-start .args .bodies .now))
           ∙ not-false _ (c .before .before .before .if3 .left)) (let i = at-temporary-count .temporary-count .ensures
           ∙ ap temporariesOf (at-header .header .ensures) in let z = c .before .size-of .ensures in let l = c .if4 .taken in omega arith);
@@ -112,7 +112,7 @@ returns-4 c =
     let at-flag = at-if2 .before .before in
     let at-header = at-flag .before in
     let at-start = at-header .before .before .before .before .before in
-    λ arguments p q room s t. answers-same (at-start .pre) _ _ (the-field (at-start .pre) room arguments _ (at-flag .flag .ensures
+    λ arguments p q room s t. answers-same (at-start .pre) _ _ (the-field (at-start .pre) _ room arguments _ (at-flag .flag .ensures
     ∙ ap flagOf (at-header .header .ensures)) (at-if2 .if2 .taken) (sym (at-is-kind .is-kind .ensures (at-start .args .b) (at-start .args .bodies .now))
     ∙ not-false _ (at-if3 .if3 .left)) _ (at-temporary-count .temporary-count .ensures ∙ ap temporariesOf (at-header .header .ensures)) _ (c .word-of .ensures)
     (let i = at-temporary-count .temporary-count .ensures ∙ ap temporariesOf (at-header .header .ensures) in let z = at-size-of .size-of .ensures in let l =
@@ -130,7 +130,7 @@ returns-5 c =
     let at-header = at-flag .before in
     let at-start = at-header .before .before .before .before .before in
     λ arguments p q room s t. record {
-      leads = by-code (at-start .pre) room arguments _ (at-flag .flag .ensures ∙ ap flagOf (at-header .header .ensures))
+      leads = by-code (at-start .pre) _ room arguments _ (at-flag .flag .ensures ∙ ap flagOf (at-header .header .ensures))
           (c .before .before .if1 .left) (c .before .if2 .left) (c .if5 .taken);
       entries = refl;
       words = refl;
@@ -146,8 +146,8 @@ primitive-number-requires c κs =
 argument-count-requires : tie.Need-argument-count-requires
 argument-count-requires c κs = holds-method (c .before .before .before .before .before .before .before .before .before .before .before .before .before .before .pre)
 
-perform-requires : tie.Need-perform-requires
-perform-requires c κs =
+try-primitive-requires : tie.Need-try-primitive-requires
+try-primitive-requires c κs =
     let at-start = c .before .before .before .before .before .before .before .before .before .before .before .before .before .before .before .before .before in
     record { right = (at-start .pre .right); valid = (at-start .pre .valid) }
 
@@ -165,8 +165,8 @@ same-length-12 c = search needs
 
 returns-6 : tie.Need-returns-6
 returns-6 c =
-    let at-perform = c .before .before .before .before .before .before .before in
-    let at-argument-count = at-perform .before .before .before in
+    let at-try-primitive = c .before .before .before .before .before .before .before in
+    let at-argument-count = at-try-primitive .before .before .before in
     let at-primitive-number = at-argument-count .before .before .before in
     let at-if5 = at-primitive-number .before .before .before in
     let at-if2 = at-if5 .before in
@@ -174,9 +174,9 @@ returns-6 c =
     let at-flag = at-if1 .before in
     let at-header = at-flag .before in
     let at-start = at-header .before .before .before .before .before in
-    λ arguments p q room s t. primitive-word (at-start .pre) room arguments _ (at-flag .flag .ensures ∙ ap flagOf (at-header .header .ensures))
-    (at-if1 .if1 .left) (at-if2 .if2 .left) (at-if5 .if5 .left) s t _ _ _ (performed (at-start .pre) arguments (at-primitive-number .primitive-number .ensures)
-    (at-argument-count .argument-count .ensures) p q (at-perform .perform .ensures)) _ (c .before .answer .given .1)
+    λ arguments p q room s t. primitive-word (at-start .pre) _ room arguments _ (at-flag .flag .ensures ∙ ap flagOf (at-header .header .ensures))
+    (at-if1 .if1 .left) (at-if2 .if2 .left) (at-if5 .if5 .left) s t _ _ _ (performed (at-start .pre) _ arguments (at-primitive-number .primitive-number .ensures)
+    (at-argument-count .argument-count .ensures) p q (at-try-primitive .try-primitive .ensures)) _ (c .before .answer .given .1)
 
 same-length-13 : tie.Need-same-length-13
 same-length-13 c = search needs
@@ -186,8 +186,8 @@ same-length-14 c = search needs
 
 returns-7 : tie.Need-returns-7
 returns-7 c =
-    let at-perform = c .before .before .before .before .before .before in
-    let at-argument-count = at-perform .before .before .before in
+    let at-try-primitive = c .before .before .before .before .before .before in
+    let at-argument-count = at-try-primitive .before .before .before in
     let at-primitive-number = at-argument-count .before .before .before in
     let at-if5 = at-primitive-number .before .before .before in
     let at-if2 = at-if5 .before in
@@ -195,9 +195,9 @@ returns-7 c =
     let at-flag = at-if1 .before in
     let at-header = at-flag .before in
     let at-start = at-header .before .before .before .before .before in
-    λ arguments p q room s t. primitive-failed (at-start .pre) room arguments _ (at-flag .flag .ensures ∙ ap flagOf (at-header .header .ensures))
-    (at-if1 .if1 .left) (at-if2 .if2 .left) (at-if5 .if5 .left) s t _ _ _ (performed (at-start .pre) arguments (at-primitive-number .primitive-number .ensures)
-    (at-argument-count .argument-count .ensures) p q (at-perform .perform .ensures)) (c .enum-told .given .1)
+    λ arguments p q room s t. primitive-failed (at-start .pre) _ room arguments _ (at-flag .flag .ensures ∙ ap flagOf (at-header .header .ensures))
+    (at-if1 .if1 .left) (at-if2 .if2 .left) (at-if5 .if5 .left) s t _ _ _ (performed (at-start .pre) _ arguments (at-primitive-number .primitive-number .ensures)
+    (at-argument-count .argument-count .ensures) p q (at-try-primitive .try-primitive .ensures)) (c .enum-told .given .1)
 
 pub activate-spec : {M : Type 1} → statement M
 activate-spec =
@@ -226,7 +226,7 @@ activate-spec =
     returns-5
     primitive-number-requires
     argument-count-requires
-    perform-requires
+    try-primitive-requires
     enum-known-answer
     enum-told
     same-length-11

@@ -6,8 +6,8 @@ use Rattle.primitives.proofs.Growing.{does-none}
 use Rattle.primitives.proofs.Performing.{does-computed}
 use Rattle.activation.proofs.Activations.{arithmetic-range, not-arithmetic, arithmetic-is, arithmetic-other}
 use borrow.Author.Needs.{needs}
-use Rattle.activation.proofs.perform.Statement.{statement}
-use Rattle.activation.proofs.perform.Tie as tie
+use Rattle.activation.proofs.try_primitive.Statement.{statement}
+use Rattle.activation.proofs.try_primitive.Tie as tie
 
 is-arithmetic-requires : tie.Need-is-arithmetic-requires
 is-arithmetic-requires c κs = search needs
@@ -32,8 +32,8 @@ returns-2 : tie.Need-returns-2
 returns-2 c =
     let at-start = c .before .before .before .before .before in
     let args = at-start .args in
-    does-none (args .n) (args .b) (args .contents .now) (args .bodies .now) (at-start .pre .right)
-    (arithmetic-other (roomOf (args .contents .now) (args .bodies .now)) (objectsAt (args .n) (args .b) (args .contents .now) (args .bodies .now)) (args .k)
+    does-none (args .n) (args .b) (args .contents .now) (args .bodies .now) (at-start .pre .right .1)
+    (arithmetic-other (args .edition) (roomOf (args .contents .now) (args .bodies .now)) (objectsAt (args .n) (args .b) (args .contents .now) (args .bodies .now)) (args .k)
     (args .count) (args .w) (args .x) (args .y) (arithmetic-range _ _ (c .before .before .is-arithmetic .ensures) (not-false _ (c .before .if1 .left))) (c .if2 .taken))
 
 cast-compute : tie.Need-cast-compute
@@ -46,13 +46,13 @@ returns-3 : tie.Need-returns-3
 returns-3 c =
     let at-start = c .before .before .before .before .before .before in
     let args = at-start .args in
-    does-computed (args .n) (args .b) (args .contents .now) (args .bodies .now) (c .compute .result) (at-start .pre .right)
-    (arithmetic-is (roomOf (args .contents .now) (args .bodies .now)) (objectsAt (args .n) (args .b) (args .contents .now) (args .bodies .now)) (args .k)
+    does-computed (args .n) (args .b) (args .contents .now) (args .bodies .now) (c .compute .result) (at-start .pre .right .1)
+    (arithmetic-is (args .edition) (roomOf (args .contents .now) (args .bodies .now)) (objectsAt (args .n) (args .b) (args .contents .now) (args .bodies .now)) (args .k)
     (args .count) (args .w) (args .x) (args .y) (c .compute .result) (arithmetic-range _ _ (c .before .before .before .is-arithmetic .ensures)
     (not-false _ (c .before .before .if1 .left))) (c .before .if2 .left) (c .compute .ensures))
 
-pub perform-spec : {M : Type 1} → statement M
-perform-spec =
+pub try-primitive-spec : {M : Type 1} → statement M
+try-primitive-spec =
     tie.close
     (tie.spec
     is-arithmetic-requires
