@@ -57,7 +57,7 @@ module _ (room base words : ℕ) where
   fits-both h g = ap₂ _&&_ (le-leb (base + words) room h) (le-leb (base + words) mostStackWords g)
 
 -- the class of a valid word is a class
-pub class-starts : {o : Objects} (r : Right 1 o) (w c : ℕ) → T (isValid (o .n) w) → c ≡ classOf o w → T (isNilOr o classKind c)
+pub class-starts : {e : ℕ} {o : Objects} (r : Right e o) (w c : ℕ) → T (isValid (o .n) w) → c ≡ classOf o w → T (isNilOr o classKind c)
 unfolding classOf
 class-starts {o} r w c v e = subst (λ (k : ℕ). T (isNilOr o classKind k)) (sym e) (go (valid-cases (o .n) w v))
   where

@@ -26,7 +26,6 @@ use Rattle.frames.specs.Words.{newWords}
 use Rattle.activation.specs.declared.Activated.{Activated}
 use Rattle.activation.specs.declared.Activated.the-variants.{Answer, Frame, Unfit}
 use Rattle.activation.specs.Activating.{Activable, Answers, Leaves, ActivatedIs, Activates}
-use Rattle.objects.proofs.Buffers.{contents-room, bodies-room}
 use Rattle.sends.specs.declared.Message.{Message}
 use Rattle.sends.specs.declared.Base.{Base}
 use Rattle.sends.specs.declared.Base.the-variants as base
@@ -60,9 +59,9 @@ module _ {n b top : ℕ} {contents bodies stack : List ℕ} {selector count clas
   abbrev receiver : ℕ
   receiver = sentReceiver n b top contents bodies stack count
 
-  abbrev step : List ℕ → ℕ → ℕ → Stepped
-  step cache receiver₀ selector₀ =
-      sendStep (roomAt contents bodies stack cache) receiver₀ selector₀ n b top contents bodies stack selector count class position
+  abbrev step : List ℕ → ℕ → ℕ → ℕ → Stepped
+  step cache edition receiver₀ selector₀ =
+      sendStep (roomAt contents bodies stack cache) edition receiver₀ selector₀ n b top contents bodies stack selector count class position
 
   -- what was read is the receiver and the arguments
   arguments-read : part stack (r .place + 1) count ≡ sentArguments s
@@ -70,18 +69,18 @@ module _ {n b top : ℕ} {contents bodies stack : List ℕ} {selector count clas
 
   module _ (m : ℕ) (e : lookup o selector class ≡ found m) where
     pub activable : Activable n b contents bodies m (r .receiver)
-    activable = record { right = s .runs .right; method = found-method s m e; valid = subst (λ (w : ℕ). T (isValid n w)) (sym (g .receiver)) (receiver-valid s) }
+    activable = record { right = (s .runs .edition, s .runs .right); method = found-method s m e; valid = subst (λ (w : ℕ). T (isValid n w)) (sym (g .receiver)) (receiver-valid s) }
 
-    module _ (cache contents′ bodies′ : List ℕ) (a : Activated) (h : Activates n b contents bodies m (r .receiver) (r .first) (r .second) contents′ bodies′ a) where
+    module _ (edition : ℕ) (cache contents′ bodies′ : List ℕ) (a : Activated) (h : Activates edition n b contents bodies m (r .receiver) (r .first) (r .second) contents′ bodies′ a) where
       abbrev room : Room
       room = roomAt contents bodies stack cache
 
       abbrev activation : Activation
-      activation = activate room o m receiver (sentArguments s)
+      activation = activate edition room o m receiver (sentArguments s)
 
       is-activated : ActivatedIs activation (entering o m receiver) contents bodies contents′ bodies′ a
       is-activated =
-          subst (λ (w : ℕ). ActivatedIs (activate room o m w (sentArguments s)) (entering o m w) contents bodies contents′ bodies′ a) (g .receiver)
+          subst (λ (w : ℕ). ActivatedIs (activate edition room o m w (sentArguments s)) (entering o m w) contents bodies contents′ bodies′ a) (g .receiver)
           (h (sentArguments s) (g .first ∙ ap (λ (l : List ℕ). getD l 0 0) arguments-read) (g .second ∙ ap (λ (l : List ℕ). getD l 1 0) arguments-read) room refl refl)
 
       by-case : (y : Activated) → a ≡ y → ActivatedIs activation (entering o m receiver) contents bodies contents′ bodies′ y
@@ -90,17 +89,17 @@ module _ {n b top : ℕ} {contents bodies stack : List ℕ} {selector count clas
       -- an answer
       pub made-answer : (w n′ b′ : ℕ) (stack′ cache′ : List ℕ) → a ≡ Answer w n′ b′
           → stack′ ≡ set (set (set stack (r .place) w) (top + 1) position) (top + 2) (r .left + 1) → cache′ ≡ filled cache (looked selector class m)
-          → (receiver₀ selector₀ : ℕ) → Made (step cache receiver₀ selector₀) (runningWith receiver₀ selector₀ n′ b′ top) contents bodies stack cache contents′ bodies′ stack′ cache′
+          → (receiver₀ selector₀ : ℕ) → Made (step cache edition receiver₀ selector₀) (runningWith edition receiver₀ selector₀ n′ b′ top) contents bodies stack cache contents′ bodies′ stack′ cache′
       made-answer w n′ b′ stack′ cache′ q es ek receiver₀ selector₀ =
           let x : Answers activation w n′ b′ contents bodies contents′ bodies′ = by-case (Answer w n′ b′) q in
-          answered-made s room receiver₀ selector₀ m e cache w n′ b′ (x .after) contents′ bodies′ stack′ cache′ (x .answer) (x .count) (x .size) (x .entries) (x .words)
+          answered-made s room edition receiver₀ selector₀ m e cache w n′ b′ (x .after) contents′ bodies′ stack′ cache′ (x .answer) (x .count) (x .size) (x .entries) (x .words)
           (es ∙ ap₂ (λ (i k : ℕ). set (set (set stack i w) (top + 1) position) (top + 2) (k + 1)) (g .place) (g .left)) ek
 
       -- no field to answer
-      pub made-none : a ≡ Unfit → (receiver₀ selector₀ : ℕ) → (step cache receiver₀ selector₀ ≡ halts notUnderstood) × Stays contents bodies stack cache contents′ bodies′ stack cache
+      pub made-none : a ≡ Unfit → (receiver₀ selector₀ : ℕ) → (step cache edition receiver₀ selector₀ ≡ halts notUnderstood) × Stays contents bodies stack cache contents′ bodies′ stack cache
       made-none q receiver₀ selector₀ =
           let x : Leaves activation unfit contents bodies contents′ bodies′ = by-case Unfit q in
-          (send-unfit s room receiver₀ selector₀ m e (x .leads), record { entries = x .entries; words = x .words; frames = refl; cached = refl })
+          (send-unfit s room edition receiver₀ selector₀ m e (x .leads), record { entries = x .entries; words = x .words; frames = refl; cached = refl })
 
       -- a frame
       module _ (q : a ≡ Frame) where
@@ -113,7 +112,7 @@ module _ {n b top : ℕ} {contents bodies stack : List ℕ} {selector count clas
             (subst (λ (d : List ℕ). Framing n b top contents d (r .running) m (r .receiver) sure) (sym (leaves .words))
             (subst (λ (k : ℕ). Framing n b top contents bodies k m (r .receiver) sure) (sym (g .running))
             (subst (λ (w : ℕ). Framing n b top contents bodies (frameMethod stack top) m w sure) (sym (g .receiver))
-            (record { guarded = record { right = s .runs .right; method = found-method s m e; valid = receiver-valid s; homes = λ t. s .homes t m e }; below = is-method (s .runs); low = low }))))
+            (record { guarded = record { right = (s .runs .edition, s .runs .right); method = found-method s m e; valid = receiver-valid s; homes = λ t. s .homes t m e }; below = is-method (s .runs); low = low }))))
           where
             low : top < 65536
             low = let t = top-bounds (s .runs) .most in omega arith
@@ -130,16 +129,16 @@ module _ {n b top : ℕ} {contents bodies stack : List ℕ} {selector count clas
           unfolding entering
           enters t = leaves .leads ∙ if-yes _ _ t
 
-          pub made-unfit : x ≡ base.Unfit → (receiver₀ selector₀ : ℕ) → (step cache receiver₀ selector₀ ≡ halts notUnderstood) × Stays contents bodies stack cache contents′ bodies′ stack cache
+          pub made-unfit : x ≡ base.Unfit → (receiver₀ selector₀ : ℕ) → (step cache edition receiver₀ selector₀ ≡ halts notUnderstood) × Stays contents bodies stack cache contents′ bodies′ stack cache
           unfolding entering
           made-unfit z receiver₀ selector₀ =
               let y : inChain o (home o m) (classOf o receiver) ≡ false = subst (BaseIs o (length stack) top (frameMethod stack top) m receiver) z base-is in
-              (send-unfit s room receiver₀ selector₀ m e (leaves .leads ∙ if-no _ _ y), record { entries = leaves .entries; words = leaves .words; frames = refl; cached = refl })
+              (send-unfit s room edition receiver₀ selector₀ m e (leaves .leads ∙ if-no _ _ y), record { entries = leaves .entries; words = leaves .words; frames = refl; cached = refl })
 
-          pub made-full : x ≡ base.Full → (receiver₀ selector₀ : ℕ) → (step cache receiver₀ selector₀ ≡ halts noStackRoom) × Stays contents bodies stack cache contents′ bodies′ stack cache
+          pub made-full : x ≡ base.Full → (receiver₀ selector₀ : ℕ) → (step cache edition receiver₀ selector₀ ≡ halts noStackRoom) × Stays contents bodies stack cache contents′ bodies′ stack cache
           made-full z receiver₀ selector₀ =
               let y : NoFrame o (length stack) top (frameMethod stack top) m receiver = subst (BaseIs o (length stack) top (frameMethod stack top) m receiver) z base-is in
-              (send-full s room receiver₀ selector₀ m e (enters (y .chain)) (y .fits), record { entries = leaves .entries; words = leaves .words; frames = refl; cached = refl })
+              (send-full s room edition receiver₀ selector₀ m e (enters (y .chain)) (y .fits), record { entries = leaves .entries; words = leaves .words; frames = refl; cached = refl })
 
           -- one that fits
           module _ (at temporaries : ℕ) (z : x ≡ base.At at temporaries) where
@@ -157,14 +156,14 @@ module _ {n b top : ℕ} {contents bodies stack : List ℕ} {selector count clas
                 let fm = ft .most in
                 let ab = frame-at .above in
                 let ho = frame-at .holds in
-                let tf = found-fits s m e room (contents-room n b contents bodies (s .runs .right)) (bodies-room n b contents bodies (s .runs .right)) (enters (frame-at .chain)) in
+                let tf = found-fits s m e edition room (enters (frame-at .chain)) in
                 let fa = found-arguments s m e in
                 record { below = omega arith; least = omega arith; position = p; depth = omega arith; arguments = omega arith; fits = omega arith; few = omega arith; most = omega arith }
 
             pub made-frame : (stack′ cache′ : List ℕ)
                 → stack′ ≡ sets (set (set stack (top + 1) position) (top + 2) (r .left)) at (newWords top m (r .receiver) temporaries (part stack (r .place + 1) count))
                 → cache′ ≡ filled cache (looked selector class m)
-                → (receiver₀ selector₀ : ℕ) → Made (step cache receiver₀ selector₀) (runningWith receiver₀ selector₀ n b at) contents bodies stack cache contents′ bodies′ stack′ cache′
+                → (receiver₀ selector₀ : ℕ) → Made (step cache edition receiver₀ selector₀) (runningWith edition receiver₀ selector₀ n b at) contents bodies stack cache contents′ bodies′ stack′ cache′
             made-frame stack′ cache′ es ek receiver₀ selector₀ =
-                entered-made s room receiver₀ selector₀ m e cache at contents′ bodies′ stack′ cache′ (frame-at .above) (enters (frame-at .chain)) (frame-at .fits) (leaves .entries) (leaves .words)
+                entered-made s room edition receiver₀ selector₀ m e cache at contents′ bodies′ stack′ cache′ (frame-at .above) (enters (frame-at .chain)) (frame-at .fits) (leaves .entries) (leaves .words)
                 (es ∙ (λ i. sets (set (set stack (top + 1) position) (top + 2) (g .left i)) at (newWords top m (g .receiver i) (frame-at .holds i) (arguments-read i)))) ek

@@ -10,7 +10,7 @@ use Rattle.model.specs.Word.{isValid}
 use Rattle.model.specs.Objects.{Objects, objectsAt, classOf, isKind, part}
 use Rattle.model.specs.Method.{home, temporaryCount, frameSize}
 use Rattle.model.specs.Lookup.{inChain}
-use Rattle.model.specs.Rules.{Right}
+use Rattle.model.specs.Rules.{IsRight}
 use Rattle.plain.specs.Registers.{notUnderstood, noStackRoom}
 use Rattle.plain.specs.State.{fitsStack}
 use Rattle.plain.specs.Step.{Stepped, halts}
@@ -52,7 +52,7 @@ pub record MessageIs (n b top : ℕ) (contents bodies stack : List ℕ) (count :
 
 -- A method that may get a frame: where it is `sure`, the receiver is one that the method can run on.
 pub record Guarded (n b : ℕ) (contents bodies : List ℕ) (m receiver : ℕ) (sure : Bool) : Type 0 where
-  pub right : Right 1 (objectsAt n b contents bodies)
+  pub right : IsRight (objectsAt n b contents bodies)
   pub method : T (isKind (objectsAt n b contents bodies) methodKind m)
   pub valid : T (isValid n receiver)
   pub homes : sure ≡ true → T (inChain (objectsAt n b contents bodies) (home (objectsAt n b contents bodies) m) (classOf (objectsAt n b contents bodies) receiver))
@@ -91,19 +91,19 @@ pub record Enters (stack : List ℕ) (top next left base temporaries from count 
   pub most : temporaries ≤ 32
 
 -- What a send leads to, of which x is the step
-abbrev pub SentIs : Stepped → ℕ → ℕ → ℕ → ℕ → ℕ → List ℕ → List ℕ → List ℕ → List ℕ → List ℕ → List ℕ → List ℕ → List ℕ → Sent → Type 0
-SentIs x receiver selector n b top contents bodies stack cache contents′ bodies′ stack′ cache′ (Answered n′ b′) =
-    Made x (runningWith receiver selector n′ b′ top) contents bodies stack cache contents′ bodies′ stack′ cache′
-SentIs x receiver selector n b top contents bodies stack cache contents′ bodies′ stack′ cache′ (Entered t) =
-    Made x (runningWith receiver selector n b (t .0)) contents bodies stack cache contents′ bodies′ stack′ cache′
-SentIs x receiver selector n b top contents bodies stack cache contents′ bodies′ stack′ cache′ NotUnderstood =
+abbrev pub SentIs : Stepped → ℕ → ℕ → ℕ → ℕ → ℕ → ℕ → List ℕ → List ℕ → List ℕ → List ℕ → List ℕ → List ℕ → List ℕ → List ℕ → Sent → Type 0
+SentIs x e receiver selector n b top contents bodies stack cache contents′ bodies′ stack′ cache′ (Answered n′ b′) =
+    Made x (runningWith e receiver selector n′ b′ top) contents bodies stack cache contents′ bodies′ stack′ cache′
+SentIs x e receiver selector n b top contents bodies stack cache contents′ bodies′ stack′ cache′ (Entered t) =
+    Made x (runningWith e receiver selector n b (t .0)) contents bodies stack cache contents′ bodies′ stack′ cache′
+SentIs x e receiver selector n b top contents bodies stack cache contents′ bodies′ stack′ cache′ NotUnderstood =
     (x ≡ halts notUnderstood) × Stays contents bodies stack cache contents′ bodies′ stack′ cache′
-SentIs x receiver selector n b top contents bodies stack cache contents′ bodies′ stack′ cache′ NoRoom =
+SentIs x e receiver selector n b top contents bodies stack cache contents′ bodies′ stack′ cache′ NoRoom =
     (x ≡ halts noStackRoom) × Stays contents bodies stack cache contents′ bodies′ stack′ cache′
 
--- What `send` promises, with whatever receiver and selector the run began
-abbrev pub Sends : (n b top : ℕ) (contents bodies stack cache : List ℕ) (selector count class next : ℕ) (contents′ bodies′ stack′ cache′ : List ℕ) → Sent → Type 0
-Sends n b top contents bodies stack cache selector count class next contents′ bodies′ stack′ cache′ r =
+-- What `send` promises in an edition, with whatever receiver and selector the run began
+abbrev pub Sends : (e n b top : ℕ) (contents bodies stack cache : List ℕ) (selector count class next : ℕ) (contents′ bodies′ stack′ cache′ : List ℕ) → Sent → Type 0
+Sends e n b top contents bodies stack cache selector count class next contents′ bodies′ stack′ cache′ r =
     (receiver startSelector : ℕ)
-    → SentIs (sendStep (roomAt contents bodies stack cache) receiver startSelector n b top contents bodies stack selector count class next)
-    receiver startSelector n b top contents bodies stack cache contents′ bodies′ stack′ cache′ r
+    → SentIs (sendStep (roomAt contents bodies stack cache) e receiver startSelector n b top contents bodies stack selector count class next)
+    e receiver startSelector n b top contents bodies stack cache contents′ bodies′ stack′ cache′ r

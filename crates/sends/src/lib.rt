@@ -86,6 +86,7 @@ fn received(
 fn acted(
     contents: &mut [u16],
     bodies: &mut [u16],
+    edition: u16,
     n: usize,
     b: usize,
     method: Pointer,
@@ -94,12 +95,12 @@ fn acted(
     y: u16,
 ) -> Activated
     requires { ⌜ Activable n b (now contents) (now bodies) (method .0) receiver ⌝ }
-    ensures { λ r. ⌜ Activates n b (now (contents .entry)) (now (bodies .entry)) (method .0) receiver x y (now (contents .exit)) (now (bodies .exit)) r ⌝ }
+    ensures { λ r. ⌜ Activates edition n b (now (contents .entry)) (now (bodies .entry)) (method .0) receiver x y (now (contents .exit)) (now (bodies .exit)) r ⌝ }
 {
     if objects::flag(objects::header(contents, bodies, n, b, method)) < 5 {
         return Activated::Frame;
     }
-    activation::activate(contents, bodies, n, b, method, receiver, x, y)
+    activation::activate(contents, bodies, edition, n, b, method, receiver, x, y)
 }
 
 // Whether the method's home is in the receiver's class chain; a sure send need not look.
@@ -216,6 +217,7 @@ pub fn send(
     bodies: &mut [u16],
     stack: &mut [u16],
     cache: &mut [u16],
+    edition: u16,
     n: usize,
     b: usize,
     top: StackPosition,
@@ -228,7 +230,7 @@ pub fn send(
     sure: bool,
 ) -> Sent
     requires { ⌜ Sending n b (top .0) (now contents) (now bodies) (now stack) selector count (class .0) (next .0) sure × Caches n b (now contents) (now bodies) (now cache) × (next .0 < 65536) × OperandsAt n b (top .0) (now contents) (now bodies) (now stack) (operands .0) (end .0) ⌝ }
-    ensures { λ r. ⌜ Sends n b (top .0) (now (contents .entry)) (now (bodies .entry)) (now (stack .entry)) (now (cache .entry)) selector count (class .0) (next .0) (now (contents .exit)) (now (bodies .exit)) (now (stack .exit)) (now (cache .exit)) r ⌝ }
+    ensures { λ r. ⌜ Sends edition n b (top .0) (now (contents .entry)) (now (bodies .entry)) (now (stack .entry)) (now (cache .entry)) selector count (class .0) (next .0) (now (contents .exit)) (now (bodies .exit)) (now (stack .exit)) (now (cache .exit)) r ⌝ }
 {
     let found = cache::cached(contents, bodies, cache, n, b, selector, class);
     let Found::Method(method) = found else {
@@ -242,6 +244,7 @@ pub fn send(
     let done = acted(
         contents,
         bodies,
+        edition,
         n,
         b,
         method,

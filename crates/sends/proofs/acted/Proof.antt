@@ -19,7 +19,7 @@ same-length-2 : tie.Need-same-length-2
 same-length-2 c = search needs
 
 returns : tie.Need-returns
-returns c = λ arguments p q room s t. below-flags (c .before .before .before .before .before .before .before .pre) room arguments _ (c .before .flag .ensures
+returns c = λ arguments p q room s t. below-flags (c .before .before .before .before .before .before .before .pre) _ room arguments _ (c .before .flag .ensures
     ∙ ap flagOf (c .before .before .header .ensures)) (c .if1 .taken)
 
 activate-requires : tie.Need-activate-requires

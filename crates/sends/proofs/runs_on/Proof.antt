@@ -19,12 +19,12 @@ class-of-requires : tie.Need-class-of-requires
 class-of-requires c κs =
     let at-start = c .before .before .before .before in
     let args = at-start .args in
-    (at-start .pre .valid, contents-room (args .n) (args .b) (args .contents .now) (args .bodies .now) (at-start .pre .right))
+    (at-start .pre .valid, contents-room (args .n) (args .b) (args .contents .now) (args .bodies .now) (at-start .pre .right .1))
 
 in-chain-requires : tie.Need-in-chain-requires
 in-chain-requires c κs =
     let at-start = c .before .before .before .before .before in
-    (at-start .pre .right, class-starts (at-start .pre .right) _ _ (at-start .pre .valid) (c .class-of .ensures (at-start .args .b) (at-start .args .bodies .now)))
+    (at-start .pre .right, class-starts (at-start .pre .right .1) _ _ (at-start .pre .valid) (c .class-of .ensures (at-start .args .b) (at-start .args .bodies .now)))
 
 returns-2 : tie.Need-returns-2
 returns-2 c =

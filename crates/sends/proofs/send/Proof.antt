@@ -29,7 +29,7 @@ returns : tie.Need-returns
 returns c =
     let at-start = c .before .before .before .before .before .before .before .before .before .before in
     λ receiver selector. (
-      send-none (at-start .pre .0) _ receiver selector (sym (c .before .before .cached .ensures) ∙ c .enum-told .given .1),
+      send-none (at-start .pre .0) _ _ receiver selector (sym (c .before .before .cached .ensures) ∙ c .enum-told .given .1),
       record
           { entries = refl; words = refl; frames = refl; cached = refl },
     )
@@ -86,7 +86,7 @@ new-base-requires c κs =
     let at-cached = at-found .before .before in
     let at-start = at-cached .before .before .before .before .before .before .before .before in
     framing (at-start .pre .0) (message (at-start .pre .0) (at-start .pre .3) (at-received .received .ensures)) _ (sym (at-cached .cached .ensures)
-    ∙ at-found .found .given .1) (at-start .args .cache .now) (at-acted .acted .last .0) (at-acted .acted .last .1 .0) (at-acted .acted .result)
+    ∙ at-found .found .given .1) (at-start .args .edition) (at-start .args .cache .now) (at-acted .acted .last .0) (at-acted .acted .last .1 .0) (at-acted .acted .result)
     (at-acted .acted .ensures) (c .before .before .enum-told3 .given .1)
 
 enum-known-fit : tie.Need-enum-known-fit
@@ -109,7 +109,7 @@ enter-requires c κs =
     let at-cached = at-found .before .before in
     let at-start = at-cached .before .before .before .before .before .before .before .before in
     enters-there (at-start .pre .0) (message (at-start .pre .0) (at-start .pre .3) (at-received .received .ensures)) _ (sym (at-cached .cached .ensures)
-    ∙ at-found .found .given .1) (at-start .args .cache .now) (at-acted .acted .last .0) (at-acted .acted .last .1 .0) (at-acted .acted .result)
+    ∙ at-found .found .given .1) (at-start .args .edition) (at-start .args .cache .now) (at-acted .acted .last .0) (at-acted .acted .last .1 .0) (at-acted .acted .result)
     (at-acted .acted .ensures) (at-enum-told3 .enum-told3 .given .1) (at-new-base .new-base .result) (at-new-base .new-base .ensures) _ _
     (c .before .before .fit .given .1) (at-start .pre .2)
 
@@ -153,7 +153,7 @@ returns-2 c =
     let at-cached = at-found .before .before in
     let at-start = at-cached .before .before .before .before .before .before .before .before in
     made-answer (at-start .pre .0) (message (at-start .pre .0) (at-start .pre .3) (at-received .received .ensures)) _ (sym (at-cached .cached .ensures)
-    ∙ at-found .found .given .1) (at-start .args .cache .now) (at-acted .acted .last .0) (at-acted .acted .last .1 .0) (at-acted .acted .result)
+    ∙ at-found .found .given .1) (at-start .args .edition) (at-start .args .cache .now) (at-acted .acted .last .0) (at-acted .acted .last .1 .0) (at-acted .acted .result)
     (at-acted .acted .ensures) _ _ _ _ _ (at-done .done .given .1) (at-push .push .ensures) (c .before .before .fill .ensures)
 
 same-length-8 : tie.Need-same-length-8
@@ -176,7 +176,7 @@ returns-3 c =
     let at-cached = at-found .before .before in
     let at-start = at-cached .before .before .before .before .before .before .before .before in
     made-none (at-start .pre .0) (message (at-start .pre .0) (at-start .pre .3) (at-received .received .ensures)) _ (sym (at-cached .cached .ensures)
-    ∙ at-found .found .given .1) (at-start .args .cache .now) (at-acted .acted .last .0) (at-acted .acted .last .1 .0) (at-acted .acted .result)
+    ∙ at-found .found .given .1) (at-start .args .edition) (at-start .args .cache .now) (at-acted .acted .last .0) (at-acted .acted .last .1 .0) (at-acted .acted .result)
     (at-acted .acted .ensures) (c .enum-told2 .given .1)
 
 same-length-12 : tie.Need-same-length-12
@@ -203,7 +203,7 @@ returns-4 c =
     let at-cached = at-found .before .before in
     let at-start = at-cached .before .before .before .before .before .before .before .before in
     made-frame (at-start .pre .0) (message (at-start .pre .0) (at-start .pre .3) (at-received .received .ensures)) _ (sym (at-cached .cached .ensures)
-    ∙ at-found .found .given .1) (at-start .args .cache .now) (at-acted .acted .last .0) (at-acted .acted .last .1 .0) (at-acted .acted .result)
+    ∙ at-found .found .given .1) (at-start .args .edition) (at-start .args .cache .now) (at-acted .acted .last .0) (at-acted .acted .last .1 .0) (at-acted .acted .result)
     (at-acted .acted .ensures) (at-enum-told3 .enum-told3 .given .1) (at-new-base .new-base .result) (at-new-base .new-base .ensures) _ _
     (at-fit .fit .given .1) _ _ (at-enter .enter .ensures) (c .before .before .fill2 .ensures)
 
@@ -229,7 +229,7 @@ returns-5 c =
     let at-cached = at-found .before .before in
     let at-start = at-cached .before .before .before .before .before .before .before .before in
     made-full (at-start .pre .0) (message (at-start .pre .0) (at-start .pre .3) (at-received .received .ensures)) _ (sym (at-cached .cached .ensures)
-    ∙ at-found .found .given .1) (at-start .args .cache .now) (at-acted .acted .last .0) (at-acted .acted .last .1 .0) (at-acted .acted .result)
+    ∙ at-found .found .given .1) (at-start .args .edition) (at-start .args .cache .now) (at-acted .acted .last .0) (at-acted .acted .last .1 .0) (at-acted .acted .result)
     (at-acted .acted .ensures) (at-enum-told3 .enum-told3 .given .1) (at-new-base .new-base .result) (at-new-base .new-base .ensures) (c .enum-told4 .given .1)
 
 same-length-20 : tie.Need-same-length-20
@@ -254,7 +254,7 @@ returns-6 c =
     let at-cached = at-found .before .before in
     let at-start = at-cached .before .before .before .before .before .before .before .before in
     made-unfit (at-start .pre .0) (message (at-start .pre .0) (at-start .pre .3) (at-received .received .ensures)) _ (sym (at-cached .cached .ensures)
-    ∙ at-found .found .given .1) (at-start .args .cache .now) (at-acted .acted .last .0) (at-acted .acted .last .1 .0) (at-acted .acted .result)
+    ∙ at-found .found .given .1) (at-start .args .edition) (at-start .args .cache .now) (at-acted .acted .last .0) (at-acted .acted .last .1 .0) (at-acted .acted .result)
     (at-acted .acted .ensures) (at-enum-told3 .enum-told3 .given .1) (at-new-base .new-base .result) (at-new-base .new-base .ensures) (c .enum-told5 .given .1)
 
 pub send-spec : {M : Type 1} → statement M
