@@ -7,6 +7,7 @@ use lib.Dec.{eqb}
 use lib.ListN.{length, take}
 use Rattle.model.specs.Limits.{entryWords}
 use Rattle.model.specs.Objects.{Objects, objectsAt}
+use Rattle.model.specs.Rules.{Right}
 use Rattle.model.specs.Image.{Room}
 use Rattle.plain.specs.Registers.{running, finished}
 use Rattle.plain.specs.State.{Frame, Plain, withObjects, withFrames, newFrame}
@@ -15,10 +16,14 @@ use Rattle.plain.specs.FlatCalls.{atFront, laid}
 use Rattle.begins.specs.declared.Beginning.{Beginning}
 use Rattle.begins.specs.declared.Beginning.the-variants.{Answered, Entered, Refused}
 
+-- Right objects, and the words of a message to them
+pub record Starts (e n b : ℕ) (contents bodies stack : List ℕ) (w s : ℕ) (arguments : List ℕ) : Type 0 where
+  pub right : Right e (objectsAt n b contents bodies)
+
 -- A plain state with the objects of the buffers: start words, phase, top, value and frames may be any.
-abbrev pub stateOver : ℕ → ℕ → ℕ → ℕ → ℕ → List Frame → ℕ → ℕ → List ℕ → List ℕ → Plain
-stateOver receiver selector phase top value frames n b contents bodies =
-    record { registers = record { n = n; b = b; startReceiver = receiver; startSelector = selector; phase = phase; top = top; value = value }; contents = take (entryWords * n) contents; bodies = take b bodies; frames = frames }
+abbrev pub stateOver : ℕ → ℕ → ℕ → ℕ → ℕ → ℕ → List Frame → ℕ → ℕ → List ℕ → List ℕ → Plain
+stateOver e receiver selector phase top value frames n b contents bodies =
+    record { registers = record { n = n; b = b; startReceiver = receiver; startSelector = selector; phase = phase; top = top; value = value; edition = e }; contents = take (entryWords * n) contents; bodies = take b bodies; frames = frames }
 
 -- Answered without a frame
 pub record Answers (x : Begun) (p : Plain) (w n b : ℕ) (contents bodies stack contents′ bodies′ stack′ : List ℕ) : Type 0 where
@@ -51,8 +56,8 @@ BeginIs x p contents bodies stack contents′ bodies′ stack′ Entered = Enter
 BeginIs x p contents bodies stack contents′ bodies′ stack′ (Refused k) = Refuses x k contents bodies stack contents′ bodies′ stack′
 
 -- in every state over these objects that does not run
-abbrev pub Begins : ℕ → ℕ → List ℕ → List ℕ → List ℕ → ℕ → ℕ → List ℕ → List ℕ → List ℕ → List ℕ → Beginning → Type 0
-Begins n b contents bodies stack w s arguments contents′ bodies′ stack′ r =
+abbrev pub Begins : ℕ → ℕ → ℕ → List ℕ → List ℕ → List ℕ → ℕ → ℕ → List ℕ → List ℕ → List ℕ → List ℕ → Beginning → Type 0
+Begins e n b contents bodies stack w s arguments contents′ bodies′ stack′ r =
     (receiver selector phase top value cache : ℕ) (frames : List Frame) → eqb phase running ≡ false
-    → BeginIs (begin (record { contents = length contents; bodies = length bodies; stack = length stack; cache = cache }) (stateOver receiver selector phase top value frames n b contents bodies) w s arguments)
-    (stateOver receiver selector phase top value frames n b contents bodies) contents bodies stack contents′ bodies′ stack′ r
+    → BeginIs (begin (record { contents = length contents; bodies = length bodies; stack = length stack; cache = cache }) (stateOver e receiver selector phase top value frames n b contents bodies) w s arguments)
+    (stateOver e receiver selector phase top value frames n b contents bodies) contents bodies stack contents′ bodies′ stack′ r

@@ -6,8 +6,8 @@ ghost use lib.ListN.{length, getD};
 ghost use lib.Seq.{sets};
 ghost use Rattle.model.specs.Limits.{entryWords};
 ghost use Rattle.model.specs.Objects.{objectsAt};
-ghost use Rattle.model.specs.Rules.{Right, rule8};
-ghost use Rattle.begins.specs.Begins.{Begins};
+ghost use Rattle.model.specs.Rules.{rule8};
+ghost use Rattle.begins.specs.Begins.{Starts, Begins};
 use activation::Activated;
 use model::Found;
 use model::StackPosition;
@@ -48,14 +48,15 @@ pub fn begin(
     contents: &mut [u16],
     bodies: &mut [u16],
     stack: &mut [u16],
+    edition: u16,
     n: usize,
     b: usize,
     receiver: u16,
     selector: u16,
     arguments: &[u16],
 ) -> Beginning
-    requires { ⌜ Right 1 (objectsAt n b (now contents) (now bodies)) ⌝ }
-    ensures { λ r. ⌜ Begins n b (now (contents .entry)) (now (bodies .entry)) (now (stack .entry)) receiver selector (now (arguments .entry)) (now (contents .exit)) (now (bodies .exit)) (now (stack .exit)) r ⌝ }
+    requires { ⌜ Starts edition n b (now contents) (now bodies) (now stack) receiver selector (now arguments) ⌝ }
+    ensures { λ r. ⌜ Begins edition n b (now (contents .entry)) (now (bodies .entry)) (now (stack .entry)) receiver selector (now (arguments .entry)) (now (contents .exit)) (now (bodies .exit)) (now (stack .exit)) r ⌝ }
 {
     if !words_fine(contents, n, receiver, selector, arguments) {
         return Beginning::Refused(8);
@@ -72,7 +73,7 @@ pub fn begin(
     let header = objects::header(contents, bodies, n, b, method);
     let x = argument(arguments, 0);
     let y = argument(arguments, 1);
-    match activation::activate(contents, bodies, n, b, method, receiver, x, y) {
+    match activation::activate(contents, bodies, edition, n, b, method, receiver, x, y) {
         Activated::Answer { word, n, b } => Beginning::Answered {
             word: word,
             n: n,

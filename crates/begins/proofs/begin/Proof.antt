@@ -33,7 +33,7 @@ words-fine-requires : tie.Need-words-fine-requires
 words-fine-requires c κs =
     let at-start = c .before .before .before .before .before in
     let args = at-start .args in
-    contents-room (args .n) (args .b) (args .contents .now) (args .bodies .now) (at-start .pre)
+    contents-room (args .n) (args .b) (args .contents .now) (args .bodies .now) (at-start .pre .right)
 
 same-length : tie.Need-same-length
 same-length c = search needs
@@ -42,17 +42,15 @@ returns : tie.Need-returns
 returns c =
     let at-start = c .before .before .before .before .before .before .before in
     let args = at-start .args in
-    refused-8 (args .n) (args .b) (args .contents .now) (args .bodies .now) (args .stack .now) (at-start .pre) (args .receiver) (args .selector)
-    (args .arguments .now) (sym (c .before .words-fine .ensures (args .b) (args .bodies .now)) ∙ not-true _ (c .if1 .taken))
+    refused-8 (at-start .pre) (sym (c .before .words-fine .ensures (args .b) (args .bodies .now)) ∙ not-true _ (c .if1 .taken))
 
 class-of-requires : tie.Need-class-of-requires
 class-of-requires c κs =
     let at-start = c .before .before .before .before .before .before .before .before in
     let args = at-start .args in (
-      receiver-valid (args .n) (args .b) (args .contents .now) (args .bodies .now) (args .stack .now) (at-start .pre) (args .receiver) (args .selector)
-          (args .arguments .now) (sym (c .before .before .words-fine .ensures (args .b) (args .bodies .now)) ∙ not-false _ (c .before .if1 .left)),
+      receiver-valid (at-start .pre) (sym (c .before .before .words-fine .ensures (args .b) (args .bodies .now)) ∙ not-false _ (c .before .if1 .left)),
       contents-room
-          (args .n) (args .b) (args .contents .now) (args .bodies .now) (at-start .pre),
+          (args .n) (args .b) (args .contents .now) (args .bodies .now) (at-start .pre .right),
     )
 
 lookup-requires : tie.Need-lookup-requires
@@ -61,9 +59,8 @@ lookup-requires c κs =
     let at-words-fine = at-if1 .before in
     let at-start = at-words-fine .before .before .before .before .before .before in
     let args = at-start .args in (
-      (at-start .pre),
-      class-starts (args .n) (args .b) (args .contents .now) (args .bodies .now) (args .stack .now) (at-start .pre) (args .receiver)
-          (args .selector) (args .arguments .now) (sym (at-words-fine .words-fine .ensures (args .b) (args .bodies .now)) ∙ not-false _ (at-if1 .if1 .left)) _
+      (_, at-start .pre .right),
+      class-starts (at-start .pre) (sym (at-words-fine .words-fine .ensures (args .b) (args .bodies .now)) ∙ not-false _ (at-if1 .if1 .left)) _
           (c .before .before .class-of .ensures (args .b) (args .bodies .now)),
     )
 
@@ -86,8 +83,7 @@ returns-2 c =
     let at-words-fine = at-if1 .before in
     let at-start = at-words-fine .before .before .before .before .before .before in
     let args = at-start .args in
-    refused-9 (args .n) (args .b) (args .contents .now) (args .bodies .now) (args .stack .now) (at-start .pre) (args .receiver) (args .selector)
-    (args .arguments .now) (sym (at-words-fine .words-fine .ensures (args .b) (args .bodies .now)) ∙ not-false _ (at-if1 .if1 .left))
+    refused-9 (at-start .pre) (sym (at-words-fine .words-fine .ensures (args .b) (args .bodies .now)) ∙ not-false _ (at-if1 .if1 .left))
     ((ap (lookup (objectsAt (args .n) (args .b) (args .contents .now) (args .bodies .now)) (args .selector))
     (sym (at-class-of .class-of .ensures (args .b) (args .bodies .now))) ∙ sym (c .before .before .lookup .ensures)) ∙ c .enum-told .given .1)
 
@@ -99,8 +95,8 @@ argument-count-requires c κs =
     let at-start = at-class-of .before .before .before .before .before .before .before .before .before in
     let args = at-start .args in
     record {
-      right = (at-start .pre);
-      kinds = (lookup-facts (at-start .pre) (args .selector)
+      right = (_, at-start .pre .right);
+      kinds = (lookup-facts (at-start .pre .right) (args .selector)
           (classOf (objectsAt (args .n) (args .b) (args .contents .now) (args .bodies .now)) (args .receiver)) (at-found .found .given .0 .0 .0)
           ((ap (lookup (objectsAt (args .n) (args .b) (args .contents .now) (args .bodies .now)) (args .selector))
           (sym (at-class-of .class-of .ensures (args .b) (args .bodies .now))) ∙ sym (at-lookup .lookup .ensures)) ∙ at-found .found .given .1) .method);
@@ -121,8 +117,7 @@ returns-3 c =
     let at-words-fine = at-if1 .before in
     let at-start = at-words-fine .before .before .before .before .before .before in
     let args = at-start .args in
-    refused-10 (args .n) (args .b) (args .contents .now) (args .bodies .now) (args .stack .now) (at-start .pre) (args .receiver) (args .selector)
-    (args .arguments .now) (sym (at-words-fine .words-fine .ensures (args .b) (args .bodies .now)) ∙ not-false _ (at-if1 .if1 .left)) _
+    refused-10 (at-start .pre) (sym (at-words-fine .words-fine .ensures (args .b) (args .bodies .now)) ∙ not-false _ (at-if1 .if1 .left)) _
     ((ap (lookup (objectsAt (args .n) (args .b) (args .contents .now) (args .bodies .now)) (args .selector))
     (sym (at-class-of .class-of .ensures (args .b) (args .bodies .now))) ∙ sym (at-lookup .lookup .ensures)) ∙ at-found .found .given .1)
     (λ q. c .if2 .taken (c .before .argument-count .ensures ∙ q))
@@ -135,8 +130,8 @@ header-requires c κs =
     let at-start = at-class-of .before .before .before .before .before .before .before .before .before in
     let args = at-start .args in
     record {
-      right = (at-start .pre);
-      kinds = (lookup-facts (at-start .pre) (args .selector)
+      right = (_, at-start .pre .right);
+      kinds = (lookup-facts (at-start .pre .right) (args .selector)
           (classOf (objectsAt (args .n) (args .b) (args .contents .now) (args .bodies .now)) (args .receiver)) (at-found .found .given .0 .0 .0)
           ((ap (lookup (objectsAt (args .n) (args .b) (args .contents .now) (args .bodies .now)) (args .selector))
           (sym (at-class-of .class-of .ensures (args .b) (args .bodies .now))) ∙ sym (at-lookup .lookup .ensures)) ∙ at-found .found .given .1) .method);
@@ -158,14 +153,13 @@ activate-requires c κs =
     let at-start = at-words-fine .before .before .before .before .before .before in
     let args = at-start .args in
     record {
-      right = (at-start .pre);
-      method = (lookup-facts (at-start .pre) (args .selector)
+      right = (_, at-start .pre .right);
+      method = (lookup-facts (at-start .pre .right) (args .selector)
           (classOf (objectsAt (args .n) (args .b) (args .contents .now) (args .bodies .now)) (args .receiver)) (at-found .found .given .0 .0 .0)
           ((ap (lookup (objectsAt (args .n) (args .b) (args .contents .now) (args .bodies .now)) (args .selector))
           (sym (at-class-of .class-of .ensures (args .b) (args .bodies .now))) ∙ sym (at-lookup .lookup .ensures)) ∙ at-found .found .given .1) .method);
       valid =
-          receiver-valid (args .n) (args .b) (args .contents .now) (args .bodies .now) (args .stack .now) (at-start .pre) (args .receiver) (args .selector)
-          (args .arguments .now) (sym (at-words-fine .words-fine .ensures (args .b) (args .bodies .now)) ∙ not-false _ (at-if1 .if1 .left));
+          receiver-valid (at-start .pre) (sym (at-words-fine .words-fine .ensures (args .b) (args .bodies .now)) ∙ not-false _ (at-if1 .if1 .left));
     }
 
 enum-known-word : tie.Need-enum-known-word
@@ -204,9 +198,8 @@ returns-4 c =
     let at-words-fine = at-if1 .before in
     let at-start = at-words-fine .before .before .before .before .before .before in
     let args = at-start .args in
-    begun-full (args .n) (args .b) (args .contents .now) (args .bodies .now) (args .stack .now) (args .receiver) (args .selector) (args .arguments .now) _
-    (record {
-      right = (at-start .pre);
+    begun-full (record {
+      starts = at-start .pre;
       words = (sym (at-words-fine .words-fine .ensures (args .b) (args .bodies .now)) ∙ not-false _ (at-if1 .if1 .left));
       finds = ((ap (lookup (objectsAt (args .n) (args .b) (args .contents .now) (args .bodies .now)) (args .selector))
           (sym (at-class-of .class-of .ensures (args .b) (args .bodies .now))) ∙ sym (at-lookup .lookup .ensures)) ∙ at-found .found .given .1);
@@ -236,9 +229,8 @@ write-frame-requires c κs =
     let at-words-fine = at-if1 .before in
     let at-start = at-words-fine .before .before .before .before .before .before in
     let args = at-start .args in
-    let z = begun-room (args .n) (args .b) (args .contents .now) (args .bodies .now) (args .stack .now) (args .receiver) (args .selector)
-    (args .arguments .now) _ (record {
-      right = (at-start .pre);
+    let z = begun-room (record {
+      starts = at-start .pre;
       words = (sym (at-words-fine .words-fine .ensures (args .b) (args .bodies .now))
           ∙ not-false _ (at-if1 .if1 .left));
       finds = ((ap (lookup (objectsAt (args .n) (args .b) (args .contents .now) (args .bodies .now)) (args .selector))
@@ -271,9 +263,8 @@ returns-5 c =
     let at-words-fine = at-if1 .before in
     let at-start = at-words-fine .before .before .before .before .before .before in
     let args = at-start .args in
-    begun-answer (args .n) (args .b) (args .contents .now) (args .bodies .now) (args .stack .now) (args .receiver) (args .selector) (args .arguments .now) _
-    (record {
-      right = (at-start .pre);
+    begun-answer (record {
+      starts = at-start .pre;
       words = (sym (at-words-fine .words-fine .ensures (args .b) (args .bodies .now)) ∙ not-false _ (at-if1 .if1 .left));
       finds = ((ap (lookup (objectsAt (args .n) (args .b) (args .contents .now) (args .bodies .now)) (args .selector))
           (sym (at-class-of .class-of .ensures (args .b) (args .bodies .now))) ∙ sym (at-lookup .lookup .ensures)) ∙ at-found .found .given .1);
@@ -302,9 +293,8 @@ returns-6 c =
     let at-words-fine = at-if1 .before in
     let at-start = at-words-fine .before .before .before .before .before .before in
     let args = at-start .args in
-    begun-unfit (args .n) (args .b) (args .contents .now) (args .bodies .now) (args .stack .now) (args .receiver) (args .selector) (args .arguments .now) _
-    (record {
-      right = (at-start .pre);
+    begun-unfit (record {
+      starts = at-start .pre;
       words = (sym (at-words-fine .words-fine .ensures (args .b) (args .bodies .now)) ∙ not-false _ (at-if1 .if1 .left));
       finds = ((ap (lookup (objectsAt (args .n) (args .b) (args .contents .now) (args .bodies .now)) (args .selector))
           (sym (at-class-of .class-of .ensures (args .b) (args .bodies .now))) ∙ sym (at-lookup .lookup .ensures)) ∙ at-found .found .given .1);
@@ -341,9 +331,8 @@ returns-7 c =
     let at-words-fine = at-if1 .before in
     let at-start = at-words-fine .before .before .before .before .before .before in
     let args = at-start .args in
-    begun-enters (args .n) (args .b) (args .contents .now) (args .bodies .now) (args .stack .now) (args .receiver) (args .selector) (args .arguments .now) _
-    (record {
-      right = (at-start .pre);
+    begun-enters (record {
+      starts = at-start .pre;
       words = (sym (at-words-fine .words-fine .ensures (args .b) (args .bodies .now)) ∙ not-false _ (at-if1 .if1 .left));
       finds = ((ap (lookup (objectsAt (args .n) (args .b) (args .contents .now) (args .bodies .now)) (args .selector))
           (sym (at-class-of .class-of .ensures (args .b) (args .bodies .now))) ∙ sym (at-lookup .lookup .ensures)) ∙ at-found .found .given .1);
