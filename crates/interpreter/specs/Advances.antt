@@ -14,9 +14,9 @@ use Rattle.interpreter.specs.declared.Advanced.{Advanced}
 use Rattle.interpreter.specs.declared.Advanced.the-variants.{Next, Top, Below, Finished, Halted}
 
 -- The step that the buffers are about to make
-abbrev pub stepOf : ℕ → ℕ → ℕ → ℕ → Active → List ℕ → List ℕ → List ℕ → List ℕ → Stepped
-stepOf receiver selector n b a contents bodies stack cache =
-    step (roomAt contents bodies (written a stack) cache) (runningAt receiver selector n b (a .base .0) contents bodies (written a stack))
+abbrev pub stepOf : ℕ → ℕ → ℕ → ℕ → ℕ → Active → List ℕ → List ℕ → List ℕ → List ℕ → Stepped
+stepOf edition receiver selector n b a contents bodies stack cache =
+    step (roomAt contents bodies (written a stack) cache) (runningAt edition receiver selector n b (a .base .0) contents bodies (written a stack))
 
 -- A halt before the bytecode, with the phase that says why: nothing changes.
 pub record Stops (x : Stepped) (k : ℕ) (contents bodies stack cache contents′ bodies′ stack′ cache′ : List ℕ) : Type 0 where
@@ -27,16 +27,16 @@ pub record Stops (x : Stepped) (k : ℕ) (contents bodies stack cache contents�
 
 -- What an answer says of the frame that the loop holds, where the stack stands for `written a stack`: where the frame goes on, it is still
 -- held; else its words are written.
-abbrev pub AdvancedIs : ℕ → ℕ → ℕ → ℕ → Active → List ℕ → List ℕ → List ℕ → List ℕ → List ℕ → List ℕ → List ℕ → List ℕ → Advanced → Type 0
-AdvancedIs receiver selector n b a contents bodies stack cache contents′ bodies′ stack′ cache′ (Next q e) =
-    Made (stepOf receiver selector n b a contents bodies stack cache) (runningWith receiver selector n b (a .base .0)) contents bodies (written a stack) cache contents′ bodies′ (written (movedOn a q e) stack′) cache′
+abbrev pub AdvancedIs : ℕ → ℕ → ℕ → ℕ → ℕ → Active → List ℕ → List ℕ → List ℕ → List ℕ → List ℕ → List ℕ → List ℕ → List ℕ → Advanced → Type 0
+AdvancedIs edition receiver selector n b a contents bodies stack cache contents′ bodies′ stack′ cache′ (Next q e) =
+    Made (stepOf edition receiver selector n b a contents bodies stack cache) (runningWith edition receiver selector n b (a .base .0)) contents bodies (written a stack) cache contents′ bodies′ (written (movedOn a q e) stack′) cache′
     × Stands n b contents′ bodies′ stack′ (movedOn a q e)
-AdvancedIs receiver selector n b a contents bodies stack cache contents′ bodies′ stack′ cache′ (Top n′ b′ t) =
-    Made (stepOf receiver selector n b a contents bodies stack cache) (runningWith receiver selector n′ b′ (t .0)) contents bodies (written a stack) cache contents′ bodies′ stack′ cache′
-AdvancedIs receiver selector n b a contents bodies stack cache contents′ bodies′ stack′ cache′ (Below t) =
-    Made (stepOf receiver selector n b a contents bodies stack cache) (runningWith receiver selector n b (t .0)) contents bodies (written a stack) cache contents′ bodies′ stack′ cache′
+AdvancedIs edition receiver selector n b a contents bodies stack cache contents′ bodies′ stack′ cache′ (Top n′ b′ t) =
+    Made (stepOf edition receiver selector n b a contents bodies stack cache) (runningWith edition receiver selector n′ b′ (t .0)) contents bodies (written a stack) cache contents′ bodies′ stack′ cache′
+AdvancedIs edition receiver selector n b a contents bodies stack cache contents′ bodies′ stack′ cache′ (Below t) =
+    Made (stepOf edition receiver selector n b a contents bodies stack cache) (runningWith edition receiver selector n b (t .0)) contents bodies (written a stack) cache contents′ bodies′ stack′ cache′
     × (t .0 + frameSize (objectsAt n b contents′ bodies′) (frameMethod stack′ (t .0)) ≤ a .base .0)
-AdvancedIs receiver selector n b a contents bodies stack cache contents′ bodies′ stack′ cache′ (Finished w) =
-    Made (stepOf receiver selector n b a contents bodies stack cache) (finishedWith receiver selector n b w) contents bodies (written a stack) cache contents′ bodies′ stack′ cache′
-AdvancedIs receiver selector n b a contents bodies stack cache contents′ bodies′ stack′ cache′ (Halted k) =
-    Stops (stepOf receiver selector n b a contents bodies stack cache) k contents bodies (written a stack) cache contents′ bodies′ stack′ cache′
+AdvancedIs edition receiver selector n b a contents bodies stack cache contents′ bodies′ stack′ cache′ (Finished w) =
+    Made (stepOf edition receiver selector n b a contents bodies stack cache) (finishedWith edition receiver selector n b w) contents bodies (written a stack) cache contents′ bodies′ stack′ cache′
+AdvancedIs edition receiver selector n b a contents bodies stack cache contents′ bodies′ stack′ cache′ (Halted k) =
+    Stops (stepOf edition receiver selector n b a contents bodies stack cache) k contents bodies (written a stack) cache contents′ bodies′ stack′ cache′

@@ -65,12 +65,13 @@ pub fn advance(
     bodies: &mut [u16],
     stack: &mut [u16],
     cache: &mut [u16],
+    edition: u16,
     n: usize,
     b: usize,
     active: Active,
 ) -> Advanced
     requires { ⌜ IsActive n b (now contents) (now bodies) (now stack) active × Caches n b (now contents) (now bodies) (now cache) ⌝ }
-    ensures { λ r. ⌜ ((receiver selector : ℕ) → AdvancedIs receiver selector n b active (now (contents .entry)) (now (bodies .entry)) (now (stack .entry)) (now (cache .entry)) (now (contents .exit)) (now (bodies .exit)) (now (stack .exit)) (now (cache .exit)) r) ⌝ }
+    ensures { λ r. ⌜ ((receiver selector : ℕ) → AdvancedIs edition receiver selector n b active (now (contents .entry)) (now (bodies .entry)) (now (stack .entry)) (now (cache .entry)) (now (contents .exit)) (now (bodies .exit)) (now (stack .exit)) (now (cache .exit)) r) ⌝ }
 {
     let top = active.base;
     match steps::step(contents, bodies, stack, n, b, active) {
@@ -91,6 +92,7 @@ pub fn advance(
                 bodies,
                 stack,
                 cache,
+                edition,
                 n,
                 b,
                 top,

@@ -65,7 +65,7 @@ returns c =
     let at-step = at-w .before .before .before .before .before .before in
     let at-start = at-step .before .before .before .before .before .before .before .before .before in
     finishes ((at-start .pre) .0) (at-step .step .last .1 .0) (at-step .step .last .1 .1 .0) (at-step .step .result) (at-step .step .ensures) _
-    (c .before .before .before .leave2 .ensures) _ (at-w .w .given .1) _ (c .if1 .taken)
+    (c .before .before .before .leave2 .ensures) _ (at-w .w .given .1) _ (c .if1 .taken) (at-start .args .edition)
 
 return-to-requires : tie.Need-return-to-requires
 return-to-requires c κs =
@@ -100,7 +100,7 @@ returns-2 : tie.Need-returns-2
 returns-2 c =
     let at-step = c .before .before .before .before .before .before .before in
     let at-start = at-step .before .before .before .before .before .before .before .before .before in
-    went-on ((at-start .pre) .0) (at-step .step .last .1 .0) (at-step .step .last .1 .1 .0) (at-step .step .result) (at-step .step .ensures) _ _ _ (c .before .position .given .1)
+    went-on ((at-start .pre) .0) (at-step .step .last .1 .0) (at-step .step .last .1 .1 .0) (at-step .step .result) (at-step .step .ensures) _ _ _ (c .before .position .given .1) (at-start .args .edition)
 
 same-length-7 : tie.Need-same-length-7
 same-length-7 c = search needs
@@ -122,7 +122,7 @@ returns-3 c =
     let at-step = at-selector .before .before .before .before .before .before in
     let at-start = at-step .before .before .before .before .before .before .before .before .before in
     answers ((at-start .pre) .0) (at-step .step .last .1 .0) (at-step .step .last .1 .1 .0) (at-step .step .result) (at-step .step .ensures) _
-    (at-leave .leave .ensures) _ _ _ _ _ (at-selector .selector .given .1) _ (at-send .send .last .0) (at-send .send .last .1 .0)
+    (at-leave .leave .ensures) _ _ _ _ _ (at-selector .selector .given .1) (at-start .args .edition) _ (at-send .send .last .0) (at-send .send .last .1 .0)
     (at-send .send .last .1 .1 .0) (at-send .send .last .1 .1 .1 .0) (at-send .send .result) (at-send .send .ensures) _ _ (c .before .objects .given .1)
 
 same-length-11 : tie.Need-same-length-11
@@ -145,7 +145,7 @@ returns-4 c =
     let at-step = at-selector .before .before .before .before .before .before in
     let at-start = at-step .before .before .before .before .before .before .before .before .before in
     enters ((at-start .pre) .0) (at-step .step .last .1 .0) (at-step .step .last .1 .1 .0) (at-step .step .result) (at-step .step .ensures) _
-    (at-leave .leave .ensures) _ _ _ _ _ (at-selector .selector .given .1) _ (at-send .send .last .0) (at-send .send .last .1 .0)
+    (at-leave .leave .ensures) _ _ _ _ _ (at-selector .selector .given .1) (at-start .args .edition) _ (at-send .send .last .0) (at-send .send .last .1 .0)
     (at-send .send .last .1 .1 .0) (at-send .send .last .1 .1 .1 .0) (at-send .send .result) (at-send .send .ensures) _ (c .before .base .given .1)
 
 same-length-15 : tie.Need-same-length-15
@@ -168,7 +168,7 @@ returns-5 c =
     let at-step = at-selector .before .before .before .before .before .before in
     let at-start = at-step .before .before .before .before .before .before .before .before .before in
     none-understood ((at-start .pre) .0) (at-step .step .last .1 .0) (at-step .step .last .1 .1 .0) (at-step .step .result) (at-step .step .ensures) _
-    (at-leave .leave .ensures) _ _ _ _ _ (at-selector .selector .given .1) _ (at-send .send .last .0) (at-send .send .last .1 .0)
+    (at-leave .leave .ensures) _ _ _ _ _ (at-selector .selector .given .1) (at-start .args .edition) _ (at-send .send .last .0) (at-send .send .last .1 .0)
     (at-send .send .last .1 .1 .0) (at-send .send .last .1 .1 .1 .0) (at-send .send .result) (at-send .send .ensures) (c .enum-told .given .1)
 
 same-length-19 : tie.Need-same-length-19
@@ -191,7 +191,7 @@ returns-6 c =
     let at-step = at-selector .before .before .before .before .before .before in
     let at-start = at-step .before .before .before .before .before .before .before .before .before in
     none-fits ((at-start .pre) .0) (at-step .step .last .1 .0) (at-step .step .last .1 .1 .0) (at-step .step .result) (at-step .step .ensures) _
-    (at-leave .leave .ensures) _ _ _ _ _ (at-selector .selector .given .1) _ (at-send .send .last .0) (at-send .send .last .1 .0)
+    (at-leave .leave .ensures) _ _ _ _ _ (at-selector .selector .given .1) (at-start .args .edition) _ (at-send .send .last .0) (at-send .send .last .1 .0)
     (at-send .send .last .1 .1 .0) (at-send .send .last .1 .1 .1 .0) (at-send .send .result) (at-send .send .ensures) (c .enum-told2 .given .1)
 
 same-length-23 : tie.Need-same-length-23
@@ -212,7 +212,7 @@ returns-7 c =
     let at-step = at-w .before .before .before .before .before .before in
     let at-start = at-step .before .before .before .before .before .before .before .before .before in
     returned-below ((at-start .pre) .0) (at-step .step .last .1 .0) (at-step .step .last .1 .1 .0) (at-step .step .result) (at-step .step .ensures) _
-    (at-leave2 .leave2 .ensures) _ (at-w .w .given .1) _ _ _ (let h = at-if1 .if1 .left in omega arith) (at-return-to .return-to .ensures .0) (at-return-to .return-to .ensures .1)
+    (at-leave2 .leave2 .ensures) _ (at-w .w .given .1) _ _ _ (let h = at-if1 .if1 .left in omega arith) (at-return-to .return-to .ensures .0) (at-return-to .return-to .ensures .1) (at-start .args .edition)
 
 same-length-26 : tie.Need-same-length-26
 same-length-26 c = search needs
@@ -229,7 +229,7 @@ returns-8 c =
     let at-step = at-enum-told3 .before .before .before .before .before .before in
     let at-start = at-step .before .before .before .before .before .before .before .before .before in
     no-boolean ((at-start .pre) .0) (at-step .step .last .1 .0) (at-step .step .last .1 .1 .0) (at-step .step .result) (at-step .step .ensures) _
-    (c .before .before .leave3 .ensures) _ (at-enum-told3 .enum-told3 .given .1)
+    (c .before .before .leave3 .ensures) _ (at-enum-told3 .enum-told3 .given .1) (at-start .args .edition)
 
 pub advance-spec : {M : Type 1} → statement M
 advance-spec =

@@ -31,7 +31,7 @@ slice-read-depth c = let k = sender-bounds ((c .before .before .before .before .
 header-requires : tie.Need-header-requires
 header-requires c κs =
     let at-start = c .before .before .before .before .before in
-    record { right = (at-start .pre) .0 .right; kinds = sender-bounds ((at-start .pre) .0) ((at-start .pre) .1) .isMethod }
+    record { right = (_, (at-start .pre) .0 .right); kinds = sender-bounds ((at-start .pre) .0) ((at-start .pre) .1) .isMethod }
 
 temporary-count-requires : tie.Need-temporary-count-requires
 temporary-count-requires c κs = search needs
