@@ -15,30 +15,30 @@ use Rattle.plain.specs.Running.{runningWith}
 use Rattle.plain.specs.Registers as R
 use Rattle.runs.specs.declared.Ended.{Ended}
 
-abbrev pub startOf : (receiver selector n b top : ℕ) → List ℕ → List ℕ → List ℕ → List ℕ → Flat
-startOf receiver selector n b top contents bodies stack cache = flat (runningWith receiver selector n b top) contents bodies stack cache
+abbrev pub startOf : (e receiver selector n b top : ℕ) → List ℕ → List ℕ → List ℕ → List ℕ → Flat
+startOf e receiver selector n b top contents bodies stack cache = flat (runningWith e receiver selector n b top) contents bodies stack cache
 
-abbrev pub endedWith : (receiver selector : ℕ) → Ended → R.Registers
-endedWith receiver selector r =
-    record { n = r .n; b = r .b; startReceiver = receiver; startSelector = selector; phase = r .phase; top = r .top; value = r .value }
+abbrev pub endedWith : (e receiver selector : ℕ) → Ended → R.Registers
+endedWith e receiver selector r =
+    record { n = r .n; b = r .b; startReceiver = receiver; startSelector = selector; phase = r .phase; top = r .top; value = r .value; edition = e }
 
 -- Check accepts the state, with some start words.
-pub record Goes (n b top : ℕ) (contents bodies stack cache : List ℕ) : Type 0 where
+pub record Goes (e n b top : ℕ) (contents bodies stack cache : List ℕ) : Type 0 where
   pub receiver : ℕ
   pub selector : ℕ
-  pub checks : check (startOf receiver selector n b top contents bodies stack cache) ≡ accepted
+  pub checks : check (startOf e receiver selector n b top contents bodies stack cache) ≡ accepted
 
 -- The run from s ended so.
-pub record RunsTo (s : Flat) (grant receiver selector : ℕ) (contents bodies stack cache : List ℕ) (r : Ended) : Type 0 where
-  pub gave : gives (result (r .phase) (r .count) (r .value)) (flat (endedWith receiver selector r) contents bodies stack cache) ≡ runsFrom grant 0 s
+pub record RunsTo (s : Flat) (grant e receiver selector : ℕ) (contents bodies stack cache : List ℕ) (r : Ended) : Type 0 where
+  pub gave : gives (result (r .phase) (r .count) (r .value)) (flat (endedWith e receiver selector r) contents bodies stack cache) ≡ runsFrom grant 0 s
   pub ends : r .reach ≡ endsFrom grant 0 s
   pub small : r .reach ≤ 65536
 
 -- With all start words that check accepts
-abbrev pub RunsOn : (n b top : ℕ) (contents bodies stack cache : List ℕ) (grant : ℕ) (contents′ bodies′ stack′ cache′ : List ℕ) → Ended → Type 0
-RunsOn n b top contents bodies stack cache grant contents′ bodies′ stack′ cache′ r =
-    (receiver selector : ℕ) → check (startOf receiver selector n b top contents bodies stack cache) ≡ accepted
-    → RunsTo (startOf receiver selector n b top contents bodies stack cache) grant receiver selector contents′ bodies′ stack′ cache′ r
+abbrev pub RunsOn : (e n b top : ℕ) (contents bodies stack cache : List ℕ) (grant : ℕ) (contents′ bodies′ stack′ cache′ : List ℕ) → Ended → Type 0
+RunsOn e n b top contents bodies stack cache grant contents′ bodies′ stack′ cache′ r =
+    (receiver selector : ℕ) → check (startOf e receiver selector n b top contents bodies stack cache) ≡ accepted
+    → RunsTo (startOf e receiver selector n b top contents bodies stack cache) grant e receiver selector contents′ bodies′ stack′ cache′ r
 
 -- Where the frame at `top` ends
 abbrev pub frameEnd : (n b top : ℕ) → List ℕ → List ℕ → List ℕ → ℕ

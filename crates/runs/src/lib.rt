@@ -66,13 +66,14 @@ pub fn run(
     bodies: &mut [u16],
     stack: &mut [u16],
     cache: &mut [u16],
+    edition: u16,
     n: usize,
     b: usize,
     top: usize,
     grant: u32,
 ) -> Ended
-    requires { ⌜ Goes n b top (now contents) (now bodies) (now stack) (now cache) ⌝ }
-    ensures { λ r. ⌜ RunsOn n b top (now (contents .entry)) (now (bodies .entry)) (now (stack .entry)) (now (cache .entry)) grant (now (contents .exit)) (now (bodies .exit)) (now (stack .exit)) (now (cache .exit)) r ⌝ }
+    requires { ⌜ Goes edition n b top (now contents) (now bodies) (now stack) (now cache) ⌝ }
+    ensures { λ r. ⌜ RunsOn edition n b top (now (contents .entry)) (now (bodies .entry)) (now (stack .entry)) (now (cache .entry)) grant (now (contents .exit)) (now (bodies .exit)) (now (stack .exit)) (now (cache .exit)) r ⌝ }
 {
     let mut objects = n;
     let mut words = b;
@@ -81,7 +82,7 @@ pub fn run(
     let mut reach = frame_end(contents, bodies, stack, objects, words, start);
     let mut active = steps::enter(contents, bodies, stack, objects, words, start);
     while count < grant {
-        match interpreter::advance(contents, bodies, stack, cache, objects, words, active) {
+        match interpreter::advance(contents, bodies, stack, cache, edition, objects, words, active) {
             Advanced::Next { position, end } => {
                 active.position = position;
                 active.end = end;

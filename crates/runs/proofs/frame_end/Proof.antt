@@ -22,7 +22,7 @@ shared-slice-read-t13 : tie.Need-shared-slice-read-t13
 shared-slice-read-t13 c = let t = top-bounds (c .before .before .before .before .pre) in omega arith
 
 header-requires : tie.Need-header-requires
-header-requires c κs = record { right = (c .before .before .before .before .pre) .right; kinds = is-method (c .before .before .before .before .pre) }
+header-requires c κs = record { right = (_, (c .before .before .before .before .pre) .right); kinds = is-method (c .before .before .before .before .pre) }
 
 frame-words-requires : tie.Need-frame-words-requires
 frame-words-requires c κs = search needs

@@ -17,26 +17,26 @@ use Rattle.steps.proofs.enter.Reads as enter-reads
 use Rattle.steps.proofs.leave.Reads as leave-reads
 
 abbrev Inv-loop : tie.InvT-loop
-Inv-loop contents₀ bodies₀ stack₀ cache₀ n b top grant objects₀ words₀ count₀ reach₀ active₀ contents bodies stack cache objects words count reach active =
-    (receiver selector : ℕ) → check (startOf receiver selector n b top contents₀ bodies₀ stack₀ cache₀) ≡ accepted
-    → Loop (startOf receiver selector n b top contents₀ bodies₀ stack₀ cache₀) grant receiver selector objects words active contents bodies stack cache count reach
+Inv-loop contents₀ bodies₀ stack₀ cache₀ edition n b top grant objects₀ words₀ count₀ reach₀ active₀ contents bodies stack cache objects words count reach active =
+    (receiver selector : ℕ) → check (startOf edition receiver selector n b top contents₀ bodies₀ stack₀ cache₀) ≡ accepted
+    → Loop (startOf edition receiver selector n b top contents₀ bodies₀ stack₀ cache₀) grant edition receiver selector objects words active contents bodies stack cache count reach
 
 abbrev μ-loop : tie.MeasureT-loop
-μ-loop contents₀ bodies₀ stack₀ cache₀ n b top grant objects₀ words₀ count₀ reach₀ active₀ contents bodies stack cache objects words count reach active = grant - count
+μ-loop contents₀ bodies₀ stack₀ cache₀ edition n b top grant objects₀ words₀ count₀ reach₀ active₀ contents bodies stack cache objects words count reach active = grant - count
 
 frame-end-requires : tie.Need-frame-end-requires Inv-loop μ-loop
 frame-end-requires c κs =
     let at-start = c .before .before .before .before .before .before .before in
     let a = at-start .args in
     let w = at-start .pre in
-    start-runs (w .receiver) (w .selector) (a .n) (a .b) (a .top) (a .contents .now) (a .bodies .now) (a .stack .now) (a .cache .now) (w .checks)
+    start-runs (a .edition) (w .receiver) (w .selector) (a .n) (a .b) (a .top) (a .contents .now) (a .bodies .now) (a .stack .now) (a .cache .now) (w .checks)
 
 enter-requires : tie.Need-enter-requires Inv-loop μ-loop
 enter-requires c κs =
     let at-start = c .before .before .before .before .before .before .before .before .before .before .before in
     let a = at-start .args in
     let w = at-start .pre in
-    start-runs (w .receiver) (w .selector) (a .n) (a .b) (a .top) (a .contents .now) (a .bodies .now) (a .stack .now) (a .cache .now) (w .checks)
+    start-runs (a .edition) (w .receiver) (w .selector) (a .n) (a .b) (a .top) (a .contents .now) (a .bodies .now) (a .stack .now) (a .cache .now) (w .checks)
 
 loop-holds : tie.Need-loop-holds Inv-loop μ-loop
 loop-holds c =
@@ -44,7 +44,7 @@ loop-holds c =
     let at-start = at-frame-end .before .before .before .before .before .before .before .before in
     let a = at-start .args in
     let end = at-frame-end .frame-end .ensures in
-    λ receiver selector e. loop-holds-it (loop-start receiver selector (a .n) (a .b) (a .top) (a .contents .now) (a .bodies .now) (a .stack .now)
+    λ receiver selector e. loop-holds-it (loop-start (a .edition) receiver selector (a .n) (a .b) (a .top) (a .contents .now) (a .bodies .now) (a .stack .now)
     (a .cache .now) e (a .grant) _ (end .0) (end .1)) (c .enter .result) (c .enter .ensures)
 
 advance-requires : tie.Need-advance-requires Inv-loop μ-loop
@@ -155,15 +155,6 @@ loop-again-3 c =
 enum-known-w : tie.Need-enum-known-w Inv-loop μ-loop
 enum-known-w c = search needs
 
-cast-t63 : tie.Need-cast-t63 Inv-loop μ-loop
-cast-t63 c =
-    let at-loop = c .before .before .before .before .before .before .before .before .before .before .before .before .before .before .before .before .before in
-    let at-start = at-loop .before .before .before .before .before .before .before .before .before .before .before .before .before in
-    let w = at-start .pre in
-    let l = at-loop .loop .inv (w .receiver) (w .selector) (w .checks) in
-    let k = held-small l in
-    omega arith
-
 cast-t64 : tie.Need-cast-t64 Inv-loop μ-loop
 cast-t64 c =
     let at-loop = c .before .before .before .before .before .before .before .before .before .before .before .before .before .before .before .before .before in
@@ -173,8 +164,17 @@ cast-t64 c =
     let k = held-small l in
     omega arith
 
-add-t65 : tie.Need-add-t65 Inv-loop μ-loop
-add-t65 c =
+cast-t65 : tie.Need-cast-t65 Inv-loop μ-loop
+cast-t65 c =
+    let at-loop = c .before .before .before .before .before .before .before .before .before .before .before .before .before .before .before .before .before in
+    let at-start = at-loop .before .before .before .before .before .before .before .before .before .before .before .before .before in
+    let w = at-start .pre in
+    let l = at-loop .loop .inv (w .receiver) (w .selector) (w .checks) in
+    let k = held-small l in
+    omega arith
+
+add-t66 : tie.Need-add-t66 Inv-loop μ-loop
+add-t66 c =
     let at-loop-test = c .before .before .before .before .before .before .before .before .before .before .before .before .before .before .before .before in
     let at-start = at-loop-test .before .before .before .before .before .before .before .before .before .before .before .before .before .before in
     let t = at-loop-test .loop-test .taken in omega (arith, at-start .fits)
@@ -226,15 +226,6 @@ returns c =
 enum-known-k : tie.Need-enum-known-k Inv-loop μ-loop
 enum-known-k c = search needs
 
-cast-t66 : tie.Need-cast-t66 Inv-loop μ-loop
-cast-t66 c =
-    let at-loop = c .before .before .before .before .before .before .before .before .before .before .before .before .before .before .before .before .before in
-    let at-start = at-loop .before .before .before .before .before .before .before .before .before .before .before .before .before in
-    let w = at-start .pre in
-    let l = at-loop .loop .inv (w .receiver) (w .selector) (w .checks) in
-    let k = held-small l in
-    omega arith
-
 cast-t67 : tie.Need-cast-t67 Inv-loop μ-loop
 cast-t67 c =
     let at-loop = c .before .before .before .before .before .before .before .before .before .before .before .before .before .before .before .before .before in
@@ -246,6 +237,15 @@ cast-t67 c =
 
 cast-t68 : tie.Need-cast-t68 Inv-loop μ-loop
 cast-t68 c =
+    let at-loop = c .before .before .before .before .before .before .before .before .before .before .before .before .before .before .before .before .before in
+    let at-start = at-loop .before .before .before .before .before .before .before .before .before .before .before .before .before in
+    let w = at-start .pre in
+    let l = at-loop .loop .inv (w .receiver) (w .selector) (w .checks) in
+    let k = held-small l in
+    omega arith
+
+cast-t69 : tie.Need-cast-t69 Inv-loop μ-loop
+cast-t69 c =
     let at-loop = c .before .before .before .before .before .before .before .before .before .before .before .before .before .before .before .before .before .before in
     let at-start = at-loop .before .before .before .before .before .before .before .before .before .before .before .before .before in
     let w = at-start .pre in
@@ -304,15 +304,6 @@ leave-requires c κs =
     let l = c .before .before .loop .inv (w .receiver) (w .selector) (w .checks) in
     held-leaves l
 
-cast-t72 : tie.Need-cast-t72 Inv-loop μ-loop
-cast-t72 c =
-    let at-loop = c .before .before .before .before .before in
-    let at-start = at-loop .before .before .before .before .before .before .before .before .before .before .before .before .before in
-    let w = at-start .pre in
-    let l = at-loop .loop .inv (w .receiver) (w .selector) (w .checks) in
-    let k = held-small l in
-    omega arith
-
 cast-t73 : tie.Need-cast-t73 Inv-loop μ-loop
 cast-t73 c =
     let at-loop = c .before .before .before .before .before in
@@ -324,6 +315,15 @@ cast-t73 c =
 
 cast-t74 : tie.Need-cast-t74 Inv-loop μ-loop
 cast-t74 c =
+    let at-loop = c .before .before .before .before .before in
+    let at-start = at-loop .before .before .before .before .before .before .before .before .before .before .before .before .before in
+    let w = at-start .pre in
+    let l = at-loop .loop .inv (w .receiver) (w .selector) (w .checks) in
+    let k = held-small l in
+    omega arith
+
+cast-t75 : tie.Need-cast-t75 Inv-loop μ-loop
+cast-t75 c =
     let at-loop = c .before .before .before .before .before .before in
     let at-start = at-loop .before .before .before .before .before .before .before .before .before .before .before .before .before in
     let w = at-start .pre in
@@ -397,27 +397,27 @@ run-spec =
     loop-less-3
     loop-again-3
     enum-known-w
-    cast-t63
     cast-t64
-    add-t65
+    cast-t65
+    add-t66
     same-length
     same-length-2
     same-length-3
     same-length-4
     returns
     enum-known-k
-    cast-t66
     cast-t67
     cast-t68
+    cast-t69
     same-length-5
     same-length-6
     same-length-7
     same-length-8
     returns-2
     leave-requires
-    cast-t72
     cast-t73
     cast-t74
+    cast-t75
     same-length-9
     same-length-10
     same-length-11
