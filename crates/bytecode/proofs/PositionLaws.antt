@@ -39,7 +39,7 @@ pub record WholeAt (words : List ℕ) (size p b e : ℕ) : Type 0 where
 
 -- The position is inside the code, b is the byte there and e its entry.
 module _ (words : List ℕ) (size p b e : ℕ) (inside : p < size) (here : b ≡ byteAt words p) (right : Entry b e) where
-  decoded-alone : lengthOf b ≡ 1 → decodeAt words size p ≡ alone b
+  pub decoded-alone : lengthOf b ≡ 1 → decodeAt words size p ≡ alone b
   decoded-alone l = sym (decoded words p here size (omega arith)) ∙ one-byte b (bytesAfter words p) l
 
   said-at : (groupPart e ≡ 2 → ⊥) → SaidAt words size p e
