@@ -62,3 +62,9 @@ pub if-either : {A : Type 0} (P : A → Type 0) (t : Bool) (x y : A) → P x →
 unfolding if_then_else_
 if-either P true x y p q = p
 if-either P false x y p q = q
+
+-- the same choice of values that are equal where they are chosen
+pub if-alike : {A : Type 0} (t : Bool) {x y x′ y′ : A} → (t ≡ true → x ≡ x′) → (t ≡ false → y ≡ y′) → (if t then x else y) ≡ (if t then x′ else y′)
+unfolding if_then_else_
+if-alike true f g = f refl
+if-alike false f g = g refl

@@ -1,10 +1,10 @@
 -- Lengths, and the three cases of a decoded position: outside, not whole, whole.
 use Prim.Native.Nat.{ℕ, _+_, _<_, _≤_}
-use mathlib.Core.Path.{_≡_, refl}
+use mathlib.Core.Path.{_≡_, refl, sym, _∙_, ap}
 use mathlib.Core.List.{List}
 use native.Mathlib.Omega.{arith}
 use lib.Dec.{ltb, eqb}
-use Rattle.bytecode.specs.Code.{byteAt, instructionOf, lengthOf, nextAt, decodeAt}
+use Rattle.bytecode.specs.Code.{byteAt, bytesAfter, instructionOf, lengthOf, nextAt, decodeAt}
 use Rattle.bytecode.specs.declared.Instruction.the-variants.{Unused}
 use Rattle.bytecode.proofs.Choice.{ranges, if-gt, if-same, if-either}
 
@@ -39,6 +39,17 @@ module _ (words : List ℕ) (size p : ℕ) where
   unfolding decodeAt
   decode-short h = simp (if-gt, if-same)
 
-  pub decode-whole : nextAt words p ≤ size → decodeAt words size p ≡ instructionOf (byteAt words p) (byteAt words (p + 1)) (byteAt words (p + 2))
+  pub decode-whole : nextAt words p ≤ size → decodeAt words size p ≡ instructionOf (byteAt words p) (bytesAfter words p)
   unfolding decodeAt
   decode-whole h = let l : p < size = omega (arith, next-range words p) in search ranges
+
+-- The same where b is the byte at p
+module _ (words : List ℕ) (p : ℕ) {b : ℕ} (here : b ≡ byteAt words p) where
+  pub next-here : nextAt words p ≡ p + lengthOf b
+  next-here = next-is words p ∙ ap (λ k. p + lengthOf k) (sym here)
+
+  pub cut : (size : ℕ) → size < p + lengthOf b → Unused ≡ decodeAt words size p
+  cut size h = sym (decode-short words size p (omega (arith, next-here)))
+
+  pub decoded : (size : ℕ) → p + lengthOf b ≤ size → instructionOf b (bytesAfter words p) ≡ decodeAt words size p
+  decoded size h = rw here (sym (decode-whole words size p (omega (arith, next-here))))

@@ -5,19 +5,19 @@ use mathlib.Core.List.{List, [], _∷_}
 use lib.Dec.{T, eqb, eqb→eq}
 use lib.ListN.{getD}
 use Rattle.bytecode.specs.Test.{below, allOf}
-use Rattle.bytecode.specs.Code.{instructionOf, lengthOf}
+use Rattle.bytecode.specs.Code.{lengthOf}
 use Rattle.bytecode.specs.Effect.{need, leaves}
-use Rattle.bytecode.specs.Table.{bound, index, groupOf, groupPart, lengthPart, needPart, leavesPart, boundPart, indexPart, Entry, IsTable}
+use Rattle.bytecode.specs.Table.{bound, index, alone, groupOf, groupPart, lengthPart, needPart, leavesPart, boundPart, indexPart, Entry, IsTable}
 use Rattle.bytecode.proofs.TestLaws.{rule, below-at}
 
 abbrev pub entryRules : ℕ → ℕ → List Bool
 entryRules b e =
     eqb (groupPart e) (groupOf b) ∷
     eqb (lengthPart e) (lengthOf b) ∷
-    eqb (needPart e) (need (instructionOf b 0 0)) ∷
-    eqb (leavesPart e) (leaves (instructionOf b 0 0)) ∷
-    eqb (boundPart e) (bound (instructionOf b 0 0)) ∷
-    eqb (indexPart e) (index (instructionOf b 0 0)) ∷
+    eqb (needPart e) (need (alone b)) ∷
+    eqb (leavesPart e) (leaves (alone b)) ∷
+    eqb (boundPart e) (bound (alone b)) ∷
+    eqb (indexPart e) (index (alone b)) ∷
     []
 
 abbrev pub tableTest : List ℕ → Bool
@@ -28,10 +28,10 @@ right b e t =
     record {
       group = eqb→eq (groupPart e) (groupOf b) (rule (entryRules b e) t 0);
       length = eqb→eq (lengthPart e) (lengthOf b) (rule (entryRules b e) t 1);
-      needs = eqb→eq (needPart e) (need (instructionOf b 0 0)) (rule (entryRules b e) t 2);
-      leave = eqb→eq (leavesPart e) (leaves (instructionOf b 0 0)) (rule (entryRules b e) t 3);
-      bounds = eqb→eq (boundPart e) (bound (instructionOf b 0 0)) (rule (entryRules b e) t 4);
-      indexes = eqb→eq (indexPart e) (index (instructionOf b 0 0)) (rule (entryRules b e) t 5);
+      needs = eqb→eq (needPart e) (need (alone b)) (rule (entryRules b e) t 2);
+      leave = eqb→eq (leavesPart e) (leaves (alone b)) (rule (entryRules b e) t 3);
+      bounds = eqb→eq (boundPart e) (bound (alone b)) (rule (entryRules b e) t 4);
+      indexes = eqb→eq (indexPart e) (index (alone b)) (rule (entryRules b e) t 5);
     }
 
 pub table-right : (t : List ℕ) → T (tableTest t) → IsTable t

@@ -43,16 +43,20 @@ constantOf b =
     if eqb b 124 then ReturnTop else
     Unused
 
+-- The bytes behind position p, counted from 1
+abbrev pub bytesAfter : List ℕ → ℕ → ℕ → ℕ
+bytesAfter words p = λ k. byteAt words (p + k)
+
 -- 128 to 143: those with further bytes, pop and duplicate. 132 and 134 have the arguments in the first byte, the literal in the second.
-unfoldable pub extendedOf : ℕ → ℕ → ℕ → Instruction
-extendedOf b x y =
-    if eqb b 128 then Push (placeOf x) else
-    if eqb b 129 then Store (placeOf x) else
-    if eqb b 130 then PopStore (placeOf x) else
-    if eqb b 131 then Send (x % 32) (x / 32) else
-    if eqb b 132 then Send y x else
-    if eqb b 133 then SuperSend (x % 32) (x / 32) else
-    if eqb b 134 then SuperSend y x else
+unfoldable pub extendedOf : ℕ → (ℕ → ℕ) → Instruction
+extendedOf b following =
+    if eqb b 128 then Push (placeOf (following 1)) else
+    if eqb b 129 then Store (placeOf (following 1)) else
+    if eqb b 130 then PopStore (placeOf (following 1)) else
+    if eqb b 131 then Send (following 1 % 32) (following 1 / 32) else
+    if eqb b 132 then Send (following 2) (following 1) else
+    if eqb b 133 then SuperSend (following 1 % 32) (following 1 / 32) else
+    if eqb b 134 then SuperSend (following 2) (following 1) else
     if eqb b 135 then Pop else
     if eqb b 136 then Duplicate else
     Unused
@@ -70,13 +74,13 @@ jumpOf b x =
 unfoldable pub sendOf : ℕ → Instruction
 sendOf b = if ltb b 208 then SpecialSend (b - 176) else Send (b % 16) ((b - 208) / 16)
 
--- The instruction of a byte b and the two that follow it
-unfoldable pub instructionOf : ℕ → ℕ → ℕ → Instruction
-instructionOf b x y =
+-- The instruction of a byte b; `following k` is the k-th byte behind it
+unfoldable pub instructionOf : ℕ → (ℕ → ℕ) → Instruction
+instructionOf b following =
     if ltb b 112 then shortOf b else
     if ltb b 128 then constantOf b else
-    if ltb b 144 then extendedOf b x y else
-    if ltb b 176 then jumpOf b x else
+    if ltb b 144 then extendedOf b following else
+    if ltb b 176 then jumpOf b (following 1) else
     sendOf b
 
 -- How many bytes the instruction has that begins with b
@@ -99,5 +103,5 @@ nextAt words p = p + lengthOf (byteAt words p)
 unfoldable pub decodeAt : List ℕ → ℕ → ℕ → Instruction
 decodeAt words size p =
     if ltb p size
-    then (if leb (nextAt words p) size then instructionOf (byteAt words p) (byteAt words (p + 1)) (byteAt words (p + 2)) else Unused)
+    then (if leb (nextAt words p) size then instructionOf (byteAt words p) (bytesAfter words p) else Unused)
     else Unused

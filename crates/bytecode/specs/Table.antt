@@ -62,41 +62,32 @@ index (SuperSend l n) = l
 index (SpecialSend k) = 0
 index Unused = 0
 
--- 0: goes on to the next instruction, and has no rule but on its index and its operands. 1: goes on to the next instruction, and has
--- further rules: on a literal variable, on a selector, or against a store to a literal. 2: a return. 3: a jump. 4: unused.
-unfoldable pub pushGroup : Place → ℕ
-pushGroup (Field i) = 0
-pushGroup (Temporary i) = 0
-pushGroup (Literal i) = 0
-pushGroup (LiteralVariable i) = 1
-
-unfoldable pub storeGroup : Place → ℕ
-storeGroup (Field i) = 0
-storeGroup (Temporary i) = 0
-storeGroup (Literal i) = 1
-storeGroup (LiteralVariable i) = 1
-
+-- 0: goes on to the next instruction. 1: a return. 2: a jump. 3: unused.
 unfoldable pub group : Instruction → ℕ
-group (Push p) = pushGroup p
-group (Store p) = storeGroup p
-group (PopStore p) = storeGroup p
+group (Push p) = 0
+group (Store p) = 0
+group (PopStore p) = 0
 group PushSelf = 0
 group (PushConstant w) = 0
-group ReturnSelf = 2
-group (ReturnConstant w) = 2
-group ReturnTop = 2
+group ReturnSelf = 1
+group (ReturnConstant w) = 1
+group ReturnTop = 1
 group Pop = 0
 group Duplicate = 0
-group (Jump a b) = 3
-group (JumpOn x a) = 3
-group (Send l n) = 1
-group (SuperSend l n) = 1
-group (SpecialSend k) = 1
-group Unused = 4
+group (Jump a b) = 2
+group (JumpOn x a) = 2
+group (Send l n) = 0
+group (SuperSend l n) = 0
+group (SpecialSend k) = 0
+group Unused = 3
 
--- The group of a byte. 3 has also the instructions with further bytes, since an entry does not say all of them.
+-- The instruction of a byte, with all further bytes taken as 0
+abbrev pub alone : ℕ → Instruction
+alone b = instructionOf b (λ k. 0)
+
+-- The group of a byte. 2 has also the instructions with further bytes, since an entry does not say all of them.
 unfoldable pub groupOf : ℕ → ℕ
-groupOf b = if eqb (lengthOf b) 1 then group (instructionOf b 0 0) else 3
+groupOf b = if eqb (lengthOf b) 1 then group (alone b) else 2
 
 -- The operands that the sends 131 to 134 need beside those that the entry says: their arguments, which the first further byte says
 unfoldable pub extraOf : ℕ → ℕ → ℕ
@@ -107,12 +98,12 @@ extraOf b x =
     if eqb b 134 then x else
     0
 
--- The parts of an entry, from the high end: group 3 bits, length 2, need 2, leaves 2, bound 2, index 5
+-- The parts of an entry, from the high end: group 2 bits, length 3, need 2, leaves 2, bound 2, index 5
 abbrev pub groupPart : ℕ → ℕ
-groupPart e = e / 8192
+groupPart e = e / 16384
 
 abbrev pub lengthPart : ℕ → ℕ
-lengthPart e = e / 2048 % 4
+lengthPart e = e / 2048 % 8
 
 abbrev pub needPart : ℕ → ℕ
 needPart e = e / 512 % 4
@@ -126,14 +117,14 @@ boundPart e = e / 32 % 4
 abbrev pub indexPart : ℕ → ℕ
 indexPart e = e % 32
 
--- e is right for the byte b. Further bytes are taken as 0.
+-- e is right for the byte b.
 pub record Entry (b e : ℕ) : Type 0 where
   pub group : groupPart e ≡ groupOf b
   pub length : lengthPart e ≡ lengthOf b
-  pub needs : needPart e ≡ need (instructionOf b 0 0)
-  pub leave : leavesPart e ≡ leaves (instructionOf b 0 0)
-  pub bounds : boundPart e ≡ bound (instructionOf b 0 0)
-  pub indexes : indexPart e ≡ index (instructionOf b 0 0)
+  pub needs : needPart e ≡ need (alone b)
+  pub leave : leavesPart e ≡ leaves (alone b)
+  pub bounds : boundPart e ≡ bound (alone b)
+  pub indexes : indexPart e ≡ index (alone b)
 
 -- A list that has a right entry at each byte
 pub record IsTable (table : List ℕ) : Type 0 where

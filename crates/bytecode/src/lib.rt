@@ -1,18 +1,19 @@
 // The instructions of a method's code. specs/Code.antt says which bytes mean which, specs/Effect.antt what each needs and leaves.
 ghost use mathlib.Core.Path.{_≡_};
-ghost use Prim.Native.Nat.{_+_, _/_, _<_, _≤_};
+ghost use Prim.Native.Nat.{ℕ, _+_, _/_, _<_, _≤_};
 ghost use lib.ListN.{length};
-ghost use Rattle.bytecode.specs.Code.{byteAt, placeOf, shortOf, constantOf, jumpOf, sendOf, extendedOf, instructionOf, lengthOf, decodeAt};
+ghost use Rattle.bytecode.specs.Code.{byteAt, placeOf, shortOf, constantOf, jumpOf, sendOf, extendedOf, instructionOf, decodeAt};
 ghost use Rattle.bytecode.specs.Table.{groupPart, lengthPart, needPart, leavesPart, boundPart, indexPart, extraOf, Entry, IsTable};
 
 mod entries;
 
-// Where a push or a store finds its operand.
+// Where a push or a store finds its operand. The number is a usize so that a place has more than 8 bytes: one of 2, 4 or 8 bytes is copied
+// as a single number, which hides its case from the compiler.
 pub enum Place {
-    Field(u8),
-    Temporary(u8),
-    Literal(u8),
-    LiteralVariable(u8),
+    Field(usize),
+    Temporary(usize),
+    Literal(usize),
+    LiteralVariable(usize),
 }
 
 // A constant is held as its word. A jump goes to the next instruction's position, plus `ahead`, minus `back`. A jump on a boolean
@@ -61,13 +62,13 @@ pub fn entry(table: &[u16; 256], b: u8) -> usize
 pub fn entry_group(entry: usize) -> usize
     ensures { λ r. ⌜ r ≡ groupPart entry ⌝ }
 {
-    entry / 8192
+    entry / 16384
 }
 
 pub fn entry_length(entry: usize) -> usize
     ensures { λ r. ⌜ r ≡ lengthPart entry ⌝ }
 {
-    entry / 2048 % 4
+    entry / 2048 % 8
 }
 
 pub fn entry_need(entry: usize) -> usize
@@ -141,42 +142,15 @@ fn byte_after(words: &[u16], at: usize, k: usize) -> u8
     byte(words, at + k)
 }
 
-// How many bytes the instruction has that begins with b. It is found by tests, since the table would be built here at each call.
-fn length(b: u8) -> usize
-    ensures { λ r. ⌜ r ≡ lengthOf b ⌝ }
-{
-    if b < 128 {
-        return 1;
-    }
-    match b {
-        128 => 2,
-        129 => 2,
-        130 => 2,
-        131 => 2,
-        132 => 3,
-        133 => 2,
-        134 => 3,
-        _ => {
-            if b < 160 {
-                return 1;
-            }
-            if b < 176 {
-                return 2;
-            }
-            1
-        }
-    }
-}
-
 // The byte of 128, 129 and 130 that names a place.
 pub fn place_of(x: u8) -> Place
     ensures { λ r. ⌜ r ≡ placeOf x ⌝ }
 {
     match x / 64 {
-        0 => Place::Field(x % 64),
-        1 => Place::Temporary(x % 64),
-        2 => Place::Literal(x % 64),
-        _ => Place::LiteralVariable(x % 64),
+        0 => Place::Field((x % 64) as usize),
+        1 => Place::Temporary((x % 64) as usize),
+        2 => Place::Literal((x % 64) as usize),
+        _ => Place::LiteralVariable((x % 64) as usize),
     }
 }
 
@@ -203,9 +177,41 @@ fn constant(b: u8) -> Instruction
     }
 }
 
-// 128 to 143.
-fn extended(b: u8, x: u8, y: u8) -> Instruction
-    ensures { λ r. ⌜ r ≡ extendedOf b x y ⌝ }
+// 96 to 111.
+fn pop_store(b: u8) -> Instruction
+    requires { ⌜ 96 ≤ b ⌝ }
+    ensures { λ r. ⌜ r ≡ shortOf b ⌝ }
+{
+    let i = (b % 8) as usize;
+    if b < 104 {
+        return Instruction::PopStore(Place::Field(i));
+    }
+    Instruction::PopStore(Place::Temporary(i))
+}
+
+// 0 to 127, by rows of 16.
+fn short(b: u8) -> Instruction
+    requires { ⌜ b < 128 ⌝ }
+    ensures { λ r. ⌜ ((following : ℕ → ℕ) → r ≡ instructionOf b following) ⌝ }
+{
+    let i = (b % 16) as usize;
+    let j = (b % 32) as usize;
+    match b / 16 {
+        0 => Instruction::Push(Place::Field(i)),
+        1 => Instruction::Push(Place::Temporary(i)),
+        2 => Instruction::Push(Place::Literal(j)),
+        3 => Instruction::Push(Place::Literal(j)),
+        4 => Instruction::Push(Place::LiteralVariable(j)),
+        5 => Instruction::Push(Place::LiteralVariable(j)),
+        6 => pop_store(b),
+        _ => constant(b),
+    }
+}
+
+// 128 to 131 and 133, which one byte follows.
+fn extended(b: u8, x: u8) -> Instruction
+    requires { ⌜ (128 ≤ b) × (b < 134) × (b ≡ 132 → ⊥) ⌝ }
+    ensures { λ r. ⌜ ((following : ℕ → ℕ) → x ≡ following 1 → r ≡ extendedOf b following) ⌝ }
 {
     let low = x % 32;
     let high = x / 32;
@@ -217,77 +223,102 @@ fn extended(b: u8, x: u8, y: u8) -> Instruction
             literal: low,
             arguments: high,
         },
-        132 => Instruction::Send {
-            literal: y,
-            arguments: x,
-        },
-        133 => Instruction::SuperSend {
+        _ => Instruction::SuperSend {
             literal: low,
             arguments: high,
         },
-        134 => Instruction::SuperSend {
+    }
+}
+
+// 132 and 134, which two bytes follow.
+fn double_extended(b: u8, x: u8, y: u8) -> Instruction
+    requires { ⌜ (132 ≤ b) × (b < 135) × (b ≡ 133 → ⊥) ⌝ }
+    ensures { λ r. ⌜ ((following : ℕ → ℕ) → x ≡ following 1 → y ≡ following 2 → r ≡ extendedOf b following) ⌝ }
+{
+    if b == 132 {
+        return Instruction::Send {
             literal: y,
             arguments: x,
-        },
+        };
+    }
+    Instruction::SuperSend {
+        literal: y,
+        arguments: x,
+    }
+}
+
+// 128 to 134 at a position of code of `size` bytes.
+fn extended_at(words: &[u16], size: usize, at: usize, b: u8) -> Instruction
+    requires { ⌜ (at < size) × (b ≡ byteAt (now words) at) × (128 ≤ b) × (b < 135) ⌝ }
+    ensures { λ r. ⌜ r ≡ decodeAt (now (words .entry)) size at ⌝ }
+{
+    if size - at < 2 {
+        return Instruction::Unused;
+    }
+    let x = byte_after(words, at, 1);
+    if b < 132 {
+        return extended(b, x);
+    }
+    if b == 133 {
+        return extended(b, x);
+    }
+    if size - at < 3 {
+        return Instruction::Unused;
+    }
+    double_extended(b, x, byte_after(words, at, 2))
+}
+
+// 135 to 143.
+fn pop_or_duplicate(b: u8) -> Instruction
+    requires { ⌜ 135 ≤ b ⌝ }
+    ensures { λ r. ⌜ ((following : ℕ → ℕ) → r ≡ extendedOf b following) ⌝ }
+{
+    match b {
         135 => Instruction::Pop,
         136 => Instruction::Duplicate,
         _ => Instruction::Unused,
     }
 }
 
-// 0 to 111.
-fn short(b: u8) -> Instruction
-    ensures { λ r. ⌜ r ≡ shortOf b ⌝ }
+// 144 to 159.
+fn near(b: u8) -> Instruction
+    requires { ⌜ b < 160 ⌝ }
+    ensures { λ r. ⌜ ((x : ℕ) → r ≡ jumpOf b x) ⌝ }
 {
-    if b < 16 {
-        return Instruction::Push(Place::Field(b % 16));
-    }
-    if b < 32 {
-        return Instruction::Push(Place::Temporary(b % 16));
-    }
-    if b < 64 {
-        return Instruction::Push(Place::Literal(b % 32));
-    }
-    if b < 96 {
-        return Instruction::Push(Place::LiteralVariable(b % 32));
-    }
-    if b < 104 {
-        return Instruction::PopStore(Place::Field(b % 8));
-    }
-    Instruction::PopStore(Place::Temporary(b % 8))
-}
-
-// 144 to 175.
-fn jump(b: u8, x: u8) -> Instruction
-    ensures { λ r. ⌜ r ≡ jumpOf b x ⌝ }
-{
+    let ahead = (b % 8) as u16 + 1;
     if b < 152 {
         return Instruction::Jump {
-            ahead: (b % 8) as u16 + 1,
+            ahead: ahead,
             back: 0,
         };
     }
-    if b < 160 {
-        return Instruction::JumpOn {
-            condition: false,
-            ahead: (b % 8) as u16 + 1,
-        };
+    Instruction::JumpOn {
+        condition: false,
+        ahead: ahead,
     }
+}
+
+// 160 to 175, which one byte follows.
+fn far(b: u8, x: u8) -> Instruction
+    requires { ⌜ 160 ≤ b ⌝ }
+    ensures { λ r. ⌜ r ≡ jumpOf b x ⌝ }
+{
     if b < 168 {
         return Instruction::Jump {
             ahead: (b % 8) as u16 * 256 + x as u16,
             back: 1024,
         };
     }
+    let ahead = (b % 4) as u16 * 256 + x as u16;
     if b < 172 {
         return Instruction::JumpOn {
             condition: true,
-            ahead: (b % 4) as u16 * 256 + x as u16,
+            ahead: ahead,
         };
     }
     Instruction::JumpOn {
         condition: false,
-        ahead: (b % 4) as u16 * 256 + x as u16,
+        ahead: ahead,
     }
 }
 
@@ -305,26 +336,8 @@ fn send(b: u8) -> Instruction
     }
 }
 
-// The instruction of a byte and the two that follow it.
-fn instruction_of(b: u8, x: u8, y: u8) -> Instruction
-    ensures { λ r. ⌜ r ≡ instructionOf b x y ⌝ }
-{
-    if b < 112 {
-        return short(b);
-    }
-    if b < 128 {
-        return constant(b);
-    }
-    if b < 144 {
-        return extended(b, x, y);
-    }
-    if b < 176 {
-        return jump(b, x);
-    }
-    send(b)
-}
-
-// The instruction at a position of code of `size` bytes: `Unused` outside, and where it is not whole.
+// The instruction at a position of code of `size` bytes: `Unused` outside, and where it is not whole. A byte is fetched only where the
+// instruction has it.
 pub fn decode(words: &[u16], size: usize, at: usize) -> Instruction
     ensures { λ r. ⌜ r ≡ decodeAt (now (words .entry)) size at ⌝ }
 {
@@ -332,9 +345,23 @@ pub fn decode(words: &[u16], size: usize, at: usize) -> Instruction
         return Instruction::Unused;
     }
     let b = byte(words, at);
-    let n = length(b);
-    if size - at < n {
+    if b < 128 {
+        return short(b);
+    }
+    if 176 <= b {
+        return send(b);
+    }
+    if b < 135 {
+        return extended_at(words, size, at, b);
+    }
+    if b < 144 {
+        return pop_or_duplicate(b);
+    }
+    if b < 160 {
+        return near(b);
+    }
+    if size - at < 2 {
         return Instruction::Unused;
     }
-    instruction_of(b, byte_after(words, at, 1), byte_after(words, at, 2))
+    far(b, byte_after(words, at, 1))
 }

@@ -10,7 +10,7 @@ use lib.ListN.{length, getD}
 use Rattle.bytecode.specs.Test.{implies}
 use Rattle.bytecode.specs.Code.{sendOf, instructionOf, decodeAt}
 use Rattle.bytecode.specs.Effect.{specialCount, need}
-use Rattle.bytecode.specs.Table.{needPart, Entry}
+use Rattle.bytecode.specs.Table.{placeIndex, needPart, Entry}
 use Rattle.bytecode.specs.declared.Instruction.{Instruction}
 use Rattle.bytecode.specs.declared.Place.{Place}
 use Rattle.bytecode.specs.declared.Place.the-variants.{Field, Temporary, Literal, LiteralVariable}
@@ -27,14 +27,14 @@ use Rattle.flow.specs.Linked.{placeLinked, linked, linkedAt, allLinked}
 use Rattle.rules.proofs.Names.{is-named}
 use Rattle.rules.proofs.Loops.{Before, below-no, below-all}
 use Rattle.methods.specs.Named.{Named, Ready}
-use Rattle.code.specs.Asked.{SmallSpecial, Asked, CodeLent}
+use Rattle.code.specs.Asked.{Asked, CodeLent}
 
 -- a special send needs its receiver and its arguments
 pub special-need : (k e : ℕ) → k < 32 → Entry (176 + k) e → needPart e ≡ 1 + specialCount k
 unfolding need sendOf
 special-need k e h x =
     x .needs
-    ∙ ap need (is-send (176 + k) 0 0 (omega arith) ∙ if-lt (176 + k) 208 (SpecialSend (176 + k - 176)) _ (omega arith))
+    ∙ ap need (is-send (176 + k) _ (omega arith) ∙ if-lt (176 + k) 208 (SpecialSend (176 + k - 176)) _ (omega arith))
     ∙ ap (λ (j : ℕ). 1 + specialCount j) (omega arith)
 
 module _ (o : Objects) (m k : ℕ) where
@@ -75,9 +75,16 @@ method-named {table} {contents} {bodies} {counts} {n} {b} {m} a =
     let k = is-named (objectsAt n b contents bodies) methodKind m (T→true (isKind (objectsAt n b contents bodies) methodKind m) (a .isMethod)) in
     record { lent = a .ready .lent; least = k .least; most = k .most }
 
--- a special send's number
-pub small-special : (words : List ℕ) (size p : ℕ) (i : Instruction) → i ≡ decodeAt words size p → SmallSpecial i
-small-special words size p i e k q = subst Small (sym e ∙ q) (small-at words size p)
+-- the numbers of a decoded instruction
+pub decoded-small : (words : List ℕ) (size p : ℕ) {i : Instruction} → i ≡ decodeAt words size p → Small i
+decoded-small words size p e = subst Small (sym e) (small-at words size p)
+
+pub told-small : {i j : Instruction} → i ≡ j → Small i → Small j
+told-small e s = subst Small e s
+
+pub variable-small : {p : Place} {i : ℕ} → p ≡ LiteralVariable i → placeIndex p < 64 → i < 64
+unfolding placeIndex
+variable-small e s = subst (λ (q : Place). placeIndex q < 64) e s
 
 module _ (o : Objects) (m : ℕ) (t : List ℕ) (p : ℕ) where
   pub linked-free : getD t p 0 ≡ 0 → true ≡ linkedAt o m t p

@@ -8,8 +8,6 @@ use lib.Dec.{T}
 use lib.ListN.{length, getD}
 use Rattle.bytecode.specs.Test.{allOf}
 use Rattle.bytecode.specs.Table.{IsTable}
-use Rattle.bytecode.specs.declared.Instruction.{Instruction}
-use Rattle.bytecode.specs.declared.Instruction.the-variants.{SpecialSend}
 use Rattle.model.specs.Limits.{methodKind}
 use Rattle.model.specs.Objects.{Objects, objectsAt, isKind}
 use Rattle.model.specs.Method.{codeWords, codeSize}
@@ -19,10 +17,6 @@ use Rattle.model.specs.Notes.{notesFrom, MethodNoted, NotedBefore}
 use Rattle.flow.specs.Walk.{mostCode}
 use Rattle.methods.specs.Named.{Ready, SendAsked}
 use Rattle.methods.specs.Passes.{shapeRules, shapes, codeFine, codes}
-
--- a special send's number is below 32
-abbrev pub SmallSpecial : Instruction → Type 0
-SmallSpecial i = (k : ℕ) → i ≡ SpecialSend k → k < 32
 
 -- method m, whose words are right, in an image whose counts are there
 pub record Asked (table : List ℕ) (n b : ℕ) (contents bodies counts : List ℕ) (m : ℕ) : Type 0 where

@@ -2,14 +2,15 @@
 ghost use mathlib.Core.Path.{_≡_};
 ghost use Prim.Native.Nat.{ℕ, _+_, _*_, _/_, _<_, _≤_};
 ghost use lib.ListN.{length};
-ghost use Rattle.bytecode.specs.Table.{IsTable};
+ghost use Rattle.bytecode.specs.Table.{placeIndex, IsTable};
 ghost use Rattle.bytecode.specs.Effect.{specialCount};
 ghost use Rattle.model.specs.Objects.{Objects, objectsAt};
+ghost use Rattle.model.proofs.Unchanged.{Small};
 ghost use Rattle.flow.specs.Linked.{placeLinked, linked, linkedAt, allLinked};
 ghost use Rattle.model.specs.Method.{literal as literalOf, header, frameWords, runsCode};
 ghost use Rattle.model.specs.Rules.{sendFine, methodTable};
 ghost use Rattle.flow.specs.Walk.{Walked};
-ghost use Rattle.code.specs.Asked.{SmallSpecial, Asked, CodeLent, MethodWalked, PassLent, ObjectNoted, CodesNoted, MethodsNoted};
+ghost use Rattle.code.specs.Asked.{Asked, CodeLent, MethodWalked, PassLent, ObjectNoted, CodesNoted, MethodsNoted};
 ghost use Rattle.methods.specs.Named.{Ready};
 use bytecode::Instruction;
 use bytecode::Place;
@@ -77,7 +78,7 @@ fn place_fine(
     m: u16,
     p: Place,
 ) -> bool
-    requires { ⌜ Asked (now table) n b (now contents) (now bodies) (now counts) m ⌝ }
+    requires { ⌜ Asked (now table) n b (now contents) (now bodies) (now counts) m × (placeIndex p < 64) ⌝ }
     ensures { λ r. ⌜ r ≡ placeLinked (objectsAt n b (now (contents .entry)) (now (bodies .entry))) m p ⌝ }
 {
     match p {
@@ -87,7 +88,7 @@ fn place_fine(
         Place::LiteralVariable(i) => methods::variable_fine(
             contents,
             n,
-            methods::body_word(contents, bodies, n, b, m, 2 + i as usize),
+            methods::body_word(contents, bodies, n, b, m, 2 + i),
         ),
     }
 }
@@ -103,7 +104,7 @@ fn instruction_fine(
     m: u16,
     i: Instruction,
 ) -> bool
-    requires { ⌜ Asked (now table) n b (now contents) (now bodies) (now counts) m × SmallSpecial i ⌝ }
+    requires { ⌜ Asked (now table) n b (now contents) (now bodies) (now counts) m × Small i ⌝ }
     ensures { λ r. ⌜ r ≡ linked (objectsAt n b (now (contents .entry)) (now (bodies .entry))) m i ⌝ }
 {
     match i {

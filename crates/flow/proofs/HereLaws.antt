@@ -7,16 +7,15 @@ use native.Mathlib.Omega.{arith}
 use borrow.Author.Tests.{le-leb, lt-leb}
 use lib.Dec.{ltb, leb}
 use lib.ListN.{length, getD}
-use Rattle.bytecode.specs.Code.{byteAt, instructionOf, lengthOf, nextAt, decodeAt}
+use Rattle.bytecode.specs.Code.{bytesAfter, instructionOf, lengthOf, nextAt, decodeAt}
 use Rattle.bytecode.specs.Effect.{need, leaves, usable, successors}
 use Rattle.bytecode.specs.Table.{group, extraOf, groupPart, lengthPart, needPart, leavesPart, boundPart, indexPart}
 use Rattle.bytecode.specs.declared.Instruction.{Instruction}
 use Rattle.bytecode.specs.declared.Instruction.the-variants.{Jump, JumpOn, Unused}
 use Rattle.bytecode.proofs.Choice.{if-le}
 use Rattle.bytecode.proofs.CodeLaws.{jump-short, jump-on-short, length-middle, length-jump}
-use Rattle.bytecode.proofs.DecodeLaws.{next-is, decode-whole}
-use Rattle.bytecode.proofs.EntryLaws.{one-byte, goes-on, group-of}
-use Rattle.bytecode.proofs.PositionLaws.{plain-at, return-at, unused-at, short-at, whole-at}
+use Rattle.bytecode.proofs.EntryLaws.{goes-on, group-of}
+use Rattle.bytecode.proofs.PositionLaws.{decoded-alone, plain-at, return-at, unused-at, short-at, whole-at}
 use Rattle.model.specs.Depth.{successorsAt, depthAfterAt, rulesAt, fineAt}
 use Rattle.flow.specs.Index.{indexed, indexedBy}
 use Rattle.flow.specs.Walk.{alike, Step, fineIn, Here, Expand}
@@ -33,11 +32,11 @@ module _ (counts words : List ℕ) (size room p d b e : ℕ) (small : b < 256) (
   abbrev here : Instruction
   here = decodeAt words size p
 
-  abbrev x : ℕ
-  x = byteAt words (p + 1)
+  abbrev following : ℕ → ℕ
+  following = bytesAfter words p
 
-  abbrev y : ℕ
-  y = byteAt words (p + 2)
+  abbrev x : ℕ
+  x = following 1
 
   -- a long jump's second byte stands in the words
   pub second-inside : 160 ≤ b → b < 176 → p + lengthPart e ≤ size → (p + 1) / 2 < length words
@@ -71,18 +70,15 @@ module _ (counts words : List ℕ) (size room p d b e : ℕ) (small : b < 256) (
     expand-as ok qs k f g i z = step-as room (fineIn counts words size room p d) (successorsAt words size p) (λ q. depthAfterAt words size p q d) t s n t′ s′ r
         ok qs (alike k) f g (after-of ∙ ap alike i) z
 
-    -- groups 0 and 1
-    pub expand-plain : groupPart e < 2
+    -- group 0
+    pub expand-plain : groupPart e ≡ 0
         → Step room (ltb (indexPart e) (getD counts (boundPart e) 0) && leb (needPart e) d) ((p + 1) ∷ []) (alike (d - needPart e + leavesPart e)) t s n t′ s′ r
         → Expand counts words size room p d t s n t′ s′ r
     expand-plain g z =
         let a = plain-at words size p b e (h .inside) (h .byte) (h .entry) g in
-        let one : lengthOf b ≡ 1 = group-of b 0 0 (λ q. let w = h .entry .group in omega arith) .0 in
-        let w : here ≡ instructionOf b 0 0 =
-        decode-whole words size p (omega (arith, next-is words p, sym one ∙ ap lengthOf (h .byte), h .inside))
-        ∙ ap (λ (k : ℕ). instructionOf k x y) (sym (h .byte)) ∙ one-byte b x y one in
+        let w = decoded-alone words size p b e (h .inside) (h .byte) (h .entry) (group-of b (λ q. let v = h .entry .group in omega arith) .0) in
         let i : indexedBy counts here ≡ ltb (indexPart e) (getD counts (boundPart e) 0) =
-        ap (indexedBy counts) w ∙ said counts (h .one) b small (let v = h .entry .group in omega arith)
+        ap (indexedBy counts) w ∙ said counts (h .one) b small (sym (h .entry .group) ∙ g)
         ∙ sym (λ k. ltb (h .entry .indexes k) (getD counts (h .entry .bounds k) 0)) in
         expand-as (ltb (indexPart e) (getD counts (boundPart e) 0) && leb (needPart e) d) ((p + 1) ∷ []) (d - needPart e + leavesPart e)
         (fine-of (a .used) ∙ (λ k. i k && leb (a .said .needs k) d))
@@ -90,7 +86,7 @@ module _ (counts words : List ℕ) (size room p d b e : ℕ) (small : b < 256) (
         (λ k. d - a .said .needs k + a .said .leave k)
         z
 
-    pub expand-return : groupPart e ≡ 2 → Step room (leb (needPart e) d) [] (alike (d - needPart e + leavesPart e)) t s n t′ s′ r → Expand counts words size room p d t s n t′ s′ r
+    pub expand-return : groupPart e ≡ 1 → Step room (leb (needPart e) d) [] (alike (d - needPart e + leavesPart e)) t s n t′ s′ r → Expand counts words size room p d t s n t′ s′ r
     expand-return g z =
         let a = return-at words size p b e (h .inside) (h .byte) (h .entry) g in
         let i : indexedBy counts here ≡ true = return-indexed counts here (a .said .groups ∙ g) in
@@ -102,14 +98,14 @@ module _ (counts words : List ℕ) (size room p d b e : ℕ) (small : b < 256) (
 
     -- 128 to 134
     pub expand-extended : 128 ≤ b → b < 135 → p + lengthPart e ≤ size
-        → Step room (indexedBy counts (instructionOf b x y) && leb (needPart e + extraOf b x) d) ((p + lengthPart e) ∷ []) (alike (d - (needPart e + extraOf b x) + leavesPart e)) t s n t′ s′ r
+        → Step room (indexedBy counts (instructionOf b following) && leb (needPart e + extraOf b x) d) ((p + lengthPart e) ∷ []) (alike (d - (needPart e + extraOf b x) + leavesPart e)) t s n t′ s′ r
         → Expand counts words size room p d t s n t′ s′ r
     expand-extended l u whole z =
         let a = whole-at words size p b e (h .inside) (h .byte) (h .entry) small whole in
-        let g = goes-on (nextAt words p) here (rw (a .decoded) (extended-goes-on b x y l u)) in
-        expand-as (indexedBy counts (instructionOf b x y) && leb (needPart e + extraOf b x) d) ((p + lengthPart e) ∷ []) (d - (needPart e + extraOf b x) + leavesPart e)
+        let g = goes-on (nextAt words p) here (ap group (a .decoded) ∙ extended-goes-on following b l u) in
+        expand-as (indexedBy counts (instructionOf b following) && leb (needPart e + extraOf b x) d) ((p + lengthPart e) ∷ []) (d - (needPart e + extraOf b x) + leavesPart e)
         (fine-of (g .0) ∙ (λ k. indexedBy counts (a .decoded k) && leb (a .needs k) d))
-        (follow-of ∙ g .1 ∙ ap (λ (k : ℕ). k ∷ []) (a .next))
+        (follow-of ∙ g .1 ∙ ap (λ (k : ℕ). k ∷ []) (a .after))
         (λ k. d - a .needs k + a .leave k)
         z
 
@@ -158,27 +154,27 @@ module _ (counts words : List ℕ) (size room p d b e : ℕ) (small : b < 256) (
         fork-after = unfold need in unfold leaves in omega arith
 
     module _ (whole : p + lengthPart e ≤ size) where
-      decoded : here ≡ instructionOf b x y
+      decoded : here ≡ instructionOf b following
       decoded = whole-at words size p b e (h .inside) (h .byte) (h .entry) small whole .decoded
 
       next-at : (k : ℕ) → lengthOf b ≡ k → nextAt words p ≡ p + k
-      next-at k l = whole-at words size p b e (h .inside) (h .byte) (h .entry) small whole .next ∙ ap (λ (j : ℕ). p + j) (h .entry .length ∙ l)
+      next-at k l = whole-at words size p b e (h .inside) (h .byte) (h .entry) small whole .after ∙ ap (λ (j : ℕ). p + j) (h .entry .length ∙ l)
 
       pub expand-jump : 144 ≤ b → b < 152 → Step room true ((p + 2 + b % 8) ∷ []) (alike d) t s n t′ s′ r → Expand counts words size room p d t s n t′ s′ r
       expand-jump l u z =
-          as-jump (b % 8 + 1) 0 (p + 2 + b % 8) (decoded ∙ jump-short b x y l u) (omega (arith, next-at 1 (length-middle b (omega arith) (omega arith)))) z
+          as-jump (b % 8 + 1) 0 (p + 2 + b % 8) (decoded ∙ jump-short b following l u) (omega (arith, next-at 1 (length-middle b (omega arith) (omega arith)))) z
 
       pub expand-fork : 152 ≤ b → b < 160 → Step room (leb 1 d) ((p + 1) ∷ (p + 2 + b % 8) ∷ []) (alike (d - 1)) t s n t′ s′ r → Expand counts words size room p d t s n t′ s′ r
       expand-fork l u z =
-          as-fork false (b % 8 + 1) (p + 1) (p + 2 + b % 8) (decoded ∙ jump-on-short b x y l u) (next-at 1 (length-middle b (omega arith) u)) (omega arith) z
+          as-fork false (b % 8 + 1) (p + 1) (p + 2 + b % 8) (decoded ∙ jump-on-short b following l u) (next-at 1 (length-middle b (omega arith) u)) (omega arith) z
 
       pub expand-long : 160 ≤ b → b < 168 → (to : ℕ) → p + 2 + b % 8 * 256 + x ≡ 1024 + to → Step room true (to ∷ []) (alike d) t s n t′ s′ r → Expand counts words size room p d t s n t′ s′ r
       expand-long l u to q z =
-          as-jump (b % 8 * 256 + x) 1024 to (decoded ∙ jump-long b x y l u) (omega (arith, next-at 2 (length-jump b (omega arith) l (omega arith)))) z
+          as-jump (b % 8 * 256 + x) 1024 to (decoded ∙ jump-long b following l u) (omega (arith, next-at 2 (length-jump b (omega arith) l (omega arith)))) z
 
       pub expand-fork-long : 168 ≤ b → b < 176 → Step room (leb 1 d) ((p + 2) ∷ (p + 2 + b % 4 * 256 + x) ∷ []) (alike (d - 1)) t s n t′ s′ r → Expand counts words size room p d t s n t′ s′ r
       expand-fork-long l u z =
-          let i = jump-on-long b x y l u in
+          let i = jump-on-long b following l u in
           as-fork (i .0) (b % 4 * 256 + x) (p + 2) (p + 2 + b % 4 * 256 + x) (decoded ∙ i .1) (next-at 2 (length-jump b (omega arith) (omega arith) u)) (omega arith) z
 
   -- where it is stuck at once
@@ -187,7 +183,7 @@ module _ (counts words : List ℕ) (size room p d b e : ℕ) (small : b < 256) (
     unfolding Expand
     stuck-as f = step-no room (fineIn counts words size room p d) (successorsAt words size p) (λ q. depthAfterAt words size p q d) t s n t′ s′ f
 
-    pub expand-unused : 4 ≤ groupPart e → Expand counts words size room p d t s n t′ s′ Stuck
+    pub expand-unused : 3 ≤ groupPart e → Expand counts words size room p d t s n t′ s′ Stuck
     expand-unused g = stuck-as (fine-unused (unused-at words size p b e (h .inside) (h .byte) (h .entry) g))
 
     pub expand-short : size < p + lengthPart e → Expand counts words size room p d t s n t′ s′ Stuck
@@ -198,7 +194,7 @@ module _ (counts words : List ℕ) (size room p d b e : ℕ) (small : b < 256) (
     unfolding fineAt rulesAt usable
     expand-before whole l u q =
         let a = whole-at words size p b e (h .inside) (h .byte) (h .entry) small whole in
-        let i : here ≡ Jump (b % 8 * 256 + x) 1024 = a .decoded ∙ jump-long b x y l u in
-        let v : nextAt words p ≡ p + 2 = a .next ∙ ap (λ (j : ℕ). p + j) (h .entry .length ∙ length-jump b (omega arith) l (omega arith)) in
+        let i : here ≡ Jump (b % 8 * 256 + x) 1024 = a .decoded ∙ jump-long b following l u in
+        let v : nextAt words p ≡ p + 2 = a .after ∙ ap (λ (j : ℕ). p + j) (h .entry .length ∙ length-jump b (omega arith) l (omega arith)) in
         let no : leb 1024 (nextAt words p + (b % 8 * 256 + x)) ≡ false = lt-leb 1024 (nextAt words p + (b % 8 * 256 + x)) (omega arith) in
         stuck-as (rw (i, no) refl)

@@ -5,12 +5,12 @@ use mathlib.Core.Bool.{Bool, true, false, _&&_}
 use mathlib.Core.List.{List}
 use native.Mathlib.Omega.{arith}
 use native.Mathlib.Decide.{decLt}
-use borrow.Author.Tests.{lt-ltb, eq-eqb}
-use lib.Dec.{T, ltb, leb, eqb, leb→le, ltb→lt}
+use borrow.Author.Tests.{eq-eqb}
+use lib.Dec.{T, ltb, leb, eqb, leb→le, ltb→lt, eqb→eq}
 use lib.ListN.{getD}
 use Rattle.bytecode.specs.Test.{if_then_else_, implies}
 use Rattle.bytecode.specs.Code.{placeOf, shortOf, constantOf, extendedOf, jumpOf, sendOf, instructionOf, lengthOf}
-use Rattle.bytecode.specs.Table.{placeBound, placeIndex, bound, index, pushGroup, storeGroup, group, groupOf, extraOf}
+use Rattle.bytecode.specs.Table.{placeBound, placeIndex, bound, index, group, alone, groupOf, extraOf}
 use Rattle.bytecode.specs.declared.Place.{Place}
 use Rattle.bytecode.specs.declared.Place.the-variants.{Field, Temporary, Literal, LiteralVariable}
 use Rattle.bytecode.specs.declared.Instruction.{Instruction}
@@ -47,15 +47,15 @@ direct (SpecialSend k) = true
 direct Unused = false
 
 directTest : ℕ → Bool
-directTest b = implies (ltb (groupOf b) 2) (direct (instructionOf b 0 0))
+directTest b = implies (eqb (groupOf b) 0) (direct (alone b))
 
 direct-tested : (b : ℕ) → b < 256 → T (directTest b)
-unfolding directTest direct if_then_else_ placeOf shortOf constantOf extendedOf jumpOf sendOf instructionOf lengthOf pushGroup storeGroup group groupOf
+unfolding directTest direct if_then_else_ placeOf shortOf constantOf extendedOf jumpOf sendOf instructionOf lengthOf group groupOf
 direct-tested b h = below-at 256 directTest tt b h
 
-direct-at : (b : ℕ) → b < 256 → groupOf b < 2 → T (direct (instructionOf b 0 0))
+direct-at : (b : ℕ) → b < 256 → groupOf b ≡ 0 → T (direct (alone b))
 unfolding directTest
-direct-at b h g = implied (ltb (groupOf b) 2) (direct (instructionOf b 0 0)) (direct-tested b h) (true→T (lt-ltb (groupOf b) 2 g))
+direct-at b h g = implied (eqb (groupOf b) 0) (direct (alone b)) (direct-tested b h) (true→T (eq-eqb (groupOf b) 0 g))
 
 module _ (counts : List ℕ) where
   abbrev Said : Instruction → Type 0
@@ -94,31 +94,21 @@ module _ (counts : List ℕ) where
   said-if one Unused = tt
 
   -- an instruction of one byte that goes on has no rule but that on its index
-  pub said : getD counts 0 0 ≡ 1 → (b : ℕ) → b < 256 → groupOf b < 2 → indexedBy counts (instructionOf b 0 0) ≡ ltb (index (instructionOf b 0 0)) (getD counts (bound (instructionOf b 0 0)) 0)
+  pub said : getD counts 0 0 ≡ 1 → (b : ℕ) → b < 256 → groupOf b ≡ 0 → indexedBy counts (alone b) ≡ ltb (index (alone b)) (getD counts (bound (alone b)) 0)
   said one b small h =
-      subst (SaidIf (instructionOf b 0 0)) (T→true (direct (instructionOf b 0 0)) (direct-at b small h)) (said-if one (instructionOf b 0 0))
+      subst (SaidIf (alone b)) (T→true (direct (alone b)) (direct-at b small h)) (said-if one (alone b))
 
   -- a return has no rule here
   abbrev ReturnSays : Instruction → ℕ → Type 0
   ReturnSays i zero = Unit {0}
-  ReturnSays i (suc zero) = Unit {0}
-  ReturnSays i (suc (suc zero)) = indexedBy counts i ≡ true
-  ReturnSays i (suc (suc (suc k))) = Unit {0}
+  ReturnSays i (suc zero) = indexedBy counts i ≡ true
+  ReturnSays i (suc (suc k)) = Unit {0}
 
   return-says : (i : Instruction) → ReturnSays i (group i)
-  unfolding group pushGroup storeGroup indexed
-  return-says (Push (Field i)) = tt
-  return-says (Push (Temporary i)) = tt
-  return-says (Push (Literal i)) = tt
-  return-says (Push (LiteralVariable i)) = tt
-  return-says (Store (Literal i)) = tt
-  return-says (Store (Field i)) = tt
-  return-says (Store (Temporary i)) = tt
-  return-says (Store (LiteralVariable i)) = tt
-  return-says (PopStore (Literal i)) = tt
-  return-says (PopStore (Field i)) = tt
-  return-says (PopStore (Temporary i)) = tt
-  return-says (PopStore (LiteralVariable i)) = tt
+  unfolding group indexed
+  return-says (Push p) = tt
+  return-says (Store p) = tt
+  return-says (PopStore p) = tt
   return-says PushSelf = tt
   return-says (PushConstant w) = tt
   return-says ReturnSelf = refl
@@ -133,7 +123,7 @@ module _ (counts : List ℕ) where
   return-says (SpecialSend k) = tt
   return-says Unused = tt
 
-  pub return-indexed : (i : Instruction) → group i ≡ 2 → indexedBy counts i ≡ true
+  pub return-indexed : (i : Instruction) → group i ≡ 1 → indexedBy counts i ≡ true
   return-indexed i e = subst (ReturnSays i) e (return-says i)
 
 -- from 128 on a place is a literal or a literal variable
@@ -145,63 +135,49 @@ place-literal fields temporaries literals x h =
     ∙ if-either (λ p. placeIndexed fields temporaries literals p ≡ ltb (x % 64) literals) (ltb x 192) (Literal (x % 64)) (LiteralVariable (x % 64)) refl refl
 
 -- 128 to 134 go on
-push-goes-on : (p : Place) → pushGroup p < 2
-unfolding pushGroup
-push-goes-on (Field i) = omega arith
-push-goes-on (Temporary i) = omega arith
-push-goes-on (Literal i) = omega arith
-push-goes-on (LiteralVariable i) = omega arith
+module _ (f : ℕ → ℕ) where
+  goesTest : ℕ → Bool
+  goesTest k = eqb (group (instructionOf (128 + k) f)) 0
 
-store-goes-on : (p : Place) → storeGroup p < 2
-unfolding storeGroup
-store-goes-on (Field i) = omega arith
-store-goes-on (Temporary i) = omega arith
-store-goes-on (Literal i) = omega arith
-store-goes-on (LiteralVariable i) = omega arith
+  goes-tested : (k : ℕ) → k < 7 → T (goesTest k)
+  unfolding goesTest if_then_else_ shortOf constantOf extendedOf jumpOf sendOf instructionOf group
+  goes-tested k h = below-at 7 goesTest tt k h
 
-extended-from : (x y k : ℕ) → k < 7 → group (instructionOf (128 + k) x y) < 2
-unfolding if_then_else_ shortOf constantOf extendedOf jumpOf sendOf instructionOf group
-extended-from x y zero h = push-goes-on (placeOf x)
-extended-from x y (suc zero) h = store-goes-on (placeOf x)
-extended-from x y (suc (suc zero)) h = store-goes-on (placeOf x)
-extended-from x y (suc (suc (suc zero))) h = omega arith
-extended-from x y (suc (suc (suc (suc zero)))) h = omega arith
-extended-from x y (suc (suc (suc (suc (suc zero))))) h = omega arith
-extended-from x y (suc (suc (suc (suc (suc (suc zero)))))) h = omega arith
-extended-from x y (suc (suc (suc (suc (suc (suc (suc k))))))) h = absurd (omega arith)
-
-pub extended-goes-on : (b x y : ℕ) → 128 ≤ b → b < 135 → group (instructionOf b x y) < 2
-extended-goes-on b x y l h = subst (λ (n : ℕ). group (instructionOf n x y) < 2) (omega arith) (extended-from x y (b - 128) (omega arith))
+  pub extended-goes-on : (b : ℕ) → 128 ≤ b → b < 135 → group (instructionOf b f) ≡ 0
+  unfolding goesTest
+  extended-goes-on b l h =
+      subst (λ (n : ℕ). group (instructionOf n f) ≡ 0) (omega arith)
+      (eqb→eq (group (instructionOf (128 + (b - 128)) f)) 0 (goes-tested (b - 128) (omega arith)))
 
 -- the rule on each of 128 to 134
-module _ (counts : List ℕ) (b x y : ℕ) where
-  pub extended-128 : b ≡ 128 → indexedBy counts (instructionOf b x y) ≡ placeIndexedBy counts (placeOf x)
+module _ (counts : List ℕ) {b x y : ℕ} (f : ℕ → ℕ) (first : x ≡ f 1) (second : y ≡ f 2) where
+  pub extended-128 : b ≡ 128 → indexedBy counts (instructionOf b f) ≡ placeIndexedBy counts (placeOf x)
   unfolding if_then_else_ extendedOf instructionOf indexed
-  extended-128 e = rw e refl
+  extended-128 e = rw (e, first) refl
 
-  pub extended-129 : b ≡ 129 → indexedBy counts (instructionOf b x y) ≡ isWritable (placeOf x) && placeIndexedBy counts (placeOf x)
+  pub extended-129 : b ≡ 129 → indexedBy counts (instructionOf b f) ≡ isWritable (placeOf x) && placeIndexedBy counts (placeOf x)
   unfolding if_then_else_ extendedOf instructionOf indexed
-  extended-129 e = rw e refl
+  extended-129 e = rw (e, first) refl
 
-  pub extended-130 : b ≡ 130 → indexedBy counts (instructionOf b x y) ≡ isWritable (placeOf x) && placeIndexedBy counts (placeOf x)
+  pub extended-130 : b ≡ 130 → indexedBy counts (instructionOf b f) ≡ isWritable (placeOf x) && placeIndexedBy counts (placeOf x)
   unfolding if_then_else_ extendedOf instructionOf indexed
-  extended-130 e = rw e refl
+  extended-130 e = rw (e, first) refl
 
-  pub extended-131 : b ≡ 131 → indexedBy counts (instructionOf b x y) ≡ ltb (x % 32) (getD counts 3 0)
+  pub extended-131 : b ≡ 131 → indexedBy counts (instructionOf b f) ≡ ltb (x % 32) (getD counts 3 0)
   unfolding if_then_else_ extendedOf instructionOf indexed
-  extended-131 e = rw e refl
+  extended-131 e = rw (e, first) refl
 
-  pub extended-132 : b ≡ 132 → indexedBy counts (instructionOf b x y) ≡ ltb y (getD counts 3 0)
+  pub extended-132 : b ≡ 132 → indexedBy counts (instructionOf b f) ≡ ltb y (getD counts 3 0)
   unfolding if_then_else_ extendedOf instructionOf indexed
-  extended-132 e = rw e refl
+  extended-132 e = rw (e, second) refl
 
-  pub extended-133 : b ≡ 133 → indexedBy counts (instructionOf b x y) ≡ ltb (x % 32) (getD counts 3 0)
+  pub extended-133 : b ≡ 133 → indexedBy counts (instructionOf b f) ≡ ltb (x % 32) (getD counts 3 0)
   unfolding if_then_else_ extendedOf instructionOf indexed
-  extended-133 e = rw e refl
+  extended-133 e = rw (e, first) refl
 
-  pub extended-134 : b ≡ 134 → indexedBy counts (instructionOf b x y) ≡ ltb y (getD counts 3 0)
+  pub extended-134 : b ≡ 134 → indexedBy counts (instructionOf b f) ≡ ltb y (getD counts 3 0)
   unfolding if_then_else_ extendedOf instructionOf indexed
-  extended-134 e = rw e refl
+  extended-134 e = rw (e, second) refl
 
 -- at most 255 arguments
 pub extra-small : (b x : ℕ) → extraOf b x ≤ x
@@ -211,46 +187,46 @@ extra-small b x =
     (if-either (λ k. k ≤ x) (eqb b 132) _ _ (omega arith)
     (if-either (λ k. k ≤ x) (eqb b 133) _ _ (omega arith) (if-either (λ k. k ≤ x) (eqb b 134) _ _ (omega arith) (omega arith))))
 
--- The group 3 has 128 to 134 and 144 to 175.
+-- The group 2 has 128 to 134 and 144 to 175.
 farTest : ℕ → Bool
-farTest b = implies (eqb (groupOf b) 3) (if ltb b 144 then leb 128 b && ltb b 135 else ltb b 176)
+farTest b = implies (eqb (groupOf b) 2) (if ltb b 144 then leb 128 b && ltb b 135 else ltb b 176)
 
 far-tested : (b : ℕ) → b < 256 → T (farTest b)
-unfolding farTest if_then_else_ placeOf shortOf constantOf extendedOf jumpOf sendOf instructionOf lengthOf pushGroup storeGroup group groupOf
+unfolding farTest if_then_else_ placeOf shortOf constantOf extendedOf jumpOf sendOf instructionOf lengthOf group groupOf
 far-tested b h = below-at 256 farTest tt b h
 
-far-at : (b : ℕ) → b < 256 → groupOf b ≡ 3 → T (if ltb b 144 then leb 128 b && ltb b 135 else ltb b 176)
+far-at : (b : ℕ) → b < 256 → groupOf b ≡ 2 → T (if ltb b 144 then leb 128 b && ltb b 135 else ltb b 176)
 unfolding farTest
 far-at b h g =
-    implied (eqb (groupOf b) 3) (if ltb b 144 then leb 128 b && ltb b 135 else ltb b 176) (far-tested b h) (true→T (eq-eqb (groupOf b) 3 g))
+    implied (eqb (groupOf b) 2) (if ltb b 144 then leb 128 b && ltb b 135 else ltb b 176) (far-tested b h) (true→T (eq-eqb (groupOf b) 2 g))
 
-pub far-low : (b : ℕ) → b < 256 → groupOf b ≡ 3 → b < 144 → (128 ≤ b) × (b < 135)
+pub far-low : (b : ℕ) → b < 256 → groupOf b ≡ 2 → b < 144 → (128 ≤ b) × (b < 135)
 far-low b h g l =
     let x : T (leb 128 b && ltb b 135) = subst T (if-lt b 144 (leb 128 b && ltb b 135) (ltb b 176) l) (far-at b h g) in
     (leb→le 128 b (and-left (leb 128 b) (ltb b 135) x), ltb→lt b 135 (and-right (leb 128 b) (ltb b 135) x))
 
-pub far-high : (b : ℕ) → b < 256 → groupOf b ≡ 3 → 144 ≤ b → b < 176
+pub far-high : (b : ℕ) → b < 256 → groupOf b ≡ 2 → 144 ≤ b → b < 176
 far-high b h g l = ltb→lt b 176 (subst T (if-ge b 144 (leb 128 b && ltb b 135) (ltb b 176) l) (far-at b h g))
 
 -- The long jumps
-pub jump-long : (b x y : ℕ) → 160 ≤ b → b < 168 → instructionOf b x y ≡ Jump (b % 8 * 256 + x) 1024
+pub jump-long : (b : ℕ) (f : ℕ → ℕ) → 160 ≤ b → b < 168 → instructionOf b f ≡ Jump (b % 8 * 256 + f 1) 1024
 unfolding jumpOf
-jump-long b x y l h = is-jump b x y (omega arith) (omega arith) ∙ (let k : 152 ≤ b = omega arith in search ranges)
+jump-long b f l h = is-jump b f (omega arith) (omega arith) ∙ (let k : 152 ≤ b = omega arith in search ranges)
 
-jump-on-true : (b x y : ℕ) → 168 ≤ b → b < 172 → instructionOf b x y ≡ JumpOn true (b % 4 * 256 + x)
+jump-on-true : (b : ℕ) (f : ℕ → ℕ) → 168 ≤ b → b < 172 → instructionOf b f ≡ JumpOn true (b % 4 * 256 + f 1)
 unfolding jumpOf
-jump-on-true b x y l h =
-    is-jump b x y (omega arith) (omega arith) ∙ (let k : 152 ≤ b = omega arith in let m : 160 ≤ b = omega arith in search ranges)
+jump-on-true b f l h =
+    is-jump b f (omega arith) (omega arith) ∙ (let k : 152 ≤ b = omega arith in let m : 160 ≤ b = omega arith in search ranges)
 
-jump-on-false : (b x y : ℕ) → 172 ≤ b → b < 176 → instructionOf b x y ≡ JumpOn false (b % 4 * 256 + x)
+jump-on-false : (b : ℕ) (f : ℕ → ℕ) → 172 ≤ b → b < 176 → instructionOf b f ≡ JumpOn false (b % 4 * 256 + f 1)
 unfolding jumpOf
-jump-on-false b x y l h =
-    is-jump b x y (omega arith) (omega arith)
+jump-on-false b f l h =
+    is-jump b f (omega arith) (omega arith)
     ∙ (let k : 152 ≤ b = omega arith in let m : 160 ≤ b = omega arith in let n : 168 ≤ b = omega arith in search ranges)
 
-pub jump-on-long : (b x y : ℕ) → 168 ≤ b → b < 176 → (c : Bool) × (instructionOf b x y ≡ JumpOn c (b % 4 * 256 + x))
-jump-on-long b x y l h = go (decLt b 172)
+pub jump-on-long : (b : ℕ) (f : ℕ → ℕ) → 168 ≤ b → b < 176 → (c : Bool) × (instructionOf b f ≡ JumpOn c (b % 4 * 256 + f 1))
+jump-on-long b f l h = go (decLt b 172)
   where
-    go : Dec (b < 172) → (c : Bool) × (instructionOf b x y ≡ JumpOn c (b % 4 * 256 + x))
-    go (yes k) = (true, jump-on-true b x y l k)
-    go (no k) = (false, jump-on-false b x y (omega arith) h)
+    go : Dec (b < 172) → (c : Bool) × (instructionOf b f ≡ JumpOn c (b % 4 * 256 + f 1))
+    go (yes k) = (true, jump-on-true b f l k)
+    go (no k) = (false, jump-on-false b f (omega arith) h)

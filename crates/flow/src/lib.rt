@@ -2,7 +2,7 @@
 ghost use mathlib.Core.Path.{_≡_};
 ghost use mathlib.Core.Bool.{_&&_};
 ghost use mathlib.Core.List.{[], _∷_};
-ghost use Prim.Native.Nat.{_+_, _-_, _*_, _<_, _≤_};
+ghost use Prim.Native.Nat.{ℕ, _+_, _-_, _*_, _<_, _≤_};
 ghost use lib.Dec.{ltb, leb};
 ghost use lib.ListN.{length, getD, replicate};
 ghost use Rattle.bytecode.specs.Code.{placeOf, instructionOf};
@@ -173,7 +173,7 @@ fn store_fits(limits: &[u8; 4], x: u8) -> bool
 // 128 to 134, by the bytes that follow.
 fn extended_fits(limits: &[u8; 4], b: u8, x: u8, y: u8) -> bool
     requires { ⌜ (128 ≤ b) × (b < 135) ⌝ }
-    ensures { λ r. ⌜ r ≡ indexedBy (now (limits .entry)) (instructionOf b x y) ⌝ }
+    ensures { λ r. ⌜ ((following : ℕ → ℕ) → x ≡ following 1 → y ≡ following 2 → r ≡ indexedBy (now (limits .entry)) (instructionOf b following)) ⌝ }
 {
     let literals = limits[3];
     match b {
@@ -288,7 +288,7 @@ fn far(
 ) -> Went
     requires { ⌜ Asks (now notes) (now pending) n room ⌝ }
     requires { ⌜ Here (now limits) (now words) (length (now notes)) room at depth b e ⌝ }
-    requires { ⌜ groupPart e ≡ 3 ⌝ }
+    requires { ⌜ groupPart e ≡ 2 ⌝ }
     ensures { λ r. ⌜ Expand (now (limits .entry)) (now (words .entry)) (length (now (notes .entry))) room at depth (now (notes .entry)) (now (pending .entry)) n (now (notes .exit)) (now (pending .exit)) r ⌝ }
 {
     if notes.len() < at + bytecode::entry_length(e) {
@@ -318,16 +318,16 @@ fn expand(
     ensures { λ r. ⌜ Expand (now (limits .entry)) (now (words .entry)) (length (now (notes .entry))) room at depth (now (notes .entry)) (now (pending .entry)) n (now (notes .exit)) (now (pending .exit)) r ⌝ }
 {
     let group = bytecode::entry_group(e);
-    if group < 2 {
+    if group == 0 {
         return plain(limits, room, notes, pending, n, at, depth, e);
     }
-    if group == 2 {
+    if group == 1 {
         if depth < bytecode::entry_need(e) {
             return Went::Stuck;
         }
         return Went::On(n);
     }
-    if 3 < group {
+    if 2 < group {
         return Went::Stuck;
     }
     far(limits, words, room, notes, pending, n, at, depth, b, e)

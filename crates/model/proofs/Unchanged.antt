@@ -9,13 +9,14 @@ use borrow.Author.Tests.{ne-eqb, ltb-true}
 use lib.Dec.{T, leb, ltb, eqb, ltb→lt, eqb→eq}
 use Rattle.bytecode.specs.Test.{if_then_else_, below, implies}
 use Rattle.bytecode.specs.Constant.{nilWord}
-use Rattle.bytecode.specs.Code.{nextAt, decodeAt, instructionOf, shortOf, constantOf, extendedOf, jumpOf, sendOf, byteAt}
+use Rattle.bytecode.specs.Code.{nextAt, decodeAt, instructionOf, placeOf, shortOf, constantOf, extendedOf, jumpOf, sendOf, byteAt, bytesAfter}
+use Rattle.bytecode.specs.Table.{placeIndex}
 use Rattle.bytecode.specs.Effect.{need, usable, specialCount}
 use Rattle.bytecode.specs.declared.Place.{Place}
 use Rattle.bytecode.specs.declared.Place.the-variants.{Field, Temporary, Literal, LiteralVariable}
 use Rattle.bytecode.specs.declared.Instruction.{Instruction}
 use Rattle.bytecode.specs.declared.Instruction.the-variants.{Push, Store, PopStore, PushSelf, PushConstant, ReturnSelf, ReturnConstant, ReturnTop, Pop, Duplicate, Jump, JumpOn, Send, SuperSend, SpecialSend, Unused}
-use Rattle.bytecode.proofs.Choice.{if-cases}
+use Rattle.bytecode.proofs.Choice.{if-cases, if-either}
 use Rattle.bytecode.proofs.TestLaws.{true→T, and-left, and-right, and-both}
 use Rattle.model.specs.declared.Found.{Found}
 use Rattle.model.specs.declared.Found.the-variants.{Method, Nothing}
@@ -228,11 +229,11 @@ module _ {e : ℕ} {o o′ : Objects} (x : Extends o o′) (r : Right e o) where
       and-same (isKind o fieldsKind w) (isKind o′ fieldsKind w) (leb 2 (size o (w / 2))) (leb 2 (size o′ (w / 2))) (kind-valid x fieldsKind w v)
       (λ t. let h = named o fieldsKind w t in ap (leb 2) (x .entries (w / 2) 3 (h .least) (h .most) (omega arith)))
 
--- Special sends of code are 32: no instruction of another number is decoded.
+-- Special sends of code are 32, and places have 6 bits: no instruction of another number is decoded.
 abbrev pub Small : Instruction → Type 0
-Small (Push p) = Unit {0}
-Small (Store p) = Unit {0}
-Small (PopStore p) = Unit {0}
+Small (Push p) = placeIndex p < 64
+Small (Store p) = placeIndex p < 64
+Small (PopStore p) = placeIndex p < 64
 Small PushSelf = Unit {0}
 Small (PushConstant w) = Unit {0}
 Small ReturnSelf = Unit {0}
@@ -250,18 +251,28 @@ Small Unused = Unit {0}
 small-if : (b : Bool) (i j : Instruction) → Small i → Small j → Small (if b then i else j)
 small-if b i j s t = if-cases Small b i j (λ p. s) (λ p. t)
 
+small-place : (x : ℕ) → placeIndex (placeOf x) < 64
+unfolding placeOf placeIndex
+small-place x =
+    if-either (λ (p : Place). placeIndex p < 64) (ltb x 64) _ _ (omega arith)
+    (if-either (λ (p : Place). placeIndex p < 64) (ltb x 128) _ _ (omega arith)
+    (if-either (λ (p : Place). placeIndex p < 64) (ltb x 192) _ _ (omega arith) (omega arith)))
+
 small-short : (b : ℕ) → Small (shortOf b)
-unfolding shortOf
-small-short b = small-if _ _ _ tt (small-if _ _ _ tt (small-if _ _ _ tt (small-if _ _ _ tt (small-if _ _ _ tt tt))))
+unfolding shortOf placeIndex
+small-short b =
+    small-if _ _ _ (omega arith) (small-if _ _ _ (omega arith) (small-if _ _ _ (omega arith) (small-if _ _ _ (omega arith) (small-if _ _ _ (omega arith) (omega arith)))))
 
 small-constant : (b : ℕ) → Small (constantOf b)
 unfolding constantOf
 small-constant b = small-if _ _ _ tt (small-if _ _ _ tt (small-if _ _ _ tt (small-if _ _ _ tt (small-if _ _ _ tt tt))))
 
-small-extended : (b y z : ℕ) → Small (extendedOf b y z)
+small-extended : (b : ℕ) (f : ℕ → ℕ) → Small (extendedOf b f)
 unfolding extendedOf
-small-extended b y z =
-    small-if _ _ _ tt (small-if _ _ _ tt (small-if _ _ _ tt (small-if _ _ _ tt (small-if _ _ _ tt (small-if _ _ _ tt (small-if _ _ _ tt (small-if _ _ _ tt (small-if _ _ _ tt tt))))))))
+small-extended b f =
+    let place = small-place (f 1) in
+    small-if _ _ _ place (small-if _ _ _ place (small-if _ _ _ place
+    (small-if _ _ _ tt (small-if _ _ _ tt (small-if _ _ _ tt (small-if _ _ _ tt (small-if _ _ _ tt (small-if _ _ _ tt tt))))))))
 
 small-jump : (b y : ℕ) → Small (jumpOf b y)
 unfolding jumpOf
@@ -271,13 +282,13 @@ small-send : (b : ℕ) → Small (sendOf b)
 unfolding sendOf
 small-send b = if-cases Small (ltb b 208) (SpecialSend (b - 176)) (Send (b % 16) ((b - 208) / 16)) (λ p. let h = ltb-true b 208 p in omega arith) (λ p. tt)
 
-pub small-instruction : (b y z : ℕ) → Small (instructionOf b y z)
+pub small-instruction : (b : ℕ) (f : ℕ → ℕ) → Small (instructionOf b f)
 unfolding instructionOf
-small-instruction b y z = small-if _ _ _ (small-short b) (small-if _ _ _ (small-constant b) (small-if _ _ _ (small-extended b y z) (small-if _ _ _ (small-jump b y) (small-send b))))
+small-instruction b f = small-if _ _ _ (small-short b) (small-if _ _ _ (small-constant b) (small-if _ _ _ (small-extended b f) (small-if _ _ _ (small-jump b (f 1)) (small-send b))))
 
 pub small-at : (words : List ℕ) (size p : ℕ) → Small (decodeAt words size p)
 unfolding decodeAt
-small-at words size p = small-if _ _ _ (small-if _ _ _ (small-instruction (byteAt words p) (byteAt words (p + 1)) (byteAt words (p + 2))) tt) tt
+small-at words size p = small-if _ _ _ (small-if _ _ _ (small-instruction (byteAt words p) (bytesAfter words p)) tt) tt
 
 module _ {e : ℕ} {o o′ : Objects} (x : Extends o o′) (r : Right e o) where
   pub special-same : (k : ℕ) → k < specialSelectors → specialSelector o′ k ≡ specialSelector o k

@@ -8,7 +8,7 @@ use borrow.Author.Tests.{ltb-true, ltb-false, eqb-false, lt-ltb}
 use lib.Dec.{T, leb, ltb, eqb, leb→le, lt→ltb}
 use Rattle.bytecode.specs.Test.{below, implies}
 use Rattle.bytecode.specs.Constant.{constantWord}
-use Rattle.bytecode.specs.Code.{byteAt, shortOf, constantOf, extendedOf, jumpOf, sendOf, instructionOf, nextAt, decodeAt}
+use Rattle.bytecode.specs.Code.{byteAt, bytesAfter, shortOf, constantOf, extendedOf, jumpOf, sendOf, instructionOf, nextAt, decodeAt}
 use Rattle.bytecode.specs.Effect.{need, depthAfter, usable, successors}
 use Rattle.bytecode.specs.declared.Instruction.{Instruction}
 use Rattle.bytecode.specs.declared.Instruction.the-variants.{Push, Store, PopStore, PushSelf, PushConstant, ReturnSelf, ReturnConstant, ReturnTop, Pop, Duplicate, Jump, JumpOn, Send, SuperSend, SpecialSend, Unused}
@@ -50,9 +50,9 @@ constant-valid k l h =
 abbrev Fine : Instruction → Type 0
 Fine i = T (constantFine i)
 
-decoded-fine : (b x y : ℕ) → Fine (instructionOf b x y)
+decoded-fine : (b : ℕ) (f : ℕ → ℕ) → Fine (instructionOf b f)
 unfolding instructionOf shortOf constantOf extendedOf jumpOf sendOf
-decoded-fine b x y =
+decoded-fine b f =
     if-cases Fine (ltb b 112) _ _
     (λ e. if-cases Fine (ltb b 16) _ _ (λ p. tt) (λ p. if-cases Fine (ltb b 32) _ _ (λ p. tt) (λ p. if-cases Fine (ltb b 64) _ _ (λ p. tt)
     (λ p. if-cases Fine (ltb b 96) _ _ (λ p. tt) (λ p. if-cases Fine (ltb b 104) _ _ (λ p. tt) (λ p. tt))))))
@@ -77,7 +77,7 @@ decode-fine : (words : List ℕ) (size p : ℕ) → Fine (decodeAt words size p)
 unfolding decodeAt
 decode-fine words size p =
     if-cases Fine (ltb p size) _ _
-    (λ e. if-cases Fine (leb (nextAt words p) size) _ _ (λ q. decoded-fine (byteAt words p) (byteAt words (p + 1)) (byteAt words (p + 2))) (λ q. tt))
+    (λ e. if-cases Fine (leb (nextAt words p) size) _ _ (λ q. decoded-fine (byteAt words p) (bytesAfter words p)) (λ q. tt))
     (λ e. tt)
 
 -- The instruction i of the top frame f, the next one at `position`

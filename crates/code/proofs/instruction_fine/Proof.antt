@@ -1,6 +1,6 @@
 use mathlib.Core.Path.{refl}
 use Rattle.flow.specs.Linked.{linked}
-use Rattle.code.proofs.LinkFine.{told}
+use Rattle.code.proofs.LinkFine.{told, told-small}
 use borrow.Author.Needs.{needs}
 use Rattle.code.proofs.instruction_fine.Statement.{statement}
 use Rattle.code.proofs.instruction_fine.Tie as tie
@@ -14,19 +14,19 @@ enum-known-i : tie.Need-enum-known-i
 enum-known-i c = search needs
 
 place-fine-requires : tie.Need-place-fine-requires
-place-fine-requires c κs = search needs
+place-fine-requires c κs = let p = c .before .before .before .before .before .before .pre in (p .0, told-small (c .before .i .given .1) (p .1))
 
 enum-known-i-2 : tie.Need-enum-known-i-2
 enum-known-i-2 c = search needs
 
 place-fine-requires-2 : tie.Need-place-fine-requires-2
-place-fine-requires-2 c κs = search needs
+place-fine-requires-2 c κs = let p = c .before .before .before .before .before .before .pre in (p .0, told-small (c .before .i2 .given .1) (p .1))
 
 enum-known-i-3 : tie.Need-enum-known-i-3
 enum-known-i-3 c = search needs
 
 place-fine-requires-3 : tie.Need-place-fine-requires-3
-place-fine-requires-3 c κs = search needs
+place-fine-requires-3 c κs = let p = c .before .before .before .before .before .before .pre in (p .0, told-small (c .before .i3 .given .1) (p .1))
 
 enum-told : tie.Need-enum-told
 enum-told c = search needs
@@ -71,7 +71,7 @@ enum-known-i-6 : tie.Need-enum-known-i-6
 enum-known-i-6 c = search needs
 
 special-fine-requires : tie.Need-special-fine-requires
-special-fine-requires c κs = let p = c .before .before .before .before .before .before .pre in (p .0, p .1 _ (c .before .i6 .given .1))
+special-fine-requires c κs = let p = c .before .before .before .before .before .before .pre in (p .0, told-small (c .before .i6 .given .1) (p .1))
 
 enum-told-10 : tie.Need-enum-told-10
 enum-told-10 c = search needs

@@ -1,7 +1,7 @@
 use mathlib.Core.Path.{_∙_, refl}
 use native.Mathlib.Omega.{arith}
 use Rattle.flow.specs.Linked.{placeLinked}
-use Rattle.code.proofs.LinkFine.{method-named, place-free, place-variable}
+use Rattle.code.proofs.LinkFine.{method-named, place-free, place-variable, variable-small}
 use borrow.Author.Needs.{needs}
 use Rattle.code.proofs.place_fine.Statement.{statement}
 use Rattle.code.proofs.place_fine.Tie as tie
@@ -22,14 +22,14 @@ enum-told-3 c = search needs
 enum-known-p : tie.Need-enum-known-p
 enum-known-p c = search needs
 
-cast-body-word : tie.Need-cast-body-word
-cast-body-word c = search needs
-
 add-body-word : tie.Need-add-body-word
-add-body-word c = search needs
+add-body-word c =
+    let pre = c .before .before .before .before .before .before .pre in omega (arith, variable-small (c .before .p .given .1) (pre .1))
 
 body-word-requires : tie.Need-body-word-requires
-body-word-requires c κs = (method-named (c .before .before .before .before .before .before .pre), omega arith)
+body-word-requires c κs =
+    let pre = c .before .before .before .before .before .before .pre in
+    (method-named (pre .0), omega (arith, variable-small (c .before .p .given .1) (pre .1)))
 
 variable-fine-requires : tie.Need-variable-fine-requires
 variable-fine-requires c κs = search needs
@@ -57,7 +57,6 @@ place-fine-spec =
     enum-told-2
     enum-told-3
     enum-known-p
-    cast-body-word
     add-body-word
     body-word-requires
     variable-fine-requires

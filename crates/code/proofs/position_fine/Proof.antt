@@ -1,7 +1,7 @@
 use borrow.Author.Needs.{needs}
 use mathlib.Core.Path.{_∙_, sym, ap}
 use native.Mathlib.Omega.{arith}
-use Rattle.code.proofs.LinkFine.{small-special, linked-free, linked-noted}
+use Rattle.code.proofs.LinkFine.{decoded-small, linked-free, linked-noted}
 use Rattle.code.proofs.position_fine.Statement.{statement}
 use Rattle.code.proofs.position_fine.Tie as tie
 use Rattle.code.proofs.position_fine.Reads as reads
@@ -19,7 +19,7 @@ decode-requires : tie.Need-decode-requires
 decode-requires c κs = search needs
 
 instruction-fine-requires : tie.Need-instruction-fine-requires
-instruction-fine-requires c κs = ((c .before .before .before .before .before .before .before .before .pre) .0, small-special _ _ _ _ (c .decode .ensures))
+instruction-fine-requires c κs = ((c .before .before .before .before .before .before .before .before .pre) .0, decoded-small _ _ _ (c .decode .ensures))
 
 returns-2 : tie.Need-returns-2
 returns-2 c =

@@ -19,34 +19,25 @@ store-fits-requires-2 : tie.Need-store-fits-requires-2
 store-fits-requires-2 c κs = search needs
 
 returns : tie.Need-returns
-returns c =
-    let at-start = c .before .before .before in
-    let args = at-start .args in
-    c .push-fits .ensures ∙ sym (extended-128 (args .limits .now) (args .b) (args .x) (args .y) (c .before .match .keys1))
+returns c = λ f e g. c .push-fits .ensures ∙ sym (extended-128 (c .before .before .before .args .limits .now) f e g (c .before .match .keys1))
 
 returns-2 : tie.Need-returns-2
-returns-2 c =
-    let at-start = c .before .before .before in
-    let args = at-start .args in
-    c .store-fits .ensures ∙ sym (extended-129 (args .limits .now) (args .b) (args .x) (args .y) (c .before .match .keys2))
+returns-2 c = λ f e g. c .store-fits .ensures ∙ sym (extended-129 (c .before .before .before .args .limits .now) f e g (c .before .match .keys2))
 
 returns-3 : tie.Need-returns-3
-returns-3 c =
-    let at-start = c .before .before .before in
-    let args = at-start .args in
-    c .store-fits2 .ensures ∙ sym (extended-130 (args .limits .now) (args .b) (args .x) (args .y) (c .before .match .keys3))
+returns-3 c = λ f e g. c .store-fits2 .ensures ∙ sym (extended-130 (c .before .before .before .args .limits .now) f e g (c .before .match .keys3))
 
 returns-4 : tie.Need-returns-4
-returns-4 c = sym (extended-131 (c .before .before .args .limits .now) (c .before .before .args .b) (c .before .before .args .x) (c .before .before .args .y) (c .match .keys4))
+returns-4 c = λ f e g. sym (extended-131 (c .before .before .args .limits .now) f e g (c .match .keys4))
 
 returns-5 : tie.Need-returns-5
-returns-5 c = sym (extended-132 (c .before .before .args .limits .now) (c .before .before .args .b) (c .before .before .args .x) (c .before .before .args .y) (c .match .keys5))
+returns-5 c = λ f e g. sym (extended-132 (c .before .before .args .limits .now) f e g (c .match .keys5))
 
 returns-6 : tie.Need-returns-6
-returns-6 c = sym (extended-133 (c .before .before .args .limits .now) (c .before .before .args .b) (c .before .before .args .x) (c .before .before .args .y) (c .match .keys6))
+returns-6 c = λ f e g. sym (extended-133 (c .before .before .args .limits .now) f e g (c .match .keys6))
 
 returns-7 : tie.Need-returns-7
-returns-7 c = sym (extended-134 (c .before .before .args .limits .now) (c .before .before .args .b) (c .before .before .args .x) (c .before .before .args .y) (omega arith))
+returns-7 c = λ f e g. sym (extended-134 (c .before .before .args .limits .now) f e g (omega arith))
 
 pub extended-fits-spec : {M : Type 1} → statement M
 extended-fits-spec =

@@ -1,4 +1,4 @@
--- `far` examines the bytes of group 3.
+-- `far` examines the bytes of group 2.
 use mathlib.Core.Path.{sym, _∙_}
 use native.Mathlib.Omega.{arith}
 use borrow.Author.Needs.{needs}
