@@ -104,7 +104,16 @@ fn six_words_fine(
         return false;
     }
     let p = stack[base + 1] as usize;
-    let note = note_at(contents, bodies, notes, edition, n, b, Pointer(m), CodePosition(p));
+    let note = note_at(
+        contents,
+        bodies,
+        notes,
+        edition,
+        n,
+        b,
+        Pointer(m),
+        CodePosition(p),
+    );
     let depth = stack[base + 2] as usize;
     if uppermost {
         return note == depth + 1;

@@ -50,16 +50,16 @@ implies-fails : (a b : Bool) → implies a b ≡ false → T a × (b ≡ false)
 implies-fails true b e = (tt, e)
 implies-fails false b e = absurd (subst T e tt)
 
-module _ (o : Objects) (m : ℕ) where
-  -- the walk's table, by the rules that need no objects
-  abbrev pub indexTable : Option (List ℕ)
-  indexTable = depthTable (codeWords o m) (codeSize o m) (temporaryCount o m) (frameWords o m) (indexedIn o m)
+-- The walk's table, by the rules that need no objects
+abbrev pub indexTable : Objects → ℕ → Option (List ℕ)
+indexTable o m = depthTable (codeWords o m) (codeSize o m) (temporaryCount o m) (frameWords o m) (indexedIn o m)
 
-  pub method-none : indexTable ≡ none → methodTable o m ≡ none
+module _ (edition : ℕ) (o : Objects) (m : ℕ) where
+  pub method-none : indexTable o m ≡ none → methodTable edition o m ≡ none
   method-none e =
-      table-split o m ∙ combined-none (codeWords o m) (codeSize o m) (temporaryCount o m) (frameWords o m) (indexedIn o m) (linked o m) e
+      table-split o m edition ∙ combined-none (codeWords o m) (codeSize o m) (temporaryCount o m) (frameWords o m) (indexedIn o m) (linked o m) e
 
-  module _ (t : List ℕ) (e : indexTable ≡ some t) where
+  module _ (t : List ℕ) (e : indexTable o m ≡ some t) where
     linked-there : (p d : ℕ) → getD t p 0 ≡ suc d → T (allLinked o m t) → linked o m (decodeAt (codeWords o m) (codeSize o m) p) ≡ true
     unfolding allLinked linkedAt
     linked-there p d h a =
@@ -69,33 +69,33 @@ module _ (o : Objects) (m : ℕ) where
         (true→T (lt-ltb 0 (getD t p 0) (omega arith))))
 
     -- the objects' rules hold at every noted position: the method's table is the walk's
-    pub method-some : allLinked o m t ≡ true → methodTable o m ≡ some t
+    pub method-some : allLinked o m t ≡ true → methodTable edition o m ≡ some t
     method-some a =
-        table-split o m
+        table-split o m edition
         ∙ combined-some (codeWords o m) (codeSize o m) (temporaryCount o m) (frameWords o m) (indexedIn o m) (linked o m) t e (λ p d h. linked-there p d h (true→T a))
 
     -- at one they do not: it has none
-    pub method-fails-at : (p d : ℕ) → getD t p 0 ≡ suc d → linked o m (decodeAt (codeWords o m) (codeSize o m) p) ≡ false → methodTable o m ≡ none
+    pub method-fails-at : (p d : ℕ) → getD t p 0 ≡ suc d → linked o m (decodeAt (codeWords o m) (codeSize o m) p) ≡ false → methodTable edition o m ≡ none
     method-fails-at p d h f =
-        table-split o m
+        table-split o m edition
         ∙ combined-fails (codeWords o m) (codeSize o m) (temporaryCount o m) (frameWords o m) (indexedIn o m) (linked o m) t e p d h
         f
 
-    pub method-fails : allLinked o m t ≡ false → methodTable o m ≡ none
+    pub method-fails : allLinked o m t ≡ false → methodTable edition o m ≡ none
     unfolding allLinked linkedAt
     method-fails a =
         let k = failing (codeSize o m) (linkedAt o m t) a in
         let x = implies-fails (ltb 0 (getD t (k .0) 0)) (linked o m (decodeAt (codeWords o m) (codeSize o m) (k .0))) (k .2) in
         noted (getD t (k .0) 0) (k .0) refl (x .0) (x .1)
       where
-        noted : (v p : ℕ) → getD t p 0 ≡ v → T (ltb 0 v) → linked o m (decodeAt (codeWords o m) (codeSize o m) p) ≡ false → methodTable o m ≡ none
+        noted : (v p : ℕ) → getD t p 0 ≡ v → T (ltb 0 v) → linked o m (decodeAt (codeWords o m) (codeSize o m) p) ≡ false → methodTable edition o m ≡ none
         noted zero p h l f = absurd l
         noted (suc d) p h l f = method-fails-at p d h f
 
     -- both in one equation
-    pub method-sound : isSome (methodTable o m) ≡ allLinked o m t
+    pub method-sound : isSome (methodTable edition o m) ≡ allLinked o m t
     method-sound = go (allLinked o m t) refl
       where
-        go : (x : Bool) → allLinked o m t ≡ x → isSome (methodTable o m) ≡ x
+        go : (x : Bool) → allLinked o m t ≡ x → isSome (methodTable edition o m) ≡ x
         go true a = ap isSome (method-some a)
         go false a = ap isSome (method-fails a)

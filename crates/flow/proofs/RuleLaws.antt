@@ -38,26 +38,26 @@ module _ (o : Objects) (m : ℕ) where
       ap (λ (x : Bool). isWritable p && x) (place-split p)
       ∙ and-assoc (isWritable p) (placeIndexed (fieldCount o (home o m)) (temporaryCount o m) (literalCount o m) p) (placeLinked o m p)
 
-  pub split : (i : Instruction) → allowed o m i ≡ indexedIn i && linked o m i
+  pub split : (edition : ℕ) (i : Instruction) → allowed edition o m i ≡ indexedIn i && linked o m i
   unfolding allowed indexed linked
-  split (Push p) = place-split p
-  split (Store p) = store-split p
-  split (PopStore p) = store-split p
-  split PushSelf = refl
-  split (PushConstant w) = refl
-  split ReturnSelf = refl
-  split (ReturnConstant w) = refl
-  split ReturnTop = refl
-  split Pop = refl
-  split Duplicate = refl
-  split (Jump a b) = refl
-  split (JumpOn x a) = refl
-  split (Send l n) = refl
-  split (SuperSend l n) = refl
-  split (SpecialSend k) = refl
-  split Unused = refl
+  split edition (Push p) = place-split p
+  split edition (Store p) = store-split p
+  split edition (PopStore p) = store-split p
+  split edition PushSelf = refl
+  split edition (PushConstant w) = refl
+  split edition ReturnSelf = refl
+  split edition (ReturnConstant w) = refl
+  split edition ReturnTop = refl
+  split edition Pop = refl
+  split edition Duplicate = refl
+  split edition (Jump a b) = refl
+  split edition (JumpOn x a) = refl
+  split edition (Send l n) = refl
+  split edition (SuperSend l n) = refl
+  split edition (SpecialSend k) = refl
+  split edition Unused = refl
 
   -- so a method's table is that of both parts together
-  pub table-split : methodTable o m ≡ depthTable (codeWords o m) (codeSize o m) (temporaryCount o m) (frameWords o m) (λ i. indexedIn i && linked o m i)
+  pub table-split : (edition : ℕ) → methodTable edition o m ≡ depthTable (codeWords o m) (codeSize o m) (temporaryCount o m) (frameWords o m) (λ i. indexedIn i && linked o m i)
   unfolding methodTable
-  table-split = λ k. depthTable (codeWords o m) (codeSize o m) (temporaryCount o m) (frameWords o m) (λ i. split i k)
+  table-split edition = λ k. depthTable (codeWords o m) (codeSize o m) (temporaryCount o m) (frameWords o m) (λ i. split edition i k)

@@ -82,7 +82,16 @@ pub fn run(
     let mut reach = frame_end(contents, bodies, stack, objects, words, start);
     let mut active = steps::enter(contents, bodies, stack, objects, words, start);
     while count < grant {
-        match interpreter::advance(contents, bodies, stack, cache, edition, objects, words, active) {
+        match interpreter::advance(
+            contents,
+            bodies,
+            stack,
+            cache,
+            edition,
+            objects,
+            words,
+            active,
+        ) {
             Advanced::Next { position, end } => {
                 active.position = position;
                 active.end = end;
