@@ -5,14 +5,15 @@ use mathlib.Core.Bool.{not}
 use mathlib.Core.List.{List}
 use native.Mathlib.Omega.{arith}
 use lib.Dec.{T}
-use Rattle.model.specs.Limits.{classKind, classWords, listKind, methodKind, selectorsObject, specialSelectors}
+use Rattle.model.specs.Limits.{classKind, classWords, listKind, methodKind, selectorsObject, specialSelectors, primitiveFlag}
 use Rattle.model.specs.Word.{pointer, objectNumber}
 use Rattle.model.specs.Objects.{Objects, objectsAt, kind, size, sizedInBytes, bodyWords, isKind}
+use Rattle.model.specs.Method.{flag, literalCount}
 use Rattle.model.specs.Rules.{Right}
 use Rattle.model.proofs.ChainLaws.{named}
 use Rattle.model.proofs.Lent.{contents-room, bodies-room}
 use Rattle.model.proofs.Facts.{least, most, most-words, layout, inside, in-words, in-bytes, not-sized, naming, named-pointer}
-use Rattle.readers.specs.Places.{Entry, Inside, Laid}
+use Rattle.readers.specs.Places.{Entry, Inside, CountInside, Laid}
 
 module _ {n b : ℕ} {contents bodies : List ℕ} (l : Laid n b contents bodies) where
   abbrev o : Objects
@@ -51,6 +52,11 @@ module _ {n b : ℕ} {contents bodies : List ℕ} (l : Laid n b contents bodies)
       let q = named o methodKind m t in
       let e = in-bytes o (objectNumber m) (subst (λ (x : ℕ). T (sizedInBytes x)) (sym (q .kinds)) tt) in
       kind-inside methodKind t (omega arith)
+
+  pub count-inside : {m : ℕ} → T (isKind o methodKind m) → 4 + 2 * literalCount o m ≤ size o (objectNumber m) → (flag o m ≡ primitiveFlag → 2 ≤ literalCount o m)
+      → CountInside n b contents bodies m
+  count-inside {m} t h two =
+      record { header = method-inside (literalCount o m) t h (omega arith); two = two; extended = λ e. method-inside (literalCount o m) t h (omega arith) }
 
   pub selectors-inside : {i : ℕ} → kind o selectorsObject ≡ listKind → size o selectorsObject ≡ specialSelectors → i < specialSelectors → Inside n b contents bodies (pointer selectorsObject) i
   selectors-inside {i} e h s =

@@ -1,4 +1,4 @@
--- What a method's header and extension say, by their words. Of method m these are `flag`, `temporaryCount` and so on (proofs/HeaderLaws).
+-- What a method's header says, by its word. Of method m these are `flag`, `temporaryCount` and so on (proofs/HeaderLaws).
 use Prim.Native.Nat.{ℕ, _/_, _%_}
 use mathlib.Core.Bool.{Bool, _||_}
 use lib.Dec.{leb, eqb}
@@ -19,12 +19,3 @@ frameOf header = if eqb (header / 128 % 2) 1 then largeFrameWords else smallFram
 
 abbrev pub runsOf : ℕ → Bool
 runsOf header = leb (flagOf header) lastCountFlag || eqb (flagOf header) primitiveFlag
-
-unfoldable pub argumentsOf : ℕ → ℕ → ℕ
-argumentsOf header extension =
-    if leb (flagOf header) lastCountFlag then flagOf header else
-    if eqb (flagOf header) primitiveFlag then extension / 512 % 32 else
-    0
-
-abbrev pub primitiveOf : ℕ → ℕ
-primitiveOf extension = extension / 2 % 256

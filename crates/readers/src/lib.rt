@@ -8,8 +8,9 @@ ghost use Rattle.bytecode.specs.Test.{every};
 ghost use Rattle.model.specs.Limits.{entryWords};
 ghost use Rattle.model.specs.Word.{isPointer, isValid, objectNumber};
 ghost use Rattle.model.specs.Objects.{objectsAt, entryWord, classWord, kind, start, size, sizedInBytes, bodyWords, bodyEnd, bodyWord, isKind, isNilOr, entriesAt};
-ghost use Rattle.readers.specs.Places.{Entry, Inside};
-ghost use Rattle.readers.specs.Header.{flagOf, temporariesOf, literalsOf, frameOf, runsOf, argumentsOf, primitiveOf};
+ghost use Rattle.model.specs.Method.{argumentCount};
+ghost use Rattle.readers.specs.Places.{Entry, Inside, CountInside};
+ghost use Rattle.readers.specs.Header.{flagOf, temporariesOf, literalsOf, frameOf, runsOf};
 use model::Pointer;
 
 pub mod edition;
@@ -283,23 +284,20 @@ pub fn runs_code(header: usize) -> bool
     of == PRIMITIVE
 }
 
-// The argument count of a method, whose extension counts under the last flag only.
-pub fn argument_count(header: usize, extension: usize) -> usize
-    ensures { λ r. ⌜ r ≡ argumentsOf header extension ⌝ }
+// How many arguments a method takes: its flag, or what its extension says, or none.
+pub fn argument_count(contents: &[u16], bodies: &[u16], n: usize, b: usize, m: Pointer) -> usize
+    requires { ⌜ CountInside n b (now contents) (now bodies) (m .0) ⌝ }
+    ensures { λ r. ⌜ (r ≡ argumentCount (objectsAt n b (now (contents .entry)) (now (bodies .entry))) (m .0)) × (r < 32) ⌝ }
 {
+    let header = word_of(contents, bodies, n, b, m, HEADER) as usize;
     let of = flag(header);
     if of <= LAST_COUNT {
         return of;
     }
     if of == PRIMITIVE {
+        let literals = literal_count(header);
+        let extension = word_of(contents, bodies, n, b, m, literals) as usize;
         return extension / 512 % 32;
     }
     0
-}
-
-// The number of the primitive in an extension.
-pub fn primitive_number(extension: usize) -> usize
-    ensures { λ r. ⌜ r ≡ primitiveOf extension ⌝ }
-{
-    extension / 2 % 256
 }
