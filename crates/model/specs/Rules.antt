@@ -224,3 +224,7 @@ pub record Right (e : ℕ) (o : Objects) : Type 0 where
   pub rule-5 : T (rule5 e o)
   pub rule-6 : T (rule6 e o)
   pub rule-7 : T (rule7 e o)
+
+-- under some edition
+abbrev pub IsRight : Objects → Type 0
+IsRight o = (e : ℕ) × Right e o

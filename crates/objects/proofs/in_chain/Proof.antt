@@ -20,21 +20,21 @@ loop-holds : tie.Need-loop-holds Inv-loop μ-loop
 loop-holds c = (c .before .before .pre .1, chain-first _ _ _)
 
 returns : tie.Need-returns Inv-loop μ-loop
-returns c = chain-nil (c .before .before .before .before .before .before .pre .0) _ _ _ (c .if1 .taken) ∙ c .before .before .before .loop .inv .1
+returns c = chain-nil (c .before .before .before .before .before .before .pre .0 .1) _ _ _ (c .if1 .taken) ∙ c .before .before .before .loop .inv .1
 
 returns-2 : tie.Need-returns-2 Inv-loop μ-loop
 returns-2 c =
     let at-loop-test = c .before .before .before .before .before in
     let at-loop = at-loop-test .before in
     let at-start = at-loop .before .before .before in
-    chain-here (at-start .pre .0) _ _ _ (at-loop-test .loop-test .taken) (class-here (at-start .pre .0) _ (at-loop .loop .inv .0)
+    chain-here (at-start .pre .0 .1) _ _ _ (at-loop-test .loop-test .taken) (class-here (at-start .pre .0 .1) _ (at-loop .loop .inv .0)
     (c .before .before .before .if1 .left)) (c .if2 .taken) ∙ at-loop .loop .inv .1
 
 superclass-requires : tie.Need-superclass-requires Inv-loop μ-loop
 superclass-requires c κs =
     let at-loop = c .before .before .before .before .before .before in
     let at-start = at-loop .before .before .before in
-    record { right = at-start .pre .0; kinds = class-here (at-start .pre .0) _ (at-loop .loop .inv .0) (c .before .before .before .if1 .left) }
+    record { right = at-start .pre .0; kinds = class-here (at-start .pre .0 .1) _ (at-loop .loop .inv .0) (c .before .before .before .if1 .left) }
 
 sub-left : tie.Need-sub-left Inv-loop μ-loop
 sub-left c = omega arith
@@ -48,9 +48,9 @@ loop-again c =
     let at-loop-test = at-if1 .before .before in
     let at-loop = at-loop-test .before in
     let at-start = at-loop .before .before .before in (
-      class-above (at-start .pre .0) _ _ (c .superclass .ensures) (class-here (at-start .pre .0) _ (at-loop .loop .inv .0) (at-if1 .if1 .left)),
+      class-above (at-start .pre .0 .1) _ _ (c .superclass .ensures) (class-here (at-start .pre .0 .1) _ (at-loop .loop .inv .0) (at-if1 .if1 .left)),
       chain-up
-          (at-start .pre .0) _ _ _ _ (at-loop-test .loop-test .taken) (class-here (at-start .pre .0) _ (at-loop .loop .inv .0) (at-if1 .if1 .left))
+          (at-start .pre .0 .1) _ _ _ _ (at-loop-test .loop-test .taken) (class-here (at-start .pre .0 .1) _ (at-loop .loop .inv .0) (at-if1 .if1 .left))
           (c .before .if2 .left) (c .superclass .ensures) ∙ at-loop .loop .inv .1,
     )
 

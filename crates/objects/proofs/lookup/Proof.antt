@@ -20,18 +20,18 @@ loop-holds : tie.Need-loop-holds Inv-loop μ-loop
 loop-holds c = (c .before .before .pre .1, lookup-first _ _ _)
 
 returns : tie.Need-returns Inv-loop μ-loop
-returns c = lookup-nil (c .before .before .before .before .before .before .pre .0) _ _ _ (c .if1 .taken) ∙ c .before .before .before .loop .inv .1
+returns c = lookup-nil (c .before .before .before .before .before .before .pre .0 .1) _ _ _ (c .if1 .taken) ∙ c .before .before .before .loop .inv .1
 
 dictionary-requires : tie.Need-dictionary-requires Inv-loop μ-loop
 dictionary-requires c κs =
     let at-start = c .before .before .before .before .before .before in
-    record { right = at-start .pre .0; kinds = class-here (at-start .pre .0) _ (c .before .before .before .loop .inv .0) (c .if1 .left) }
+    record { right = at-start .pre .0; kinds = class-here (at-start .pre .0 .1) _ (c .before .before .before .loop .inv .0) (c .if1 .left) }
 
 find-in-requires : tie.Need-find-in-requires Inv-loop μ-loop
 find-in-requires c κs =
     let at-loop = c .before .before .before .before in
     let at-start = at-loop .before .before .before in
-    record { right = at-start .pre .0; kinds = dictionary-here (at-start .pre .0) _ _ (c .dictionary .ensures) (class-here (at-start .pre .0) _ (at-loop .loop .inv .0) (c .before .if1 .left)) }
+    record { right = at-start .pre .0; kinds = dictionary-here (at-start .pre .0 .1) _ _ (c .dictionary .ensures) (class-here (at-start .pre .0 .1) _ (at-loop .loop .inv .0) (c .before .if1 .left)) }
 
 enum-known-m : tie.Need-enum-known-m Inv-loop μ-loop
 enum-known-m c = c .match .keys1
@@ -43,7 +43,7 @@ returns-2 c =
     let at-loop-test = at-if1 .before .before in
     let at-loop = at-loop-test .before in
     let at-start = at-loop .before .before .before in
-    lookup-hit (at-start .pre .0) _ _ _ _ _ _ (at-loop-test .loop-test .taken) (class-here (at-start .pre .0) _ (at-loop .loop .inv .0) (at-if1 .if1 .left))
+    lookup-hit (at-start .pre .0 .1) _ _ _ _ _ _ (at-loop-test .loop-test .taken) (class-here (at-start .pre .0 .1) _ (at-loop .loop .inv .0) (at-if1 .if1 .left))
     (at-dictionary .dictionary .ensures) (c .before .before .before .find-in .ensures) (c .before .m .given .1) ∙ at-loop .loop .inv .1
 
 enum-told : tie.Need-enum-told Inv-loop μ-loop
@@ -54,7 +54,7 @@ superclass-requires c κs =
     let at-if1 = c .before .before .before .before in
     let at-loop = at-if1 .before .before .before in
     let at-start = at-loop .before .before .before in
-    record { right = at-start .pre .0; kinds = class-here (at-start .pre .0) _ (at-loop .loop .inv .0) (at-if1 .if1 .left) }
+    record { right = at-start .pre .0; kinds = class-here (at-start .pre .0 .1) _ (at-loop .loop .inv .0) (at-if1 .if1 .left) }
 
 sub-left : tie.Need-sub-left Inv-loop μ-loop
 sub-left c = omega arith
@@ -69,9 +69,9 @@ loop-again c =
     let at-loop-test = at-if1 .before .before in
     let at-loop = at-loop-test .before in
     let at-start = at-loop .before .before .before in (
-      class-above (at-start .pre .0) _ _ (c .superclass .ensures) (class-here (at-start .pre .0) _ (at-loop .loop .inv .0) (at-if1 .if1 .left)),
+      class-above (at-start .pre .0 .1) _ _ (c .superclass .ensures) (class-here (at-start .pre .0 .1) _ (at-loop .loop .inv .0) (at-if1 .if1 .left)),
       lookup-up
-          (at-start .pre .0) _ _ _ _ _ _ (at-loop-test .loop-test .taken) (class-here (at-start .pre .0) _ (at-loop .loop .inv .0) (at-if1 .if1 .left))
+          (at-start .pre .0 .1) _ _ _ _ _ _ (at-loop-test .loop-test .taken) (class-here (at-start .pre .0 .1) _ (at-loop .loop .inv .0) (at-if1 .if1 .left))
           (at-dictionary .dictionary .ensures) (c .superclass .ensures) (c .before .before .before .find-in .ensures) (c .before .enum-told .given .1) ∙ at-loop .loop .inv .1,
     )
 
