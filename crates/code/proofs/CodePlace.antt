@@ -9,39 +9,37 @@ use native.Mathlib.Omega.{arith}
 use lib.Dec.{T, leb→le}
 use lib.ListN.{length, getD, take, drop, replicate, getD-replicate, List·getD-append}
 use lib.Seq.{length-take-le, getD-take, getD-drop, getD-append-add}
-use Rattle.bytecode.proofs.TestLaws.{T→true, rule}
+use Rattle.bytecode.proofs.TestLaws.{rule}
 use Rattle.model.specs.Limits.{classKind, methodKind}
-use Rattle.model.specs.Objects.{Objects, objectsAt, isKind, start, size, bodyWords, bodyEnd, fieldCount, sizedInBytes, part}
-use Rattle.model.specs.Method.{header, home, temporaryCount, literalCount, codeWords, codeSize, frameWords}
+use Rattle.model.specs.Objects.{Objects, objectsAt, isKind, start, size, bodyWords, bodyEnd, fieldsWord, fieldCount, sizedInBytes, part}
+use Rattle.model.specs.Method.{home, temporaryCount, literalCount, codeWords, codeSize, frameWords}
 use Rattle.model.specs.Depth.{depthTable, isSome, noteAt}
 use Rattle.model.specs.Rules.{methodTable}
 use Rattle.model.specs.Notes.{notesFrom}
+use Rattle.model.proofs.ChainLaws.{named}
 use Rattle.model.proofs.Facts.{in-bytes}
 use Rattle.model.proofs.Parts.{length-part, part-same}
 use Rattle.flow.specs.Index.{indexed}
 use Rattle.flow.specs.Linked.{allLinked}
 use Rattle.flow.specs.Walk.{Walked, notesOf}
 use Rattle.flow.proofs.MethodLaws.{indexTable, walked-yes, walked-no, method-none, method-some, method-fails}
-use Rattle.rules.specs.Lent.{Laid, Entry}
-use Rattle.rules.proofs.Laid.{inside-at}
-use Rattle.rules.proofs.Names.{is-named}
 use Rattle.rules.proofs.RuleFacts.{class-at}
 use Rattle.methods.specs.Passes.{shapeRules}
 use Rattle.code.specs.Asked.{Asked, CodeLent, MethodWalked}
 
-pub code-lent-by : (o : Objects) (m : ℕ) (words : List ℕ) (s s′ : ℕ) → s′ ≡ s → CodeLent o m words s → CodeLent o m words s′
-code-lent-by o m words s s′ e c = subst (CodeLent o m words) (sym e) c
+pub code-lent-by : {o : Objects} {m : ℕ} {words : List ℕ} {s s′ : ℕ} → s′ ≡ s → CodeLent o m words s → CodeLent o m words s′
+code-lent-by {o} {m} {words} e c = subst (CodeLent o m words) (sym e) c
 
 module _ (o : Objects) (m : ℕ) where
-  pub table-here : (words : List ℕ) (size fields temporaries literals limit w : ℕ) → CodeLent o m words size
+  pub table-here : {words : List ℕ} {size fields temporaries literals limit w : ℕ} → CodeLent o m words size
       → fields ≡ fieldCount o w → w ≡ home o m → temporaries ≡ temporaryCount o m → literals ≡ literalCount o m → limit ≡ frameWords o m
       → depthTable words size temporaries limit (indexed fields temporaries literals) ≡ indexTable o m
-  table-here words size fields temporaries literals limit w c f h t l r =
+  table-here {words} {size} {fields} {temporaries} {literals} {limit} {w} c f h t l r =
       ap₂ (λ (w : List ℕ) (s : ℕ). depthTable w s temporaries limit (indexed fields temporaries literals)) (c .isWords) (c .isSize)
       ∙ ap₂ (λ (t l : ℕ). depthTable (codeWords o m) (codeSize o m) t l (indexed fields t literals)) t r
       ∙ ap₂ (λ (f l : ℕ). depthTable (codeWords o m) (codeSize o m) (temporaryCount o m) (frameWords o m) (indexed f (temporaryCount o m) l)) (f ∙ ap (fieldCount o) h) l
 
-  module _ (found : Option (List ℕ)) (e : found ≡ indexTable o m) (size : ℕ) (notes : List ℕ) (r : Bool) (w : Walked found size notes r) where
+  module _ {found : Option (List ℕ)} (e : found ≡ indexTable o m) {size : ℕ} {notes : List ℕ} {r : Bool} (w : Walked found size notes r) where
     pub notes-none : r ≡ false → Walked (methodTable o m) size notes false
     notes-none h =
         let k = walked-no found size notes r w h in
@@ -53,8 +51,8 @@ module _ (o : Objects) (m : ℕ) where
         let q = method-some o m notes (sym e ∙ walked-yes found size notes r w h) a in
         record { answer = sym (ap isSome q); noted = sym (ap (notesOf size) q) }
 
-    pub notes-fail : (cleared : List ℕ) → r ≡ true → allLinked o m notes ≡ false → cleared ≡ replicate size 0 → Walked (methodTable o m) size cleared false
-    notes-fail cleared h a c =
+    pub notes-fail : {cleared : List ℕ} → r ≡ true → allLinked o m notes ≡ false → cleared ≡ replicate size 0 → Walked (methodTable o m) size cleared false
+    notes-fail h a c =
         let q = method-fails o m notes (sym e ∙ walked-yes found size notes r w h) a in
         record { answer = sym (ap isSome q); noted = c ∙ sym (ap (notesOf size) q) }
 
@@ -62,43 +60,30 @@ module _ {table contents bodies counts : List ℕ} {n b m : ℕ} (a : Asked tabl
   abbrev here : Objects
   here = objectsAt n b contents bodies
 
-  home-class : isKind here classKind (home here m) ≡ true
-  home-class = T→true (isKind here classKind (home here m)) (unfold shapeRules in rule (shapeRules here m) (a .shape) 3)
+  pub home-class : {w : ℕ} → w ≡ home here m → T (isKind here classKind w)
+  home-class e = subst (λ (v : ℕ). T (isKind here classKind v)) (sym e) (unfold shapeRules in rule (shapeRules here m) (a .shape) 3)
 
-  pub is-class : (w : ℕ) → w ≡ home here m → isKind here classKind w ≡ true
-  is-class w e = subst (λ (v : ℕ). isKind here classKind v ≡ true) (sym e) home-class
-
-  pub laid-here : Laid n b contents bodies
-  laid-here = record { lent = a .ready .lent; layout = T→true _ (a .ready .layout) }
-
-  pub few-fields : (w f : ℕ) → w ≡ home here m → f ≡ fieldCount here w → f < 256
-  few-fields w f e g =
-      let k = class-at here (T→true _ (a .ready .classes)) w (is-class w e) .fields in omega arith
-
-  -- the method's number
-  pub entry-here : Entry n (m / 2) contents
-  entry-here =
-      let k = is-named here methodKind m (T→true (isKind here methodKind m) (a .isMethod)) in
-      record { entries = a .ready .lent .entries; least = k .least; most = k .most }
+  pub few-fields : {w f : ℕ} → w ≡ home here m → f ≡ fieldsWord here w → f / 2 < 256
+  few-fields {w} e g = let k = class-at (a .ready .edition) here (a .ready .classes) w (home-class e) .fields in omega arith
 
   pub code-starts : 4 + 2 * literalCount here m ≤ size here (m / 2)
   code-starts = leb→le (4 + 2 * literalCount here m) (size here (m / 2)) (unfold shapeRules in rule (shapeRules here m) (a .shape) 2)
 
   pub body-size : bodyWords here (m / 2) ≡ (size here (m / 2) + 1) / 2
   body-size =
-      let k = is-named here methodKind m (T→true (isKind here methodKind m) (a .isMethod)) in
+      let k = named here methodKind m (a .isMethod) in
       in-bytes here (m / 2) (subst (λ (x : ℕ). T (sizedInBytes x)) (sym (k .kinds)) tt)
 
   pub body-inside : start here (m / 2) + bodyWords here (m / 2) ≤ b
-  body-inside = let k = entry-here in inside-at here (laid-here .layout) (m / 2) (k .least) (k .most)
+  body-inside = let k = named here methodKind m (a .isMethod) in a .ready .laid .inside (m / 2) (k .least) (k .most)
 
 note-of : (found : Option (List ℕ)) (size p : ℕ) → p < size → getD (notesOf size found) p 0 ≡ noteAt found p
 note-of none size p h = getD-replicate size p 0 0 h
 note-of (some t) size p h = refl
 
 -- the method's code and notes, from what is read of its entry and header
-module _ {table contents bodies counts : List ℕ} {n b m : ℕ} (a : Asked table n b contents bodies counts m) (h st e z : ℕ) (notes : List ℕ)
-    (qh : h ≡ header (objectsAt n b contents bodies) m)
+module _ {table contents bodies counts : List ℕ} {n b m : ℕ} (a : Asked table n b contents bodies counts m) {l st e z : ℕ} (notes : List ℕ)
+    (ql : l ≡ literalCount (objectsAt n b contents bodies) m)
     (qs : st ≡ start (objectsAt n b contents bodies) (m / 2))
     (qe : e ≡ bodyEnd (objectsAt n b contents bodies) (m / 2))
     (qz : z ≡ size (objectsAt n b contents bodies) (m / 2))
@@ -108,13 +93,13 @@ module _ {table contents bodies counts : List ℕ} {n b m : ℕ} (a : Asked tabl
     there = objectsAt n b contents bodies
 
     abbrev from : ℕ
-    from = st + (2 + h / 2 % 64)
+    from = st + (2 + l)
 
     abbrev first : ℕ
     first = 2 * from
 
     abbrev last : ℕ
-    last = first + (z - 2 * (2 + h / 2 % 64))
+    last = first + (z - 2 * (2 + l))
 
     part-long : length (take (last - first) (drop first notes)) ≡ codeSize there m
     unfolding codeSize
@@ -125,17 +110,17 @@ module _ {table contents bodies counts : List ℕ} {n b m : ℕ} (a : Asked tabl
     words-here : take (e - from) (drop from bodies) ≡ codeWords there m
     unfolding codeWords
     words-here =
-        let k = code-starts a in let q = body-size a in let i = body-inside a in let l = a .ready .lent .words in
+        let k = code-starts a in let q = body-size a in let i = body-inside a in let t = a .ready .laid .words in
         let s : start there (m / 2) + (2 + literalCount there m) ≡ from = omega arith in
         let c : bodyWords there (m / 2) - (2 + literalCount there m) ≡ e - from = omega arith in
-        let g : length (take b bodies) ≡ b = length-take-le b bodies l in
+        let g : length (take b bodies) ≡ b = length-take-le b bodies t in
         sym (ap₂ (part (take b bodies)) s c
         ∙ part-same bodies (take b bodies) from (e - from) (omega arith) (omega arith) (λ j x. getD-take b bodies (from + j) 0 (omega arith)))
 
     pub code-lent : CodeLent there m (take (e - from) (drop from bodies)) (length (take (last - first) (drop first notes)))
     unfolding codeSize
     code-lent =
-        let k = code-starts a in let q = body-size a in let i = body-inside a in let l = a .ready .lent .words in let w = a .ready .lent .most-words in
+        let k = code-starts a in let q = body-size a in let i = body-inside a in let t = a .ready .laid .words in let w = a .ready .laid .most-words in
         let g = length-part bodies from (e - from) (omega arith) in
         let y = part-long in
         record { isWords = words-here; isSize = part-long; covered = omega arith; small = omega arith }
@@ -154,13 +139,13 @@ module _ {table contents bodies counts : List ℕ} {n b m : ℕ} (a : Asked tabl
 
     module _ (ys : List ℕ) (long : length ys ≡ length (take (last - first) (drop first notes))) where
       before : (j : ℕ) → j < notesFrom there m → getD (put ys) j 0 ≡ getD notes j 0
-      before j l =
+      before j x =
           let f = first-inside in
           List·getD-append (take first notes) (ys ++ drop (last - first) (drop first notes)) 0 j (omega arith) ∙ getD-take first notes j 0 (omega arith)
 
       after : (j : ℕ) → notesFrom there m + codeSize there m ≤ j → getD (put ys) j 0 ≡ getD notes j 0
       unfolding codeSize
-      after j l =
+      after j x =
           let f = first-inside in let y = part-long in let k = code-starts a in
           ap (λ (v : ℕ). getD (put ys) v 0) (omega arith)
           ∙ getD-append-add (take first notes) (ys ++ drop (last - first) (drop first notes)) (length ys + (j - last)) 0

@@ -10,27 +10,29 @@ use lib.ListN.{length, getD}
 use Rattle.bytecode.specs.Test.{implies}
 use Rattle.bytecode.specs.Code.{sendOf, instructionOf, decodeAt}
 use Rattle.bytecode.specs.Effect.{specialCount, need}
-use Rattle.bytecode.specs.Table.{placeIndex, needPart, Entry}
+use Rattle.bytecode.specs.Table.{placeIndex, needPart, Entry as TableEntry}
 use Rattle.bytecode.specs.declared.Instruction.{Instruction}
 use Rattle.bytecode.specs.declared.Place.{Place}
 use Rattle.bytecode.specs.declared.Place.the-variants.{Field, Temporary, Literal, LiteralVariable}
 use Rattle.bytecode.specs.declared.Instruction.the-variants.{Push, Store, PopStore, PushSelf, PushConstant, ReturnSelf, ReturnConstant, ReturnTop, Pop, Duplicate, Jump, JumpOn, Send, SuperSend, SpecialSend, Unused}
 use Rattle.bytecode.proofs.Choice.{if-lt}
 use Rattle.bytecode.proofs.CodeLaws.{is-send}
-use Rattle.bytecode.proofs.TestLaws.{T→true}
-use Rattle.model.specs.Limits.{methodKind}
+use Rattle.model.specs.Limits.{methodKind, selectorsObject, specialSelectors}
+use Rattle.model.specs.Word.{pointer}
 use Rattle.model.specs.Objects.{Objects, objectsAt, bodyWord, isKind}
 use Rattle.model.specs.Method.{literal, codeWords, codeSize}
 use Rattle.model.proofs.Unchanged.{Small, small-at}
 use Rattle.model.specs.Rules.{variableFine, sendFine, isSame, isClass, specialSelector}
 use Rattle.flow.specs.Linked.{placeLinked, linked, linkedAt, allLinked}
-use Rattle.rules.proofs.Names.{is-named}
-use Rattle.rules.proofs.Loops.{Before, below-no, below-all}
-use Rattle.methods.specs.Named.{Named, Ready}
+use Rattle.readers.specs.Places.{Entry, Inside}
+use Rattle.readers.proofs.Loops.{Before, below-no, below-all}
+use Rattle.readers.proofs.InsideLaws.{entry-here, method-inside, selectors-inside}
+use Rattle.rules.proofs.RuleFacts.{known-at}
+use Rattle.methods.proofs.ShapeLaws.{literals-held}
 use Rattle.code.specs.Asked.{Asked, CodeLent}
 
 -- a special send needs its receiver and its arguments
-pub special-need : (k e : ℕ) → k < 32 → Entry (176 + k) e → needPart e ≡ 1 + specialCount k
+pub special-need : (k e : ℕ) → k < 32 → TableEntry (176 + k) e → needPart e ≡ 1 + specialCount k
 unfolding need sendOf
 special-need k e h x =
     x .needs
@@ -69,11 +71,16 @@ module _ (o : Objects) (m : ℕ) (p : Place) where
 pub told : (o : Objects) (m : ℕ) (i j : Instruction) (b : Bool) → i ≡ j → b ≡ linked o m j → b ≡ linked o m i
 told o m i j b e f = f ∙ ap (linked o m) (sym e)
 
--- a method's word is read
-pub method-named : {table contents bodies counts : List ℕ} {n b m : ℕ} → Asked table n b contents bodies counts m → Named n b m contents bodies
-method-named {table} {contents} {bodies} {counts} {n} {b} {m} a =
-    let k = is-named (objectsAt n b contents bodies) methodKind m (T→true (isKind (objectsAt n b contents bodies) methodKind m) (a .isMethod)) in
-    record { lent = a .ready .lent; least = k .least; most = k .most }
+-- the words that are read of a method and of object 5
+module _ {table contents bodies counts : List ℕ} {n b m : ℕ} (a : Asked table n b contents bodies counts m) where
+  pub method-entry : Entry n (m / 2) contents
+  method-entry = entry-here (a .ready .laid) methodKind m (a .isMethod)
+
+  pub method-word : (i : ℕ) → i < 2 → Inside n b contents bodies m i
+  method-word i h = let held = literals-held (a .ready .laid) m (a .isMethod) (a .shape) in method-inside (held .laid) 0 (held .isMethod) (let s = held .holds in omega arith) (omega arith)
+
+  pub special-word : (k : ℕ) → k < specialSelectors → Inside n b contents bodies (pointer selectorsObject) k
+  special-word k h = let f = known-at (a .ready .edition) _ (a .ready .classes) in selectors-inside (a .ready .laid) (f .selectors) (f .selectors-size) h
 
 -- the numbers of a decoded instruction
 pub decoded-small : (words : List ℕ) (size p : ℕ) {i : Instruction} → i ≡ decodeAt words size p → Small i

@@ -19,8 +19,8 @@ use Rattle.model.specs.Depth.{isSome}
 use Rattle.model.specs.Rules.{methodTable, rule4}
 use Rattle.model.specs.Notes.{notesFrom, MethodNoted, NotedBefore}
 use Rattle.rules.proofs.Laid.{layout-at}
-use Rattle.rules.proofs.Names.{names-kind}
-use Rattle.rules.proofs.Loops.{UpBefore, up-none, up-more, up-all, up-no, never, stop, pass}
+use Rattle.readers.proofs.Names.{names-kind}
+use Rattle.readers.proofs.Loops.{UpBefore, up-none, up-more, up-all, up-no, never, stop, pass}
 use Rattle.methods.specs.Passes.{shapeRules, shapeFine, codeFine, shapes, holders, codes}
 use Rattle.methods.specs.Counts.{Held, Counts}
 use Rattle.methods.proofs.PassLaws.{passes}
@@ -31,22 +31,22 @@ half : (k : ℕ) → pointer k / 2 ≡ k
 half k = omega arith
 
 -- bodies lie in the order of their objects
-module _ (o : Objects) (laid : rule4 1 o ≡ true) where
+module _ (e : ℕ) (o : Objects) (laid : rule4 e o ≡ true) where
   next-start : (k : ℕ) → 1 ≤ k → k < o .n → start o (suc k) ≡ bodyEnd o k
   next-start k h l =
-      layout-at o laid (suc k) (omega arith) (omega arith) .next (λ q. omega arith) ∙ ap (bodyEnd o) (same k)
+      layout-at e o laid (suc k) (omega arith) (omega arith) .next (λ q. omega arith) ∙ ap (bodyEnd o) (same k)
     where
       same : (k : ℕ) → suc k - 1 ≡ k
       same k = omega arith
 
   later : (d k : ℕ) → 1 ≤ k → k + suc d ≤ o .n → bodyEnd o k ≤ start o (k + suc d)
-  later zero k h l = let e = next-start k h (omega arith) in subst (λ (x : ℕ). bodyEnd o k ≤ start o x) (one k) (omega arith)
+  later zero k h l = let t = next-start k h (omega arith) in subst (λ (x : ℕ). bodyEnd o k ≤ start o x) (one k) (omega arith)
     where
       one : (k : ℕ) → suc k ≡ k + 1
       one k = omega arith
   later (suc d) k h l =
       let a = later d k h (omega arith) in
-      let e = next-start (k + suc d) (omega arith) (omega arith) in
+      let t = next-start (k + suc d) (omega arith) (omega arith) in
       subst (λ (x : ℕ). bodyEnd o k ≤ start o x) (more k d) (omega arith)
     where
       more : (k d : ℕ) → suc (k + suc d) ≡ k + suc (suc d)
@@ -133,15 +133,15 @@ module _ (o : Objects) where
       last m h = omega arith
 
   -- rule 7 by the passes
-  pub seven-shapes : (ns : List ℕ) → shapes o ≡ false → MethodsNoted o ns false
-  seven-shapes ns e = record { answer = sym (passes 1 o ∙ stop (shapes o) (holders o && codes o) e); noted = λ q. absurd (subst T (sym q) tt) }
+  pub seven-shapes : (ed : ℕ) (ns : List ℕ) → shapes o ≡ false → MethodsNoted ed o ns false
+  seven-shapes ed ns e = record { answer = sym (passes ed o ∙ stop (shapes o) (holders o && codes o) e); noted = λ q. absurd (subst T (sym q) tt) }
 
-  pub seven-holders : (ns counts : List ℕ) (r : Bool) → shapes o ≡ true → Held o counts r → r ≡ false → MethodsNoted o ns false
+  pub seven-holders : (ed : ℕ) (ns counts : List ℕ) (r : Bool) → shapes o ≡ true → Held o counts r → r ≡ false → MethodsNoted ed o ns false
   unfolding Held
-  seven-holders ns counts true e h q = absurd (subst T q tt)
-  seven-holders ns counts false e h q =
+  seven-holders ed ns counts true e h q = absurd (subst T q tt)
+  seven-holders ed ns counts false e h q =
       record {
-        answer = sym (passes 1 o ∙ pass (shapes o) (holders o && codes o) e ∙ stop (holders o) (codes o) (never (holders o) h));
+        answer = sym (passes ed o ∙ pass (shapes o) (holders o && codes o) e ∙ stop (holders o) (codes o) (never (holders o) h));
         noted = λ x. absurd (subst T (sym x) tt);
       }
 
@@ -150,10 +150,10 @@ module _ (o : Objects) where
   held-counts counts true h q = h
   held-counts counts false h q = absurd (subst T (sym q) tt)
 
-  pub seven-codes : (ns : List ℕ) (r : Bool) → shapes o ≡ true → T (holders o) → CodesNoted o ns r → MethodsNoted o ns r
-  seven-codes ns r e h c =
+  pub seven-codes : (ed : ℕ) (ns : List ℕ) (r : Bool) → shapes o ≡ true → T (holders o) → CodesNoted o ns r → MethodsNoted ed o ns r
+  seven-codes ed ns r e h c =
       record {
-        answer = c .answer ∙ sym (passes 1 o ∙ pass (shapes o) (holders o && codes o) e ∙ pass (holders o) (codes o) (T→true (holders o) h));
+        answer = c .answer ∙ sym (passes ed o ∙ pass (shapes o) (holders o && codes o) e ∙ pass (holders o) (codes o) (T→true (holders o) h));
         noted = c .noted;
       }
 
@@ -180,7 +180,7 @@ module _ {table contents bodies counts : List ℕ} {n b notes pending : ℕ} (l 
       let a = asked-at j h (omega arith) e in
       let s = code-starts a in
       let w = body-size a in
-      let r : start o (pointer j / 2) + bodyWords o (pointer j / 2) ≤ start o (pointer k / 2) = moved (in-order o (T→true _ (l .ready .layout)) j k h l′ g) in
+      let r : start o (pointer j / 2) + bodyWords o (pointer j / 2) ≤ start o (pointer k / 2) = moved (in-order (l .ready .edition) o (T→true _ (l .ready .layout)) j k h l′ g) in
       omega arith
     where
       moved : bodyEnd o j ≤ start o k → bodyEnd o (pointer j / 2) ≤ start o (pointer k / 2)
@@ -203,12 +203,6 @@ module _ {table contents bodies counts : List ℕ} {n b notes pending : ℕ} (l 
 pub lent-again : {table contents bodies counts : List ℕ} {n b s q s′ q′ : ℕ} → s′ ≡ s → q′ ≡ q → PassLent table n b contents bodies counts s q → PassLent table n b contents bodies counts s′ q′
 lent-again {table} {contents} {bodies} {counts} {n} {b} {s} {q} {s′} {q′} e f l =
     subst (λ (x : ℕ). PassLent table n b contents bodies counts x q′) (sym e) (subst (λ (x : ℕ). PassLent table n b contents bodies counts s x) (sym f) l)
-
-pub runs-low : (o : Objects) (m h : ℕ) → h / 8192 % 8 ≤ 4 → h ≡ header o m → true ≡ runsCode o m
-runs-low o m h l e = ap₂ (λ (x y : Bool). x || y) (sym (le-leb (h / 8192 % 8) 4 l)) refl ∙ ap (λ (v : ℕ). leb (v / 8192 % 8) 4 || eqb (v / 8192 % 8) 7) e
-
-pub runs-high : (o : Objects) (m h : ℕ) → 4 < h / 8192 % 8 → h ≡ header o m → eqb (h / 8192 % 8) 7 ≡ runsCode o m
-runs-high o m h l e = ap (λ (x : Bool). x || eqb (h / 8192 % 8) 7) (sym (lt-leb (h / 8192 % 8) 4 l)) ∙ ap (λ (v : ℕ). leb (v / 8192 % 8) 4 || eqb (v / 8192 % 8) 7) e
 
 pub zeros-at : (n j : ℕ) → getD (replicate {A = ℕ} n 0) j 0 ≡ 0
 zeros-at zero j = refl

@@ -15,7 +15,7 @@ use Rattle.model.specs.Depth.{isSome}
 use Rattle.model.specs.Rules.{methodTable, rule7}
 use Rattle.model.specs.Notes.{notesFrom, MethodNoted, NotedBefore}
 use Rattle.flow.specs.Walk.{mostCode}
-use Rattle.methods.specs.Named.{Ready, SendAsked}
+use Rattle.methods.specs.Asked.{Ready, SendAsked}
 use Rattle.methods.specs.Passes.{shapeRules, shapes, codeFine, codes}
 
 -- method m, whose words are right, in an image whose counts are there
@@ -59,6 +59,6 @@ pub record CodesNoted (o : Objects) (notes : List ℕ) (r : Bool) : Type 0 where
   pub noted : r ≡ true → NotedBefore o notes (suc (o .n))
 
 -- and rule 7
-pub record MethodsNoted (o : Objects) (notes : List ℕ) (r : Bool) : Type 0 where
-  pub answer : r ≡ rule7 1 o
+pub record MethodsNoted (e : ℕ) (o : Objects) (notes : List ℕ) (r : Bool) : Type 0 where
+  pub answer : r ≡ rule7 e o
   pub noted : r ≡ true → NotedBefore o notes (suc (o .n))

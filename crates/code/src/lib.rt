@@ -1,19 +1,21 @@
 // The third pass of rule 7: the code of all methods, and the depth notes of all of them in one table, a byte for each byte of the bodies.
 ghost use mathlib.Core.Path.{_≡_};
-ghost use Prim.Native.Nat.{ℕ, _+_, _*_, _/_, _<_, _≤_};
+ghost use Prim.Native.Nat.{_*_, _/_, _<_, _≤_};
 ghost use lib.ListN.{length};
 ghost use Rattle.bytecode.specs.Table.{placeIndex, IsTable};
 ghost use Rattle.bytecode.specs.Effect.{specialCount};
-ghost use Rattle.model.specs.Objects.{Objects, objectsAt};
+ghost use Rattle.model.specs.Objects.{objectsAt};
 ghost use Rattle.model.proofs.Unchanged.{Small};
 ghost use Rattle.flow.specs.Linked.{placeLinked, linked, linkedAt, allLinked};
-ghost use Rattle.model.specs.Method.{literal as literalOf, header, frameWords, runsCode};
+ghost use Rattle.model.specs.Method.{literal as literalOf};
 ghost use Rattle.model.specs.Rules.{sendFine, methodTable};
 ghost use Rattle.flow.specs.Walk.{Walked};
 ghost use Rattle.code.specs.Asked.{Asked, CodeLent, MethodWalked, PassLent, ObjectNoted, CodesNoted, MethodsNoted};
-ghost use Rattle.methods.specs.Named.{Ready};
+ghost use Rattle.methods.specs.Asked.{Ready};
+ghost use Rattle.readers.specs.Places.{Entry};
 use bytecode::Instruction;
 use bytecode::Place;
+use model::Pointer;
 
 // The argument count of a special send, from the table's need.
 fn special_count(table: &[u16; 256], k: u8) -> u8
@@ -44,8 +46,18 @@ fn special_fine(
     if k == 23 {
         return true;
     }
-    let s = methods::body_word(contents, bodies, n, b, 10, k as usize);
+    let s = readers::word_of(contents, bodies, n, b, Pointer(readers::SELECTORS), k as usize);
     methods::send_fine(contents, bodies, n, b, counts, s, special_count(table, k))
+}
+
+// Literal i of a method, 0 where the bodies end before it: that its index is in range is the walk's to say.
+fn literal_word(contents: &[u16], bodies: &[u16], n: usize, b: usize, m: u16, i: usize) -> u16
+    requires { ⌜ Entry n (m / 2) (now contents) × (b ≤ length (now bodies)) × (i < 256) ⌝ }
+    ensures { λ r. ⌜ r ≡ literalOf (objectsAt n b (now (contents .entry)) (now (bodies .entry))) m i ⌝ }
+{
+    let k = (m / 2) as usize;
+    let at = readers::start(contents, n, k) as usize + (readers::LITERALS + i);
+    readers::word_at(bodies, b, at)
 }
 
 // A send of a literal.
@@ -63,7 +75,7 @@ fn selector_fine(
     requires { ⌜ Asked (now table) n b (now contents) (now bodies) (now counts) m ⌝ }
     ensures { λ r. ⌜ r ≡ sendFine (objectsAt n b (now (contents .entry)) (now (bodies .entry))) (literalOf (objectsAt n b (now (contents .entry)) (now (bodies .entry))) m literal) arguments ⌝ }
 {
-    let s = methods::body_word(contents, bodies, n, b, m, 2 + literal as usize);
+    let s = literal_word(contents, bodies, n, b, m, literal as usize);
     methods::send_fine(contents, bodies, n, b, counts, s, arguments)
 }
 
@@ -88,7 +100,7 @@ fn place_fine(
         Place::LiteralVariable(i) => methods::variable_fine(
             contents,
             n,
-            methods::body_word(contents, bodies, n, b, m, 2 + i),
+            literal_word(contents, bodies, n, b, m, i),
         ),
     }
 }
@@ -198,16 +210,6 @@ fn all_fine(
     true
 }
 
-// The words of a frame for temporaries and operands, by a method's header.
-fn frame_limit(h: u16) -> usize
-    ensures { λ r. ⌜ ((o : Objects) (m : ℕ) → h ≡ header o m → r ≡ frameWords o m) × (r ≤ 32) ⌝ }
-{
-    if h / 128 % 2 == 1 {
-        return 32;
-    }
-    12
-}
-
 // The notes of a method's code: those of its depth table, all 0 where it has none.
 fn code_notes(
     table: &[u16; 256],
@@ -224,12 +226,12 @@ fn code_notes(
     requires { ⌜ Asked (now table) n b (now contents) (now bodies) (now counts) m × CodeLent (objectsAt n b (now contents) (now bodies)) m (now words) (length (now notes)) × (length (now notes) ≤ length (now pending)) ⌝ }
     ensures { λ r. ⌜ Walked (methodTable (objectsAt n b (now (contents .entry)) (now (bodies .entry))) m) (length (now (notes .entry))) (now (notes .exit)) r ⌝ }
 {
-    let h = methods::header_of(contents, bodies, n, b, m);
-    let home = methods::body_word(contents, bodies, n, b, m, 1);
-    let fields = rules::class_body::field_count(contents, bodies, n, b, home) as u8;
-    let temporaries = (h / 256 % 32) as u8;
-    let literals = (h / 2 % 64) as u8;
-    let limit = frame_limit(h);
+    let header = readers::word_of(contents, bodies, n, b, Pointer(m), readers::HEADER) as usize;
+    let home = readers::word_of(contents, bodies, n, b, Pointer(m), readers::HOME);
+    let fields = (readers::word_of(contents, bodies, n, b, Pointer(home), readers::FIELDS_WORD) / 2) as u8;
+    let temporaries = readers::temporary_count(header) as u8;
+    let literals = readers::literal_count(header) as u8;
+    let limit = readers::frame_words(header);
     if !flow::walk(
         table,
         words,
@@ -265,12 +267,12 @@ fn method_notes(
     ensures { λ r. ⌜ MethodWalked (objectsAt n b (now (contents .entry)) (now (bodies .entry))) m (now (notes .entry)) (now (notes .exit)) r ⌝ }
 {
     let k = (m / 2) as usize;
-    let h = methods::header_of(contents, bodies, n, b, m);
-    let skip = 2 + (h / 2 % 64) as usize;
-    let from = rules::start(contents, n, k) as usize + skip;
-    let end = rules::body_end(contents, n, k);
+    let header = readers::word_of(contents, bodies, n, b, Pointer(m), readers::HEADER) as usize;
+    let skip = readers::LITERALS + readers::literal_count(header);
+    let from = readers::start(contents, n, k) as usize + skip;
+    let end = readers::body_end(contents, n, k);
     let first = 2 * from;
-    let last = first + (rules::size(contents, n, k) as usize - 2 * skip);
+    let last = first + (readers::size(contents, n, k) as usize - 2 * skip);
     code_notes(
         table,
         contents,
@@ -283,17 +285,6 @@ fn method_notes(
         &mut notes[first..last],
         pending,
     )
-}
-
-// Whether the code of a method can run, by its header.
-fn runs(h: u16) -> bool
-    ensures { λ r. ⌜ ((o : Objects) (m : ℕ) → h ≡ header o m → r ≡ runsCode o m) ⌝ }
-{
-    let of = h / 8192 % 8;
-    if of <= 4 {
-        return true;
-    }
-    of == 7
 }
 
 // Object k, where it is a method. Its notes are made whether or not its code can run.
@@ -311,14 +302,15 @@ fn code_object(
     requires { ⌜ PassLent (now table) n b (now contents) (now bodies) (now counts) (length (now notes)) (length (now pending)) × (1 ≤ k) × (k ≤ n) ⌝ }
     ensures { λ r. ⌜ ObjectNoted (objectsAt n b (now (contents .entry)) (now (bodies .entry))) k (now (notes .entry)) (now (notes .exit)) r ⌝ }
 {
-    if rules::kind(contents, n, k) != 4 {
+    if readers::kind(contents, n, k) != readers::METHOD {
         return true;
     }
     let m = (2 * k) as u16;
     if method_notes(table, contents, bodies, n, b, counts, m, notes, pending) {
         return true;
     }
-    !runs(methods::header_of(contents, bodies, n, b, m))
+    let header = readers::word_of(contents, bodies, n, b, Pointer(m), readers::HEADER) as usize;
+    !readers::runs_code(header)
 }
 
 // The third pass: the code of all methods.
@@ -346,9 +338,16 @@ fn codes_fine(
 }
 
 // Rule 7, and the notes of all methods.
-pub fn methods_fine(contents: &[u16], bodies: &[u16], n: usize, b: usize, notes: &mut [u8]) -> bool
+pub fn methods_fine(
+    edition: u16,
+    contents: &[u16],
+    bodies: &[u16],
+    n: usize,
+    b: usize,
+    notes: &mut [u8],
+) -> bool
     requires { ⌜ Ready n b (now contents) (now bodies) × (2 * b ≤ length (now notes)) ⌝ }
-    ensures { λ r. ⌜ MethodsNoted (objectsAt n b (now (contents .entry)) (now (bodies .entry))) (now (notes .exit)) r ⌝ }
+    ensures { λ r. ⌜ MethodsNoted edition (objectsAt n b (now (contents .entry)) (now (bodies .entry))) (now (notes .exit)) r ⌝ }
 {
     if !methods::shapes_fine(contents, bodies, n, b) {
         return false;

@@ -9,52 +9,65 @@ use lib.ListN.{length}
 use Rattle.model.specs.Limits.{bytesKind, classKind, listKind, methodKind}
 use Rattle.model.specs.Word.{objectNumber}
 use Rattle.model.specs.Objects.{Objects, objectsAt, bodyWord, kind, size, isKind, dictionaryWord, pairCount, pairSelector, pairMethod}
-use Rattle.model.specs.Method.{home, argumentCount}
+use Rattle.model.specs.Method.{home, literalCount, argumentCount}
 use Rattle.model.proofs.ChainLaws as C
 use Rattle.model.proofs.Facts.{naming, named-pointer}
-use Rattle.methods.specs.Named.{Named, Ready, ClassAsked, PairAsked, ObjectAsked, FlagAsked}
+use Rattle.readers.specs.Places.{Inside, CountInside}
+use Rattle.readers.proofs.InsideLaws.{word-inside}
+use Rattle.rules.proofs.RuleFacts.{class-at}
+use Rattle.methods.specs.Asked.{Ready, Literals, ClassAsked, PairAsked, ObjectAsked}
 use Rattle.methods.specs.Counts.{Counting, Turned, Noted, Held}
-use Rattle.methods.proofs.HolderLaws.{class-at, pair-at, wrong-home, wrong-count, right-count, next-class}
+use Rattle.methods.proofs.ShapeLaws.{shape-at, primitive-at, literals-held, count-here}
+use Rattle.methods.proofs.HolderLaws.{pair-at, wrong-home, wrong-count, right-count, next-class}
 
-module _ (n b : ℕ) (contents bodies : List ℕ) (ready : Ready n b contents bodies) where
+-- the words of a class's dictionary, from the dictionary d that was read
+module _ {n b : ℕ} {contents bodies : List ℕ} (ready : Ready n b contents bodies) (class : ℕ) (isC : T (isKind (objectsAt n b contents bodies) classKind class)) where
   abbrev o : Objects
   o = objectsAt n b contents bodies
 
-  pub kind-named : (k w : ℕ) → T (isKind o k w) → Named n b w contents bodies
-  kind-named k w t = let h = C.named o k w t in record { lent = ready .lent; least = h .least; most = h .most }
+  pub dictionary-kind : {d : ℕ} → d ≡ dictionaryWord o class → T (isKind o listKind d)
+  dictionary-kind e = subst (λ (x : ℕ). T (isKind o listKind x)) (sym e) (class-at (ready .edition) o (ready .classes) class isC .dictionary)
 
-  module _ (class : ℕ) (isC : T (isKind o classKind class)) where
-    pub dictionary-named : (d : ℕ) → d ≡ dictionaryWord o class → Named n b d contents bodies
-    dictionary-named d e = subst (λ (x : ℕ). Named n b x contents bodies) (sym e) (kind-named listKind (dictionaryWord o class) (class-at o (ready .classes) class isC .dictionary))
+  module _ (i : ℕ) (l : i < pairCount o (dictionaryWord o class)) where
+    pub pair-inside : {d : ℕ} → d ≡ dictionaryWord o class → (j : ℕ) → j ≤ 2 * i + 1 → Inside n b contents bodies d j
+    pair-inside {d} e j h =
+        let q : i < size o (d / 2) / 2 = subst (λ (x : ℕ). i < pairCount o x) (sym e) l in
+        word-inside (ready .laid) listKind tt (dictionary-kind e) (omega arith)
 
-    module _ (i : ℕ) (l : i < pairCount o (dictionaryWord o class)) where
-      pub method-named : (m : ℕ) → m ≡ pairMethod o (dictionaryWord o class) i → Named n b m contents bodies
-      method-named m e = subst (λ (x : ℕ). Named n b x contents bodies) (sym e) (kind-named methodKind (pairMethod o (dictionaryWord o class) i) (pair-at o (ready .classes) class i isC l .method))
+    pub selector-most : {s : ℕ} → s ≡ pairSelector o (dictionaryWord o class) i → s / 2 ≤ n
+    selector-most e =
+        subst (λ (x : ℕ). x / 2 ≤ n) (sym e) (C.named o bytesKind (pairSelector o (dictionaryWord o class) i) (pair-at (ready .edition) o (ready .classes) class i isC l .selector) .most)
 
-      pub selector-most : (s : ℕ) → s ≡ pairSelector o (dictionaryWord o class) i → s / 2 ≤ n
-      selector-most s e =
-          subst (λ (x : ℕ). x / 2 ≤ n) (sym e) (C.named o bytesKind (pairSelector o (dictionaryWord o class) i) (pair-at o (ready .classes) class i isC l .selector) .most)
+    method-kind : {m : ℕ} → m ≡ pairMethod o (dictionaryWord o class) i → T (isKind o methodKind m)
+    method-kind e = subst (λ (x : ℕ). T (isKind o methodKind x)) (sym e) (pair-at (ready .edition) o (ready .classes) class i isC l .method)
 
 -- One pair, from the words that were read: d the dictionary, s the selector, m the method, h its home
-module _ (n b : ℕ) (contents bodies : List ℕ) (class i : ℕ) (counts : List ℕ) (p : PairAsked n b contents bodies class i counts) (d m h : ℕ)
-    (ed : d ≡ dictionaryWord (objectsAt n b contents bodies) class) (em : m ≡ bodyWord (objectsAt n b contents bodies) (d / 2) (2 * i + 1))
-    (eh : h ≡ bodyWord (objectsAt n b contents bodies) (m / 2) 1) where
+module _ {n b : ℕ} {contents bodies : List ℕ} {class i : ℕ} {counts : List ℕ} (p : PairAsked n b contents bodies class i counts) {d m : ℕ}
+    (ed : d ≡ dictionaryWord (objectsAt n b contents bodies) class) (em : m ≡ bodyWord (objectsAt n b contents bodies) (d / 2) (2 * i + 1)) where
   abbrev o′ : Objects
   o′ = objectsAt n b contents bodies
 
   method-is : m ≡ pairMethod o′ (dictionaryWord o′ class) i
   method-is = em ∙ ap (λ (x : ℕ). bodyWord o′ (x / 2) (2 * i + 1)) ed
 
-  home-is : h ≡ home o′ (pairMethod o′ (dictionaryWord o′ class) i)
-  home-is = eh ∙ ap (λ (x : ℕ). bodyWord o′ (x / 2) 1) method-is
+  pub method-held : Literals n b contents bodies m (literalCount o′ m)
+  method-held =
+      let t = method-kind (p .ready) class (p .isClass) i (p .inside) method-is in
+      literals-held (p .ready .laid) m t (shape-at o′ m t (p .shaped))
 
-  pub pair-no : (counts′ : List ℕ) → (h ≡ class → ⊥) → Turned o′ (class / 2) (i + 1) counts′ false
+  pub pair-counts : CountInside n b contents bodies m
+  pair-counts = let t = method-kind (p .ready) class (p .isClass) i (p .inside) method-is in count-here method-held (primitive-at o′ m (shape-at o′ m t (p .shaped)))
+
+  home-is : {h : ℕ} → h ≡ bodyWord o′ (m / 2) 1 → h ≡ home o′ (pairMethod o′ (dictionaryWord o′ class) i)
+  home-is eh = eh ∙ ap (λ (x : ℕ). bodyWord o′ (x / 2) 1) method-is
+
+  pub pair-no : {h : ℕ} → h ≡ bodyWord o′ (m / 2) 1 → (counts′ : List ℕ) → (h ≡ class → ⊥) → Turned o′ (class / 2) (i + 1) counts′ false
   unfolding Turned
-  pair-no counts′ f = wrong-home o′ (p .ready .classes) counts (class / 2) i (p .so-far) class (p .isClass) refl (p .inside) (p .long) (λ e. f (home-is ∙ e))
+  pair-no eh counts′ f = wrong-home (p .ready .edition) (p .ready .classes) (p .so-far) class (p .isClass) refl (p .inside) (p .long) (λ e. f (home-is eh ∙ e))
 
-  pub pair-turned : (s count : ℕ) → s ≡ bodyWord o′ (d / 2) (2 * i) → h ≡ class → count ≡ argumentCount o′ m → (counts′ : List ℕ) (r : Bool) → Noted counts (s / 2) (count + 1) counts′ r
+  pub pair-turned : {s h count : ℕ} → s ≡ bodyWord o′ (d / 2) (2 * i) → h ≡ bodyWord o′ (m / 2) 1 → h ≡ class → count ≡ argumentCount o′ m → (counts′ : List ℕ) (r : Bool) → Noted counts (s / 2) (count + 1) counts′ r
       → Turned o′ (class / 2) (i + 1) counts′ r
-  pair-turned s count es f ec counts′ r t = go r (subst (λ (x : ℕ). Noted counts x (argumentCount o′ (pairMethod o′ (dictionaryWord o′ class) i) + 1) counts′
+  pair-turned {s} es eh f ec counts′ r t = go r (subst (λ (x : ℕ). Noted counts x (argumentCount o′ (pairMethod o′ (dictionaryWord o′ class) i) + 1) counts′
       r) (ap (λ (x : ℕ). x / 2) selector-is) (subst (λ (x : ℕ). Noted counts (s / 2) (x + 1) counts′ r) (ec ∙ ap (argumentCount o′) method-is) t))
     where
       selector-is : s ≡ pairSelector o′ (dictionaryWord o′ class) i
@@ -62,23 +75,23 @@ module _ (n b : ℕ) (contents bodies : List ℕ) (class i : ℕ) (counts : List
 
       go : (r : Bool) → Noted counts (pairSelector o′ (dictionaryWord o′ class) i / 2) (argumentCount o′ (pairMethod o′ (dictionaryWord o′ class) i) + 1)
           counts′ r → Turned o′ (class / 2) (i + 1) counts′ r
-      go true x = right-count o′ (p .ready .classes) counts (class / 2) i (p .so-far) class (p .isClass) refl (p .inside) (p .long) (sym home-is ∙ f) counts′ x
-      go false x = wrong-count o′ (p .ready .classes) counts (class / 2) i (p .so-far) class (p .isClass) refl (p .inside) (p .long) counts′ x
+      go true x = right-count (p .ready .edition) (p .ready .classes) (p .so-far) class (p .isClass) refl (p .inside) (p .long) (sym (home-is eh) ∙ f) counts′ x
+      go false x = wrong-count (p .ready .edition) (p .ready .classes) (p .so-far) class (p .isClass) refl (p .inside) (p .long) counts′ x
 
 -- the loop over the pairs of a class
-pub pair-asked : (n b : ℕ) (contents bodies : List ℕ) (class : ℕ) (counts₀ : List ℕ) → ClassAsked n b contents bodies class counts₀ → (d z : ℕ)
+pub pair-asked : {n b : ℕ} {contents bodies : List ℕ} {class : ℕ} {counts₀ : List ℕ} → ClassAsked n b contents bodies class counts₀ → {d z : ℕ}
     → d ≡ dictionaryWord (objectsAt n b contents bodies) class
-    → z ≡ size (objectsAt n b contents bodies) (d / 2) → z < 65536 → (counts : List ℕ) (i : ℕ) → length counts ≡ length counts₀
+    → z ≡ size (objectsAt n b contents bodies) (d / 2) → (counts : List ℕ) (i : ℕ) → length counts ≡ length counts₀
     → Counting (objectsAt n b contents bodies) counts (class / 2) i → i < z / 2
     → PairAsked n b contents bodies class i counts
-pair-asked n b contents bodies class counts₀ p d z ed ez hz counts i l w h =
+pair-asked {n} {b} {contents} {bodies} p ed ez counts i l w h =
     record {
       ready = p .ready;
+      shaped = p .shaped;
       isClass = p .isClass;
       long = let x = p .long in omega arith;
       inside = subst (λ (x : ℕ). i < size (objectsAt n b contents bodies)
           (x / 2) / 2) ed (subst (λ (x : ℕ). i < x / 2) ez h);
-      low = omega arith;
       so-far = w;
     }
 
@@ -94,12 +107,12 @@ turned-on o k i counts r e t = go r e t
     go true q y = y
     go false q y = absurd (subst T (sym q) tt)
 
-pub class-done : (n b : ℕ) (contents bodies : List ℕ) (class : ℕ) (counts₀ : List ℕ) → ClassAsked n b contents bodies class counts₀ → (d z : ℕ)
+pub class-done : {n b : ℕ} {contents bodies : List ℕ} {class : ℕ} {counts₀ : List ℕ} → ClassAsked n b contents bodies class counts₀ → {d z : ℕ}
     → d ≡ dictionaryWord (objectsAt n b contents bodies) class
     → z ≡ size (objectsAt n b contents bodies) (d / 2) → (counts : List ℕ) (i : ℕ) → Counting (objectsAt n b contents bodies) counts (class / 2) i → z / 2 ≤ i
     → Turned (objectsAt n b contents bodies) (class / 2 + 1) 0 counts true
 unfolding Turned
-class-done n b contents bodies class counts₀ p d z ed ez counts i w h =
+class-done {n} {b} {contents} {bodies} {class} p {d} {z} ed ez counts i w h =
     next-class (objectsAt n b contents bodies) counts (class / 2) i w
     (λ c j a e l.
     let x = C.named (objectsAt n b contents bodies) classKind c a .even in
@@ -111,7 +124,7 @@ class-done n b contents bodies class counts₀ p d z ed ez counts i w h =
     omega arith)
 
 -- the loop over the objects
-module _ (n b : ℕ) (contents bodies : List ℕ) (k : ℕ) (counts : List ℕ) (p : ObjectAsked n b contents bodies k counts) where
+module _ {n b : ℕ} {contents bodies : List ℕ} {k : ℕ} {counts : List ℕ} (p : ObjectAsked n b contents bodies k counts) where
   pub no-class-here : (kind (objectsAt n b contents bodies) k ≡ classKind → ⊥) → Turned (objectsAt n b contents bodies) (k + 1) 0 counts true
   unfolding Turned
   no-class-here h =
@@ -123,6 +136,7 @@ module _ (n b : ℕ) (contents bodies : List ℕ) (k : ℕ) (counts : List ℕ) 
       let half : w / 2 ≡ k = omega arith in
       record {
         ready = p .ready;
+        shaped = p .shaped;
         isClass = subst (λ (x : ℕ). T (isKind (objectsAt n b contents bodies) classKind x)) (sym e)
             (subst (λ (x : ℕ). T (isKind (objectsAt n b contents bodies) x (2 * k))) h
             (naming (objectsAt n b contents bodies) (kind (objectsAt n b contents bodies) k) (2 * k) (named-pointer (objectsAt n b contents bodies) k (p .least)
@@ -137,8 +151,3 @@ module _ (n b : ℕ) (contents bodies : List ℕ) (k : ℕ) (counts : List ℕ) 
 pub held-no : (o : Objects) (k i : ℕ) (counts counts′ : List ℕ) → Turned o k i counts false → Held o counts′ false
 unfolding Turned Held
 held-no o k i counts counts′ t = t
-
-pub home-named : (n b : ℕ) (contents bodies : List ℕ) (m h c : ℕ) → FlagAsked n b contents bodies m h c → Named n b c contents bodies
-home-named n b contents bodies m h c p =
-    let x = C.named (objectsAt n b contents bodies) classKind c (p .isClass) in
-    record { lent = p .method .lent; least = x .least; most = x .most }

@@ -17,28 +17,18 @@ use Rattle.model.specs.Limits.{bytesKind, classKind}
 use Rattle.model.specs.Word.{pointer, objectNumber}
 use Rattle.model.specs.Objects.{Objects, kind, isKind, dictionaryWord, pairCount, pairSelector, pairMethod}
 use Rattle.model.specs.Method.{home, argumentCount}
-use Rattle.model.specs.Rules.{rule6, classRules, knownObjectRules, objectFine, entryFine, dictionaryMethodsFine, takesCount}
+use Rattle.model.specs.Rules.{rule6, dictionaryMethodsFine, takesCount}
 use Rattle.model.proofs.ChainLaws.{Named, named}
 use Rattle.model.proofs.Parts.{implying}
-use Rattle.model.proofs.Facts.{naming, named-pointer, pointer-of, ClassFacts, class-facts-of, PairFacts}
+use Rattle.model.proofs.Facts.{naming, named-pointer, pointer-of, PairFacts}
+use Rattle.rules.proofs.RuleFacts.{class-at}
 use Rattle.methods.specs.Passes.{holderFine, holders}
 use Rattle.methods.specs.Counts.{Counted, Counts, PairRight, Counting, Turned, Noted, Held}
 use Rattle.methods.proofs.CountLaws.{takes-at, at-takes}
 
-module _ (o : Objects) (r : T (rule6 1 o)) where
-  -- rule 6 at a class
-  pub class-at : (c : ℕ) → T (isKind o classKind c) → ClassFacts 1 o c
-  unfolding rule6 objectFine
-  class-at c t =
-      let h = named o classKind c t in
-      let u = upTo-at (o .n) (objectFine 1 o) (and-right (allOf (knownObjectRules 1 o)) (upTo (o .n) (objectFine 1 o)) r) (c / 2) (h .least) (h .most) in
-      let v = implied (eqb (kind o (c / 2)) classKind) (allOf (classRules 1 o (pointer (c / 2))))
-      (and-right (entryFine 1 o (c / 2)) (implies (eqb (kind o (c / 2)) classKind) (allOf (classRules 1 o (pointer (c / 2))))) u)
-      (true→T (eq-eqb (kind o (c / 2)) classKind (h .kinds))) in
-      class-facts-of 1 o c (subst (λ (x : ℕ). T (allOf (classRules 1 o x))) (pointer-of c (h .even)) v)
-
-  pub pair-at : (c i : ℕ) → T (isKind o classKind c) → i < pairCount o (dictionaryWord o c) → PairFacts o (dictionaryWord o c) i
-  pair-at c i t l = class-at c t .pairs i l
+-- rule 6 at a pair
+pub pair-at : (e : ℕ) (o : Objects) → T (rule6 e o) → (c i : ℕ) → T (isKind o classKind c) → i < pairCount o (dictionaryWord o c) → PairFacts o (dictionaryWord o c) i
+pair-at e o r c i t l = class-at e o r c t .pairs i l
 
 -- right dictionaries at one pair
 module _ (o : Objects) (t : T (holders o)) (c i : ℕ) (k : T (isKind o classKind c)) (l : i < pairCount o (dictionaryWord o c)) where
@@ -61,7 +51,7 @@ module _ (o : Objects) (t : T (holders o)) (c i : ℕ) (k : T (isKind o classKin
   pub holder-count : T (takesCount o (pairSelector o (dictionaryWord o c) i) (argumentCount o (pairMethod o (dictionaryWord o c) i)))
   holder-count = and-right (eqb (home o (pairMethod o (dictionaryWord o c) i)) c) (takesCount o (pairSelector o (dictionaryWord o c) i) (argumentCount o (pairMethod o (dictionaryWord o c) i))) at-pair
 
-module _ (o : Objects) (six : T (rule6 1 o)) (counts : List ℕ) (k i : ℕ) (so-far : Counting o counts k i) where
+module _ (e : ℕ) {o : Objects} (six : T (rule6 e o)) {counts : List ℕ} {k i : ℕ} (so-far : Counting o counts k i) where
   -- one more pair: of class c, object k
   module _ (c : ℕ) (isC : T (isKind o classKind c)) (here : objectNumber c ≡ k) (l : i < pairCount o (dictionaryWord o c)) (long : o .n < length counts) where
     abbrev s : ℕ
@@ -71,7 +61,7 @@ module _ (o : Objects) (six : T (rule6 1 o)) (counts : List ℕ) (k i : ℕ) (so
     m = pairMethod o (dictionaryWord o c) i
 
     selector-named : Named o bytesKind s
-    selector-named = named o bytesKind s (pair-at o six c i isC l .selector)
+    selector-named = named o bytesKind s (pair-at e o six c i isC l .selector)
 
     -- another home
     pub wrong-home : home o m ≢ c → Turned o k (i + 1) counts false

@@ -1,7 +1,6 @@
 pub mod PassLaws
 pub mod CountLaws
-pub mod HeaderLaws
+pub mod ShapeLaws
 pub mod HolderLaws
 pub mod AskedLaws
-pub mod ShapeLaws
 pub mod SendLaws

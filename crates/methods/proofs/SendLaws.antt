@@ -14,7 +14,7 @@ use Rattle.model.specs.Limits.{bytesKind}
 use Rattle.model.specs.Objects.{Objects, objectsAt, isKind, isNilOr}
 use Rattle.model.specs.Rules.{sendFine, takesCount}
 use Rattle.model.proofs.ChainLaws.{named}
-use Rattle.methods.specs.Named.{SendAsked}
+use Rattle.methods.specs.Asked.{SendAsked}
 use Rattle.methods.proofs.CountLaws.{takes-by-counts}
 
 module _ (n b : ℕ) (contents bodies counts : List ℕ) (p : SendAsked n b contents bodies counts) (s : ℕ) where
@@ -29,7 +29,7 @@ module _ (n b : ℕ) (contents bodies counts : List ℕ) (p : SendAsked n b cont
   place t = go (or-cases (eqb s nilWord) (isKind o bytesKind s) t)
     where
       go : T (eqb s nilWord) ⊎ T (isKind o bytesKind s) → Place
-      go (inl x) = let e = eqb→eq s nilWord x in let l = p .lent .least in record { even = omega arith; most = omega arith }
+      go (inl x) = let e = eqb→eq s nilWord x in let l = p .least in record { even = omega arith; most = omega arith }
       go (inr x) = let h = named o bytesKind s x in record { even = h .even; most = h .most }
 
   pub no-selector : (a : ℕ) → isNilOr o bytesKind s ≡ false → false ≡ sendFine o s a

@@ -1,3 +1,3 @@
 pub mod Passes
 pub mod Counts
-pub mod Named
+pub mod Asked

@@ -21,9 +21,10 @@ use Rattle.model.specs.Lookup.{found, findFrom, findIn, lookupWithin, lookup, i
 use Rattle.model.specs.Rules.{Right}
 use Rattle.model.proofs.Facts.{nil-no-class, class-facts}
 use Rattle.model.proofs.Unchanged.{find-hit, find-miss, class-hit, class-miss, no-class, chain-class, chain-none}
+use Rattle.readers.proofs.Bodies.{word-at}
+use Rattle.readers.proofs.InsideLaws.{word-inside}
 use Rattle.objects.specs.Lent.{Holds}
-use Rattle.objects.proofs.Buffers.{bodies-room, word-at}
-use Rattle.objects.proofs.Bodies.{room, list-inside}
+use Rattle.objects.proofs.Bodies.{holds-laid}
 
 left-one : (count i : ℕ) → i < count → count - i ≡ suc (count - (i + 1))
 left-one count i h = omega arith
@@ -47,13 +48,13 @@ module _ (o : Objects) (d s : ℕ) where
   find-skip count (suc i) h f =
       ap (λ (k : ℕ). findFrom o d s k (count - k)) (sym (add-one i)) ∙ find-next count i (omega arith) (f i (omega arith)) ∙ find-skip count i (omega arith) (λ k l. f k (omega arith))
 
-module _ {n b : ℕ} {contents bodies : List ℕ} {d : ℕ} (h : Holds listKind n b contents bodies d) (s from count : ℕ) (p : from ≡ start (objectsAt n b contents bodies) (objectNumber d))
+module _ {n b : ℕ} {contents bodies : List ℕ} {d : ℕ} (h : Holds listKind n b contents bodies d) (s : ℕ) {from count : ℕ} (p : from ≡ start (objectsAt n b contents bodies) (objectNumber d))
     (q : count ≡ size (objectsAt n b contents bodies) (objectNumber d) / 2) where
   pair-room : (k : ℕ) → k < count → from + 2 * k + 1 < b
-  pair-room k l = let r = room (list-inside (2 * k + 1) (omega arith) h) .below in omega arith
+  pair-room k l = let r = word-inside (holds-laid h) listKind {i = 2 * k + 1} tt (h .kinds) (omega arith) .below in omega arith
 
   pub pair-fits : (k : ℕ) → k < count → from + 2 * k + 1 < length bodies
-  pair-fits k l = let r = pair-room k l in let s = bodies-room n b contents bodies (h .right .1) in omega arith
+  pair-fits k l = let r = pair-room k l in let s = holds-laid h .words in omega arith
 
   selector-at : (k : ℕ) → k < count → getD bodies (from + 2 * k) 0 ≡ pairSelector (objectsAt n b contents bodies) d k
   selector-at k l = let r = pair-room k l in word-at n b contents bodies (objectNumber d) (2 * k) (from + 2 * k) (omega arith) (omega arith)

@@ -1,5 +1,5 @@
-// What the interpreter asks of contents and bodies. n and b say how many objects and body words stand there; the definitions are
-// model's specs/, over the objects in the two buffers.
+// What the interpreter asks of contents and bodies whose objects are right, and what it writes there. n and b say how many objects and body
+// words stand there; the definitions are model's specs/, over the objects in the two buffers.
 ghost use mathlib.Core.Path.{_≡_};
 ghost use mathlib.Core.List.{List};
 ghost use Prim.Native.Nat.{ℕ, _+_, _-_, _*_, _/_, _<_, _≤_};
@@ -7,13 +7,14 @@ ghost use lib.Dec.{T};
 ghost use lib.ListN.{length, take, drop};
 ghost use Rattle.bytecode.specs.Code.{byteAt};
 ghost use Rattle.model.specs.Limits.{entryWords, classKind, listKind, methodKind, primitiveFlag};
-ghost use Rattle.model.specs.Word.{isPointer, isValid, objectNumber};
-ghost use Rattle.model.specs.Objects.{objectsAt, classOf, isKind, isNilOr, kind, start, size, bodyWord, superclassWord, dictionaryWord, fieldCount, form, entriesAt, atFront};
+ghost use Rattle.model.specs.Word.{isValid, objectNumber};
+ghost use Rattle.model.specs.Objects.{objectsAt, classOf, isNilOr, superclassWord, dictionaryWord, fieldCount, form, atFront};
 ghost use Rattle.model.specs.Method.{header, home, literal, flag, literalCount, extension, primitiveNumber, argumentCount};
 ghost use Rattle.model.specs.Lookup.{findIn, lookup, inChain};
 ghost use Rattle.model.specs.Rules.{IsRight};
 ghost use Rattle.model.specs.Primitive.{storeWord, objectByte, storeByte};
-ghost use Rattle.objects.specs.Lent.{Listed, Inside, Holds, CodeAt, flagOf, temporariesOf, literalsOf, frameOf};
+ghost use Rattle.readers.specs.Places.{Inside};
+ghost use Rattle.objects.specs.Lent.{Holds, CodeAt};
 use model::Found;
 use model::Pointer;
 
@@ -24,87 +25,16 @@ pub struct Code {
     pub size: usize,
 }
 
-pub fn is_pointer(n: usize, w: u16) -> bool
-    ensures { λ r. ⌜ r ≡ isPointer n w ⌝ }
-{
-    if w % 2 != 0 {
-        return false;
-    }
-    let k = w as usize / 2;
-    if k < 1 {
-        return false;
-    }
-    k <= n
-}
-
-pub fn is_valid(n: usize, w: u16) -> bool
-    ensures { λ r. ⌜ r ≡ isValid n w ⌝ }
-{
-    if w % 2 == 1 {
-        return true;
-    }
-    is_pointer(n, w)
-}
-
-// An object's entry: kind, start and size.
-pub fn kind_of(contents: &[u16], n: usize, p: Pointer) -> usize
-    requires { ⌜ Listed n (now contents) (p .0) ⌝ }
-    ensures { λ r. ⌜ r ≡ kind (entriesAt n (now (contents .entry))) (objectNumber (p .0)) ⌝ }
-{
-    let k = p.0 as usize / 2;
-    let at = 4 * (k - 1) + 1;
-    contents[at] as usize
-}
-
-pub fn start_of(contents: &[u16], n: usize, p: Pointer) -> usize
-    requires { ⌜ Listed n (now contents) (p .0) ⌝ }
-    ensures { λ r. ⌜ r ≡ start (entriesAt n (now (contents .entry))) (objectNumber (p .0)) ⌝ }
-{
-    let k = p.0 as usize / 2;
-    let at = 4 * (k - 1) + 2;
-    contents[at] as usize
-}
-
-pub fn size_of(contents: &[u16], n: usize, p: Pointer) -> usize
-    requires { ⌜ Listed n (now contents) (p .0) ⌝ }
-    ensures { λ r. ⌜ r ≡ size (entriesAt n (now (contents .entry))) (objectNumber (p .0)) ⌝ }
-{
-    let k = p.0 as usize / 2;
-    let at = 4 * (k - 1) + 3;
-    contents[at] as usize
-}
-
 // The class of a valid word. No body is read, so it is the same whatever the bodies hold.
 pub fn class_of(contents: &[u16], n: usize, w: u16) -> Pointer
     requires { ⌜ T (isValid n w) × (entryWords * n ≤ length (now contents)) ⌝ }
     ensures { λ r. ⌜ ((b : ℕ) (bodies : List ℕ) → r .0 ≡ classOf (objectsAt n b (now (contents .entry)) bodies) w) ⌝ }
 {
     if w % 2 == 1 {
-        return Pointer(8);
+        return Pointer(readers::INTEGER_CLASS);
     }
     let k = w as usize / 2;
-    let at = 4 * (k - 1);
-    Pointer(contents[at])
-}
-
-// Whether a word names an object of this kind.
-pub fn is_kind(contents: &[u16], n: usize, k: u16, w: u16) -> bool
-    requires { ⌜ entryWords * n ≤ length (now contents) ⌝ }
-    ensures { λ r. ⌜ ((b : ℕ) (bodies : List ℕ) → r ≡ isKind (objectsAt n b (now (contents .entry)) bodies) k w) ⌝ }
-{
-    if !is_pointer(n, w) {
-        return false;
-    }
-    kind_of(contents, n, Pointer(w)) == k as usize
-}
-
-// Word i of an object's body.
-pub fn word_of(contents: &[u16], bodies: &[u16], n: usize, b: usize, p: Pointer, i: usize) -> u16
-    requires { ⌜ Inside n b (now contents) (now bodies) (p .0) i ⌝ }
-    ensures { λ r. ⌜ r ≡ bodyWord (objectsAt n b (now (contents .entry)) (now (bodies .entry))) (objectNumber (p .0)) i ⌝ }
-{
-    let at = start_of(contents, n, p) + i;
-    bodies[at]
+    Pointer(readers::class_word(contents, n, k))
 }
 
 // The one function that writes a word of an object that stands.
@@ -120,7 +50,8 @@ pub fn store_word(
     requires { ⌜ Inside n b (now contents) (now bodies) (p .0) i ⌝ }
     ensures { λ _. ⌜ now (bodies .exit) ≡ atFront (storeWord (objectsAt n b (now (contents .entry)) (now (bodies .entry))) (objectNumber (p .0)) i w .bodies) (now (bodies .entry)) ⌝ }
 {
-    let to = start_of(contents, n, p) + i;
+    let k = p.0 as usize / 2;
+    let to = readers::start(contents, n, k) as usize + i;
     bodies[to] = w;
 }
 
@@ -129,7 +60,7 @@ pub fn byte_of(contents: &[u16], bodies: &[u16], n: usize, b: usize, p: Pointer,
     requires { ⌜ Inside n b (now contents) (now bodies) (p .0) (i / 2) ⌝ }
     ensures { λ r. ⌜ r ≡ objectByte (objectsAt n b (now (contents .entry)) (now (bodies .entry))) (objectNumber (p .0)) i ⌝ }
 {
-    let w = word_of(contents, bodies, n, b, p, i / 2);
+    let w = readers::word_of(contents, bodies, n, b, p, i / 2);
     if i % 2 == 0 {
         return (w / 256) as u8;
     }
@@ -148,7 +79,7 @@ pub fn store_byte(
     requires { ⌜ Inside n b (now contents) (now bodies) (p .0) (i / 2) ⌝ }
     ensures { λ _. ⌜ now (bodies .exit) ≡ atFront (storeByte (objectsAt n b (now (contents .entry)) (now (bodies .entry))) (objectNumber (p .0)) i v .bodies) (now (bodies .entry)) ⌝ }
 {
-    let w = word_of(contents, bodies, n, b, p, i / 2);
+    let w = readers::word_of(contents, bodies, n, b, p, i / 2);
     if i % 2 == 0 {
         store_word(contents, bodies, n, b, p, i / 2, v as u16 * 256 + w % 256);
     } else {
@@ -161,77 +92,50 @@ pub fn superclass(contents: &[u16], bodies: &[u16], n: usize, b: usize, c: Point
     requires { ⌜ Holds classKind n b (now contents) (now bodies) (c .0) ⌝ }
     ensures { λ r. ⌜ r .0 ≡ superclassWord (objectsAt n b (now (contents .entry)) (now (bodies .entry))) (c .0) ⌝ }
 {
-    Pointer(word_of(contents, bodies, n, b, c, 0))
+    Pointer(readers::word_of(contents, bodies, n, b, c, readers::SUPERCLASS))
 }
 
 pub fn dictionary(contents: &[u16], bodies: &[u16], n: usize, b: usize, c: Pointer) -> Pointer
     requires { ⌜ Holds classKind n b (now contents) (now bodies) (c .0) ⌝ }
     ensures { λ r. ⌜ r .0 ≡ dictionaryWord (objectsAt n b (now (contents .entry)) (now (bodies .entry))) (c .0) ⌝ }
 {
-    Pointer(word_of(contents, bodies, n, b, c, 1))
+    Pointer(readers::word_of(contents, bodies, n, b, c, readers::DICTIONARY))
 }
 
 pub fn field_count(contents: &[u16], bodies: &[u16], n: usize, b: usize, c: Pointer) -> usize
     requires { ⌜ Holds classKind n b (now contents) (now bodies) (c .0) ⌝ }
     ensures { λ r. ⌜ r ≡ fieldCount (objectsAt n b (now (contents .entry)) (now (bodies .entry))) (c .0) ⌝ }
 {
-    word_of(contents, bodies, n, b, c, 2) as usize / 2
+    readers::word_of(contents, bodies, n, b, c, readers::FIELDS_WORD) as usize / 2
 }
 
 pub fn form_of(contents: &[u16], bodies: &[u16], n: usize, b: usize, c: Pointer) -> usize
     requires { ⌜ Holds classKind n b (now contents) (now bodies) (c .0) ⌝ }
     ensures { λ r. ⌜ r ≡ form (objectsAt n b (now (contents .entry)) (now (bodies .entry))) (c .0) ⌝ }
 {
-    word_of(contents, bodies, n, b, c, 3) as usize / 2
+    readers::word_of(contents, bodies, n, b, c, readers::FORM_WORD) as usize / 2
 }
 
-// A method's header, and what its bits say.
+// The words of a method.
 pub fn header(contents: &[u16], bodies: &[u16], n: usize, b: usize, m: Pointer) -> usize
     requires { ⌜ Holds methodKind n b (now contents) (now bodies) (m .0) ⌝ }
     ensures { λ r. ⌜ r ≡ header (objectsAt n b (now (contents .entry)) (now (bodies .entry))) (m .0) ⌝ }
 {
-    word_of(contents, bodies, n, b, m, 0) as usize
-}
-
-pub fn flag(word: usize) -> usize
-    ensures { λ r. ⌜ r ≡ flagOf word ⌝ }
-{
-    word / 8192 % 8
-}
-
-pub fn temporary_count(word: usize) -> usize
-    ensures { λ r. ⌜ r ≡ temporariesOf word ⌝ }
-{
-    word / 256 % 32
-}
-
-pub fn literal_count(word: usize) -> usize
-    ensures { λ r. ⌜ r ≡ literalsOf word ⌝ }
-{
-    word / 2 % 64
-}
-
-pub fn frame_words(word: usize) -> usize
-    ensures { λ r. ⌜ r ≡ frameOf word ⌝ }
-{
-    if word / 128 % 2 == 1 {
-        return 32;
-    }
-    12
+    readers::word_of(contents, bodies, n, b, m, readers::HEADER) as usize
 }
 
 pub fn home(contents: &[u16], bodies: &[u16], n: usize, b: usize, m: Pointer) -> Pointer
     requires { ⌜ Holds methodKind n b (now contents) (now bodies) (m .0) ⌝ }
     ensures { λ r. ⌜ r .0 ≡ home (objectsAt n b (now (contents .entry)) (now (bodies .entry))) (m .0) ⌝ }
 {
-    Pointer(word_of(contents, bodies, n, b, m, 1))
+    Pointer(readers::word_of(contents, bodies, n, b, m, readers::HOME))
 }
 
 pub fn literal(contents: &[u16], bodies: &[u16], n: usize, b: usize, m: Pointer, i: usize) -> u16
     requires { ⌜ Holds methodKind n b (now contents) (now bodies) (m .0) × (i < literalCount (objectsAt n b (now contents) (now bodies)) (m .0)) ⌝ }
     ensures { λ r. ⌜ r ≡ literal (objectsAt n b (now (contents .entry)) (now (bodies .entry))) (m .0) i ⌝ }
 {
-    word_of(contents, bodies, n, b, m, 2 + i)
+    readers::word_of(contents, bodies, n, b, m, readers::LITERALS + i)
 }
 
 // The extension of a method with flag 7.
@@ -239,7 +143,7 @@ pub fn extension(contents: &[u16], bodies: &[u16], n: usize, b: usize, m: Pointe
     requires { ⌜ Holds methodKind n b (now contents) (now bodies) (m .0) × (flag (objectsAt n b (now contents) (now bodies)) (m .0) ≡ primitiveFlag) ⌝ }
     ensures { λ r. ⌜ r ≡ extension (objectsAt n b (now (contents .entry)) (now (bodies .entry))) (m .0) ⌝ }
 {
-    let count = literal_count(header(contents, bodies, n, b, m));
+    let count = readers::literal_count(header(contents, bodies, n, b, m));
     literal(contents, bodies, n, b, m, count - 2) as usize
 }
 
@@ -254,23 +158,17 @@ pub fn argument_count(contents: &[u16], bodies: &[u16], n: usize, b: usize, m: P
     requires { ⌜ Holds methodKind n b (now contents) (now bodies) (m .0) ⌝ }
     ensures { λ r. ⌜ r ≡ argumentCount (objectsAt n b (now (contents .entry)) (now (bodies .entry))) (m .0) ⌝ }
 {
-    let f = flag(header(contents, bodies, n, b, m));
-    if f <= 4 {
-        return f;
-    }
-    if f == 7 {
-        return extension(contents, bodies, n, b, m) / 512 % 32;
-    }
-    0
+    readers::argument_count(contents, bodies, n, b, m)
 }
 
 pub fn code_of(contents: &[u16], bodies: &[u16], n: usize, b: usize, m: Pointer) -> Code
     requires { ⌜ Holds methodKind n b (now contents) (now bodies) (m .0) ⌝ }
     ensures { λ r. ⌜ CodeAt n b (now (contents .entry)) (now (bodies .entry)) (m .0) r ⌝ }
 {
-    let count = literal_count(header(contents, bodies, n, b, m));
-    let start = start_of(contents, n, m);
-    let size = size_of(contents, n, m);
+    let count = readers::literal_count(header(contents, bodies, n, b, m));
+    let k = m.0 as usize / 2;
+    let start = readers::start(contents, n, k) as usize;
+    let size = readers::size(contents, n, k) as usize;
     Code {
         from: start + 2 + count,
         end: start + (size + 1) / 2,
@@ -291,8 +189,9 @@ pub fn find_in(contents: &[u16], bodies: &[u16], n: usize, b: usize, d: Pointer,
     requires { ⌜ Holds listKind n b (now contents) (now bodies) (d .0) ⌝ }
     ensures { λ r. ⌜ r ≡ findIn (objectsAt n b (now (contents .entry)) (now (bodies .entry))) (d .0) s ⌝ }
 {
-    let from = start_of(contents, n, d);
-    let count = size_of(contents, n, d) / 2;
+    let k = d.0 as usize / 2;
+    let from = readers::start(contents, n, k) as usize;
+    let count = readers::size(contents, n, k) as usize / 2;
     let mut i: usize = 0;
     while i < count {
         let at = from + 2 * i;
@@ -312,7 +211,7 @@ pub fn lookup(contents: &[u16], bodies: &[u16], n: usize, b: usize, s: u16, clas
     let mut c = class;
     let mut left = n;
     while 0 < left {
-        if c.0 == 2 {
+        if c.0 == readers::NIL {
             return Found::Nothing;
         }
         let d = dictionary(contents, bodies, n, b, c);
@@ -343,7 +242,7 @@ pub fn in_chain(
     let mut c = class;
     let mut left = n;
     while 0 < left {
-        if c.0 == 2 {
+        if c.0 == readers::NIL {
             return false;
         }
         if a.0 == c.0 {

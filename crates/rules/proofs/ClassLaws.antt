@@ -19,8 +19,8 @@ use Rattle.model.proofs.Facts.{pointer-of}
 use Rattle.model.proofs.Parts.{or-right}
 use Rattle.model.proofs.Unchanged.{ends-above, ends-nil}
 use Rattle.rules.specs.Shape.{fitsForm, numbersFine, kindsFine, selectorsFine, risesFine, shapeRules, shapeFine, chainFine}
-use Rattle.rules.proofs.Loops.{stop, pass, and-true, up-both}
-use Rattle.rules.proofs.Names.{is-named, names-kind}
+use Rattle.readers.proofs.Loops.{stop, pass, and-true, up-both}
+use Rattle.readers.proofs.Names.{is-named, names-kind}
 
 and-false : (b : Bool) → false ≡ (b && false)
 and-false true = refl
@@ -40,29 +40,29 @@ chain-last true true true true true true false e r₆ r₇ = refl
 chain-last true true true true true true true true r₆ r₇ = sym (and-true (r₆ && (r₇ && true)))
 chain-last true true true true true true true false r₆ r₇ = and-false (r₆ && (r₇ && true))
 
-split-at : (o : Objects) (k : ℕ) → objectFine 1 o k ≡ (shapeFine o k && chainFine o k)
+split-at : (e : ℕ) (o : Objects) (k : ℕ) → objectFine e o k ≡ (shapeFine e o k && chainFine o k)
 unfolding objectFine classRules shapeFine shapeRules chainFine numbersFine risesFine
-split-at o k =
+split-at e o k =
     let c : ℕ = pointer k in
-    chain-last (entryFine 1 o k) (eqb (kind o k) classKind) (isNilOr o classKind (superclassWord o c)) (isKind o listKind (dictionaryWord o c))
-    (isNatural mostFields (fieldsWord o c)) (isNatural (lastForm 1) (formWord o c)) (implies (leb bytesForm (form o c)) (eqb (fieldCount o c) 0))
+    chain-last (entryFine e o k) (eqb (kind o k) classKind) (isNilOr o classKind (superclassWord o c)) (isKind o listKind (dictionaryWord o c))
+    (isNatural mostFields (fieldsWord o c)) (isNatural (lastForm e) (formWord o c)) (implies (leb bytesForm (form o c)) (eqb (fieldCount o c) 0))
     (endsWithin (o .n) o c) (implies (not (eqb (superclassWord o c) nilWord)) (leb (fieldCount o (superclassWord o c)) (fieldCount o c)))
     (dictionaryFine o (dictionaryWord o c))
 
-pub split : (o : Objects) → rule6 1 o ≡ (allOf (knownObjectRules 1 o) && (upTo (o .n) (shapeFine o) && upTo (o .n) (chainFine o)))
+pub split : (e : ℕ) (o : Objects) → rule6 e o ≡ (allOf (knownObjectRules e o) && (upTo (o .n) (shapeFine e o) && upTo (o .n) (chainFine o)))
 unfolding rule6
-split o =
-    ap (λ (x : Bool). allOf (knownObjectRules 1 o) && x)
-    (ap (upTo (o .n)) (fun-ext (split-at o)) ∙ up-both (o .n) (shapeFine o) (chainFine o))
+split e o =
+    ap (λ (x : Bool). allOf (knownObjectRules e o) && x)
+    (ap (upTo (o .n)) (fun-ext (split-at e o)) ∙ up-both (o .n) (shapeFine e o) (chainFine o))
 
-pub no-known : (o : Objects) → allOf (knownObjectRules 1 o) ≡ false → rule6 1 o ≡ false
-no-known o e = split o ∙ stop (allOf (knownObjectRules 1 o)) (upTo (o .n) (shapeFine o) && upTo (o .n) (chainFine o)) e
+pub no-known : (e : ℕ) (o : Objects) → allOf (knownObjectRules e o) ≡ false → rule6 e o ≡ false
+no-known e o t = split e o ∙ stop (allOf (knownObjectRules e o)) (upTo (o .n) (shapeFine e o) && upTo (o .n) (chainFine o)) t
 
-pub no-shape : (o : Objects) → allOf (knownObjectRules 1 o) ≡ true → upTo (o .n) (shapeFine o) ≡ false → rule6 1 o ≡ false
-no-shape o e f = split o ∙ pass (allOf (knownObjectRules 1 o)) (upTo (o .n) (shapeFine o) && upTo (o .n) (chainFine o)) e ∙ stop (upTo (o .n) (shapeFine o)) (upTo (o .n) (chainFine o)) f
+pub no-shape : (e : ℕ) (o : Objects) → allOf (knownObjectRules e o) ≡ true → upTo (o .n) (shapeFine e o) ≡ false → rule6 e o ≡ false
+no-shape e o t f = split e o ∙ pass (allOf (knownObjectRules e o)) (upTo (o .n) (shapeFine e o) && upTo (o .n) (chainFine o)) t ∙ stop (upTo (o .n) (shapeFine e o)) (upTo (o .n) (chainFine o)) f
 
-pub by-chains : (o : Objects) → allOf (knownObjectRules 1 o) ≡ true → upTo (o .n) (shapeFine o) ≡ true → rule6 1 o ≡ upTo (o .n) (chainFine o)
-by-chains o e f = split o ∙ pass (allOf (knownObjectRules 1 o)) (upTo (o .n) (shapeFine o) && upTo (o .n) (chainFine o)) e ∙ pass (upTo (o .n) (shapeFine o)) (upTo (o .n) (chainFine o)) f
+pub by-chains : (e : ℕ) (o : Objects) → allOf (knownObjectRules e o) ≡ true → upTo (o .n) (shapeFine e o) ≡ true → rule6 e o ≡ upTo (o .n) (chainFine o)
+by-chains e o t f = split e o ∙ pass (allOf (knownObjectRules e o)) (upTo (o .n) (shapeFine e o) && upTo (o .n) (chainFine o)) t ∙ pass (upTo (o .n) (shapeFine e o)) (upTo (o .n) (chainFine o)) f
 
 -- the known objects
 known-order : (a b c d f k s e : Bool)
@@ -76,23 +76,23 @@ known-order true true true true true false s e = refl
 known-order true true true true true true false e = refl
 known-order true true true true true true true e = and-true e
 
-known-split : (o : Objects) → allOf (knownObjectRules 1 o) ≡ (kindsFine o && (eqb (form o integerClass) otherForm && selectorsFine o))
+known-split : (e : ℕ) (o : Objects) → allOf (knownObjectRules e o) ≡ (kindsFine o && (eqb (form o integerClass) otherForm && selectorsFine o))
 unfolding knownObjectRules selectorsFine
-known-split o =
+known-split e o =
     known-order (eqb (kind o 1) 0) (eqb (kind o 2) 0) (eqb (kind o 3) 0) (eqb (kind o 4) 2) (eqb (form o integerClass) otherForm)
     (eqb (kind o selectorsObject) listKind) (eqb (size o selectorsObject) specialSelectors) (every (isNilOr o bytesKind) (bodyOf o selectorsObject))
 
-pub no-kinds : (o : Objects) → kindsFine o ≡ false → allOf (knownObjectRules 1 o) ≡ false
-no-kinds o e = known-split o ∙ stop (kindsFine o) (eqb (form o integerClass) otherForm && selectorsFine o) e
+pub no-kinds : (e : ℕ) (o : Objects) → kindsFine o ≡ false → allOf (knownObjectRules e o) ≡ false
+no-kinds e o t = known-split e o ∙ stop (kindsFine o) (eqb (form o integerClass) otherForm && selectorsFine o) t
 
-pub no-form : (o : Objects) → kindsFine o ≡ true → form o integerClass ≢ otherForm → allOf (knownObjectRules 1 o) ≡ false
-no-form o e f =
-    known-split o ∙ pass (kindsFine o) (eqb (form o integerClass) otherForm && selectorsFine o) e
+pub no-form : (e : ℕ) (o : Objects) → kindsFine o ≡ true → form o integerClass ≢ otherForm → allOf (knownObjectRules e o) ≡ false
+no-form e o t f =
+    known-split e o ∙ pass (kindsFine o) (eqb (form o integerClass) otherForm && selectorsFine o) t
     ∙ stop (eqb (form o integerClass) otherForm) (selectorsFine o) (ne-eqb (form o integerClass) otherForm f)
 
-pub by-selectors : (o : Objects) → kindsFine o ≡ true → form o integerClass ≡ otherForm → allOf (knownObjectRules 1 o) ≡ selectorsFine o
-by-selectors o e f =
-    known-split o ∙ pass (kindsFine o) (eqb (form o integerClass) otherForm && selectorsFine o) e
+pub by-selectors : (e : ℕ) (o : Objects) → kindsFine o ≡ true → form o integerClass ≡ otherForm → allOf (knownObjectRules e o) ≡ selectorsFine o
+by-selectors e o t f =
+    known-split e o ∙ pass (kindsFine o) (eqb (form o integerClass) otherForm && selectorsFine o) t
     ∙ pass (eqb (form o integerClass) otherForm) (selectorsFine o) (eq-eqb (form o integerClass) otherForm f)
 
 pub integer-class-kind : (o : Objects) → 5 ≤ o .n → kindsFine o ≡ true → isKind o classKind integerClass ≡ true
@@ -122,36 +122,36 @@ unfolding isKind
 nil-or-entries n b contents bodies k ws = refl
 
 -- an entry
-pub entry-no : (o : Objects) (k : ℕ) → isKind o classKind (classWord o k) ≡ false → entryFine 1 o k ≡ false
+pub entry-no : (e : ℕ) (o : Objects) (k : ℕ) → isKind o classKind (classWord o k) ≡ false → entryFine e o k ≡ false
 unfolding entryFine
-entry-no o k e = rw e
+entry-no e o k t = rw t
 
-pub entry-yes : (o : Objects) (k : ℕ) → isKind o classKind (classWord o k) ≡ true
-    → entryFine 1 o k ≡ fitsForm (form o (classWord o k)) (fieldCount o (classWord o k)) (kind o k) (size o k)
+pub entry-yes : (e : ℕ) (o : Objects) (k : ℕ) → isKind o classKind (classWord o k) ≡ true
+    → entryFine e o k ≡ fitsForm (form o (classWord o k)) (fieldCount o (classWord o k)) (kind o k) (size o k)
 unfolding entryFine fits fitsForm
-entry-yes o k e = rw e
+entry-yes e o k t = rw t
 
 -- F and form
-module _ (f g : ℕ) where
-  pub no-fields-number : isNatural 255 f ≡ false → numbersFine f g ≡ false
+module _ (e f g : ℕ) where
+  pub no-fields-number : isNatural 255 f ≡ false → numbersFine e f g ≡ false
   unfolding numbersFine
-  no-fields-number e = stop (isNatural 255 f) (isNatural 3 g && implies (leb 2 (g / 2)) (eqb (f / 2) 0)) e
+  no-fields-number t = stop (isNatural 255 f) (isNatural 3 g && implies (leb 2 (g / 2)) (eqb (f / 2) 0)) t
 
-  numbers : isNatural 255 f ≡ true → numbersFine f g ≡ (isNatural 3 g && implies (leb 2 (g / 2)) (eqb (f / 2) 0))
+  numbers : isNatural 255 f ≡ true → numbersFine e f g ≡ (isNatural 3 g && implies (leb 2 (g / 2)) (eqb (f / 2) 0))
   unfolding numbersFine
-  numbers e = pass (isNatural 255 f) (isNatural 3 g && implies (leb 2 (g / 2)) (eqb (f / 2) 0)) e
+  numbers t = pass (isNatural 255 f) (isNatural 3 g && implies (leb 2 (g / 2)) (eqb (f / 2) 0)) t
 
-  pub no-form-number : isNatural 255 f ≡ true → isNatural 3 g ≡ false → numbersFine f g ≡ false
-  no-form-number e h = numbers e ∙ stop (isNatural 3 g) (implies (leb 2 (g / 2)) (eqb (f / 2) 0)) h
+  pub no-form-number : isNatural 255 f ≡ true → isNatural 3 g ≡ false → numbersFine e f g ≡ false
+  no-form-number t h = numbers t ∙ stop (isNatural 3 g) (implies (leb 2 (g / 2)) (eqb (f / 2) 0)) h
 
-  both-numbers : isNatural 255 f ≡ true → isNatural 3 g ≡ true → numbersFine f g ≡ implies (leb 2 (g / 2)) (eqb (f / 2) 0)
-  both-numbers e h = numbers e ∙ pass (isNatural 3 g) (implies (leb 2 (g / 2)) (eqb (f / 2) 0)) h
+  both-numbers : isNatural 255 f ≡ true → isNatural 3 g ≡ true → numbersFine e f g ≡ implies (leb 2 (g / 2)) (eqb (f / 2) 0)
+  both-numbers t h = numbers t ∙ pass (isNatural 3 g) (implies (leb 2 (g / 2)) (eqb (f / 2) 0)) h
 
-  pub with-fields : isNatural 255 f ≡ true → isNatural 3 g ≡ true → g / 2 < 2 → numbersFine f g ≡ true
-  with-fields e h l = both-numbers e h ∙ ap (λ (x : Bool). implies x (eqb (f / 2) 0)) (lt-leb 2 (g / 2) l)
+  pub with-fields : isNatural 255 f ≡ true → isNatural 3 g ≡ true → g / 2 < 2 → numbersFine e f g ≡ true
+  with-fields t h l = both-numbers t h ∙ ap (λ (x : Bool). implies x (eqb (f / 2) 0)) (lt-leb 2 (g / 2) l)
 
-  pub without-fields : isNatural 255 f ≡ true → isNatural 3 g ≡ true → 2 ≤ g / 2 → numbersFine f g ≡ eqb (f / 2) 0
-  without-fields e h l = both-numbers e h ∙ ap (λ (x : Bool). implies x (eqb (f / 2) 0)) (le-leb 2 (g / 2) l)
+  pub without-fields : isNatural 255 f ≡ true → isNatural 3 g ≡ true → 2 ≤ g / 2 → numbersFine e f g ≡ eqb (f / 2) 0
+  without-fields t h l = both-numbers t h ∙ ap (λ (x : Bool). implies x (eqb (f / 2) 0)) (le-leb 2 (g / 2) l)
 
 -- the superclass
 pub nil-or-class : (o : Objects) (w : ℕ) → isNilOr o classKind w ≡ true → w ≢ nilWord → isKind o classKind w ≡ true
@@ -194,7 +194,7 @@ unfolding dictionaryFine
 by-pairs o d h = rw (eq-eqb (size o (d / 2) % 2) 0 h)
 
 -- a class
-module _ (o : Objects) (c : ℕ) where
+module _ (e : ℕ) (o : Objects) (c : ℕ) where
   abbrev S : Bool
   S = isNilOr o classKind (superclassWord o c)
 
@@ -202,7 +202,7 @@ module _ (o : Objects) (c : ℕ) where
   D = isKind o listKind (dictionaryWord o c)
 
   abbrev N : Bool
-  N = numbersFine (fieldsWord o c) (formWord o c)
+  N = numbersFine e (fieldsWord o c) (formWord o c)
 
   abbrev R : Bool
   R = risesFine o c
@@ -210,44 +210,44 @@ module _ (o : Objects) (c : ℕ) where
   abbrev L : Bool
   L = dictionaryFine o (dictionaryWord o c)
 
-  pub no-superclass : S ≡ false → allOf (shapeRules o c) ≡ false
+  pub no-superclass : S ≡ false → allOf (shapeRules e o c) ≡ false
   unfolding shapeRules
-  no-superclass e = stop S (D && (N && (R && (L && true)))) e
+  no-superclass t = stop S (D && (N && (R && (L && true)))) t
 
-  after-superclass : S ≡ true → allOf (shapeRules o c) ≡ (D && (N && (R && (L && true))))
+  after-superclass : S ≡ true → allOf (shapeRules e o c) ≡ (D && (N && (R && (L && true))))
   unfolding shapeRules
-  after-superclass e = pass S (D && (N && (R && (L && true)))) e
+  after-superclass t = pass S (D && (N && (R && (L && true)))) t
 
-  pub no-dictionary : S ≡ true → D ≡ false → allOf (shapeRules o c) ≡ false
-  no-dictionary e f = after-superclass e ∙ stop D (N && (R && (L && true))) f
+  pub no-dictionary : S ≡ true → D ≡ false → allOf (shapeRules e o c) ≡ false
+  no-dictionary t f = after-superclass t ∙ stop D (N && (R && (L && true))) f
 
-  after-dictionary : S ≡ true → D ≡ true → allOf (shapeRules o c) ≡ (N && (R && (L && true)))
-  after-dictionary e f = after-superclass e ∙ pass D (N && (R && (L && true))) f
+  after-dictionary : S ≡ true → D ≡ true → allOf (shapeRules e o c) ≡ (N && (R && (L && true)))
+  after-dictionary t f = after-superclass t ∙ pass D (N && (R && (L && true))) f
 
-  pub no-numbers : S ≡ true → D ≡ true → N ≡ false → allOf (shapeRules o c) ≡ false
-  no-numbers e f g = after-dictionary e f ∙ stop N (R && (L && true)) g
+  pub no-numbers : S ≡ true → D ≡ true → N ≡ false → allOf (shapeRules e o c) ≡ false
+  no-numbers t f g = after-dictionary t f ∙ stop N (R && (L && true)) g
 
-  after-numbers : S ≡ true → D ≡ true → N ≡ true → allOf (shapeRules o c) ≡ (R && (L && true))
-  after-numbers e f g = after-dictionary e f ∙ pass N (R && (L && true)) g
+  after-numbers : S ≡ true → D ≡ true → N ≡ true → allOf (shapeRules e o c) ≡ (R && (L && true))
+  after-numbers t f g = after-dictionary t f ∙ pass N (R && (L && true)) g
 
-  pub no-rise : S ≡ true → D ≡ true → N ≡ true → R ≡ false → allOf (shapeRules o c) ≡ false
-  no-rise e f g h = after-numbers e f g ∙ stop R (L && true) h
+  pub no-rise : S ≡ true → D ≡ true → N ≡ true → R ≡ false → allOf (shapeRules e o c) ≡ false
+  no-rise t f g h = after-numbers t f g ∙ stop R (L && true) h
 
-  pub by-dictionary : S ≡ true → D ≡ true → N ≡ true → R ≡ true → allOf (shapeRules o c) ≡ L
-  by-dictionary e f g h = after-numbers e f g ∙ pass R (L && true) h ∙ and-true L
+  pub by-dictionary : S ≡ true → D ≡ true → N ≡ true → R ≡ true → allOf (shapeRules e o c) ≡ L
+  by-dictionary t f g h = after-numbers t f g ∙ pass R (L && true) h ∙ and-true L
 
 -- an object
-pub shape-no : (o : Objects) (k : ℕ) → entryFine 1 o k ≡ false → shapeFine o k ≡ false
+pub shape-no : (e : ℕ) (o : Objects) (k : ℕ) → entryFine e o k ≡ false → shapeFine e o k ≡ false
 unfolding shapeFine
-shape-no o k e = rw e
+shape-no e o k t = rw t
 
-pub shape-other : (o : Objects) (k : ℕ) → entryFine 1 o k ≡ true → kind o k ≢ classKind → shapeFine o k ≡ true
+pub shape-other : (e : ℕ) (o : Objects) (k : ℕ) → entryFine e o k ≡ true → kind o k ≢ classKind → shapeFine e o k ≡ true
 unfolding shapeFine
-shape-other o k e h = rw (e, ne-eqb (kind o k) classKind h)
+shape-other e o k t h = rw (t, ne-eqb (kind o k) classKind h)
 
-pub shape-class : (o : Objects) (k : ℕ) → entryFine 1 o k ≡ true → kind o k ≡ classKind → shapeFine o k ≡ allOf (shapeRules o (pointer k))
+pub shape-class : (e : ℕ) (o : Objects) (k : ℕ) → entryFine e o k ≡ true → kind o k ≡ classKind → shapeFine e o k ≡ allOf (shapeRules e o (pointer k))
 unfolding shapeFine
-shape-class o k e h = rw (e, eq-eqb (kind o k) classKind h)
+shape-class e o k t h = rw (t, eq-eqb (kind o k) classKind h)
 
 pub chain-other : (o : Objects) (k : ℕ) → kind o k ≢ classKind → chainFine o k ≡ true
 unfolding chainFine
@@ -258,14 +258,14 @@ unfolding chainFine
 chain-of-class o k h = rw (eq-eqb (kind o k) classKind h)
 
 -- Once the shapes are right, a chain leads from class to class.
-pub above-class : (o : Objects) → upTo (o .n) (shapeFine o) ≡ true → (c : ℕ) → isKind o classKind c ≡ true → isNilOr o classKind (superclassWord o c) ≡ true
+pub above-class : (e : ℕ) (o : Objects) → upTo (o .n) (shapeFine e o) ≡ true → (c : ℕ) → isKind o classKind c ≡ true → isNilOr o classKind (superclassWord o c) ≡ true
 unfolding shapeFine shapeRules
-above-class o e c q =
+above-class e o f c q =
     let h = is-named o classKind c q in
-    let t = and-right (entryFine 1 o (c / 2)) (implies (eqb (kind o (c / 2)) classKind) (allOf (shapeRules o (pointer (c / 2)))))
-    (upTo-at (o .n) (shapeFine o) (true→T e) (c / 2) (h .least) (h .most)) in
-    let s = implied (eqb (kind o (c / 2)) classKind) (allOf (shapeRules o (pointer (c / 2)))) t (true→T (eq-eqb (kind o (c / 2)) classKind (h .kinds))) in
-    T→true (isNilOr o classKind (superclassWord o c)) (subst (λ (x : ℕ). T (isNilOr o classKind (superclassWord o x))) (pointer-of c (h .even)) (rule (shapeRules o (pointer (c / 2))) s 0))
+    let t = and-right (entryFine e o (c / 2)) (implies (eqb (kind o (c / 2)) classKind) (allOf (shapeRules e o (pointer (c / 2)))))
+    (upTo-at (o .n) (shapeFine e o) (true→T f) (c / 2) (h .least) (h .most)) in
+    let s = implied (eqb (kind o (c / 2)) classKind) (allOf (shapeRules e o (pointer (c / 2)))) t (true→T (eq-eqb (kind o (c / 2)) classKind (h .kinds))) in
+    T→true (isNilOr o classKind (superclassWord o c)) (subst (λ (x : ℕ). T (isNilOr o classKind (superclassWord o x))) (pointer-of c (h .even)) (rule (shapeRules e o (pointer (c / 2))) s 0))
 
 -- a turn along a chain
 pub chain-ends : (o : Objects) (left c : ℕ) → c ≡ nilWord → endsWithin left o c ≡ true

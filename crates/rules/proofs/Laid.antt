@@ -7,19 +7,17 @@ use mathlib.Core.List.{List}
 use native.Mathlib.Omega.{arith}
 use borrow.Author.Tests.{eq-eqb, ne-eqb}
 use lib.Dec.{eqb, eqb→eq}
-use lib.ListN.{length, getD, take}
-use lib.Seq.{length-take-le, getD-take}
+use lib.ListN.{getD}
 use Rattle.bytecode.specs.Test.{if_then_else_, upTo, every, allOf}
 use Rattle.bytecode.proofs.Choice.{if-yes, if-no}
 use Rattle.bytecode.proofs.TestLaws.{true→T, and-left, and-right, upTo-at}
-use Rattle.model.specs.Limits.{classKind, classWords}
 use Rattle.model.specs.Word.{isValid}
-use Rattle.model.specs.Objects.{Objects, objectsAt, classWord, kind, start, size, sizedInBytes, bodyWords, bodyEnd, bodyOf, part}
+use Rattle.model.specs.Objects.{Objects, objectsAt, classWord, kind, start, size, sizedInBytes, bodyWords, bodyEnd, bodyOf}
 use Rattle.model.specs.Rules.{startFine, paddingFine, layoutRules, wordsFine, rule4}
-use Rattle.model.proofs.Parts.{part-same}
-use Rattle.model.proofs.Facts.{Layout, layout-facts, in-words, in-bytes}
-use Rattle.rules.specs.Lent.{startOf}
-use Rattle.rules.proofs.Loops.{UpBefore, up-all, up-no}
+use Rattle.model.proofs.Facts.{Layout, layout-facts, in-bytes}
+use Rattle.readers.specs.Places.{Laid}
+use Rattle.rules.specs.Lent.{Lent, startOf}
+use Rattle.readers.proofs.Loops.{UpBefore, up-all, up-no}
 
 -- where a body has to start
 pub start-fine : (o : Objects) (k : ℕ) → startFine o k ≡ eqb (start o k) (startOf o k)
@@ -47,14 +45,6 @@ start-yes o k e = start-fine o k ∙ eq-eqb (start o k) (startOf o k) e
 pub start-no : (o : Objects) (k : ℕ) → start o k ≢ startOf o k → startFine o k ≡ false
 start-no o k e = start-fine o k ∙ ne-eqb (start o k) (startOf o k) e
 
--- the words of a body by its kind
-pub body-bytes : (o : Objects) (k s : ℕ) → s ≡ size o k → sizedInBytes (kind o k) ≡ true → s / 2 + s % 2 ≡ bodyWords o k
-body-bytes o k s e t = let q = in-bytes o k (true→T t) in omega arith
-
-pub body-plain : (o : Objects) (k : ℕ) → sizedInBytes (kind o k) ≡ false → bodyWords o k ≡ size o k
-unfolding bodyWords
-body-plain o k t = if-no _ _ t
-
 -- padding
 pub padding-none : (o : Objects) (k : ℕ) → sizedInBytes (kind o k) ≡ false → paddingFine o k ≡ true
 unfolding paddingFine
@@ -73,35 +63,35 @@ padding-odd o k t h = rw (t, eq-eqb (size o k % 2) 1 h) (ap (λ (i : ℕ). eqb (
     last = let q = in-bytes o k (true→T t) in omega arith
 
 -- the whole rule, from each object
-pub laid-no : (o : Objects) (k : ℕ) → 1 ≤ k → k ≤ o .n → allOf (layoutRules 1 o k) ≡ false → rule4 1 o ≡ false
+pub laid-no : (e : ℕ) (o : Objects) (k : ℕ) → 1 ≤ k → k ≤ o .n → allOf (layoutRules e o k) ≡ false → rule4 e o ≡ false
 unfolding rule4
-laid-no o k h g e = rw (up-no (o .n) (λ k. allOf (layoutRules 1 o k)) k h g e)
+laid-no e o k h g t = rw (up-no (o .n) (λ k. allOf (layoutRules e o k)) k h g t)
 
-pub laid-all : (o : Objects) (k from : ℕ) → 1 ≤ o .n → k ≡ o .n + 1 → from ≡ startOf o k → UpBefore (λ k. allOf (layoutRules 1 o k)) k → eqb from (o .b) ≡ rule4 1 o
+pub laid-all : (e : ℕ) (o : Objects) (k from : ℕ) → 1 ≤ o .n → k ≡ o .n + 1 → from ≡ startOf o k → UpBefore (λ k. allOf (layoutRules e o k)) k → eqb from (o .b) ≡ rule4 e o
 unfolding rule4
-laid-all o k from h e s f =
-    rw (up-all (o .n) k (λ k. allOf (layoutRules 1 o k)) (omega arith) f)
-    (ap (λ (x : ℕ). eqb x (o .b)) (s ∙ ap (startOf o) e ∙ start-next o (o .n) h))
+laid-all e o k from h t s f =
+    rw (up-all (o .n) k (λ k. allOf (layoutRules e o k)) (omega arith) f)
+    (ap (λ (x : ℕ). eqb x (o .b)) (s ∙ ap (startOf o) t ∙ start-next o (o .n) h))
 
-module _ (o : Objects) (laid : rule4 1 o ≡ true) where
+module _ (e : ℕ) (o : Objects) (laid : rule4 e o ≡ true) where
   pub layout-at : (k : ℕ) → 1 ≤ k → k ≤ o .n → Layout o k
   unfolding rule4
   layout-at k h g =
-      layout-facts 1 o k (upTo-at (o .n) (λ k. allOf (layoutRules 1 o k)) (and-left (upTo (o .n) (λ k. allOf (layoutRules 1 o k))) (eqb (bodyEnd o (o .n)) (o .b)) (true→T laid)) k h g)
+      layout-facts e o k (upTo-at (o .n) (λ k. allOf (layoutRules e o k)) (and-left (upTo (o .n) (λ k. allOf (layoutRules e o k))) (eqb (bodyEnd o (o .n)) (o .b)) (true→T laid)) k h g)
 
   last-at : start o (o .n) + bodyWords o (o .n) ≡ o .b
   unfolding rule4
-  last-at = eqb→eq (bodyEnd o (o .n)) (o .b) (and-right (upTo (o .n) (λ k. allOf (layoutRules 1 o k))) (eqb (bodyEnd o (o .n)) (o .b)) (true→T laid))
+  last-at = eqb→eq (bodyEnd o (o .n)) (o .b) (and-right (upTo (o .n) (λ k. allOf (layoutRules e o k))) (eqb (bodyEnd o (o .n)) (o .b)) (true→T laid))
 
   -- from the last object downwards
   inside-by : (d k : ℕ) → 1 ≤ k → k + d ≡ o .n → start o k + bodyWords o k ≤ o .b
-  inside-by zero k h e = subst (λ (x : ℕ). start o x + bodyWords o x ≤ o .b) (sym same) (omega (arith, last-at))
+  inside-by zero k h q = subst (λ (x : ℕ). start o x + bodyWords o x ≤ o .b) (sym same) (omega (arith, last-at))
     where
       same : k ≡ o .n
       same = omega arith
-  inside-by (suc d) k h e =
+  inside-by (suc d) k h q =
       let a : start o (k + 1) + bodyWords o (k + 1) ≤ o .b = inside-by d (k + 1) (omega arith) (omega arith) in
-      let l : start o (k + 1) ≡ start o (k + 1 - 1) + bodyWords o (k + 1 - 1) = layout-at (k + 1) (omega arith) (omega arith) .next (λ q. omega arith) in
+      let l : start o (k + 1) ≡ start o (k + 1 - 1) + bodyWords o (k + 1 - 1) = layout-at (k + 1) (omega arith) (omega arith) .next (λ x. omega arith) in
       let s : start o (k + 1 - 1) + bodyWords o (k + 1 - 1) ≡ start o k + bodyWords o k = ap (bodyEnd o) (before k) in
       omega arith
     where
@@ -111,18 +101,19 @@ module _ (o : Objects) (laid : rule4 1 o ≡ true) where
   pub inside-at : (k : ℕ) → 1 ≤ k → k ≤ o .n → start o k + bodyWords o k ≤ o .b
   inside-at k h g = inside-by (o .n - k) k h (omega arith)
 
-  pub class-size-at : (k : ℕ) → 1 ≤ k → k ≤ o .n → kind o k ≡ classKind → bodyWords o k ≡ classWords
-  class-size-at k h g e = in-words o k (λ q. omega arith) (λ q. omega arith) ∙ layout-at k h g .four e
-
--- a body inside the b words is the same part of the longer buffer
-pub body-part : (n b : ℕ) (contents bodies : List ℕ) (k : ℕ) → b ≤ length bodies → bodyEnd (objectsAt n b contents bodies) k ≤ b
-    → bodyOf (objectsAt n b contents bodies) k ≡ part bodies (start (objectsAt n b contents bodies) k) (bodyWords (objectsAt n b contents bodies) k)
-unfolding bodyOf
-body-part n b contents bodies k h g =
+-- what the layout gives a reader
+pub layout-laid : (e n b : ℕ) (contents bodies : List ℕ) → Lent e n b contents bodies → rule4 e (objectsAt n b contents bodies) ≡ true → Laid n b contents bodies
+layout-laid e n b contents bodies l t =
     let o : Objects = objectsAt n b contents bodies in
-    let l : length (take b bodies) ≡ b = length-take-le b bodies h in
-    part-same bodies (take b bodies) (start o k) (bodyWords o k) (omega arith) (omega arith)
-    (λ i q. getD-take b bodies (start o k + i) 0 (omega arith))
+    record {
+      entries = l .entries;
+      words = l .words;
+      known = l .least;
+      most = l .most;
+      most-words = l .most-words;
+      inside = inside-at e o t;
+      four = λ k h g. layout-at e o t k h g .four;
+    }
 
 -- Rule 5 of an object
 pub words-no : (o : Objects) (k : ℕ) → isValid (o .n) (classWord o k) ≡ false → false ≡ wordsFine o k

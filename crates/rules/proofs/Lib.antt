@@ -1,5 +1,3 @@
-pub mod Loops
 pub mod Laid
-pub mod Names
 pub mod ClassLaws
 pub mod RuleFacts

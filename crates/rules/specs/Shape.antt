@@ -1,7 +1,8 @@
 -- Rule 6 in the order in which it is tested: first all of it but that superclass chains end, object by object; then the chains, which by
 -- then lead from class to class.
 use Prim.Native.Nat.{ℕ, _/_}
-use mathlib.Core.Bool.{Bool, false, _&&_, not}
+use mathlib.Core.Path.{_≡_}
+use mathlib.Core.Bool.{Bool, true, false, _&&_, not}
 use mathlib.Core.List.{List, [], _∷_}
 use lib.Dec.{leb, eqb}
 use Rattle.bytecode.specs.Test.{if_then_else_, implies, every, allOf}
@@ -22,25 +23,25 @@ fitsForm form fields kind size =
     false
 
 -- F and form of a class, given by their words
-unfoldable pub numbersFine : ℕ → ℕ → Bool
-numbersFine fields form =
-    isNatural mostFields fields && (isNatural (lastForm 1) form && implies (leb bytesForm (form / 2)) (eqb (fields / 2) 0))
+unfoldable pub numbersFine : ℕ → ℕ → ℕ → Bool
+numbersFine e fields form =
+    isNatural mostFields fields && (isNatural (lastForm e) form && implies (leb bytesForm (form / 2)) (eqb (fields / 2) 0))
 
 -- F is not below the superclass's
 unfoldable pub risesFine : Objects → ℕ → Bool
 risesFine o c = implies (not (eqb (superclassWord o c) nilWord)) (leb (fieldCount o (superclassWord o c)) (fieldCount o c))
 
-unfoldable pub shapeRules : Objects → ℕ → List Bool
-shapeRules o c =
+unfoldable pub shapeRules : ℕ → Objects → ℕ → List Bool
+shapeRules e o c =
     isNilOr o classKind (superclassWord o c) ∷
     isKind o listKind (dictionaryWord o c) ∷
-    numbersFine (fieldsWord o c) (formWord o c) ∷
+    numbersFine e (fieldsWord o c) (formWord o c) ∷
     risesFine o c ∷
     dictionaryFine o (dictionaryWord o c) ∷
     []
 
-unfoldable pub shapeFine : Objects → ℕ → Bool
-shapeFine o k = entryFine 1 o k && implies (eqb (kind o k) classKind) (allOf (shapeRules o (pointer k)))
+unfoldable pub shapeFine : ℕ → Objects → ℕ → Bool
+shapeFine e o k = entryFine e o k && implies (eqb (kind o k) classKind) (allOf (shapeRules e o (pointer k)))
 
 unfoldable pub chainFine : Objects → ℕ → Bool
 chainFine o k = implies (eqb (kind o k) classKind) (endsWithin (o .n) o (pointer k))
@@ -55,3 +56,7 @@ unfoldable pub selectorsFine : Objects → Bool
 selectorsFine o =
     eqb (kind o selectorsObject) listKind
     && (eqb (size o selectorsObject) specialSelectors && every (isNilOr o bytesKind) (bodyOf o selectorsObject))
+
+-- chains lead from class to class
+abbrev pub Closed : Objects → Type 0
+Closed o = (c : ℕ) → isKind o classKind c ≡ true → isNilOr o classKind (superclassWord o c) ≡ true

@@ -10,95 +10,50 @@ ghost use Rattle.model.specs.Word.{isNatural};
 ghost use Rattle.model.specs.Objects.{objectsAt, isKind, isNilOr, superclassWord, pairCount, pairSelector, entriesAt};
 ghost use Rattle.model.specs.Lookup.{endsWithin};
 ghost use Rattle.model.specs.Rules.{entryFine, pairFine, dictionaryFine, knownObjectRules};
-ghost use Rattle.rules.specs.Lent.{Laid};
-ghost use Rattle.rules.specs.Shape.{fitsForm, numbersFine, kindsFine, selectorsFine, risesFine, shapeRules, shapeFine, chainFine};
-use super::BYTES;
-use super::CLASS;
-use super::FIELDS;
-use super::LIST;
-use super::METHOD;
-use super::NIL;
-use super::class_body::dictionary;
-use super::class_body::field_count;
-use super::class_body::fields_word;
-use super::class_body::form;
-use super::class_body::form_word;
-use super::class_body::pair_method;
-use super::class_body::pair_selector;
-use super::class_body::superclass;
-use super::class_word;
-use super::is_kind;
-use super::is_nil_or;
-use super::kind;
-use super::size;
-use super::start;
-
-// Forms of a class's objects: F fields, at least F, bytes, and last the other kinds and integers.
-const FIXED: u16 = 0;
-
-const INDEXED: u16 = 1;
-
-const OF_BYTES: u16 = 2;
-
-const OTHER: u16 = 3;
-
-const MOST_FIELDS: u16 = 255;
-
-// Objects with a fixed number.
-const NIL_OBJECT: usize = 1;
-
-const FALSE_OBJECT: usize = 2;
-
-const TRUE_OBJECT: usize = 3;
-
-const INTEGER_CLASS_OBJECT: usize = 4;
-
-const SELECTORS_OBJECT: usize = 5;
-
-const INTEGER_CLASS: u16 = 8;
-
-const SPECIAL_SELECTORS: u16 = 32;
+ghost use Rattle.readers.specs.Places.{Laid};
+ghost use Rattle.rules.specs.Shape.{fitsForm, numbersFine, kindsFine, selectorsFine, risesFine, shapeRules, shapeFine, chainFine, Closed};
+use model::Pointer;
 
 // Whether an object of this kind and size fits a class of this form and F.
 fn fits_form(form: u16, fields: u16, of: u16, words: u16) -> bool
     ensures { λ r. ⌜ r ≡ fitsForm form fields of words ⌝ }
 {
-    if form == FIXED {
-        if of != FIELDS {
+    if form == readers::FIXED {
+        if of != readers::FIELDS {
             return false;
         }
         return words == fields;
     }
-    if form == INDEXED {
-        if of != FIELDS {
+    if form == readers::INDEXED {
+        if of != readers::FIELDS {
             return false;
         }
         return fields <= words;
     }
-    if form == OF_BYTES {
-        return of == BYTES;
+    if form == readers::OF_BYTES {
+        return of == readers::BYTES;
     }
-    if form == OTHER {
-        if of < CLASS {
+    if form == readers::OTHER {
+        if of < readers::CLASS {
             return false;
         }
-        return of <= METHOD;
+        return of <= readers::METHOD;
     }
     false
 }
 
 // The class of object k is one, and the object fits its form.
-fn entry_fine(contents: &[u16], bodies: &[u16], n: usize, b: usize, k: usize) -> bool
+fn entry_fine(edition: u16, contents: &[u16], bodies: &[u16], n: usize, b: usize, k: usize) -> bool
     requires { ⌜ Laid n b (now contents) (now bodies) × ((1 ≤ k) × (k ≤ n)) ⌝ }
-    ensures { λ r. ⌜ r ≡ entryFine 1 (objectsAt n b (now (contents .entry)) (now (bodies .entry))) k ⌝ }
+    ensures { λ r. ⌜ r ≡ entryFine edition (objectsAt n b (now (contents .entry)) (now (bodies .entry))) k ⌝ }
 {
-    let c = class_word(contents, n, k);
-    if !is_kind(contents, n, CLASS, c) {
+    let c = readers::class_word(contents, n, k);
+    if !readers::is_kind(contents, n, readers::CLASS, c) {
         return false;
     }
-    let shape = form(contents, bodies, n, b, c);
-    let fields = field_count(contents, bodies, n, b, c);
-    fits_form(shape, fields, kind(contents, n, k), size(contents, n, k))
+    let form = readers::word_of(contents, bodies, n, b, Pointer(c), readers::FORM_WORD) / 2;
+    let fields = readers::word_of(contents, bodies, n, b, Pointer(c), readers::FIELDS_WORD) / 2;
+    fits_form(form, fields, readers::kind(contents, n, k), readers::size(contents, n, k))
 }
 
 // An integer from 0 to `most`.
@@ -112,16 +67,16 @@ fn is_natural(most: u16, w: u16) -> bool
 }
 
 // F is at most 255 and the form at most 3; the forms 2 and 3 have F = 0.
-fn numbers_fine(fields: u16, form: u16) -> bool
-    ensures { λ r. ⌜ r ≡ numbersFine fields form ⌝ }
+fn numbers_fine(edition: u16, fields: u16, form: u16) -> bool
+    ensures { λ r. ⌜ r ≡ numbersFine edition fields form ⌝ }
 {
-    if !is_natural(MOST_FIELDS, fields) {
+    if !is_natural(readers::MOST_FIELDS, fields) {
         return false;
     }
-    if !is_natural(OTHER, form) {
+    if !is_natural(readers::edition::last_form(edition), form) {
         return false;
     }
-    if form / 2 < OF_BYTES {
+    if form / 2 < readers::OF_BYTES {
         return true;
     }
     fields / 2 == 0
@@ -132,10 +87,11 @@ fn rises_fine(contents: &[u16], bodies: &[u16], n: usize, b: usize, c: u16, s: u
     requires { ⌜ Laid n b (now contents) (now bodies) × ((isKind (objectsAt n b (now contents) (now bodies)) classKind c ≡ true) × ((s ≡ superclassWord (objectsAt n b (now contents) (now bodies)) c) × (isNilOr (objectsAt n b (now contents) (now bodies)) classKind s ≡ true))) ⌝ }
     ensures { λ r. ⌜ r ≡ risesFine (objectsAt n b (now (contents .entry)) (now (bodies .entry))) c ⌝ }
 {
-    if s == NIL {
+    if s == readers::NIL {
         return true;
     }
-    field_count(contents, bodies, n, b, s) <= field_count(contents, bodies, n, b, c)
+    let least = readers::word_of(contents, bodies, n, b, Pointer(s), readers::FIELDS_WORD) / 2;
+    least <= readers::word_of(contents, bodies, n, b, Pointer(c), readers::FIELDS_WORD) / 2
 }
 
 // The selector of pair i is above the one before it.
@@ -146,7 +102,8 @@ fn selector_rises(contents: &[u16], bodies: &[u16], n: usize, b: usize, d: u16, 
     if i == 0 {
         return true;
     }
-    pair_selector(contents, bodies, n, b, d, i - 1) < pair_selector(contents, bodies, n, b, d, i)
+    let last = readers::word_of(contents, bodies, n, b, Pointer(d), 2 * (i - 1));
+    last < readers::word_of(contents, bodies, n, b, Pointer(d), 2 * i)
 }
 
 // Pair i is a selector and a method, and the selector rises.
@@ -154,20 +111,12 @@ fn pair_fine(contents: &[u16], bodies: &[u16], n: usize, b: usize, d: u16, i: us
     requires { ⌜ Laid n b (now contents) (now bodies) × ((isKind (objectsAt n b (now contents) (now bodies)) listKind d ≡ true) × (i < pairCount (objectsAt n b (now contents) (now bodies)) d)) ⌝ }
     ensures { λ r. ⌜ r ≡ pairFine (objectsAt n b (now (contents .entry)) (now (bodies .entry))) d i ⌝ }
 {
-    if !is_kind(
-        contents,
-        n,
-        BYTES,
-        pair_selector(contents, bodies, n, b, d, i),
-    ) {
+    let s = readers::word_of(contents, bodies, n, b, Pointer(d), 2 * i);
+    if !readers::is_kind(contents, n, readers::BYTES, s) {
         return false;
     }
-    if !is_kind(
-        contents,
-        n,
-        METHOD,
-        pair_method(contents, bodies, n, b, d, i),
-    ) {
+    let m = readers::word_of(contents, bodies, n, b, Pointer(d), 2 * i + 1);
+    if !readers::is_kind(contents, n, readers::METHOD, m) {
         return false;
     }
     selector_rises(contents, bodies, n, b, d, i)
@@ -192,7 +141,7 @@ fn dictionary_fine(contents: &[u16], bodies: &[u16], n: usize, b: usize, d: u16)
     requires { ⌜ Laid n b (now contents) (now bodies) × (isKind (objectsAt n b (now contents) (now bodies)) listKind d ≡ true) ⌝ }
     ensures { λ r. ⌜ r ≡ dictionaryFine (objectsAt n b (now (contents .entry)) (now (bodies .entry))) d ⌝ }
 {
-    let words = size(contents, n, (d / 2) as usize);
+    let words = readers::size(contents, n, (d / 2) as usize);
     if words % 2 != 0 {
         return false;
     }
@@ -200,22 +149,21 @@ fn dictionary_fine(contents: &[u16], bodies: &[u16], n: usize, b: usize, d: u16)
 }
 
 // The body of the class c, but for its chain.
-fn class_fine(contents: &[u16], bodies: &[u16], n: usize, b: usize, c: u16) -> bool
+fn class_fine(edition: u16, contents: &[u16], bodies: &[u16], n: usize, b: usize, c: u16) -> bool
     requires { ⌜ Laid n b (now contents) (now bodies) × (isKind (objectsAt n b (now contents) (now bodies)) classKind c ≡ true) ⌝ }
-    ensures { λ r. ⌜ r ≡ allOf (shapeRules (objectsAt n b (now (contents .entry)) (now (bodies .entry))) c) ⌝ }
+    ensures { λ r. ⌜ r ≡ allOf (shapeRules edition (objectsAt n b (now (contents .entry)) (now (bodies .entry))) c) ⌝ }
 {
-    let s = superclass(contents, bodies, n, b, c);
-    if !is_nil_or(contents, n, CLASS, s) {
+    let s = readers::word_of(contents, bodies, n, b, Pointer(c), readers::SUPERCLASS);
+    if !readers::is_nil_or(contents, n, readers::CLASS, s) {
         return false;
     }
-    let d = dictionary(contents, bodies, n, b, c);
-    if !is_kind(contents, n, LIST, d) {
+    let d = readers::word_of(contents, bodies, n, b, Pointer(c), readers::DICTIONARY);
+    if !readers::is_kind(contents, n, readers::LIST, d) {
         return false;
     }
-    if !numbers_fine(
-        fields_word(contents, bodies, n, b, c),
-        form_word(contents, bodies, n, b, c),
-    ) {
+    let fields = readers::word_of(contents, bodies, n, b, Pointer(c), readers::FIELDS_WORD);
+    let form = readers::word_of(contents, bodies, n, b, Pointer(c), readers::FORM_WORD);
+    if !numbers_fine(edition, fields, form) {
         return false;
     }
     if !rises_fine(contents, bodies, n, b, c, s) {
@@ -224,27 +172,27 @@ fn class_fine(contents: &[u16], bodies: &[u16], n: usize, b: usize, c: u16) -> b
     dictionary_fine(contents, bodies, n, b, d)
 }
 
-fn shape_fine(contents: &[u16], bodies: &[u16], n: usize, b: usize, k: usize) -> bool
+fn shape_fine(edition: u16, contents: &[u16], bodies: &[u16], n: usize, b: usize, k: usize) -> bool
     requires { ⌜ Laid n b (now contents) (now bodies) × ((1 ≤ k) × (k ≤ n)) ⌝ }
-    ensures { λ r. ⌜ r ≡ shapeFine (objectsAt n b (now (contents .entry)) (now (bodies .entry))) k ⌝ }
+    ensures { λ r. ⌜ r ≡ shapeFine edition (objectsAt n b (now (contents .entry)) (now (bodies .entry))) k ⌝ }
 {
-    if !entry_fine(contents, bodies, n, b, k) {
+    if !entry_fine(edition, contents, bodies, n, b, k) {
         return false;
     }
-    if kind(contents, n, k) != CLASS {
+    if readers::kind(contents, n, k) != readers::CLASS {
         return true;
     }
-    class_fine(contents, bodies, n, b, (2 * k) as u16)
+    class_fine(edition, contents, bodies, n, b, (2 * k) as u16)
 }
 
 // Every object, but for the chains.
-pub fn shapes(contents: &[u16], bodies: &[u16], n: usize, b: usize) -> bool
+pub fn shapes(edition: u16, contents: &[u16], bodies: &[u16], n: usize, b: usize) -> bool
     requires { ⌜ Laid n b (now contents) (now bodies) ⌝ }
-    ensures { λ r. ⌜ r ≡ upTo n (shapeFine (objectsAt n b (now (contents .entry)) (now (bodies .entry)))) ⌝ }
+    ensures { λ r. ⌜ r ≡ upTo n (shapeFine edition (objectsAt n b (now (contents .entry)) (now (bodies .entry)))) ⌝ }
 {
     let mut k = 1;
     while k <= n {
-        if !shape_fine(contents, bodies, n, b, k) {
+        if !shape_fine(edition, contents, bodies, n, b, k) {
             return false;
         }
         k += 1;
@@ -254,26 +202,26 @@ pub fn shapes(contents: &[u16], bodies: &[u16], n: usize, b: usize) -> bool
 
 // The chain of superclasses from the class c comes to nil within n turns.
 fn ends(contents: &[u16], bodies: &[u16], n: usize, b: usize, c: u16) -> bool
-    requires { ⌜ Laid n b (now contents) (now bodies) × ((upTo n (shapeFine (objectsAt n b (now contents) (now bodies))) ≡ true) × (isKind (objectsAt n b (now contents) (now bodies)) classKind c ≡ true)) ⌝ }
+    requires { ⌜ Laid n b (now contents) (now bodies) × ((Closed (objectsAt n b (now contents) (now bodies))) × (isKind (objectsAt n b (now contents) (now bodies)) classKind c ≡ true)) ⌝ }
     ensures { λ r. ⌜ r ≡ endsWithin n (objectsAt n b (now (contents .entry)) (now (bodies .entry))) c ⌝ }
 {
     let mut at = c;
     let mut left = n;
     while 0 < left {
-        if at == NIL {
+        if at == readers::NIL {
             return true;
         }
-        at = superclass(contents, bodies, n, b, at);
+        at = readers::word_of(contents, bodies, n, b, Pointer(at), readers::SUPERCLASS);
         left -= 1;
     }
-    at == NIL
+    at == readers::NIL
 }
 
 fn chain_fine(contents: &[u16], bodies: &[u16], n: usize, b: usize, k: usize) -> bool
-    requires { ⌜ Laid n b (now contents) (now bodies) × ((upTo n (shapeFine (objectsAt n b (now contents) (now bodies))) ≡ true) × ((1 ≤ k) × (k ≤ n))) ⌝ }
+    requires { ⌜ Laid n b (now contents) (now bodies) × ((Closed (objectsAt n b (now contents) (now bodies))) × ((1 ≤ k) × (k ≤ n))) ⌝ }
     ensures { λ r. ⌜ r ≡ chainFine (objectsAt n b (now (contents .entry)) (now (bodies .entry))) k ⌝ }
 {
-    if kind(contents, n, k) != CLASS {
+    if readers::kind(contents, n, k) != readers::CLASS {
         return true;
     }
     ends(contents, bodies, n, b, (2 * k) as u16)
@@ -281,7 +229,7 @@ fn chain_fine(contents: &[u16], bodies: &[u16], n: usize, b: usize, k: usize) ->
 
 // The chain of every class.
 pub fn chains(contents: &[u16], bodies: &[u16], n: usize, b: usize) -> bool
-    requires { ⌜ Laid n b (now contents) (now bodies) × (upTo n (shapeFine (objectsAt n b (now contents) (now bodies))) ≡ true) ⌝ }
+    requires { ⌜ Laid n b (now contents) (now bodies) × (Closed (objectsAt n b (now contents) (now bodies))) ⌝ }
     ensures { λ r. ⌜ r ≡ upTo n (chainFine (objectsAt n b (now (contents .entry)) (now (bodies .entry)))) ⌝ }
 {
     let mut k = 1;
@@ -299,16 +247,16 @@ fn known_kinds(contents: &[u16], n: usize) -> bool
     requires { ⌜ (entryWords * n ≤ length (now contents)) × (5 ≤ n) ⌝ }
     ensures { λ r. ⌜ r ≡ kindsFine (entriesAt n (now (contents .entry))) ⌝ }
 {
-    if kind(contents, n, NIL_OBJECT) != FIELDS {
+    if readers::kind(contents, n, readers::NIL_OBJECT) != readers::FIELDS {
         return false;
     }
-    if kind(contents, n, FALSE_OBJECT) != FIELDS {
+    if readers::kind(contents, n, readers::FALSE_OBJECT) != readers::FIELDS {
         return false;
     }
-    if kind(contents, n, TRUE_OBJECT) != FIELDS {
+    if readers::kind(contents, n, readers::TRUE_OBJECT) != readers::FIELDS {
         return false;
     }
-    kind(contents, n, INTEGER_CLASS_OBJECT) == CLASS
+    readers::kind(contents, n, readers::INTEGER_CLASS_OBJECT) == readers::CLASS
 }
 
 // Every word is nil or names an object of this kind.
@@ -318,7 +266,7 @@ fn nil_or_words(contents: &[u16], n: usize, of: u16, words: &[u16]) -> bool
 {
     let mut i = 0;
     while i < words.len() {
-        if !is_nil_or(contents, n, of, words[i]) {
+        if !readers::is_nil_or(contents, n, of, words[i]) {
             return false;
         }
         i += 1;
@@ -331,26 +279,26 @@ fn selectors_fine(contents: &[u16], bodies: &[u16], n: usize, b: usize) -> bool
     requires { ⌜ Laid n b (now contents) (now bodies) ⌝ }
     ensures { λ r. ⌜ r ≡ selectorsFine (objectsAt n b (now (contents .entry)) (now (bodies .entry))) ⌝ }
 {
-    if kind(contents, n, SELECTORS_OBJECT) != LIST {
+    if readers::kind(contents, n, readers::SELECTORS_OBJECT) != readers::LIST {
         return false;
     }
-    if size(contents, n, SELECTORS_OBJECT) != SPECIAL_SELECTORS {
+    if readers::size(contents, n, readers::SELECTORS_OBJECT) != readers::SPECIAL_SELECTORS {
         return false;
     }
-    let from = start(contents, n, SELECTORS_OBJECT) as usize;
-    let end = from + SPECIAL_SELECTORS as usize;
-    nil_or_words(contents, n, BYTES, &bodies[from..end])
+    let from = readers::start(contents, n, readers::SELECTORS_OBJECT) as usize;
+    let end = from + readers::SPECIAL_SELECTORS as usize;
+    nil_or_words(contents, n, readers::BYTES, &bodies[from..end])
 }
 
 // The objects 1 to 5.
-pub fn known_fine(contents: &[u16], bodies: &[u16], n: usize, b: usize) -> bool
+pub fn known_fine(edition: u16, contents: &[u16], bodies: &[u16], n: usize, b: usize) -> bool
     requires { ⌜ Laid n b (now contents) (now bodies) ⌝ }
-    ensures { λ r. ⌜ r ≡ allOf (knownObjectRules 1 (objectsAt n b (now (contents .entry)) (now (bodies .entry)))) ⌝ }
+    ensures { λ r. ⌜ r ≡ allOf (knownObjectRules edition (objectsAt n b (now (contents .entry)) (now (bodies .entry)))) ⌝ }
 {
     if !known_kinds(contents, n) {
         return false;
     }
-    if form(contents, bodies, n, b, INTEGER_CLASS) != OTHER {
+    if readers::word_of(contents, bodies, n, b, Pointer(readers::INTEGER_CLASS), readers::FORM_WORD) / 2 != readers::OTHER {
         return false;
     }
     selectors_fine(contents, bodies, n, b)

@@ -6,13 +6,10 @@ use borrow.Author.Needs.{needs}
 use borrow.Author.Tests.{not-true, not-false}
 use Rattle.model.specs.Objects.{objectsAt}
 use Rattle.flow.specs.Linked.{linkedAt}
-use Rattle.rules.proofs.Loops.{Before, before-none, before-more}
+use Rattle.readers.proofs.Loops.{Before, before-none, before-more}
 use Rattle.code.proofs.LinkFine.{linked-stops, linked-over}
 use Rattle.code.proofs.all_fine.Statement.{statement}
 use Rattle.code.proofs.all_fine.Tie as tie
-use Rattle.code.proofs.all_fine.Reads as reads
-use Rattle.code.proofs.all_fine.Lts as lts
-use Rattle.code.proofs.position_fine.Reads as position-fine-reads
 
 abbrev Inv-loop : tie.InvT-loop
 Inv-loop table contents bodies n b counts m words notes p₀ p = (p ≤ length notes) × Before (linkedAt (objectsAt n b contents bodies) m notes) p

@@ -3,46 +3,52 @@ use lib.ListN.{replicate}
 use mathlib.Core.Path.{_≡_, refl, sym, ap, subst, _∙_}
 use native.Mathlib.Omega.{arith}
 use borrow.Author.Tests.{not-true, not-false}
-use Rattle.code.proofs.LinkFine.{method-named}
-use Rattle.code.proofs.CodePlace.{code-lent-by, table-here, notes-none, notes-some, notes-fail, is-class, laid-here, few-fields}
+use Rattle.readers.specs.Header.{temporariesOf, literalsOf}
+use Rattle.readers.proofs.InsideLaws.{class-inside}
+use Rattle.readers.proofs.HeaderLaws.{frame-is, small-frame}
+use Rattle.code.proofs.LinkFine.{method-word}
+use Rattle.code.proofs.CodePlace.{code-lent-by, table-here, notes-none, notes-some, notes-fail, home-class, few-fields}
 use borrow.Author.Needs.{needs}
 use Rattle.code.proofs.code_notes.Statement.{statement}
 use Rattle.code.proofs.code_notes.Tie as tie
-use Rattle.code.proofs.code_notes.Reads as reads
-use Rattle.code.proofs.code_notes.Lts as lts
-use Rattle.code.proofs.all_fine.Reads as all-fine-reads
-use Rattle.code.proofs.frame_limit.Reads as frame-limit-reads
-use Rattle.flow.proofs.clear.Reads as clear-reads
-use Rattle.flow.proofs.walk.Reads as walk-reads
-use Rattle.methods.proofs.body_word.Reads as body-word-reads
-use Rattle.methods.proofs.header_of.Reads as header-of-reads
-use Rattle.rules.proofs.class_body.field_count.Reads as field-count-reads
 
-header-of-requires : tie.Need-header-of-requires
-header-of-requires c κs = method-named ((c .before .before .before .before .before .before .pre) .0)
+word-of-requires : tie.Need-word-of-requires
+word-of-requires c κs = method-word ((c .before .before .before .before .before .before .pre) .0) _ (omega arith)
 
-body-word-requires : tie.Need-body-word-requires
-body-word-requires c κs = (method-named ((c .before .before .before .before .before .before .before .pre) .0), omega arith)
+cast-header : tie.Need-cast-header
+cast-header c = search needs
 
-field-count-requires : tie.Need-field-count-requires
-field-count-requires c κs =
+word-of-requires-2 : tie.Need-word-of-requires-2
+word-of-requires-2 c κs = method-word ((c .before .before .before .before .before .before .before .pre) .0) _ (omega arith)
+
+word-of-requires-3 : tie.Need-word-of-requires-3
+word-of-requires-3 c κs =
     let at-start = c .before .before .before .before .before .before .before .before in
-    (laid-here ((at-start .pre) .0), is-class ((at-start .pre) .0) _ (c .body-word .ensures))
+    let p = (at-start .pre) .0 in
+    class-inside (p .ready .laid) (home-class p (c .word-of2 .ensures)) (omega arith)
 
 cast-fields : tie.Need-cast-fields
-cast-fields c = let q = few-fields ((c .before .before .before .before .before .before .before .before .before .pre) .0) _ _ (c .before .body-word .ensures) (c .field-count .ensures) in omega arith
+cast-fields c =
+    let at-start = c .before .before .before .before .before .before .before .before .before in
+    let q = few-fields ((at-start .pre) .0) (c .before .word-of2 .ensures) (c .word-of3 .ensures) in omega arith
+
+temporary-count-requires : tie.Need-temporary-count-requires
+temporary-count-requires c κs = search needs
 
 cast-temporaries : tie.Need-cast-temporaries
-cast-temporaries c = search needs
+cast-temporaries c = let t = c .temporary-count .ensures in omega arith
+
+literal-count-requires : tie.Need-literal-count-requires
+literal-count-requires c κs = search needs
 
 cast-literals : tie.Need-cast-literals
-cast-literals c = search needs
+cast-literals c = let l = c .literal-count .ensures in omega arith
 
-frame-limit-requires : tie.Need-frame-limit-requires
-frame-limit-requires c κs = search needs
+frame-words-requires : tie.Need-frame-words-requires
+frame-words-requires c κs = search needs
 
 walk-requires : tie.Need-walk-requires
-walk-requires c κs = search needs
+walk-requires c κs = let f = small-frame _ _ (c .before .before .frame-words .ensures) in search needs
 
 same-length : tie.Need-same-length
 same-length c = search needs
@@ -53,20 +59,24 @@ same-length-2 c = search needs
 returns : tie.Need-returns
 returns c =
     let at-walk = c .before .before .before .before .before in
-    let at-frame-limit = at-walk .before .before .before in
-    let at-field-count = at-frame-limit .before in
-    let at-body-word = at-field-count .before in
-    let at-header-of = at-body-word .before in
-    let at-start = at-header-of .before .before .before .before .before .before .before in
-    notes-none _ _ _ (table-here _ _ _ _ _ _ _ _ _ ((at-start .pre) .1) (at-field-count .field-count .ensures) (at-body-word .body-word .ensures)
-    (ap (λ (h : ℕ). h / 256 % 32) (at-header-of .header-of .ensures)) (ap (λ (h : ℕ). h / 2 % 64) (at-header-of .header-of .ensures))
-    (at-frame-limit .frame-limit .ensures .0 _ _ (at-header-of .header-of .ensures))) _ _ _ (at-walk .walk .ensures) (not-true _ (c .if1 .taken))
+    let at-frame-words = at-walk .before .before .before in
+    let at-literal-count = at-frame-words .before in
+    let at-temporary-count = at-literal-count .before in
+    let at-word-of3 = at-temporary-count .before in
+    let at-word-of2 = at-word-of3 .before in
+    let at-word-of = at-word-of2 .before in
+    let at-start = at-word-of .before .before .before .before .before .before .before in
+    let h = at-word-of .word-of .ensures in
+    let here = table-here _ _ ((at-start .pre) .1) (ap (λ (x : ℕ). x / 2) (at-word-of3 .word-of3 .ensures)) (at-word-of2 .word-of2 .ensures)
+    (at-temporary-count .temporary-count .ensures ∙ ap temporariesOf h) (at-literal-count .literal-count .ensures ∙ ap literalsOf h)
+    (frame-is _ _ h (at-frame-words .frame-words .ensures)) in
+    notes-none _ _ here (at-walk .walk .ensures) (not-true _ (c .if1 .taken))
 
 all-fine-requires : tie.Need-all-fine-requires
 all-fine-requires c κs =
     let at-walk = c .before .before .before .before .before .before in
-    let at-start = at-walk .before .before .before .before .before .before .before .before .before .before .before .before .before in
-    ((at-start .pre) .0, code-lent-by _ _ _ _ _ (at-walk .walk .kept .1 .1 .1 .1 .1 .1 .0) ((at-start .pre) .1))
+    let at-start = at-walk .before .before .before .before .before .before .before .before .before .before .before .before .before .before .before in
+    ((at-start .pre) .0, code-lent-by (at-walk .walk .kept .1 .1 .1 .1 .1 .1 .0) ((at-start .pre) .1))
 
 same-length-3 : tie.Need-same-length-3
 same-length-3 c = search needs
@@ -77,14 +87,18 @@ same-length-4 c = search needs
 returns-2 : tie.Need-returns-2
 returns-2 c =
     let at-walk = c .before .before .before .before .before .before .before .before in
-    let at-frame-limit = at-walk .before .before .before in
-    let at-field-count = at-frame-limit .before in
-    let at-body-word = at-field-count .before in
-    let at-header-of = at-body-word .before in
-    let at-start = at-header-of .before .before .before .before .before .before .before in
-    notes-some _ _ _ (table-here _ _ _ _ _ _ _ _ _ ((at-start .pre) .1) (at-field-count .field-count .ensures) (at-body-word .body-word .ensures)
-    (ap (λ (h : ℕ). h / 256 % 32) (at-header-of .header-of .ensures)) (ap (λ (h : ℕ). h / 2 % 64) (at-header-of .header-of .ensures))
-    (at-frame-limit .frame-limit .ensures .0 _ _ (at-header-of .header-of .ensures))) _ _ _ (at-walk .walk .ensures)
+    let at-frame-words = at-walk .before .before .before in
+    let at-literal-count = at-frame-words .before in
+    let at-temporary-count = at-literal-count .before in
+    let at-word-of3 = at-temporary-count .before in
+    let at-word-of2 = at-word-of3 .before in
+    let at-word-of = at-word-of2 .before in
+    let at-start = at-word-of .before .before .before .before .before .before .before in
+    let h = at-word-of .word-of .ensures in
+    let here = table-here _ _ ((at-start .pre) .1) (ap (λ (x : ℕ). x / 2) (at-word-of3 .word-of3 .ensures)) (at-word-of2 .word-of2 .ensures)
+    (at-temporary-count .temporary-count .ensures ∙ ap temporariesOf h) (at-literal-count .literal-count .ensures ∙ ap literalsOf h)
+    (frame-is _ _ h (at-frame-words .frame-words .ensures)) in
+    notes-some _ _ here (at-walk .walk .ensures)
     (not-false _ (c .before .before .before .if1 .left)) (sym (c .before .all-fine .ensures) ∙ c .if2 .taken)
 
 clear-requires : tie.Need-clear-requires
@@ -102,27 +116,34 @@ returns-3 c =
     let at-all-fine = at-if2 .before in
     let at-if1 = at-all-fine .before .before in
     let at-walk = at-if1 .before .before .before .before .before in
-    let at-frame-limit = at-walk .before .before .before in
-    let at-field-count = at-frame-limit .before in
-    let at-body-word = at-field-count .before in
-    let at-header-of = at-body-word .before in
-    let at-start = at-header-of .before .before .before .before .before .before .before in
-    notes-fail _ _ _ (table-here _ _ _ _ _ _ _ _ _ ((at-start .pre) .1) (at-field-count .field-count .ensures) (at-body-word .body-word .ensures)
-    (ap (λ (h : ℕ). h / 256 % 32) (at-header-of .header-of .ensures)) (ap (λ (h : ℕ). h / 2 % 64) (at-header-of .header-of .ensures))
-    (at-frame-limit .frame-limit .ensures .0 _ _ (at-header-of .header-of .ensures))) _ _ _ (at-walk .walk .ensures) _ (not-false _ (at-if1 .if1 .left))
+    let at-frame-words = at-walk .before .before .before in
+    let at-literal-count = at-frame-words .before in
+    let at-temporary-count = at-literal-count .before in
+    let at-word-of3 = at-temporary-count .before in
+    let at-word-of2 = at-word-of3 .before in
+    let at-word-of = at-word-of2 .before in
+    let at-start = at-word-of .before .before .before .before .before .before .before in
+    let h = at-word-of .word-of .ensures in
+    let here = table-here _ _ ((at-start .pre) .1) (ap (λ (x : ℕ). x / 2) (at-word-of3 .word-of3 .ensures)) (at-word-of2 .word-of2 .ensures)
+    (at-temporary-count .temporary-count .ensures ∙ ap temporariesOf h) (at-literal-count .literal-count .ensures ∙ ap literalsOf h)
+    (frame-is _ _ h (at-frame-words .frame-words .ensures)) in
+    notes-fail _ _ here (at-walk .walk .ensures) (not-false _ (at-if1 .if1 .left))
     (sym (at-all-fine .all-fine .ensures) ∙ at-if2 .if2 .left) (c .before .before .clear .ensures ∙ ap (λ (k : ℕ). replicate k 0) (at-walk .walk .kept .1 .1 .1 .1 .1 .1 .0))
 
 pub code-notes-spec : {M : Type 1} → statement M
 code-notes-spec =
     tie.close
     (tie.spec
-    header-of-requires
-    body-word-requires
-    field-count-requires
+    word-of-requires
+    cast-header
+    word-of-requires-2
+    word-of-requires-3
     cast-fields
+    temporary-count-requires
     cast-temporaries
+    literal-count-requires
     cast-literals
-    frame-limit-requires
+    frame-words-requires
     walk-requires
     same-length
     same-length-2

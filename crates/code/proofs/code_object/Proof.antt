@@ -1,16 +1,11 @@
-use Rattle.model.specs.Objects.{objectsAt}
-use mathlib.Core.Path.{sym, _∙_}
-use Prim.Native.Nat.{_*_}
+use mathlib.Core.Path.{sym, ap, _∙_}
+use native.Mathlib.Omega.{arith}
+use Rattle.readers.specs.Header.{runsOf}
+use Rattle.code.proofs.LinkFine.{method-word}
 use Rattle.code.proofs.PassLaws.{object-other, object-sound, object-unsound, asked-at}
 use borrow.Author.Needs.{needs}
 use Rattle.code.proofs.code_object.Statement.{statement}
 use Rattle.code.proofs.code_object.Tie as tie
-use Rattle.code.proofs.code_object.Reads as reads
-use Rattle.code.proofs.code_object.Lts as lts
-use Rattle.code.proofs.method_notes.Reads as method-notes-reads
-use Rattle.code.proofs.runs.Reads as runs-reads
-use Rattle.methods.proofs.header_of.Reads as header-of-reads
-use Rattle.rules.proofs.kind.Reads as kind-reads
 
 kind-requires : tie.Need-kind-requires
 kind-requires c κs = search needs
@@ -48,11 +43,19 @@ returns-2 c =
     object-sound ((at-start .pre) .0) (at-start .args .k) _ _ _ ((at-start .pre) .1) ((at-start .pre) .2) (sym (at-kind .kind .ensures) ∙ at-if1 .if1 .left)
     (at-method-notes .method-notes .ensures) (c .if2 .taken)
 
-header-of-requires : tie.Need-header-of-requires
-header-of-requires c κs = search needs
+word-of-requires : tie.Need-word-of-requires
+word-of-requires c κs =
+    let at-if1 = c .before .before .before .before .before .before .before .before in
+    let at-kind = at-if1 .before in
+    let at-start = at-kind .before .before .before .before .before .before in
+    let p = at-start .pre in
+    method-word (asked-at (p .0) (at-start .args .k) (p .1) (p .2) (sym (at-kind .kind .ensures) ∙ at-if1 .if1 .left)) _ (omega arith)
 
-runs-requires : tie.Need-runs-requires
-runs-requires c κs = search needs
+cast-header : tie.Need-cast-header
+cast-header c = search needs
+
+runs-code-requires : tie.Need-runs-code-requires
+runs-code-requires c κs = search needs
 
 same-length-3 : tie.Need-same-length-3
 same-length-3 c = search needs
@@ -68,8 +71,8 @@ returns-3 c =
     let at-start = at-kind .before .before .before .before .before .before in
     let args = at-start .args in
     object-unsound ((at-start .pre) .0) (args .k) _ _ _ ((at-start .pre) .1) ((at-start .pre) .2) (sym (at-kind .kind .ensures) ∙ at-if1 .if1 .left)
-    (at-method-notes .method-notes .ensures) (c .runs .result) (c .before .before .if2 .left)
-    (c .runs .ensures (objectsAt (args .n) (args .b) (args .contents .now) (args .bodies .now)) (2 * args .k) (c .before .header-of .ensures))
+    (at-method-notes .method-notes .ensures) (c .runs-code .result) (c .before .before .if2 .left)
+    (c .runs-code .ensures ∙ ap runsOf (c .before .word-of .ensures))
 
 pub code-object-spec : {M : Type 1} → statement M
 code-object-spec =
@@ -83,8 +86,9 @@ code-object-spec =
     same-length
     same-length-2
     returns-2
-    header-of-requires
-    runs-requires
+    word-of-requires
+    cast-header
+    runs-code-requires
     same-length-3
     same-length-4
     returns-3)

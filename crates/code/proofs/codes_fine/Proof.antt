@@ -8,9 +8,6 @@ use Rattle.model.specs.Objects.{objectsAt}
 use Rattle.code.proofs.PassLaws.{Going, going-first, going-on, going-over, codes-stop, lent-again}
 use Rattle.code.proofs.codes_fine.Statement.{statement}
 use Rattle.code.proofs.codes_fine.Tie as tie
-use Rattle.code.proofs.codes_fine.Reads as reads
-use Rattle.code.proofs.codes_fine.Lts as lts
-use Rattle.code.proofs.code_object.Reads as code-object-reads
 
 abbrev Inv-loop : tie.InvT-loop
 Inv-loop table contents bodies n b counts notes₀ pending₀ k₀ notes pending k = Going (objectsAt n b contents bodies) k notes × (length notes ≡ length notes₀) × (length pending ≡ length pending₀)
@@ -50,7 +47,7 @@ add-k : tie.Need-add-k Inv-loop μ-loop
 add-k c =
     let at-loop-test = c .before .before .before .before .before .before .before .before in
     let at-start = at-loop-test .before .before .before .before .before .before .before in
-    let q = (at-start .pre) .ready .lent .most in let l = at-loop-test .loop-test .taken in omega arith
+    let q = (at-start .pre) .ready .laid .most in let l = at-loop-test .loop-test .taken in omega arith
 
 loop-less : tie.Need-loop-less Inv-loop μ-loop
 loop-less c = let l = c .before .before .before .before .before .before .before .before .loop-test .taken in omega arith

@@ -4,11 +4,6 @@ use Rattle.code.proofs.LinkFine.{told, told-small}
 use borrow.Author.Needs.{needs}
 use Rattle.code.proofs.instruction_fine.Statement.{statement}
 use Rattle.code.proofs.instruction_fine.Tie as tie
-use Rattle.code.proofs.instruction_fine.Reads as reads
-use Rattle.code.proofs.instruction_fine.Lts as lts
-use Rattle.code.proofs.place_fine.Reads as place-fine-reads
-use Rattle.code.proofs.selector_fine.Reads as selector-fine-reads
-use Rattle.code.proofs.special_fine.Reads as special-fine-reads
 
 enum-known-i : tie.Need-enum-known-i
 enum-known-i c = search needs

@@ -1,83 +1,89 @@
 use Rattle.code.proofs.CodePlace.{code-lent, code-short, walked-put}
 use native.Mathlib.Omega.{arith}
-use mathlib.Core.Path.{_≡_, refl, sym, ap, ap₂, subst, _∙_}
-use Rattle.code.proofs.LinkFine.{method-named}
-use Rattle.code.proofs.CodePlace.{entry-here, code-starts, body-size, body-inside}
+use mathlib.Core.Path.{_≡_, ap, _∙_}
+use Rattle.readers.specs.Header.{literalsOf}
+use Rattle.code.proofs.LinkFine.{method-entry, method-word}
+use Rattle.code.proofs.CodePlace.{code-starts, body-size, body-inside}
 use borrow.Author.Needs.{needs}
 use Rattle.code.proofs.method_notes.Statement.{statement}
 use Rattle.code.proofs.method_notes.Tie as tie
-use Rattle.code.proofs.method_notes.Reads as reads
-use Rattle.code.proofs.method_notes.Lts as lts
-use Rattle.code.proofs.code_notes.Reads as code-notes-reads
-use Rattle.methods.proofs.header_of.Reads as header-of-reads
-use Rattle.rules.proofs.body_end.Reads as body-end-reads
-use Rattle.rules.proofs.size.Reads as size-reads
-use Rattle.rules.proofs.start.Reads as start-reads
 
 cast-k : tie.Need-cast-k
 cast-k c = search needs
 
-header-of-requires : tie.Need-header-of-requires
-header-of-requires c κs = method-named ((c .before .before .before .before .before .pre) .0)
+word-of-requires : tie.Need-word-of-requires
+word-of-requires c κs = method-word ((c .before .before .before .before .before .pre) .0) _ (omega arith)
 
-cast-skip : tie.Need-cast-skip
-cast-skip c = search needs
+cast-header : tie.Need-cast-header
+cast-header c = search needs
+
+literal-count-requires : tie.Need-literal-count-requires
+literal-count-requires c κs = search needs
 
 add-skip : tie.Need-add-skip
-add-skip c = search needs
+add-skip c = let l = c .literal-count .ensures in omega arith
 
 start-requires : tie.Need-start-requires
-start-requires c κs = entry-here ((c .before .before .before .before .before .before .pre) .0)
+start-requires c κs = method-entry ((c .before .before .before .before .before .before .before .pre) .0)
 
 cast-from : tie.Need-cast-from
 cast-from c = search needs
 
 add-from : tie.Need-add-from
-add-from c = search needs
+add-from c = let l = c .before .literal-count .ensures in search needs
 
 body-end-requires : tie.Need-body-end-requires
-body-end-requires c κs = entry-here ((c .before .before .before .before .before .before .before .pre) .0)
+body-end-requires c κs = method-entry ((c .before .before .before .before .before .before .before .before .pre) .0)
 
 mul-first : tie.Need-mul-first
-mul-first c = search needs
+mul-first c = let l = c .before .before .literal-count .ensures in search needs
 
 size-requires : tie.Need-size-requires
-size-requires c κs = entry-here ((c .before .before .before .before .before .before .before .before .pre) .0)
+size-requires c κs = method-entry ((c .before .before .before .before .before .before .before .before .before .pre) .0)
 
 cast-last : tie.Need-cast-last
 cast-last c = search needs
 
 mul-last : tie.Need-mul-last
-mul-last c = search needs
+mul-last c = let l = c .before .before .before .literal-count .ensures in search needs
 
 sub-last : tie.Need-sub-last
 sub-last c =
-    let at-header-of = c .before .before .before in
-    let at-start = at-header-of .before .before .before .before .before .before in
-    let h = at-header-of .header-of .ensures in let z = c .size .ensures in let k = code-starts ((at-start .pre) .0) in omega arith
+    let at-literal-count = c .before .before .before in
+    let at-word-of = at-literal-count .before in
+    let at-start = at-word-of .before .before .before .before .before .before in
+    let l = at-literal-count .literal-count .ensures ∙ ap literalsOf (at-word-of .word-of .ensures) in
+    let z = c .size .ensures in let k = code-starts ((at-start .pre) .0) in omega arith
 
 add-last : tie.Need-add-last
-add-last c = search needs
+add-last c = let l = c .before .before .before .literal-count .ensures in search needs
 
 mul-code-notes : tie.Need-mul-code-notes
 mul-code-notes c = search needs
 
 sub-code-notes : tie.Need-sub-code-notes
 sub-code-notes c =
-    let at-start = c .before .before .before .before .before .before .before .before .before in
-    let h = c .before .before .before .header-of .ensures in let s = c .before .before .start .ensures in let e = c .before .body-end .ensures
-    (at-start .args .b) (at-start .args .bodies .now) in let k = code-starts ((at-start .pre) .0) in let q = body-size ((at-start .pre) .0) in omega arith
+    let at-literal-count = c .before .before .before in
+    let at-word-of = at-literal-count .before in
+    let at-start = at-word-of .before .before .before .before .before .before in
+    let l = at-literal-count .literal-count .ensures ∙ ap literalsOf (at-word-of .word-of .ensures) in
+    let s = c .before .before .start .ensures in let e = c .before .body-end .ensures (at-start .args .b) (at-start .args .bodies .now) in
+    let k = code-starts ((at-start .pre) .0) in let q = body-size ((at-start .pre) .0) in omega arith
 
 part-code-notes-start : tie.Need-part-code-notes-start
 part-code-notes-start c =
-    let at-start = c .before .before .before .before .before .before .before .before .before in
-    let h = c .before .before .before .header-of .ensures in let s = c .before .before .start .ensures in let e = c .before .body-end .ensures
-    (at-start .args .b) (at-start .args .bodies .now) in let k = code-starts ((at-start .pre) .0) in let q = body-size ((at-start .pre) .0) in omega arith
+    let at-literal-count = c .before .before .before in
+    let at-word-of = at-literal-count .before in
+    let at-start = at-word-of .before .before .before .before .before .before in
+    let l = at-literal-count .literal-count .ensures ∙ ap literalsOf (at-word-of .word-of .ensures) in
+    let s = c .before .before .start .ensures in let e = c .before .body-end .ensures (at-start .args .b) (at-start .args .bodies .now) in
+    let k = code-starts ((at-start .pre) .0) in let q = body-size ((at-start .pre) .0) in omega arith
 
 part-code-notes-end : tie.Need-part-code-notes-end
 part-code-notes-end c =
-    let at-start = c .before .before .before .before .before .before .before .before .before in
-    let e = c .before .body-end .ensures (at-start .args .b) (at-start .args .bodies .now) in let i = body-inside ((at-start .pre) .0) in let l = (at-start .pre) .0 .ready .lent .words in omega arith
+    let at-start = c .before .before .before .before .before .before .before .before .before .before in
+    let e = c .before .body-end .ensures (at-start .args .b) (at-start .args .bodies .now) in
+    let i = body-inside ((at-start .pre) .0) in let t = (at-start .pre) .0 .ready .laid .words in omega arith
 
 sub-code-notes-2 : tie.Need-sub-code-notes-2
 sub-code-notes-2 c = search needs
@@ -87,28 +93,29 @@ part-code-notes-start-2 c = search needs
 
 part-code-notes-end-2 : tie.Need-part-code-notes-end-2
 part-code-notes-end-2 c =
-    let at-header-of = c .before .before .before .before in
-    let at-start = at-header-of .before .before .before .before .before .before in
-    let h = at-header-of .header-of .ensures in let s = c .before .before .before .start .ensures in let z = c .before .size .ensures in let k = code-starts
-    ((at-start .pre) .0) in let q = body-size ((at-start .pre) .0) in let i = body-inside ((at-start .pre) .0) in let l = (at-start .pre) .1 in omega arith
+    let at-literal-count = c .before .before .before .before in
+    let at-word-of = at-literal-count .before in
+    let at-start = at-word-of .before .before .before .before .before .before in
+    let p = (at-start .pre) .0 in
+    let l = at-literal-count .literal-count .ensures ∙ ap literalsOf (at-word-of .word-of .ensures) in
+    let s = c .before .before .before .start .ensures in let z = c .before .size .ensures in
+    let k = code-starts p in let q = body-size p in let i = body-inside p in let t = (at-start .pre) .1 in omega arith
 
 code-notes-requires : tie.Need-code-notes-requires
 code-notes-requires c κs =
     let at-size = c .before .before .before in
     let at-body-end = at-size .before in
     let at-start = at-body-end .before in
-    let at-header-of = at-start .before in
-    let at-start′ = at-header-of .before .before .before .before .before .before in
-    let k = code-lent ((at-start′ .pre) .0) (at-header-of .header-of .result) (at-start .start .result) (at-body-end .body-end .result) (at-size .size .result)
-    (at-start′ .args .notes .now) (at-header-of .header-of .ensures) (at-start .start .ensures) (at-body-end .body-end .ensures (at-start′ .args .b)
-    (at-start′ .args .bodies .now)) (at-size .size .ensures) ((at-start′ .pre) .1) in (
-      (at-start′ .pre) .0,
-      k,
-      let s = code-short ((at-start′ .pre) .0)
-          (at-header-of .header-of .result) (at-start .start .result) (at-body-end .body-end .result) (at-size .size .result) (at-start′ .args .notes .now)
-          (at-header-of .header-of .ensures) (at-start .start .ensures) (at-body-end .body-end .ensures (at-start′ .args .b) (at-start′ .args .bodies .now))
-          (at-size .size .ensures) ((at-start′ .pre) .1) in let t = (at-start′ .pre) .2 in omega arith,
-    )
+    let at-literal-count = at-start .before in
+    let at-word-of = at-literal-count .before in
+    let at-start′ = at-word-of .before .before .before .before .before .before in
+    let args = at-start′ .args in
+    let p = at-start′ .pre in
+    let l = at-literal-count .literal-count .ensures ∙ ap literalsOf (at-word-of .word-of .ensures) in
+    let e = at-body-end .body-end .ensures (args .b) (args .bodies .now) in
+    let k = code-lent (p .0) (args .notes .now) l (at-start .start .ensures) e (at-size .size .ensures) (p .1) in
+    let s = code-short (p .0) (args .notes .now) l (at-start .start .ensures) e (at-size .size .ensures) (p .1) in
+    (p .0, k, let t = p .2 in omega arith)
 
 same-length : tie.Need-same-length
 same-length c = search needs
@@ -122,11 +129,14 @@ returns c =
     let at-size = at-code-notes .before .before .before .before in
     let at-body-end = at-size .before in
     let at-start = at-body-end .before in
-    let at-header-of = at-start .before in
-    let at-start′ = at-header-of .before .before .before .before .before .before in
-    walked-put ((at-start′ .pre) .0) (at-header-of .header-of .result) (at-start .start .result) (at-body-end .body-end .result) (at-size .size .result)
-    (at-start′ .args .notes .now) (at-header-of .header-of .ensures) (at-start .start .ensures) (at-body-end .body-end .ensures (at-start′ .args .b)
-    (at-start′ .args .bodies .now)) (at-size .size .ensures) ((at-start′ .pre) .1) _ (at-code-notes .code-notes .kept .1 .1 .1 .1 .1 .1 .1 .1 .0) _
+    let at-literal-count = at-start .before in
+    let at-word-of = at-literal-count .before in
+    let at-start′ = at-word-of .before .before .before .before .before .before in
+    let args = at-start′ .args in
+    let p = at-start′ .pre in
+    let l = at-literal-count .literal-count .ensures ∙ ap literalsOf (at-word-of .word-of .ensures) in
+    let e = at-body-end .body-end .ensures (args .b) (args .bodies .now) in
+    walked-put (p .0) (args .notes .now) l (at-start .start .ensures) e (at-size .size .ensures) (p .1) _ (at-code-notes .code-notes .kept .1 .1 .1 .1 .1 .1 .1 .1 .0) _
     (at-code-notes .code-notes .ensures)
 
 pub method-notes-spec : {M : Type 1} → statement M
@@ -134,8 +144,9 @@ method-notes-spec =
     tie.close
     (tie.spec
     cast-k
-    header-of-requires
-    cast-skip
+    word-of-requires
+    cast-header
+    literal-count-requires
     add-skip
     start-requires
     cast-from

@@ -8,18 +8,12 @@ use Rattle.bytecode.proofs.TestLaws.{true→T}
 use Rattle.code.proofs.PassLaws.{seven-shapes, seven-holders, seven-codes, held-counts, zeros-at}
 use Rattle.code.proofs.methods_fine.Statement.{statement}
 use Rattle.code.proofs.methods_fine.Tie as tie
-use Rattle.code.proofs.methods_fine.Reads as reads
-use Rattle.code.proofs.methods_fine.Lts as lts
-use Rattle.bytecode.proofs.table.Reads as table-reads
-use Rattle.code.proofs.codes_fine.Reads as codes-fine-reads
-use Rattle.methods.proofs.count_methods.Reads as count-methods-reads
-use Rattle.methods.proofs.shapes_fine.Reads as shapes-fine-reads
 
 shapes-fine-requires : tie.Need-shapes-fine-requires
 shapes-fine-requires c κs = search needs
 
 returns : tie.Need-returns
-returns c = seven-shapes _ _ (sym (c .before .shapes-fine .ensures) ∙ not-true _ (c .if1 .taken))
+returns c = seven-shapes _ _ _ (sym (c .before .shapes-fine .ensures) ∙ not-true _ (c .if1 .taken))
 
 slice-aggregate-count-methods : tie.Need-slice-aggregate-count-methods
 slice-aggregate-count-methods c = search needs
@@ -27,10 +21,10 @@ slice-aggregate-count-methods c = search needs
 count-methods-requires : tie.Need-count-methods-requires
 count-methods-requires c κs =
     let at-start = c .before .before .before .before .before .before in
-    ((at-start .pre) .0, (let q = (at-start .pre) .0 .lent .most in omega arith), zeros-at 2048)
+    ((at-start .pre) .0, true→T (sym (c .before .before .shapes-fine .ensures) ∙ not-false _ (c .before .if1 .left)), (let q = (at-start .pre) .0 .laid .most in omega arith), zeros-at 2048)
 
 returns-2 : tie.Need-returns-2
-returns-2 c = seven-holders _ _ _ _ (sym (c .before .before .before .before .before .shapes-fine .ensures)
+returns-2 c = seven-holders _ _ _ _ _ (sym (c .before .before .before .before .before .shapes-fine .ensures)
     ∙ not-false _ (c .before .before .before .before .if1 .left)) (c .before .before .count-methods .ensures) (not-true _ (c .if2 .taken))
 
 table-requires : tie.Need-table-requires
@@ -55,9 +49,10 @@ codes-fine-requires c κs =
       entries = at-table .table .ensures;
       ready = (at-start .pre) .0;
       sends = record {
-        lent = (at-start .pre) .0 .lent;
+        entries = (at-start .pre) .0 .laid .entries;
+        least = (let q = (at-start .pre) .0 .laid .known in omega arith);
         long =
-            (let q = (at-start .pre) .0 .lent .most in let z = at-count-methods .count-methods .kept .1 .1 .1 .1 .0 in omega arith);
+            (let q = (at-start .pre) .0 .laid .most in let z = at-count-methods .count-methods .kept .1 .1 .1 .1 .0 in omega arith);
         counted = held-counts _ _ _
             (at-count-methods .count-methods .ensures) (not-false _ (at-if2 .if2 .left)) .1;
       };
@@ -77,7 +72,7 @@ returns-3 c =
     let at-count-methods = at-if2 .before .before in
     let at-if1 = at-count-methods .before .before in
     let at-shapes-fine = at-if1 .before in
-    seven-codes _ _ _ (sym (at-shapes-fine .shapes-fine .ensures) ∙ not-false _ (at-if1 .if1 .left))
+    seven-codes _ _ _ _ (sym (at-shapes-fine .shapes-fine .ensures) ∙ not-false _ (at-if1 .if1 .left))
     (held-counts _ _ _ (at-count-methods .count-methods .ensures) (not-false _ (at-if2 .if2 .left)) .0) (at-codes-fine .codes-fine .ensures)
 
 slice-aggregate-codes-fine-3 : tie.Need-slice-aggregate-codes-fine-3
@@ -98,9 +93,10 @@ codes-fine-requires-2 c κs =
       entries = at-table .table .ensures;
       ready = (at-start .pre) .0;
       sends = record {
-        lent = (at-start .pre) .0 .lent;
+        entries = (at-start .pre) .0 .laid .entries;
+        least = (let q = (at-start .pre) .0 .laid .known in omega arith);
         long =
-            (let q = (at-start .pre) .0 .lent .most in let z = at-count-methods .count-methods .kept .1 .1 .1 .1 .0 in omega arith);
+            (let q = (at-start .pre) .0 .laid .most in let z = at-count-methods .count-methods .kept .1 .1 .1 .1 .0 in omega arith);
         counted = held-counts _ _ _
             (at-count-methods .count-methods .ensures) (not-false _ (at-if2 .if2 .left)) .1;
       };
@@ -108,7 +104,7 @@ codes-fine-requires-2 c κs =
           ∙ not-false _ (at-if1 .if1 .left));
       room = (at-start .pre) .1;
       long = (let q = length-replicate {A = ℕ} 48000 0 in let l =
-          (at-start .pre) .0 .lent .most-words in omega arith);
+          (at-start .pre) .0 .laid .most-words in omega arith);
     }
 
 same-length-2 : tie.Need-same-length-2
@@ -121,7 +117,7 @@ returns-4 c =
     let at-count-methods = at-if2 .before .before in
     let at-if1 = at-count-methods .before .before in
     let at-shapes-fine = at-if1 .before in
-    seven-codes _ _ _ (sym (at-shapes-fine .shapes-fine .ensures) ∙ not-false _ (at-if1 .if1 .left))
+    seven-codes _ _ _ _ (sym (at-shapes-fine .shapes-fine .ensures) ∙ not-false _ (at-if1 .if1 .left))
     (held-counts _ _ _ (at-count-methods .count-methods .ensures) (not-false _ (at-if2 .if2 .left)) .0) (at-codes-fine2 .codes-fine2 .ensures)
 
 pub methods-fine-spec : {M : Type 1} → statement M

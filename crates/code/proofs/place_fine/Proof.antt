@@ -1,14 +1,10 @@
 use mathlib.Core.Path.{_∙_, refl}
 use native.Mathlib.Omega.{arith}
 use Rattle.flow.specs.Linked.{placeLinked}
-use Rattle.code.proofs.LinkFine.{method-named, place-free, place-variable, variable-small}
+use Rattle.code.proofs.LinkFine.{method-entry, place-free, place-variable, variable-small}
 use borrow.Author.Needs.{needs}
 use Rattle.code.proofs.place_fine.Statement.{statement}
 use Rattle.code.proofs.place_fine.Tie as tie
-use Rattle.code.proofs.place_fine.Reads as reads
-use Rattle.code.proofs.place_fine.Lts as lts
-use Rattle.methods.proofs.body_word.Reads as body-word-reads
-use Rattle.methods.proofs.variable_fine.Reads as variable-fine-reads
 
 enum-told : tie.Need-enum-told
 enum-told c = search needs
@@ -22,14 +18,9 @@ enum-told-3 c = search needs
 enum-known-p : tie.Need-enum-known-p
 enum-known-p c = search needs
 
-add-body-word : tie.Need-add-body-word
-add-body-word c =
-    let pre = c .before .before .before .before .before .before .pre in omega (arith, variable-small (c .before .p .given .1) (pre .1))
-
-body-word-requires : tie.Need-body-word-requires
-body-word-requires c κs =
-    let pre = c .before .before .before .before .before .before .pre in
-    (method-named (pre .0), omega (arith, variable-small (c .before .p .given .1) (pre .1)))
+literal-word-requires : tie.Need-literal-word-requires
+literal-word-requires c κs = let p = c .before .before .before .before .before .before .pre in
+    (method-entry (p .0), p .0 .ready .laid .words, omega (arith, variable-small (c .before .p .given .1) (p .1)))
 
 variable-fine-requires : tie.Need-variable-fine-requires
 variable-fine-requires c κs = search needs
@@ -47,7 +38,7 @@ unfolding placeLinked
 returns-3 c = place-free _ _ _ _ (c .enum-told3 .given .1) refl
 
 returns-4 : tie.Need-returns-4
-returns-4 c = c .variable-fine .ensures _ _ ∙ place-variable _ _ _ _ _ (c .before .before .before .p .given .1) (c .before .body-word .ensures)
+returns-4 c = c .variable-fine .ensures _ _ ∙ place-variable _ _ _ _ _ (c .before .before .before .p .given .1) (c .before .literal-word .ensures)
 
 pub place-fine-spec : {M : Type 1} → statement M
 place-fine-spec =
@@ -57,8 +48,7 @@ place-fine-spec =
     enum-told-2
     enum-told-3
     enum-known-p
-    add-body-word
-    body-word-requires
+    literal-word-requires
     variable-fine-requires
     returns
     returns-2

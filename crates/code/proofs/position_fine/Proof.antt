@@ -4,10 +4,6 @@ use native.Mathlib.Omega.{arith}
 use Rattle.code.proofs.LinkFine.{decoded-small, linked-free, linked-noted}
 use Rattle.code.proofs.position_fine.Statement.{statement}
 use Rattle.code.proofs.position_fine.Tie as tie
-use Rattle.code.proofs.position_fine.Reads as reads
-use Rattle.code.proofs.position_fine.Lts as lts
-use Rattle.code.proofs.instruction_fine.Reads as instruction-fine-reads
-use Rattle.bytecode.proofs.decode.Reads as decode-reads
 
 shared-slice-read-if1 : tie.Need-shared-slice-read-if1
 shared-slice-read-if1 c = (c .before .before .before .before .before .before .pre) .2

@@ -4,10 +4,6 @@ use Rattle.code.proofs.LinkFine.{special-need}
 use borrow.Author.Needs.{needs}
 use Rattle.code.proofs.special_count.Statement.{statement}
 use Rattle.code.proofs.special_count.Tie as tie
-use Rattle.code.proofs.special_count.Reads as reads
-use Rattle.code.proofs.special_count.Lts as lts
-use Rattle.bytecode.proofs.entry.Reads as entry-reads
-use Rattle.bytecode.proofs.entry_need.Reads as entry-need-reads
 
 add-entry : tie.Need-add-entry
 add-entry c = search needs

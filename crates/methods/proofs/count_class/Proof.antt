@@ -6,17 +6,13 @@ use native.Mathlib.Omega.{arith}
 use borrow.Author.Needs.{needs}
 use borrow.Author.Tests.{not-true, not-false}
 use lib.ListN.{length}
-use Rattle.model.specs.Limits.{classKind}
+use Rattle.model.specs.Limits.{listKind}
 use Rattle.model.specs.Objects.{Objects, objectsAt, size, dictionaryWord, pairCount}
+use Rattle.readers.proofs.InsideLaws.{entry-here, class-inside}
 use Rattle.methods.specs.Counts.{Counting, Turned}
-use Rattle.methods.proofs.AskedLaws.{kind-named, dictionary-named, pair-asked, class-no, turned-on, class-done}
+use Rattle.methods.proofs.AskedLaws.{dictionary-kind, pair-asked, class-no, turned-on, class-done}
 use Rattle.methods.proofs.count_class.Statement.{statement}
 use Rattle.methods.proofs.count_class.Tie as tie
-use Rattle.methods.proofs.count_class.Reads as reads
-use Rattle.methods.proofs.count_class.Lts as lts
-use Rattle.methods.proofs.body_word.Reads as body-word-reads
-use Rattle.methods.proofs.count_pair.Reads as count-pair-reads
-use Rattle.rules.proofs.size.Reads as size-reads
 
 abbrev Inv-loop : tie.InvT-loop
 Inv-loop contents bodies n b class counts₀ d pairs i₀ counts i = (i ≤ pairs) × (length counts ≡ length counts₀) × Counting (objectsAt n b contents bodies) counts (class / 2) i
@@ -24,8 +20,8 @@ Inv-loop contents bodies n b class counts₀ d pairs i₀ counts i = (i ≤ pair
 abbrev μ-loop : tie.MeasureT-loop
 μ-loop contents bodies n b class counts₀ d pairs i₀ counts i = pairs - i
 
-body-word-requires : tie.Need-body-word-requires Inv-loop μ-loop
-body-word-requires c κs = (kind-named _ _ _ _ (c .before .before .before .pre .ready) classKind (c .before .before .before .args .class) (c .before .before .before .pre .isClass), omega arith)
+word-of-requires : tie.Need-word-of-requires Inv-loop μ-loop
+word-of-requires c κs = let p = c .before .before .before .pre in class-inside (p .ready .laid) (p .isClass) (omega arith)
 
 cast-size : tie.Need-cast-size Inv-loop μ-loop
 cast-size c = search needs
@@ -33,8 +29,8 @@ cast-size c = search needs
 size-requires : tie.Need-size-requires Inv-loop μ-loop
 size-requires c κs =
     let at-start = c .before .before .before .before in
-    let h = dictionary-named _ _ _ _ (at-start .pre .ready) (at-start .args .class) (at-start .pre .isClass) (c .body-word .result)
-    (c .body-word .ensures) in record { entries = at-start .pre .ready .lent .entries; least = h .least; most = h .most }
+    let p = at-start .pre in
+    entry-here (p .ready .laid) listKind (c .word-of .result) (dictionary-kind (p .ready) (at-start .args .class) (p .isClass) (c .word-of .ensures))
 
 cast-pairs : tie.Need-cast-pairs Inv-loop μ-loop
 cast-pairs c = search needs
@@ -46,10 +42,9 @@ count-pair-requires : tie.Need-count-pair-requires Inv-loop μ-loop
 count-pair-requires c κs =
     let at-loop = c .before .before in
     let at-size = at-loop .before in
-    let at-body-word = at-size .before in
-    let at-start = at-body-word .before .before .before .before in
-    pair-asked _ _ _ _ (at-start .args .class) (at-start .args .counts .now) (at-start .pre) (at-body-word .body-word .result) (at-size .size .result)
-    (at-body-word .body-word .ensures) (at-size .size .ensures) (search needs) (at-loop .loop .counts) (at-loop .loop .i) (at-loop .loop .inv .1)
+    let at-word-of = at-size .before in
+    let at-start = at-word-of .before .before .before .before in
+    pair-asked (at-start .pre) (at-word-of .word-of .ensures) (at-size .size .ensures) (at-loop .loop .counts) (at-loop .loop .i) (at-loop .loop .inv .1)
     (at-loop .loop .inv .2) (c .before .loop-test .taken)
 
 same-length : tie.Need-same-length Inv-loop μ-loop
@@ -76,10 +71,9 @@ same-length-2 c = c .before .loop .inv .1
 returns-2 : tie.Need-returns-2 Inv-loop μ-loop
 returns-2 c =
     let at-size = c .before .before in
-    let at-body-word = at-size .before in
-    let at-start = at-body-word .before .before .before .before in
-    class-done _ _ _ _ (at-start .args .class) (at-start .args .counts .now) (at-start .pre) (at-body-word .body-word .result) (at-size .size .result)
-    (at-body-word .body-word .ensures) (at-size .size .ensures) (c .before .loop .counts) (c .before .loop .i) (c .before .loop .inv .2) (c .loop-test .left)
+    let at-word-of = at-size .before in
+    let at-start = at-word-of .before .before .before .before in
+    class-done (at-start .pre) (at-word-of .word-of .ensures) (at-size .size .ensures) (c .before .loop .counts) (c .before .loop .i) (c .before .loop .inv .2) (c .loop-test .left)
 
 pub count-class-spec : {M : Type 1} → statement M
 count-class-spec =
@@ -87,7 +81,7 @@ count-class-spec =
     (tie.spec
     Inv-loop
     μ-loop
-    body-word-requires
+    word-of-requires
     cast-size
     size-requires
     cast-pairs

@@ -10,9 +10,6 @@ use Rattle.methods.proofs.HolderLaws.{none-counted, all-counted}
 use Rattle.methods.proofs.AskedLaws.{turned-on, held-no}
 use Rattle.methods.proofs.count_methods.Statement.{statement}
 use Rattle.methods.proofs.count_methods.Tie as tie
-use Rattle.methods.proofs.count_methods.Reads as reads
-use Rattle.methods.proofs.count_methods.Lts as lts
-use Rattle.methods.proofs.count_object.Reads as count-object-reads
 
 abbrev Inv-loop : tie.InvT-loop
 Inv-loop contents bodies n b counts₀ k₀ counts k = (1 ≤ k) × (k ≤ n + 1) × (length counts ≡ length counts₀) × Counting (objectsAt n b contents bodies) counts k 0
@@ -21,7 +18,7 @@ abbrev μ-loop : tie.MeasureT-loop
 μ-loop contents bodies n b counts₀ k₀ counts k = n + 1 - k
 
 loop-holds : tie.Need-loop-holds Inv-loop μ-loop
-loop-holds c = (omega arith, omega (arith, c .before .before .before .pre .0 .lent .least), refl, none-counted _ _ (c .before .before .before .pre .2))
+loop-holds c = (omega arith, omega (arith, c .before .before .before .pre .0 .laid .known), refl, none-counted _ _ (c .before .before .before .pre .3))
 
 count-object-requires : tie.Need-count-object-requires Inv-loop μ-loop
 count-object-requires c κs =
@@ -29,10 +26,11 @@ count-object-requires c κs =
     let at-start = at-loop .before .before .before .before in
     record {
       ready = at-start .pre .0;
+      shaped = at-start .pre .1;
       least = at-loop .loop .inv .0;
       most = c .before .loop-test .taken;
       long = let h = at-loop .loop .inv .2 in omega
-          (arith, at-start .pre .1);
+          (arith, at-start .pre .2);
       so-far = at-loop .loop .inv .3;
     }
 
@@ -43,7 +41,7 @@ returns : tie.Need-returns Inv-loop μ-loop
 returns c = held-no _ _ _ _ _ (subst (Turned _ _ _ _) (not-true _ (c .if1 .taken)) (c .before .before .before .count-object .ensures))
 
 add-k : tie.Need-add-k Inv-loop μ-loop
-add-k c = omega (arith, c .before .before .before .before .before .before .before .before .before .before .pre .0 .lent .most)
+add-k c = omega (arith, c .before .before .before .before .before .before .before .before .before .before .pre .0 .laid .most)
 
 loop-less : tie.Need-loop-less Inv-loop μ-loop
 loop-less c = omega arith

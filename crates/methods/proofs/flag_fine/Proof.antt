@@ -1,16 +1,14 @@
-use Prim.Native.Nat.{ℕ, _/_, _%_}
-use mathlib.Core.Path.{_≡_, sym, ap, ap₂, _∙_}
+use Prim.Native.Nat.{ℕ}
+use mathlib.Core.Path.{sym, ap, ap₂, _∙_}
 use borrow.Author.Tests.{not-true, not-false}
 use lib.Dec.{leb}
+use Rattle.bytecode.proofs.TestLaws.{true→T}
+use Rattle.readers.specs.Header.{temporariesOf}
 use Rattle.methods.specs.Passes.{flagRules}
+use Rattle.methods.proofs.ShapeLaws.{primitive-two, count-here}
 use borrow.Author.Needs.{needs}
 use Rattle.methods.proofs.flag_fine.Statement.{statement}
 use Rattle.methods.proofs.flag_fine.Tie as tie
-use Rattle.methods.proofs.flag_fine.Reads as reads
-use Rattle.methods.proofs.flag_fine.Lts as lts
-use Rattle.methods.proofs.argument_count.Reads as argument-count-reads
-use Rattle.methods.proofs.field_fine.Reads as field-fine-reads
-use Rattle.methods.proofs.primitive_fine.Reads as primitive-fine-reads
 
 field-fine-requires : tie.Need-field-fine-requires
 field-fine-requires c κs = search needs
@@ -27,16 +25,22 @@ unfolding flagRules
 returns-2 c = simp (sym (c .before .before .before .field-fine .ensures) ∙ not-false _ (c .before .before .if1 .left), sym (c .before .primitive-fine .ensures) ∙ not-true _ (c .if2 .taken))
 
 argument-count-requires : tie.Need-argument-count-requires
-argument-count-requires c κs = search needs
+argument-count-requires c κs = 
+    let at-start = c .before .before .before .before .before .before in
+    count-here (at-start .pre .method) (primitive-two _ (at-start .args .m) (true→T (sym (c .before .primitive-fine .ensures) ∙ not-false _ (c .if2 .left))))
+
+temporary-count-requires : tie.Need-temporary-count-requires
+temporary-count-requires c κs = search needs
 
 returns-3 : tie.Need-returns-3
 unfolding flagRules
-returns-3 c =
-    let at-if1 = c .before .before .before in
+returns-3 c = 
+    let at-if2 = c .before .before in
+    let at-if1 = at-if2 .before .before in
     let at-field-fine = at-if1 .before in
     let at-start = at-field-fine .before .before .before in
-    ap₂ (λ (x y : ℕ). leb x (y / 256 % 32)) (c .argument-count .ensures .0) (at-start .pre .header)
-    ∙ sym (simp (sym (at-field-fine .field-fine .ensures) ∙ not-false _ (at-if1 .if1 .left), sym (c .before .before .primitive-fine .ensures) ∙ not-false _ (c .before .if2 .left)))
+    ap₂ leb (c .before .argument-count .ensures .0) (c .temporary-count .ensures ∙ ap temporariesOf (at-start .pre .header))
+    ∙ sym (simp (sym (at-field-fine .field-fine .ensures) ∙ not-false _ (at-if1 .if1 .left), sym (at-if2 .before .primitive-fine .ensures) ∙ not-false _ (at-if2 .if2 .left)))
 
 pub flag-fine-spec : {M : Type 1} → statement M
 flag-fine-spec =
@@ -47,4 +51,5 @@ flag-fine-spec =
     primitive-fine-requires
     returns-2
     argument-count-requires
+    temporary-count-requires
     returns-3)

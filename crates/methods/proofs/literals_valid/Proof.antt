@@ -6,13 +6,10 @@ use borrow.Author.Tests.{not-true, not-false}
 use Rattle.model.specs.Word.{isValid}
 use Rattle.model.specs.Objects.{objectsAt}
 use Rattle.model.specs.Method.{literal}
-use Rattle.rules.proofs.Loops.{Before, before-none, before-more, below-all, below-no}
+use Rattle.readers.proofs.Loops.{Before, before-none, before-more, below-all, below-no}
+use Rattle.readers.proofs.InsideLaws.{method-inside}
 use Rattle.methods.proofs.literals_valid.Statement.{statement}
 use Rattle.methods.proofs.literals_valid.Tie as tie
-use Rattle.methods.proofs.literals_valid.Reads as reads
-use Rattle.methods.proofs.literals_valid.Lts as lts
-use Rattle.methods.proofs.body_word.Reads as body-word-reads
-use Rattle.rules.proofs.is_valid.Reads as is-valid-reads
 
 abbrev Inv-loop : tie.InvT-loop
 Inv-loop contents bodies n b m literals i₀ i = (i ≤ literals) × Before (λ j. isValid n (literal (objectsAt n b contents bodies) m j)) i
@@ -26,11 +23,17 @@ loop-holds c =
     let args = at-start .args in
     (omega arith, before-none (λ j. isValid (args .n) (literal (objectsAt (args .n) (args .b) (args .contents .now) (args .bodies .now)) (args .m) j)))
 
-add-body-word : tie.Need-add-body-word Inv-loop μ-loop
-add-body-word c = search needs
+add-word-of : tie.Need-add-word-of Inv-loop μ-loop
+add-word-of c = 
+    let at-start = c .before .before .before .before in
+    let p = at-start .pre in
+    let h = method-inside (p .laid) {i = 1 + at-start .args .literals} (at-start .args .literals) (p .isMethod) (p .holds) (omega arith) in
+    omega (arith, h .below, p .laid .most-words, c .loop-test .taken)
 
-body-word-requires : tie.Need-body-word-requires Inv-loop μ-loop
-body-word-requires c κs = (c .before .before .before .before .pre .0, omega (arith, c .before .before .before .before .pre .1))
+word-of-requires : tie.Need-word-of-requires Inv-loop μ-loop
+word-of-requires c κs =
+    let p = c .before .before .before .before .pre in
+    method-inside (p .laid) _ (p .isMethod) (p .holds) (omega arith)
 
 is-valid-requires : tie.Need-is-valid-requires Inv-loop μ-loop
 is-valid-requires c κs = search needs
@@ -41,7 +44,7 @@ returns c =
     let at-start = at-loop .before .before .before in
     let args = at-start .args in
     sym (below-no (args .literals) (λ j. isValid (args .n) (literal (objectsAt (args .n) (args .b) (args .contents .now) (args .bodies .now)) (args .m) j))
-    (at-loop .loop .i) (c .before .before .before .loop-test .taken) (ap (isValid (args .n)) (sym (c .before .before .body-word .ensures))
+    (at-loop .loop .i) (c .before .before .before .loop-test .taken) (ap (isValid (args .n)) (sym (c .before .before .word-of .ensures))
     ∙ sym (c .before .is-valid .ensures) ∙ not-true _ (c .if1 .taken)))
 
 add-i : tie.Need-add-i Inv-loop μ-loop
@@ -57,7 +60,7 @@ loop-again c =
     let args = at-start .args in (
       omega arith,
       before-more (λ j. isValid (args .n) (literal (objectsAt (args .n) (args .b) (args .contents .now) (args .bodies .now)) (args .m) j))
-          (at-loop .loop .i) (at-loop .loop .inv .1) (ap (isValid (args .n)) (sym (c .before .before .body-word .ensures)) ∙ sym (c .before .is-valid .ensures)
+          (at-loop .loop .i) (at-loop .loop .inv .1) (ap (isValid (args .n)) (sym (c .before .before .word-of .ensures)) ∙ sym (c .before .is-valid .ensures)
           ∙ not-false _ (c .if1 .left)),
     )
 
@@ -75,8 +78,8 @@ literals-valid-spec =
     Inv-loop
     μ-loop
     loop-holds
-    add-body-word
-    body-word-requires
+    add-word-of
+    word-of-requires
     is-valid-requires
     returns
     add-i

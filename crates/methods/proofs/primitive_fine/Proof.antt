@@ -1,27 +1,37 @@
-use Prim.Native.Nat.{ℕ, _/_, _%_}
-use mathlib.Core.Path.{ap}
+use Prim.Native.Nat.{ℕ}
+use mathlib.Core.Path.{sym, ap, _∙_, subst}
+use Rattle.readers.specs.Header.{flagOf, literalsOf}
+use Rattle.methods.specs.Asked.{Literals}
 use Rattle.methods.proofs.ShapeLaws.{no-primitive-flag, primitive-flag}
 use borrow.Author.Needs.{needs}
 use Rattle.methods.proofs.primitive_fine.Statement.{statement}
 use Rattle.methods.proofs.primitive_fine.Tie as tie
-use Rattle.methods.proofs.primitive_fine.Reads as reads
-use Rattle.methods.proofs.primitive_fine.Lts as lts
-use Rattle.methods.proofs.extension_fine.Reads as extension-fine-reads
+
+flag-requires : tie.Need-flag-requires
+flag-requires c κs = search needs
 
 returns : tie.Need-returns
-returns c = no-primitive-flag _ (c .before .before .before .args .m) (c .before .before .before .args .h) (c .before .before .before .pre .header) (c .if1 .taken)
+returns c = 
+    let at-start = c .before .before .before .before in
+    no-primitive-flag _ (at-start .args .m) (c .before .flag .ensures ∙ ap flagOf (at-start .pre .header)) (c .if1 .taken)
 
-cast-extension-fine : tie.Need-cast-extension-fine
-cast-extension-fine c = search needs
+literal-count-requires : tie.Need-literal-count-requires
+literal-count-requires c κs = search needs
 
 extension-fine-requires : tie.Need-extension-fine-requires
-extension-fine-requires c κs = (c .before .before .before .pre .method, ap (λ (x : ℕ). x / 2 % 64) (c .before .before .before .pre .header))
+extension-fine-requires c κs = 
+    let at-start = c .before .before .before .before .before in
+    let args = at-start .args in
+    let e = c .literal-count .ensures ∙ ap literalsOf (at-start .pre .header) in
+    (subst (Literals (args .n) (args .b) (args .contents .now) (args .bodies .now) (args .m)) (sym e) (at-start .pre .method), e)
 
 returns-2 : tie.Need-returns-2
-returns-2 c =
-    let at-start = c .before .before .before .before in
-    primitive-flag _ (at-start .args .m) (at-start .args .h) (at-start .pre .header) (c .extension-fine .result) (c .before .if1 .left) (c .extension-fine .ensures)
+returns-2 c = 
+    let at-flag = c .before .before .before in
+    let at-start = at-flag .before .before .before in
+    primitive-flag _ (at-start .args .m) (at-flag .flag .ensures ∙ ap flagOf (at-start .pre .header)) (c .before .before .if1 .left) (c .extension-fine .ensures)
 
 pub primitive-fine-spec : {M : Type 1} → statement M
 primitive-fine-spec =
-    tie.close (tie.spec returns cast-extension-fine extension-fine-requires returns-2)
+    tie.close
+    (tie.spec flag-requires returns literal-count-requires extension-fine-requires returns-2)

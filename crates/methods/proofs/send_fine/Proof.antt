@@ -6,9 +6,6 @@ use Rattle.methods.proofs.SendLaws.{no-selector, selector-inside, none-
 use borrow.Author.Needs.{needs}
 use Rattle.methods.proofs.send_fine.Statement.{statement}
 use Rattle.methods.proofs.send_fine.Tie as tie
-use Rattle.methods.proofs.send_fine.Reads as reads
-use Rattle.methods.proofs.send_fine.Lts as lts
-use Rattle.rules.proofs.is_nil_or.Reads as is-nil-or-reads
 
 is-nil-or-requires : tie.Need-is-nil-or-requires
 is-nil-or-requires c κs = search needs

@@ -2,13 +2,11 @@ use Prim.Native.Nat.{ℕ, _*_, _/_}
 use mathlib.Core.Path.{_≡_, refl, sym, ap, _∙_}
 use native.Mathlib.Omega.{arith}
 use Rattle.methods.proofs.ShapeLaws.{no-method-here, method-here}
-use borrow.Author.Needs.{needs}
+use Rattle.bytecode.proofs.TestLaws.{true→T}
+use Rattle.model.specs.Limits.{methodKind}
+use Rattle.readers.proofs.Names.{names-kind}
 use Rattle.methods.proofs.shape_object.Statement.{statement}
 use Rattle.methods.proofs.shape_object.Tie as tie
-use Rattle.methods.proofs.shape_object.Reads as reads
-use Rattle.methods.proofs.shape_object.Lts as lts
-use Rattle.methods.proofs.shape.Reads as shape-reads
-use Rattle.rules.proofs.kind.Reads as kind-reads
 
 kind-requires : tie.Need-kind-requires
 kind-requires c κs = record { entries = c .before .before .pre .0 .entries; least = c .before .before .pre .1; most = c .before .before .pre .2 }
@@ -25,7 +23,7 @@ cast-shape c = omega (arith, c .before .before .before .before .pre .2, c .befor
 shape-requires : tie.Need-shape-requires
 shape-requires c κs =
     let at-start = c .before .before .before .before in
-    record { lent = at-start .pre .0; least = omega (arith, at-start .pre .1); most = omega (arith, at-start .pre .2) }
+    (at-start .pre .0, true→T (names-kind _ (at-start .args .k) methodKind (at-start .pre .1) (at-start .pre .2) (sym (c .before .kind .ensures) ∙ c .if1 .left)))
 
 returns-2 : tie.Need-returns-2
 returns-2 c = method-here _ (c .before .before .before .before .before .args .k) (c .shape .result) (sym (c .before .before .kind .ensures) ∙ c .before .if1 .left) (c .shape .ensures)

@@ -4,13 +4,10 @@ use native.Mathlib.Omega.{arith}
 use borrow.Author.Needs.{needs}
 use borrow.Author.Tests.{not-true, not-false}
 use Rattle.model.specs.Objects.{objectsAt}
-use Rattle.rules.proofs.Loops.{UpBefore, up-none, up-more, up-all, up-no}
+use Rattle.readers.proofs.Loops.{UpBefore, up-none, up-more, up-all, up-no}
 use Rattle.methods.specs.Passes.{shapeFine, shapes}
 use Rattle.methods.proofs.shapes_fine.Statement.{statement}
 use Rattle.methods.proofs.shapes_fine.Tie as tie
-use Rattle.methods.proofs.shapes_fine.Reads as reads
-use Rattle.methods.proofs.shapes_fine.Lts as lts
-use Rattle.methods.proofs.shape_object.Reads as shape-object-reads
 
 abbrev Inv-loop : tie.InvT-loop
 Inv-loop contents bodies n b k₀ k = (1 ≤ k) × (k ≤ n + 1) × UpBefore (shapeFine (objectsAt n b contents bodies)) k
@@ -21,7 +18,7 @@ abbrev μ-loop : tie.MeasureT-loop
 loop-holds : tie.Need-loop-holds Inv-loop μ-loop
 loop-holds c = (
   omega arith,
-  omega (arith, c .before .before .pre .least),
+  omega (arith, c .before .before .pre .known),
   up-none
       (shapeFine (objectsAt (c .before .before .args .n) (c .before .before .args .b) (c .before .before .args .contents .now) (c .before .before .args .bodies .now))),
 )

@@ -12,10 +12,6 @@ use Rattle.model.proofs.ChainLaws as C
 use borrow.Author.Needs.{needs}
 use Rattle.methods.proofs.variable_fine.Statement.{statement}
 use Rattle.methods.proofs.variable_fine.Tie as tie
-use Rattle.methods.proofs.variable_fine.Reads as reads
-use Rattle.methods.proofs.variable_fine.Lts as lts
-use Rattle.rules.proofs.is_kind.Reads as is-kind-reads
-use Rattle.rules.proofs.size.Reads as size-reads
 
 is-kind-requires : tie.Need-is-kind-requires
 is-kind-requires c κs = search needs

@@ -1,9 +1,7 @@
-use Rattle.objects.specs.Lent.{literalsOf}
 use mathlib.Core.Path.{ap, _∙_}
--- The code is what lies behind the literals.
-use Rattle.model.specs.Objects.{objectsAt}
 use native.Mathlib.Omega.{arith}
-use Rattle.objects.proofs.Bodies.{holds-listed}
+use Rattle.readers.specs.Header.{literalsOf}
+use Rattle.objects.proofs.Bodies.{holds-entry}
 use Rattle.objects.proofs.Methods.{code-at, code-fits}
 use borrow.Author.Needs.{needs}
 use Rattle.objects.proofs.code_of.Statement.{statement}
@@ -15,59 +13,56 @@ header-requires c κs = search needs
 literal-count-requires : tie.Need-literal-count-requires
 literal-count-requires c κs = search needs
 
-start-of-requires : tie.Need-start-of-requires
-start-of-requires c κs = holds-listed (c .before .before .before .before .pre)
+cast-k : tie.Need-cast-k
+cast-k c = search needs
 
-size-of-requires : tie.Need-size-of-requires
-size-of-requires c κs = holds-listed (c .before .before .before .before .before .pre)
+start-requires : tie.Need-start-requires
+start-requires c κs = holds-entry (c .before .before .before .before .before .pre)
 
-add-t9 : tie.Need-add-t9
-add-t9 c =
-    let at-header = c .before .before .before in
-    let at-start = at-header .before .before .before in
-    let f = code-fits (at-start .pre) _ _ _ (c .before .before .literal-count .ensures ∙ ap literalsOf (at-header .header .ensures)) (c .before .start-of .ensures) (c .size-of .ensures) in omega arith
+cast-start : tie.Need-cast-start
+cast-start c = search needs
+
+size-requires : tie.Need-size-requires
+size-requires c κs = holds-entry (c .before .before .before .before .before .before .pre)
+
+cast-size : tie.Need-cast-size
+cast-size c = search needs
 
 add-t10 : tie.Need-add-t10
-add-t10 c =
-    let at-header = c .before .before .before in
-    let at-start = at-header .before .before .before in
-    let f = code-fits (at-start .pre) _ _ _ (c .before .before .literal-count .ensures ∙ ap literalsOf (at-header .header .ensures)) (c .before .start-of .ensures) (c .size-of .ensures) in omega arith
+add-t10 c = search needs
 
-add-t11 : tie.Need-add-t11
-add-t11 c =
-    let at-header = c .before .before .before in
-    let at-start = at-header .before .before .before in
-    let f = code-fits (at-start .pre) _ _ _ (c .before .before .literal-count .ensures ∙ ap literalsOf (at-header .header .ensures)) (c .before .start-of .ensures) (c .size-of .ensures) in omega arith
+add-t12 : tie.Need-add-t12
+add-t12 c = search needs
 
 add-t13 : tie.Need-add-t13
-add-t13 c =
-    let at-header = c .before .before .before in
-    let at-start = at-header .before .before .before in
-    let f = code-fits (at-start .pre) _ _ _ (c .before .before .literal-count .ensures ∙ ap literalsOf (at-header .header .ensures)) (c .before .start-of .ensures) (c .size-of .ensures) in omega arith
+add-t13 c = search needs
 
-sub-t14 : tie.Need-sub-t14
-sub-t14 c =
-    let at-header = c .before .before .before in
-    let at-start = at-header .before .before .before in
-    let f = code-fits (at-start .pre) _ _ _ (c .before .before .literal-count .ensures ∙ ap literalsOf (at-header .header .ensures)) (c .before .start-of .ensures) (c .size-of .ensures) in omega arith
-
-mul-t15 : tie.Need-mul-t15
-mul-t15 c =
-    let at-header = c .before .before .before in
-    let at-start = at-header .before .before .before in
-    let f = code-fits (at-start .pre) _ _ _ (c .before .before .literal-count .ensures ∙ ap literalsOf (at-header .header .ensures)) (c .before .start-of .ensures) (c .size-of .ensures) in omega arith
+add-t15 : tie.Need-add-t15
+add-t15 c = search needs
 
 sub-t16 : tie.Need-sub-t16
-sub-t16 c =
-    let at-header = c .before .before .before in
+sub-t16 c = 
+    let at-header = c .before .before .before .before in
     let at-start = at-header .before .before .before in
-    let f = code-fits (at-start .pre) _ _ _ (c .before .before .literal-count .ensures ∙ ap literalsOf (at-header .header .ensures)) (c .before .start-of .ensures) (c .size-of .ensures) in omega arith
+    let literals = c .before .before .before .literal-count .ensures ∙ ap literalsOf (at-header .header .ensures) in
+    let f = code-fits (at-start .pre) literals (c .before .start .ensures) (c .size .ensures) in omega arith
+
+mul-t17 : tie.Need-mul-t17
+mul-t17 c = search needs
+
+sub-t18 : tie.Need-sub-t18
+sub-t18 c = 
+    let at-header = c .before .before .before .before in
+    let at-start = at-header .before .before .before in
+    let literals = c .before .before .before .literal-count .ensures ∙ ap literalsOf (at-header .header .ensures) in
+    let f = code-fits (at-start .pre) literals (c .before .start .ensures) (c .size .ensures) in omega arith
 
 returns : tie.Need-returns
-returns c =
-    let at-header = c .before .before .before in
+returns c = 
+    let at-header = c .before .before .before .before in
     let at-start = at-header .before .before .before in
-    code-at (at-start .pre) _ _ _ (c .before .before .literal-count .ensures ∙ ap literalsOf (at-header .header .ensures)) (c .before .start-of .ensures) (c .size-of .ensures)
+    let literals = c .before .before .before .literal-count .ensures ∙ ap literalsOf (at-header .header .ensures) in
+    code-at (at-start .pre) literals (c .before .start .ensures) (c .size .ensures)
 
 pub code-of-spec : {M : Type 1} → statement M
 code-of-spec =
@@ -75,13 +70,16 @@ code-of-spec =
     (tie.spec
     header-requires
     literal-count-requires
-    start-of-requires
-    size-of-requires
-    add-t9
+    cast-k
+    start-requires
+    cast-start
+    size-requires
+    cast-size
     add-t10
-    add-t11
+    add-t12
     add-t13
-    sub-t14
-    mul-t15
+    add-t15
     sub-t16
+    mul-t17
+    sub-t18
     returns)

@@ -1,12 +1,13 @@
 -- A class has four words.
 use native.Mathlib.Omega.{arith}
-use Rattle.objects.proofs.Bodies.{class-inside}
+use Rattle.readers.proofs.InsideLaws.{class-inside}
+use Rattle.objects.proofs.Bodies.{holds-laid}
 use borrow.Author.Needs.{needs}
 use Rattle.objects.proofs.dictionary.Statement.{statement}
 use Rattle.objects.proofs.dictionary.Tie as tie
 
 word-of-requires : tie.Need-word-of-requires
-word-of-requires c κs = class-inside 1 (omega arith) (c .before .before .pre)
+word-of-requires c κs = let p = c .before .before .pre in class-inside (holds-laid p) (p .kinds) (omega arith)
 
 returns : tie.Need-returns
 returns c = search needs

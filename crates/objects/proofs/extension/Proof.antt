@@ -1,4 +1,4 @@
-use Rattle.objects.specs.Lent.{literalsOf}
+use Rattle.readers.specs.Header.{literalsOf}
 -- Flag 7 has two literals.
 use Prim.Native.Nat.{ℕ, _-_}
 use mathlib.Core.Path.{ap, _∙_}

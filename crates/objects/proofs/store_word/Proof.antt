@@ -1,35 +1,49 @@
--- A body is inside the buffer.
 use Prim.Native.Nat.{ℕ, _+_}
 use mathlib.Core.Path.{ap}
 use native.Mathlib.Omega.{arith}
 use Rattle.objects.proofs.Buffers.{stored}
-use Rattle.objects.proofs.Bodies.{room, inside-listed}
 use borrow.Author.Needs.{needs}
 use Rattle.objects.proofs.store_word.Statement.{statement}
 use Rattle.objects.proofs.store_word.Tie as tie
 
-start-of-requires : tie.Need-start-of-requires
-start-of-requires c κs = inside-listed (c .before .before .pre)
+cast-k : tie.Need-cast-k
+cast-k c = search needs
+
+start-requires : tie.Need-start-requires
+start-requires c κs = search needs
+
+cast-to : tie.Need-cast-to
+cast-to c = search needs
 
 add-to : tie.Need-add-to
-add-to c = let h = room (c .before .before .before .pre) in omega (arith, c .start-of .ensures)
+add-to c = search needs
 
 mul-bodies : tie.Need-mul-bodies
-mul-bodies c = let h = room (c .before .before .before .pre) in omega (arith, c .start-of .ensures)
+mul-bodies c = search needs
 
 slice-write-bodies : tie.Need-slice-write-bodies
-slice-write-bodies c = let h = room (c .before .before .before .pre) in omega (arith, c .start-of .ensures)
+slice-write-bodies c = search needs
 
 same-length : tie.Need-same-length
 same-length c = search needs
 
 returns : tie.Need-returns
-returns c =
-    let at-start = c .before .before .before in
+returns c = 
+    let at-start = c .before .before .before .before in
     let args = at-start .args in
-    let h = room (at-start .pre) in stored (args .n) (args .b) (args .contents .now) (args .bodies .now) _ _ _ (c .start-of .result + args .i) (h .words)
-    (ap (λ (x : ℕ). x + args .i) (c .start-of .ensures)) (omega (arith, c .start-of .ensures))
+    let h = at-start .pre in
+    let s = c .start .ensures in
+    stored (args .n) (args .b) (args .contents .now) (args .bodies .now) _ _ _ (c .start .result + args .i) (h .words) (ap (λ (x : ℕ). x + args .i) s) (omega arith)
 
 pub store-word-spec : {M : Type 1} → statement M
 store-word-spec =
-    tie.close (tie.spec start-of-requires add-to mul-bodies slice-write-bodies same-length returns)
+    tie.close
+    (tie.spec
+    cast-k
+    start-requires
+    cast-to
+    add-to
+    mul-bodies
+    slice-write-bodies
+    same-length
+    returns)

@@ -2,7 +2,7 @@
 use mathlib.Core.Path.{sym, _∙_}
 use borrow.Author.Tests.{not-true, not-false}
 use Rattle.model.specs.Objects.{objectsAt}
-use Rattle.rules.proofs.ClassLaws.{no-known, no-shape, by-chains}
+use Rattle.rules.proofs.ClassLaws.{no-known, no-shape, by-chains, above-class}
 use borrow.Author.Needs.{needs}
 use Rattle.rules.proofs.classes.Statement.{statement}
 use Rattle.rules.proofs.classes.Tie as tie
@@ -14,7 +14,7 @@ returns : tie.Need-returns
 returns c =
     let a = c .before .before .before .before .args in
     let o = objectsAt (a .n) (a .b) (a .contents .now) (a .bodies .now) in
-    sym (no-known o (sym (c .before .known-fine .ensures) ∙ not-true _ (c .if1 .taken)))
+    sym (no-known (a .edition) o (sym (c .before .known-fine .ensures) ∙ not-true _ (c .if1 .taken)))
 
 shapes-requires : tie.Need-shapes-requires
 shapes-requires c κs = search needs
@@ -25,12 +25,12 @@ returns-2 c =
     let at-start = at-known-fine .before .before .before in
     let a = at-start .args in
     let o = objectsAt (a .n) (a .b) (a .contents .now) (a .bodies .now) in
-    sym (no-shape o (sym (at-known-fine .known-fine .ensures) ∙ not-false _ (c .before .before .if1 .left)) (sym (c .before .shapes .ensures) ∙ not-true _ (c .if2 .taken)))
+    sym (no-shape (a .edition) o (sym (at-known-fine .known-fine .ensures) ∙ not-false _ (c .before .before .if1 .left)) (sym (c .before .shapes .ensures) ∙ not-true _ (c .if2 .taken)))
 
 chains-requires : tie.Need-chains-requires
 chains-requires c κs =
-    let p = c .before .before .before .before .before .before .pre in
-    (p, sym (c .before .shapes .ensures) ∙ not-false _ (c .if2 .left))
+    let at-start = c .before .before .before .before .before .before in
+    (at-start .pre, above-class (at-start .args .edition) _ (sym (c .before .shapes .ensures) ∙ not-false _ (c .if2 .left)))
 
 returns-3 : tie.Need-returns-3
 returns-3 c =
@@ -39,7 +39,7 @@ returns-3 c =
     let at-start = at-known-fine .before .before .before in
     let a = at-start .args in
     let o = objectsAt (a .n) (a .b) (a .contents .now) (a .bodies .now) in
-    c .chains .ensures ∙ sym (by-chains o (sym (at-known-fine .known-fine .ensures) ∙ not-false _ (at-if1 .if1 .left)) (sym (c .before .before .shapes .ensures) ∙ not-false _ (c .before .if2 .left)))
+    c .chains .ensures ∙ sym (by-chains (a .edition) o (sym (at-known-fine .known-fine .ensures) ∙ not-false _ (at-if1 .if1 .left)) (sym (c .before .before .shapes .ensures) ∙ not-false _ (c .before .if2 .left)))
 
 pub classes-spec : {M : Type 1} → statement M
 classes-spec =

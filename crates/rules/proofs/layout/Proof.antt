@@ -7,28 +7,28 @@ use Rattle.bytecode.specs.Test.{allOf}
 use Rattle.model.specs.Objects.{Objects, objectsAt}
 use Rattle.model.specs.Rules.{layoutRules}
 use Rattle.rules.specs.Lent.{startOf}
-use Rattle.rules.proofs.Loops.{UpBefore, up-none, up-more}
+use Rattle.readers.proofs.Loops.{UpBefore, up-none, up-more}
 use Rattle.rules.proofs.Laid.{start-first, start-next, laid-no, laid-all}
 use Rattle.rules.proofs.layout.Statement.{statement}
 use Rattle.rules.proofs.layout.Tie as tie
 
-record Inv (o : Objects) (k from : ℕ) : Type 0 where
+record Inv (e : ℕ) (o : Objects) (k from : ℕ) : Type 0 where
   least : 1 ≤ k
   most : k ≤ o .n + 1
   starts : from ≡ startOf o k
-  passed : UpBefore (λ j. allOf (layoutRules 1 o j)) k
+  passed : UpBefore (λ j. allOf (layoutRules e o j)) k
 
 abbrev Inv-loop : tie.InvT-loop
-Inv-loop contents bodies n b k₀ from₀ k from = Inv (objectsAt n b contents bodies) k from
+Inv-loop edition contents bodies n b k₀ from₀ k from = Inv edition (objectsAt n b contents bodies) k from
 
 abbrev μ-loop : tie.MeasureT-loop
-μ-loop contents bodies n b k₀ from₀ k from = n + 1 - k
+μ-loop edition contents bodies n b k₀ from₀ k from = n + 1 - k
 
 loop-holds : tie.Need-loop-holds Inv-loop μ-loop
 loop-holds c =
     let a = c .before .before .args in
     let o = objectsAt (a .n) (a .b) (a .contents .now) (a .bodies .now) in
-    record { least = omega arith; most = omega (arith, c .before .before .pre); starts = sym (start-first o); passed = up-none (λ j. allOf (layoutRules 1 o j)) }
+    record { least = omega arith; most = omega (arith, c .before .before .pre); starts = sym (start-first o); passed = up-none (λ j. allOf (layoutRules (a .edition) o j)) }
 
 object-layout-requires : tie.Need-object-layout-requires Inv-loop μ-loop
 object-layout-requires c κs =
@@ -43,7 +43,7 @@ returns c =
     let a = at-start .args in
     let o = objectsAt (a .n) (a .b) (a .contents .now) (a .bodies .now) in
     let i = at-loop .loop .inv in
-    sym (laid-no o (at-loop .loop .k) (i .least) (c .before .before .loop-test .taken) (sym (c .before .object-layout .ensures) ∙ not-true _ (c .if1 .taken)))
+    sym (laid-no (a .edition) o (at-loop .loop .k) (i .least) (c .before .before .loop-test .taken) (sym (c .before .object-layout .ensures) ∙ not-true _ (c .if1 .taken)))
 
 body-end-requires : tie.Need-body-end-requires Inv-loop μ-loop
 body-end-requires c κs =
@@ -75,7 +75,7 @@ loop-again c =
       least = omega arith;
       most = omega arith;
       starts = c .body-end .ensures (a .b) (a .bodies .now) ∙ sym (start-next o (at-loop .loop .k) (i .least));
-      passed = up-more (λ j. allOf (layoutRules 1 o j)) (at-loop .loop .k) (i .passed) (sym (c .before .before .object-layout .ensures) ∙ not-false _ (c .before .if1 .left));
+      passed = up-more (λ j. allOf (layoutRules (a .edition) o j)) (at-loop .loop .k) (i .passed) (sym (c .before .before .object-layout .ensures) ∙ not-false _ (c .before .if1 .left));
     }
 
 returns-2 : tie.Need-returns-2 Inv-loop μ-loop
@@ -85,7 +85,7 @@ returns-2 c =
     let i = c .before .loop .inv in
     let t = c .loop-test in
     let p = c .before .before .before .before .pre in
-    laid-all o (c .before .loop .k) (c .before .loop .from) (omega arith) (omega arith) (i .starts) (i .passed)
+    laid-all (a .edition) o (c .before .loop .k) (c .before .loop .from) (omega arith) (omega arith) (i .starts) (i .passed)
 
 pub layout-spec : {M : Type 1} → statement M
 layout-spec =

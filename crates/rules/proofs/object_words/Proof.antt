@@ -6,7 +6,8 @@ use borrow.Author.Tests.{not-true, not-false}
 use Rattle.bytecode.specs.Test.{every}
 use Rattle.model.specs.Word.{isValid}
 use Rattle.model.specs.Objects.{objectsAt, sizedInBytes, start, bodyWords, part}
-use Rattle.rules.proofs.Laid.{inside-at, body-plain, body-part, words-no, words-bytes, words-all}
+use Rattle.readers.proofs.Bodies.{body-plain, body-part}
+use Rattle.rules.proofs.Laid.{words-no, words-bytes, words-all}
 use borrow.Author.Needs.{needs}
 use Rattle.rules.proofs.object_words.Statement.{statement}
 use Rattle.rules.proofs.object_words.Tie as tie
@@ -71,11 +72,11 @@ part-valid-words-end c =
     let a = at-start .args in
     let p = at-start .pre in
     let o = objectsAt (a .n) (a .b) (a .contents .now) (a .bodies .now) in
-    let h = inside-at o (p .0 .layout) (a .k) (p .1 .0) (p .1 .1) in
+    let h = p .0 .inside (a .k) (p .1 .0) (p .1 .1) in
     let w = body-plain o (a .k) (ap sizedInBytes (sym (at-kind .kind .ensures)) ∙ sym (c .before .before .before .in-bytes .ensures) ∙ c .before .before .if2 .left) in
     let s = c .before .start .ensures in
     let z = c .size .ensures in
-    let l = p .0 .lent .words in
+    let l = p .0 .words in
     omega arith
 
 valid-words-requires : tie.Need-valid-words-requires
@@ -95,13 +96,13 @@ returns-3 c =
     let a = at-start′ .args in
     let p = at-start′ .pre in
     let o = objectsAt (a .n) (a .b) (a .contents .now) (a .bodies .now) in
-    let g = inside-at o (p .0 .layout) (a .k) (p .1 .0) (p .1 .1) in
+    let g = p .0 .inside (a .k) (p .1 .0) (p .1 .1) in
     let t = ap sizedInBytes (sym (at-kind .kind .ensures)) ∙ sym (at-in-bytes .in-bytes .ensures) ∙ at-if2 .if2 .left in
     let w = body-plain o (a .k) t in
     let s = at-start .start .ensures in
     let z = at-size .size .ensures in
     let count : at-start .start .result + at-size .size .result - at-start .start .result ≡ bodyWords o (a .k) = omega arith in
-    c .valid-words .ensures ∙ ap (every (isValid (a .n))) (ap₂ (part (a .bodies .now)) s count ∙ sym (body-part (a .n) (a .b) (a .contents .now) (a .bodies .now) (a .k) (p .0 .lent .words) g))
+    c .valid-words .ensures ∙ ap (every (isValid (a .n))) (ap₂ (part (a .bodies .now)) s count ∙ sym (body-part (a .n) (a .b) (a .contents .now) (a .bodies .now) (a .k) (p .0 .words) g))
     ∙ words-all o (a .k) (ap (isValid (a .n)) (sym (at-class-word .class-word .ensures)) ∙ sym (at-is-valid .is-valid .ensures) ∙ not-false _ (at-if1 .if1 .left)) t
 
 pub object-words-spec : {M : Type 1} → statement M

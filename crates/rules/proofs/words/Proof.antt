@@ -5,15 +5,15 @@ use native.Mathlib.Omega.{arith}
 use borrow.Author.Tests.{not-true, not-false}
 use Rattle.model.specs.Objects.{objectsAt}
 use Rattle.model.specs.Rules.{wordsFine, rule5}
-use Rattle.rules.proofs.Loops.{Turn, turn-first, turn-next, up-all, up-no}
+use Rattle.readers.proofs.Loops.{Turn, turn-first, turn-next, up-all, up-no}
 use Rattle.rules.proofs.words.Statement.{statement}
 use Rattle.rules.proofs.words.Tie as tie
 
 abbrev Inv-loop : tie.InvT-loop
-Inv-loop contents bodies n b k₀ k = Turn n (wordsFine (objectsAt n b contents bodies)) k
+Inv-loop edition contents bodies n b k₀ k = Turn n (wordsFine (objectsAt n b contents bodies)) k
 
 abbrev μ-loop : tie.MeasureT-loop
-μ-loop contents bodies n b k₀ k = n + 1 - k
+μ-loop edition contents bodies n b k₀ k = n + 1 - k
 
 loop-holds : tie.Need-loop-holds Inv-loop μ-loop
 loop-holds c =

@@ -3,7 +3,7 @@ use mathlib.Core.Path.{sym, _∙_}
 use native.Mathlib.Omega.{arith}
 use Rattle.model.specs.Objects.{objectsAt}
 use Rattle.rules.proofs.ClassLaws.{chain-other, chain-of-class}
-use Rattle.rules.proofs.Names.{names-kind}
+use Rattle.readers.proofs.Names.{names-kind}
 use borrow.Author.Needs.{needs}
 use Rattle.rules.proofs.class_rules.chain_fine.Statement.{statement}
 use Rattle.rules.proofs.class_rules.chain_fine.Tie as tie
@@ -20,14 +20,14 @@ returns c =
 mul-ends : tie.Need-mul-ends
 mul-ends c =
     let p = c .before .before .before .before .pre in
-    let l = p .0 .lent in
+    let l = p .0 in
     let h = p .1 .1 in
     omega arith
 
 cast-ends : tie.Need-cast-ends
 cast-ends c =
     let p = c .before .before .before .before .pre in
-    let l = p .0 .lent in
+    let l = p .0 in
     let h = p .1 .1 in
     omega arith
 

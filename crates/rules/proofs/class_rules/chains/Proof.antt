@@ -5,7 +5,7 @@ use native.Mathlib.Omega.{arith}
 use borrow.Author.Tests.{not-true, not-false}
 use Rattle.model.specs.Objects.{objectsAt}
 use Rattle.rules.specs.Shape.{chainFine}
-use Rattle.rules.proofs.Loops.{Turn, turn-first, turn-next, up-all, up-no}
+use Rattle.readers.proofs.Loops.{Turn, turn-first, turn-next, up-all, up-no}
 use Rattle.rules.proofs.class_rules.chains.Statement.{statement}
 use Rattle.rules.proofs.class_rules.chains.Tie as tie
 
@@ -39,7 +39,7 @@ returns c =
 add-k : tie.Need-add-k Inv-loop μ-loop
 add-k c =
     let p = c .before .before .before .before .before .before .pre in
-    let l = p .0 .lent in
+    let l = p .0 in
     let i = c .before .before .before .loop .inv in
     let t = c .before .before .loop-test .taken in
     omega arith

@@ -5,7 +5,7 @@ use Rattle.bytecode.specs.Test.{below}
 use Rattle.model.specs.Objects.{objectsAt}
 use Rattle.model.specs.Rules.{pairFine}
 use Rattle.rules.proofs.ClassLaws.{odd-dictionary, by-pairs}
-use Rattle.rules.proofs.Names.{is-named}
+use Rattle.readers.proofs.Names.{is-named}
 use borrow.Author.Needs.{needs}
 use Rattle.rules.proofs.class_rules.dictionary_fine.Statement.{statement}
 use Rattle.rules.proofs.class_rules.dictionary_fine.Tie as tie
@@ -19,7 +19,7 @@ size-requires c κs =
     let p = c .before .before .pre in
     let o = objectsAt (a .n) (a .b) (a .contents .now) (a .bodies .now) in
     let q = is-named o 3 (a .d) (p .1) in
-    record { entries = p .0 .lent .entries; least = q .least; most = q .most }
+    record { entries = p .0 .entries; least = q .least; most = q .most }
 
 returns : tie.Need-returns
 returns c =

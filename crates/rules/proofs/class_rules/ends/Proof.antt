@@ -5,7 +5,9 @@ use mathlib.Core.Bool.{true}
 use native.Mathlib.Omega.{arith}
 use Rattle.model.specs.Objects.{Objects, objectsAt, isNilOr}
 use Rattle.model.specs.Lookup.{endsWithin}
-use Rattle.rules.proofs.ClassLaws.{nil-or-class, class-or-nil, above-class, chain-ends, chain-turn, chain-last-turn}
+use Rattle.rules.proofs.ClassLaws.{nil-or-class, class-or-nil, chain-ends, chain-turn, chain-last-turn}
+use Rattle.bytecode.proofs.TestLaws.{true→T}
+use Rattle.readers.proofs.InsideLaws.{class-inside}
 use Rattle.rules.proofs.class_rules.ends.Statement.{statement}
 use Rattle.rules.proofs.class_rules.ends.Tie as tie
 
@@ -34,15 +36,15 @@ returns c =
     let i = c .before .before .loop .inv in
     sym (i .rest ∙ chain-ends o (c .before .before .loop .left) (c .before .before .loop .at) (c .if1 .taken))
 
-superclass-requires : tie.Need-superclass-requires Inv-loop μ-loop
-superclass-requires c κs =
+word-of-requires : tie.Need-word-of-requires Inv-loop μ-loop
+word-of-requires c κs =
     let at-loop = c .before .before in
     let at-start = at-loop .before .before .before in
     let a = at-start .args in
     let p = at-start .pre in
     let o = objectsAt (a .n) (a .b) (a .contents .now) (a .bodies .now) in
     let i = at-loop .loop .inv in
-    (p .0, nil-or-class o (at-loop .loop .at) (i .link) (c .if1 .left))
+    class-inside (p .0) (true→T (nil-or-class o (at-loop .loop .at) (i .link) (c .if1 .left))) (omega arith)
 
 sub-left : tie.Need-sub-left Inv-loop μ-loop
 sub-left c =
@@ -63,11 +65,11 @@ loop-again c =
     let o = objectsAt (a .n) (a .b) (a .contents .now) (a .bodies .now) in
     let i = at-loop .loop .inv in
     let t = c .before .before .loop-test .taken in
-    let s = c .superclass .ensures in
+    let s = c .word-of .ensures in
     record {
       turns = omega arith;
       rest = i .rest ∙ chain-turn o (at-loop .loop .left) (at-loop .loop .left - 1) (at-loop .loop .at) (omega arith) (c .before .if1 .left) ∙ ap (endsWithin (at-loop .loop .left - 1) o) (sym s);
-      link = ap (λ (x : ℕ). isNilOr o 2 x) s ∙ above-class o (p .1 .0) (at-loop .loop .at) (nil-or-class o (at-loop .loop .at) (i .link) (c .before .if1 .left));
+      link = ap (λ (x : ℕ). isNilOr o 2 x) s ∙ p .1 .0 (at-loop .loop .at) (nil-or-class o (at-loop .loop .at) (i .link) (c .before .if1 .left));
     }
 
 returns-2 : tie.Need-returns-2 Inv-loop μ-loop
@@ -86,7 +88,7 @@ ends-spec =
     μ-loop
     loop-holds
     returns
-    superclass-requires
+    word-of-requires
     sub-left
     loop-less
     loop-again

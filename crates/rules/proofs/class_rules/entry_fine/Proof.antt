@@ -1,10 +1,13 @@
 -- `entry_fine` is `entryFine`.
-use Prim.Native.Nat.{ℕ}
+use Prim.Native.Nat.{ℕ, _/_}
 use mathlib.Core.Path.{sym, ap, ap₂, _∙_}
 use borrow.Author.Tests.{not-true, not-false}
 use Rattle.model.specs.Objects.{objectsAt, isKind, classWord, form, fieldCount}
 use Rattle.rules.specs.Shape.{fitsForm}
 use Rattle.rules.proofs.ClassLaws.{entry-no, entry-yes}
+use native.Mathlib.Omega.{arith}
+use Rattle.bytecode.proofs.TestLaws.{true→T}
+use Rattle.readers.proofs.InsideLaws.{class-inside}
 use borrow.Author.Needs.{needs}
 use Rattle.rules.proofs.class_rules.entry_fine.Statement.{statement}
 use Rattle.rules.proofs.class_rules.entry_fine.Tie as tie
@@ -19,20 +22,20 @@ returns : tie.Need-returns
 returns c =
     let a = c .before .before .before .before .before .args in
     let o = objectsAt (a .n) (a .b) (a .contents .now) (a .bodies .now) in
-    sym (entry-no o (a .k) (ap (isKind o 2) (sym (c .before .before .class-word .ensures)) ∙ sym (c .before .is-kind .ensures (a .b) (a .bodies .now)) ∙ not-true _ (c .if1 .taken)))
+    sym (entry-no (a .edition) o (a .k) (ap (isKind o 2) (sym (c .before .before .class-word .ensures)) ∙ sym (c .before .is-kind .ensures (a .b) (a .bodies .now)) ∙ not-true _ (c .if1 .taken)))
 
-form-requires : tie.Need-form-requires
-form-requires c κs =
+word-of-requires : tie.Need-word-of-requires
+word-of-requires c κs =
     let a = c .before .before .before .before .before .args in
     let p = c .before .before .before .before .before .pre in
-    (p .0, sym (c .before .is-kind .ensures (a .b) (a .bodies .now)) ∙ not-false _ (c .if1 .left))
+    class-inside (p .0) (true→T (sym (c .before .is-kind .ensures (a .b) (a .bodies .now)) ∙ not-false _ (c .if1 .left))) (omega arith)
 
-field-count-requires : tie.Need-field-count-requires
-field-count-requires c κs =
+word-of-requires-2 : tie.Need-word-of-requires-2
+word-of-requires-2 c κs =
     let at-start = c .before .before .before .before .before .before in
     let a = at-start .args in
     let p = at-start .pre in
-    (p .0, sym (c .before .before .is-kind .ensures (a .b) (a .bodies .now)) ∙ not-false _ (c .before .if1 .left))
+    class-inside (p .0) (true→T (sym (c .before .before .is-kind .ensures (a .b) (a .bodies .now)) ∙ not-false _ (c .before .if1 .left))) (omega arith)
 
 kind-requires : tie.Need-kind-requires
 kind-requires c κs = search needs
@@ -46,18 +49,18 @@ fits-form-requires c κs = search needs
 returns-2 : tie.Need-returns-2
 returns-2 c =
     let at-kind = c .before .before in
-    let at-form = at-kind .before .before in
-    let at-if1 = at-form .before in
+    let at-word-of = at-kind .before .before in
+    let at-if1 = at-word-of .before in
     let at-is-kind = at-if1 .before in
     let at-class-word = at-is-kind .before in
     let at-start = at-class-word .before .before .before in
     let a = at-start .args in
     let o = objectsAt (a .n) (a .b) (a .contents .now) (a .bodies .now) in
     c .fits-form .ensures
-    ∙ ap₂ (λ (x y : ℕ). fitsForm x y (at-kind .kind .result) (c .before .size .result)) (at-form .form .ensures
-    ∙ ap (form o) (at-class-word .class-word .ensures)) (at-kind .before .field-count .ensures ∙ ap (fieldCount o) (at-class-word .class-word .ensures))
+    ∙ ap₂ (λ (x y : ℕ). fitsForm x y (at-kind .kind .result) (c .before .size .result)) (ap (λ (x : ℕ). x / 2) (at-word-of .word-of .ensures)
+    ∙ ap (form o) (at-class-word .class-word .ensures)) (ap (λ (x : ℕ). x / 2) (at-kind .before .word-of2 .ensures) ∙ ap (fieldCount o) (at-class-word .class-word .ensures))
     ∙ ap₂ (fitsForm (form o (classWord o (a .k))) (fieldCount o (classWord o (a .k)))) (at-kind .kind .ensures) (c .before .size .ensures)
-    ∙ sym (entry-yes o (a .k) (ap (isKind o 2) (sym (at-class-word .class-word .ensures)) ∙ sym (at-is-kind .is-kind .ensures (a .b) (a .bodies .now)) ∙ not-false _ (at-if1 .if1 .left)))
+    ∙ sym (entry-yes (a .edition) o (a .k) (ap (isKind o 2) (sym (at-class-word .class-word .ensures)) ∙ sym (at-is-kind .is-kind .ensures (a .b) (a .bodies .now)) ∙ not-false _ (at-if1 .if1 .left)))
 
 pub entry-fine-spec : {M : Type 1} → statement M
 entry-fine-spec =
@@ -66,8 +69,8 @@ entry-fine-spec =
     class-word-requires
     is-kind-requires
     returns
-    form-requires
-    field-count-requires
+    word-of-requires
+    word-of-requires-2
     kind-requires
     size-requires
     fits-form-requires

@@ -1,8 +1,12 @@
 -- `known_fine` is `knownObjectRules`.
-use mathlib.Core.Path.{sym, _∙_}
+use Prim.Native.Nat.{ℕ, _/_}
+use mathlib.Core.Path.{sym, ap, _∙_}
 use borrow.Author.Tests.{not-true, not-false}
 use Rattle.model.specs.Objects.{objectsAt}
 use Rattle.rules.proofs.ClassLaws.{no-kinds, no-form, by-selectors, integer-class-kind}
+use native.Mathlib.Omega.{arith}
+use Rattle.bytecode.proofs.TestLaws.{true→T}
+use Rattle.readers.proofs.InsideLaws.{class-inside}
 use borrow.Author.Needs.{needs}
 use Rattle.rules.proofs.class_rules.known_fine.Statement.{statement}
 use Rattle.rules.proofs.class_rules.known_fine.Tie as tie
@@ -14,14 +18,14 @@ returns : tie.Need-returns
 returns c =
     let a = c .before .before .before .before .args in
     let o = objectsAt (a .n) (a .b) (a .contents .now) (a .bodies .now) in
-    sym (no-kinds o (sym (c .before .known-kinds .ensures) ∙ not-true _ (c .if1 .taken)))
+    sym (no-kinds (a .edition) o (sym (c .before .known-kinds .ensures) ∙ not-true _ (c .if1 .taken)))
 
-form-requires : tie.Need-form-requires
-form-requires c κs =
+word-of-requires : tie.Need-word-of-requires
+word-of-requires c κs =
     let a = c .before .before .before .before .args in
     let p = c .before .before .before .before .pre in
     let o = objectsAt (a .n) (a .b) (a .contents .now) (a .bodies .now) in
-    (p, integer-class-kind o (p .lent .least) (sym (c .before .known-kinds .ensures) ∙ not-false _ (c .if1 .left)))
+    class-inside p (true→T (integer-class-kind o (p .known) (sym (c .before .known-kinds .ensures) ∙ not-false _ (c .if1 .left)))) (omega arith)
 
 returns-2 : tie.Need-returns-2
 returns-2 c =
@@ -29,7 +33,7 @@ returns-2 c =
     let at-start = at-known-kinds .before .before .before in
     let a = at-start .args in
     let o = objectsAt (a .n) (a .b) (a .contents .now) (a .bodies .now) in
-    sym (no-form o (sym (at-known-kinds .known-kinds .ensures) ∙ not-false _ (c .before .before .if1 .left)) (λ e. c .if2 .taken (c .before .form .ensures ∙ e)))
+    sym (no-form (a .edition) o (sym (at-known-kinds .known-kinds .ensures) ∙ not-false _ (c .before .before .if1 .left)) (λ e. c .if2 .taken (ap (λ (x : ℕ). x / 2) (c .before .word-of .ensures) ∙ e)))
 
 selectors-fine-requires : tie.Need-selectors-fine-requires
 selectors-fine-requires c κs = search needs
@@ -41,7 +45,7 @@ returns-3 c =
     let at-start = at-known-kinds .before .before .before in
     let a = at-start .args in
     let o = objectsAt (a .n) (a .b) (a .contents .now) (a .bodies .now) in
-    c .selectors-fine .ensures ∙ sym (by-selectors o (sym (at-known-kinds .known-kinds .ensures) ∙ not-false _ (at-if1 .if1 .left)) (sym (c .before .before .form .ensures) ∙ c .before .if2 .left))
+    c .selectors-fine .ensures ∙ sym (by-selectors (a .edition) o (sym (at-known-kinds .known-kinds .ensures) ∙ not-false _ (at-if1 .if1 .left)) (ap (λ (x : ℕ). x / 2) (sym (c .before .before .word-of .ensures)) ∙ c .before .if2 .left))
 
 pub known-fine-spec : {M : Type 1} → statement M
 known-fine-spec =
@@ -49,7 +53,7 @@ known-fine-spec =
     (tie.spec
     known-kinds-requires
     returns
-    form-requires
+    word-of-requires
     returns-2
     selectors-fine-requires
     returns-3)

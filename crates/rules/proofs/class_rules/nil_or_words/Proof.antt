@@ -6,7 +6,7 @@ use native.Mathlib.Omega.{arith}
 use borrow.Author.Tests.{not-true, not-false}
 use lib.ListN.{length, getD}
 use Rattle.model.specs.Objects.{isNilOr, entriesAt}
-use Rattle.rules.proofs.Loops.{Before, before-none, before-more, every-all, every-no}
+use Rattle.readers.proofs.Loops.{Before, before-none, before-more, every-all, every-no}
 use Rattle.rules.proofs.class_rules.nil_or_words.Statement.{statement}
 use Rattle.rules.proofs.class_rules.nil_or_words.Tie as tie
 

@@ -5,7 +5,7 @@ use native.Mathlib.Omega.{arith}
 use borrow.Author.Tests.{not-true, not-false}
 use Rattle.model.specs.Objects.{objectsAt}
 use Rattle.model.specs.Rules.{pairFine}
-use Rattle.rules.proofs.Loops.{Before, before-none, before-more, below-all, below-no}
+use Rattle.readers.proofs.Loops.{Before, before-none, before-more, below-all, below-no}
 use Rattle.rules.proofs.class_rules.pairs_fine.Statement.{statement}
 use Rattle.rules.proofs.class_rules.pairs_fine.Tie as tie
 

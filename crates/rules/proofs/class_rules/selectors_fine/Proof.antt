@@ -4,8 +4,8 @@ use mathlib.Core.Path.{_≡_, sym, ap, ap₂, _∙_}
 use native.Mathlib.Omega.{arith}
 use Rattle.bytecode.specs.Test.{every}
 use Rattle.model.specs.Objects.{objectsAt, start, bodyWords, part, isNilOr}
-use Rattle.rules.proofs.Laid.{inside-at, body-part}
-use Rattle.rules.proofs.Names.{names-kind, list-holds}
+use Rattle.model.proofs.Facts.{in-words}
+use Rattle.readers.proofs.Bodies.{body-part}
 use Rattle.rules.proofs.ClassLaws.{selectors-kind, selectors-size, selectors-words, nil-or-entries}
 use borrow.Author.Needs.{needs}
 use Rattle.rules.proofs.class_rules.selectors_fine.Statement.{statement}
@@ -59,9 +59,9 @@ part-nil-or-words-end c =
     let a = at-start .args in
     let p = at-start .pre in
     let o = objectsAt (a .n) (a .b) (a .contents .now) (a .bodies .now) in
-    let l = p .lent in
-    let h = inside-at o (p .layout) 5 (omega arith) (omega arith) in
-    let w = list-holds o (p .layout) 10 (names-kind o 5 3 (omega arith) (omega arith) (sym (at-kind .kind .ensures) ∙ c .before .before .before .if1 .left)) in
+    let l = p in
+    let h = p .inside 5 (omega arith) (omega arith) in
+    let w = (let k = sym (at-kind .kind .ensures) ∙ c .before .before .before .if1 .left in in-words o 5 (λ e. omega arith) (λ e. omega arith)) in
     let s = c .start .ensures in
     let z = sym (c .before .before .size .ensures) ∙ c .before .if2 .left in
     omega arith
@@ -79,9 +79,9 @@ returns-3 c =
     let a = at-start′ .args in
     let p = at-start′ .pre in
     let o = objectsAt (a .n) (a .b) (a .contents .now) (a .bodies .now) in
-    let l = p .lent in
-    let h = inside-at o (p .layout) 5 (omega arith) (omega arith) in
-    let w = list-holds o (p .layout) 10 (names-kind o 5 3 (omega arith) (omega arith) (sym (at-kind .kind .ensures) ∙ at-if1 .if1 .left)) in
+    let l = p in
+    let h = p .inside 5 (omega arith) (omega arith) in
+    let w = (let k = sym (at-kind .kind .ensures) ∙ at-if1 .if1 .left in in-words o 5 (λ e. omega arith) (λ e. omega arith)) in
     let z = sym (at-size .size .ensures) ∙ at-start .before .if2 .left in
     let count : at-start .start .result + 32 - at-start .start .result ≡ bodyWords o 5 = omega arith in
     c .nil-or-words .ensures ∙ nil-or-entries (a .n) (a .b) (a .contents .now) (a .bodies .now) 1 (part (a .bodies .now) (at-start .start .result)

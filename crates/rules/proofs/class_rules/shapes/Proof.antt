@@ -5,21 +5,21 @@ use native.Mathlib.Omega.{arith}
 use borrow.Author.Tests.{not-true, not-false}
 use Rattle.model.specs.Objects.{objectsAt}
 use Rattle.rules.specs.Shape.{shapeFine}
-use Rattle.rules.proofs.Loops.{Turn, turn-first, turn-next, up-all, up-no}
+use Rattle.readers.proofs.Loops.{Turn, turn-first, turn-next, up-all, up-no}
 use Rattle.rules.proofs.class_rules.shapes.Statement.{statement}
 use Rattle.rules.proofs.class_rules.shapes.Tie as tie
 
 abbrev Inv-loop : tie.InvT-loop
-Inv-loop contents bodies n b k₀ k = Turn n (shapeFine (objectsAt n b contents bodies)) k
+Inv-loop edition contents bodies n b k₀ k = Turn n (shapeFine edition (objectsAt n b contents bodies)) k
 
 abbrev μ-loop : tie.MeasureT-loop
-μ-loop contents bodies n b k₀ k = n + 1 - k
+μ-loop edition contents bodies n b k₀ k = n + 1 - k
 
 loop-holds : tie.Need-loop-holds Inv-loop μ-loop
 loop-holds c =
     let a = c .before .before .args in
     let o = objectsAt (a .n) (a .b) (a .contents .now) (a .bodies .now) in
-    turn-first (a .n) (shapeFine o)
+    turn-first (a .n) (shapeFine (a .edition) o)
 
 shape-fine-requires : tie.Need-shape-fine-requires Inv-loop μ-loop
 shape-fine-requires c κs =
@@ -34,12 +34,12 @@ returns c =
     let a = at-start .args in
     let o = objectsAt (a .n) (a .b) (a .contents .now) (a .bodies .now) in
     let i = at-loop .loop .inv in
-    sym (up-no (a .n) (shapeFine o) (at-loop .loop .k) (i .least) (c .before .before .loop-test .taken) (sym (c .before .shape-fine .ensures) ∙ not-true _ (c .if1 .taken)))
+    sym (up-no (a .n) (shapeFine (a .edition) o) (at-loop .loop .k) (i .least) (c .before .before .loop-test .taken) (sym (c .before .shape-fine .ensures) ∙ not-true _ (c .if1 .taken)))
 
 add-k : tie.Need-add-k Inv-loop μ-loop
 add-k c =
     let p = c .before .before .before .before .before .before .pre in
-    let l = p .lent in
+    let l = p in
     let i = c .before .before .before .loop .inv in
     let t = c .before .before .loop-test .taken in
     omega arith
@@ -56,14 +56,14 @@ loop-again c =
     let at-start = at-loop .before .before .before in
     let a = at-start .args in
     let o = objectsAt (a .n) (a .b) (a .contents .now) (a .bodies .now) in
-    turn-next (a .n) (shapeFine o) (at-loop .loop .k) (c .before .before .loop-test .taken) (at-loop .loop .inv) (sym (c .before .shape-fine .ensures) ∙ not-false _ (c .if1 .left))
+    turn-next (a .n) (shapeFine (a .edition) o) (at-loop .loop .k) (c .before .before .loop-test .taken) (at-loop .loop .inv) (sym (c .before .shape-fine .ensures) ∙ not-false _ (c .if1 .left))
 
 returns-2 : tie.Need-returns-2 Inv-loop μ-loop
 returns-2 c =
     let a = c .before .before .before .before .args in
     let o = objectsAt (a .n) (a .b) (a .contents .now) (a .bodies .now) in
     let i = c .before .loop .inv in
-    sym (up-all (a .n) (c .before .loop .k) (shapeFine o) (c .loop-test .left) (i .passed))
+    sym (up-all (a .n) (c .before .loop .k) (shapeFine (a .edition) o) (c .loop-test .left) (i .passed))
 
 pub shapes-spec : {M : Type 1} → statement M
 shapes-spec =

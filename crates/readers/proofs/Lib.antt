@@ -1,0 +1,5 @@
+pub mod Loops
+pub mod Names
+pub mod Bodies
+pub mod InsideLaws
+pub mod HeaderLaws
