@@ -39,21 +39,21 @@ module _ (o : Objects) (m : ℕ) where
       ∙ ap₂ (λ (t l : ℕ). depthTable (codeWords o m) (codeSize o m) t l (indexed fields t literals)) t r
       ∙ ap₂ (λ (f l : ℕ). depthTable (codeWords o m) (codeSize o m) (temporaryCount o m) (frameWords o m) (indexed f (temporaryCount o m) l)) (f ∙ ap (fieldCount o) h) l
 
-  module _ {found : Option (List ℕ)} (e : found ≡ indexTable o m) {size : ℕ} {notes : List ℕ} {r : Bool} (w : Walked found size notes r) where
-    pub notes-none : r ≡ false → Walked (methodTable o m) size notes false
+  module _ (edition : ℕ) {found : Option (List ℕ)} (e : found ≡ indexTable o m) {size : ℕ} {notes : List ℕ} {r : Bool} (w : Walked found size notes r) where
+    pub notes-none : r ≡ false → Walked (methodTable edition o m) size notes false
     notes-none h =
         let k = walked-no found size notes r w h in
-        let q = method-none o m (sym e ∙ k .0) in
+        let q = method-none edition o m (sym e ∙ k .0) in
         record { answer = sym (ap isSome q); noted = k .1 ∙ sym (ap (notesOf size) q) }
 
-    pub notes-some : r ≡ true → allLinked o m notes ≡ true → Walked (methodTable o m) size notes true
+    pub notes-some : r ≡ true → allLinked o m notes ≡ true → Walked (methodTable edition o m) size notes true
     notes-some h a =
-        let q = method-some o m notes (sym e ∙ walked-yes found size notes r w h) a in
+        let q = method-some edition o m notes (sym e ∙ walked-yes found size notes r w h) a in
         record { answer = sym (ap isSome q); noted = sym (ap (notesOf size) q) }
 
-    pub notes-fail : {cleared : List ℕ} → r ≡ true → allLinked o m notes ≡ false → cleared ≡ replicate size 0 → Walked (methodTable o m) size cleared false
+    pub notes-fail : {cleared : List ℕ} → r ≡ true → allLinked o m notes ≡ false → cleared ≡ replicate size 0 → Walked (methodTable edition o m) size cleared false
     notes-fail h a c =
-        let q = method-fails o m notes (sym e ∙ walked-yes found size notes r w h) a in
+        let q = method-fails edition o m notes (sym e ∙ walked-yes found size notes r w h) a in
         record { answer = sym (ap isSome q); noted = c ∙ sym (ap (notesOf size) q) }
 
 module _ {table contents bodies counts : List ℕ} {n b m : ℕ} (a : Asked table n b contents bodies counts m) where
@@ -158,8 +158,8 @@ module _ {table contents bodies counts : List ℕ} {n b m : ℕ} (a : Asked tabl
       outside j (inl l) = before j l
       outside j (inr l) = after j l
 
-      pub walked-put : (r : Bool) → Walked (methodTable there m) (length (take (last - first) (drop first notes))) ys r → MethodWalked there m notes (put ys) r
-      walked-put r w =
+      pub walked-put : (edition : ℕ) (r : Bool) → Walked (methodTable edition there m) (length (take (last - first) (drop first notes))) ys r → MethodWalked edition there m notes (put ys) r
+      walked-put edition r w =
           record {
             answer = w .answer;
             noted = λ p l.
@@ -168,6 +168,6 @@ module _ {table contents bodies counts : List ℕ} {n b m : ℕ} (a : Asked tabl
                 ∙ getD-append-add (take first notes) (ys ++ drop (last - first) (drop first notes)) p 0
                 ∙ List·getD-append ys (drop (last - first) (drop first notes)) 0 p (omega arith)
                 ∙ ap (λ (t : List ℕ). getD t p 0) (w .noted)
-                ∙ note-of (methodTable there m) (length (take (last - first) (drop first notes))) p (omega arith);
+                ∙ note-of (methodTable edition there m) (length (take (last - first) (drop first notes))) p (omega arith);
             others = outside;
           }

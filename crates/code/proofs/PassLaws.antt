@@ -58,9 +58,14 @@ module _ (e : ℕ) (o : Objects) (laid : rule4 e o ≡ true) where
       gap : (j k : ℕ) → j < k → j + suc (k - suc j) ≡ k
       gap j k l = omega arith
 
-module _ (o : Objects) where
+pub held-counts : (o : Objects) (counts : List ℕ) (r : Bool) → Held o counts r → r ≡ true → T (holders o) × Counts o counts
+unfolding Held
+held-counts o counts true h q = h
+held-counts o counts false h q = absurd (subst T (sym q) tt)
+
+module _ (edition : ℕ) (o : Objects) where
   -- a method's code is asked for only where it can run
-  code-sound : (k : ℕ) → isSome (methodTable o (pointer k)) ≡ true → codeFine o k ≡ true
+  code-sound : (k : ℕ) → isSome (methodTable edition o (pointer k)) ≡ true → codeFine edition o k ≡ true
   unfolding codeFine
   code-sound k s =
       ap (λ (x : Bool). implies (eqb (kind o k) methodKind) (implies (runsCode o (pointer k)) x)) s ∙ vacuous (eqb (kind o k) methodKind) (runsCode o (pointer k))
@@ -70,7 +75,7 @@ module _ (o : Objects) where
       vacuous true false = refl
       vacuous false b = refl
 
-  code-unsound : (k : ℕ) → kind o k ≡ methodKind → isSome (methodTable o (pointer k)) ≡ false → codeFine o k ≡ not (runsCode o (pointer k))
+  code-unsound : (k : ℕ) → kind o k ≡ methodKind → isSome (methodTable edition o (pointer k)) ≡ false → codeFine edition o k ≡ not (runsCode o (pointer k))
   unfolding codeFine
   code-unsound k e s =
       ap₂ (λ (a x : Bool). implies a (implies (runsCode o (pointer k)) x)) (eq-eqb (kind o k) methodKind e) s ∙ asked (runsCode o (pointer k))
@@ -79,81 +84,76 @@ module _ (o : Objects) where
       asked true = refl
       asked false = refl
 
-  code-other : (k : ℕ) → (kind o k ≡ methodKind → ⊥) → codeFine o k ≡ true
+  code-other : (k : ℕ) → (kind o k ≡ methodKind → ⊥) → codeFine edition o k ≡ true
   unfolding codeFine
-  code-other k e = ap (λ (a : Bool). implies a (implies (runsCode o (pointer k)) (isSome (methodTable o (pointer k))))) (ne-eqb (kind o k) methodKind e)
+  code-other k e = ap (λ (a : Bool). implies a (implies (runsCode o (pointer k)) (isSome (methodTable edition o (pointer k))))) (ne-eqb (kind o k) methodKind e)
 
-  one-more : (ns : List ℕ) (k : ℕ) → NotedBefore o ns k → (kind o k ≡ methodKind → MethodNoted o ns (pointer k)) → NotedBefore o ns (suc k)
+  one-more : (ns : List ℕ) (k : ℕ) → NotedBefore edition o ns k → (kind o k ≡ methodKind → MethodNoted edition o ns (pointer k)) → NotedBefore edition o ns (suc k)
   one-more ns k f g j h l = go (ℕ-discrete j k)
     where
-      go : Dec (j ≡ k) → kind o j ≡ methodKind → MethodNoted o ns (pointer j)
-      go (yes e) = subst (λ (x : ℕ). kind o x ≡ methodKind → MethodNoted o ns (pointer x)) (sym e) g
+      go : Dec (j ≡ k) → kind o j ≡ methodKind → MethodNoted edition o ns (pointer j)
+      go (yes e) = subst (λ (x : ℕ). kind o x ≡ methodKind → MethodNoted edition o ns (pointer x)) (sym e) g
       go (no e) = f j h (omega arith)
 
-  pub object-other : (k : ℕ) (ns : List ℕ) → (kind o k ≡ methodKind → ⊥) → ObjectNoted o k ns ns true
+  pub object-other : (k : ℕ) (ns : List ℕ) → (kind o k ≡ methodKind → ⊥) → ObjectNoted edition o k ns ns true
   object-other k ns e = record { answer = sym (code-other k e); noted = λ f. one-more ns k f (λ q. absurd (e q)) }
 
-  pub codes-stop : (k : ℕ) (ns ns′ : List ℕ) (r : Bool) → 1 ≤ k → k ≤ o .n → ObjectNoted o k ns ns′ r → r ≡ false → CodesNoted o ns′ false
+  pub codes-stop : (k : ℕ) (ns ns′ : List ℕ) (r : Bool) → 1 ≤ k → k ≤ o .n → ObjectNoted edition o k ns ns′ r → r ≡ false → CodesNoted edition o ns′ false
   unfolding codes
   codes-stop k ns ns′ r h g w e =
-      record { answer = sym (up-no (o .n) (codeFine o) k h g (sym (w .answer) ∙ e)); noted = λ q. absurd (subst T (sym q) tt) }
+      record { answer = sym (up-no (o .n) (codeFine edition o) k h g (sym (w .answer) ∙ e)); noted = λ q. absurd (subst T (sym q) tt) }
 
   -- so far
   pub record Going (k : ℕ) (ns : List ℕ) : Type 0 where
     pub least : 1 ≤ k
     pub most : k ≤ suc (o .n)
-    pub passed : UpBefore (codeFine o) k
-    pub noted : NotedBefore o ns k
+    pub passed : UpBefore (codeFine edition o) k
+    pub noted : NotedBefore edition o ns k
 
   pub going-first : (ns : List ℕ) → Going 1 ns
-  going-first ns = record { least = omega arith; most = omega arith; passed = up-none (codeFine o); noted = λ j h l. absurd (omega arith) }
+  going-first ns = record { least = omega arith; most = omega arith; passed = up-none (codeFine edition o); noted = λ j h l. absurd (omega arith) }
 
-  pub going-on : (k : ℕ) (ns ns′ : List ℕ) (r : Bool) → Going k ns → k ≤ o .n → ObjectNoted o k ns ns′ r → r ≡ true → Going (k + 1) ns′
+  pub going-on : (k : ℕ) (ns ns′ : List ℕ) (r : Bool) → Going k ns → k ≤ o .n → ObjectNoted edition o k ns ns′ r → r ≡ true → Going (k + 1) ns′
   going-on k ns ns′ r g h w e =
       record {
         least = omega arith;
         most = omega arith;
-        passed = up-more (codeFine o) k (g .passed) (sym (w .answer) ∙ e);
-        noted = subst (NotedBefore o ns′) (next k) (w .noted (g .noted));
+        passed = up-more (codeFine edition o) k (g .passed) (sym (w .answer) ∙ e);
+        noted = subst (NotedBefore edition o ns′) (behind k) (w .noted (g .noted));
       }
     where
-      next : (k : ℕ) → suc k ≡ k + 1
-      next k = omega arith
+      behind : (k : ℕ) → suc k ≡ k + 1
+      behind k = omega arith
 
-  pub going-over : (k : ℕ) (ns : List ℕ) → Going k ns → o .n < k → CodesNoted o ns true
+  pub going-over : (k : ℕ) (ns : List ℕ) → Going k ns → o .n < k → CodesNoted edition o ns true
   unfolding codes
   going-over k ns g h =
       let m = g .most in
       record {
-        answer = sym (up-all (o .n) k (codeFine o) (omega arith) (g .passed));
-        noted = λ q. subst (NotedBefore o ns) (last (g .most) h) (g .noted);
+        answer = sym (up-all (o .n) k (codeFine edition o) (omega arith) (g .passed));
+        noted = λ q. subst (NotedBefore edition o ns) (last (g .most) h) (g .noted);
       }
     where
       last : k ≤ suc (o .n) → o .n < k → k ≡ suc (o .n)
       last m h = omega arith
 
   -- rule 7 by the passes
-  pub seven-shapes : (ed : ℕ) (ns : List ℕ) → shapes o ≡ false → MethodsNoted ed o ns false
-  seven-shapes ed ns e = record { answer = sym (passes ed o ∙ stop (shapes o) (holders o && codes o) e); noted = λ q. absurd (subst T (sym q) tt) }
+  pub seven-shapes : (ns : List ℕ) → shapes o ≡ false → MethodsNoted edition o ns false
+  seven-shapes ns e = record { answer = sym (passes edition o ∙ stop (shapes o) (holders o && codes edition o) e); noted = λ q. absurd (subst T (sym q) tt) }
 
-  pub seven-holders : (ed : ℕ) (ns counts : List ℕ) (r : Bool) → shapes o ≡ true → Held o counts r → r ≡ false → MethodsNoted ed o ns false
+  pub seven-holders : (ns counts : List ℕ) (r : Bool) → shapes o ≡ true → Held o counts r → r ≡ false → MethodsNoted edition o ns false
   unfolding Held
-  seven-holders ed ns counts true e h q = absurd (subst T q tt)
-  seven-holders ed ns counts false e h q =
+  seven-holders ns counts true e h q = absurd (subst T q tt)
+  seven-holders ns counts false e h q =
       record {
-        answer = sym (passes ed o ∙ pass (shapes o) (holders o && codes o) e ∙ stop (holders o) (codes o) (never (holders o) h));
+        answer = sym (passes edition o ∙ pass (shapes o) (holders o && codes edition o) e ∙ stop (holders o) (codes edition o) (never (holders o) h));
         noted = λ x. absurd (subst T (sym x) tt);
       }
 
-  pub held-counts : (counts : List ℕ) (r : Bool) → Held o counts r → r ≡ true → T (holders o) × Counts o counts
-  unfolding Held
-  held-counts counts true h q = h
-  held-counts counts false h q = absurd (subst T (sym q) tt)
-
-  pub seven-codes : (ed : ℕ) (ns : List ℕ) (r : Bool) → shapes o ≡ true → T (holders o) → CodesNoted o ns r → MethodsNoted ed o ns r
-  seven-codes ed ns r e h c =
+  pub seven-codes : (ns : List ℕ) (r : Bool) → shapes o ≡ true → T (holders o) → CodesNoted edition o ns r → MethodsNoted edition o ns r
+  seven-codes ns r e h c =
       record {
-        answer = c .answer ∙ sym (passes ed o ∙ pass (shapes o) (holders o && codes o) e ∙ pass (holders o) (codes o) (T→true (holders o) h));
+        answer = c .answer ∙ sym (passes edition o ∙ pass (shapes o) (holders o && codes edition o) e ∙ pass (holders o) (codes edition o) (T→true (holders o) h));
         noted = c .noted;
       }
 
@@ -186,18 +186,18 @@ module _ {table contents bodies counts : List ℕ} {n b notes pending : ℕ} (l 
       moved : bodyEnd o j ≤ start o k → bodyEnd o (pointer j / 2) ≤ start o (pointer k / 2)
       moved r = subst (λ (x : ℕ). bodyEnd o x ≤ start o (pointer k / 2)) (sym (half j)) (subst (λ (x : ℕ). bodyEnd o j ≤ start o x) (sym (half k)) r)
 
-  module _ (k : ℕ) (ns ns′ : List ℕ) (r : Bool) (h : 1 ≤ k) (g : k ≤ n) (e : kind o k ≡ methodKind) (w : MethodWalked o (pointer k) ns ns′ r) where
-    walked-noted : NotedBefore o ns k → NotedBefore o ns′ (suc k)
-    walked-noted f = one-more o ns′ k (λ j a b q p x. w .others (notesFrom o (pointer j) + p) (inl (near j a b q p x)) ∙ f j a b q p x) (λ q. w .noted)
+  module _ (edition : ℕ) (k : ℕ) (ns ns′ : List ℕ) (r : Bool) (h : 1 ≤ k) (g : k ≤ n) (e : kind o k ≡ methodKind) (w : MethodWalked edition o (pointer k) ns ns′ r) where
+    walked-noted : NotedBefore edition o ns k → NotedBefore edition o ns′ (suc k)
+    walked-noted f = one-more edition o ns′ k (λ j a b q p x. w .others (notesFrom o (pointer j) + p) (inl (near j a b q p x)) ∙ f j a b q p x) (λ q. w .noted)
       where
         near : (j : ℕ) → 1 ≤ j → j < k → kind o j ≡ methodKind → (p : ℕ) → p < codeSize o (pointer j) → notesFrom o (pointer j) + p < notesFrom o (pointer k)
         near j a b q p x = let z = apart j k a b g q in omega arith
 
-    pub object-sound : r ≡ true → ObjectNoted o k ns ns′ true
-    object-sound q = record { answer = sym (code-sound o k (sym (w .answer) ∙ q)); noted = walked-noted }
+    pub object-sound : r ≡ true → ObjectNoted edition o k ns ns′ true
+    object-sound q = record { answer = sym (code-sound edition o k (sym (w .answer) ∙ q)); noted = walked-noted }
 
-    pub object-unsound : (x : Bool) → r ≡ false → x ≡ runsCode o (pointer k) → ObjectNoted o k ns ns′ (not x)
-    object-unsound x q c = record { answer = ap not c ∙ sym (code-unsound o k e (sym (w .answer) ∙ q)); noted = walked-noted }
+    pub object-unsound : (x : Bool) → r ≡ false → x ≡ runsCode o (pointer k) → ObjectNoted edition o k ns ns′ (not x)
+    object-unsound x q c = record { answer = ap not c ∙ sym (code-unsound edition o k e (sym (w .answer) ∙ q)); noted = walked-noted }
 
 -- lent again, with notes and pending positions of the same lengths
 pub lent-again : {table contents bodies counts : List ℕ} {n b s q s′ q′ : ℕ} → s′ ≡ s → q′ ≡ q → PassLent table n b contents bodies counts s q → PassLent table n b contents bodies counts s′ q′

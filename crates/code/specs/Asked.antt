@@ -34,9 +34,9 @@ pub record CodeLent (o : Objects) (m : ℕ) (words : List ℕ) (size : ℕ) : Ty
   pub small : size ≤ mostCode
 
 -- one method walked: the others' notes stay
-pub record MethodWalked (o : Objects) (m : ℕ) (notes notes′ : List ℕ) (r : Bool) : Type 0 where
-  pub answer : r ≡ isSome (methodTable o m)
-  pub noted : MethodNoted o notes′ m
+pub record MethodWalked (e : ℕ) (o : Objects) (m : ℕ) (notes notes′ : List ℕ) (r : Bool) : Type 0 where
+  pub answer : r ≡ isSome (methodTable e o m)
+  pub noted : MethodNoted e o notes′ m
   pub others : (i : ℕ) → (i < notesFrom o m) ⊎ (notesFrom o m + codeSize o m ≤ i) → getD notes′ i 0 ≡ getD notes i 0
 
 -- what the pass is lent
@@ -49,16 +49,16 @@ pub record PassLent (table : List ℕ) (n b : ℕ) (contents bodies counts : Lis
   pub long : 2 * b ≤ pending
 
 -- object k, where it is a method
-pub record ObjectNoted (o : Objects) (k : ℕ) (notes notes′ : List ℕ) (r : Bool) : Type 0 where
-  pub answer : r ≡ codeFine o k
-  pub noted : NotedBefore o notes k → NotedBefore o notes′ (suc k)
+pub record ObjectNoted (e : ℕ) (o : Objects) (k : ℕ) (notes notes′ : List ℕ) (r : Bool) : Type 0 where
+  pub answer : r ≡ codeFine e o k
+  pub noted : NotedBefore e o notes k → NotedBefore e o notes′ (suc k)
 
 -- all objects
-pub record CodesNoted (o : Objects) (notes : List ℕ) (r : Bool) : Type 0 where
-  pub answer : r ≡ codes o
-  pub noted : r ≡ true → NotedBefore o notes (suc (o .n))
+pub record CodesNoted (e : ℕ) (o : Objects) (notes : List ℕ) (r : Bool) : Type 0 where
+  pub answer : r ≡ codes e o
+  pub noted : r ≡ true → NotedBefore e o notes (suc (o .n))
 
 -- and rule 7
 pub record MethodsNoted (e : ℕ) (o : Objects) (notes : List ℕ) (r : Bool) : Type 0 where
   pub answer : r ≡ rule7 e o
-  pub noted : r ≡ true → NotedBefore o notes (suc (o .n))
+  pub noted : r ≡ true → NotedBefore e o notes (suc (o .n))

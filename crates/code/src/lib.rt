@@ -46,7 +46,14 @@ fn special_fine(
     if k == 23 {
         return true;
     }
-    let s = readers::word_of(contents, bodies, n, b, Pointer(readers::SELECTORS), k as usize);
+    let s = readers::word_of(
+        contents,
+        bodies,
+        n,
+        b,
+        Pointer(readers::SELECTORS),
+        k as usize,
+    );
     methods::send_fine(contents, bodies, n, b, counts, s, special_count(table, k))
 }
 
@@ -212,6 +219,7 @@ fn all_fine(
 
 // The notes of a method's code: those of its depth table, all 0 where it has none.
 fn code_notes(
+    edition: u16,
     table: &[u16; 256],
     contents: &[u16],
     bodies: &[u16],
@@ -224,11 +232,12 @@ fn code_notes(
     pending: &mut [u16],
 ) -> bool
     requires { ⌜ Asked (now table) n b (now contents) (now bodies) (now counts) m × CodeLent (objectsAt n b (now contents) (now bodies)) m (now words) (length (now notes)) × (length (now notes) ≤ length (now pending)) ⌝ }
-    ensures { λ r. ⌜ Walked (methodTable (objectsAt n b (now (contents .entry)) (now (bodies .entry))) m) (length (now (notes .entry))) (now (notes .exit)) r ⌝ }
+    ensures { λ r. ⌜ Walked (methodTable edition (objectsAt n b (now (contents .entry)) (now (bodies .entry))) m) (length (now (notes .entry))) (now (notes .exit)) r ⌝ }
 {
     let header = readers::word_of(contents, bodies, n, b, Pointer(m), readers::HEADER) as usize;
     let home = readers::word_of(contents, bodies, n, b, Pointer(m), readers::HOME);
-    let fields = (readers::word_of(contents, bodies, n, b, Pointer(home), readers::FIELDS_WORD) / 2) as u8;
+    let fields = (readers::word_of(contents, bodies, n, b, Pointer(home), readers::FIELDS_WORD)
+        / 2) as u8;
     let temporaries = readers::temporary_count(header) as u8;
     let literals = readers::literal_count(header) as u8;
     let limit = readers::frame_words(header);
@@ -253,6 +262,7 @@ fn code_notes(
 
 // The same in the table of all methods' notes.
 fn method_notes(
+    edition: u16,
     table: &[u16; 256],
     contents: &[u16],
     bodies: &[u16],
@@ -264,7 +274,7 @@ fn method_notes(
     pending: &mut [u16],
 ) -> bool
     requires { ⌜ Asked (now table) n b (now contents) (now bodies) (now counts) m × (2 * b ≤ length (now notes)) × (2 * b ≤ length (now pending)) ⌝ }
-    ensures { λ r. ⌜ MethodWalked (objectsAt n b (now (contents .entry)) (now (bodies .entry))) m (now (notes .entry)) (now (notes .exit)) r ⌝ }
+    ensures { λ r. ⌜ MethodWalked edition (objectsAt n b (now (contents .entry)) (now (bodies .entry))) m (now (notes .entry)) (now (notes .exit)) r ⌝ }
 {
     let k = (m / 2) as usize;
     let header = readers::word_of(contents, bodies, n, b, Pointer(m), readers::HEADER) as usize;
@@ -274,6 +284,7 @@ fn method_notes(
     let first = 2 * from;
     let last = first + (readers::size(contents, n, k) as usize - 2 * skip);
     code_notes(
+        edition,
         table,
         contents,
         bodies,
@@ -289,6 +300,7 @@ fn method_notes(
 
 // Object k, where it is a method. Its notes are made whether or not its code can run.
 fn code_object(
+    edition: u16,
     table: &[u16; 256],
     contents: &[u16],
     bodies: &[u16],
@@ -300,13 +312,24 @@ fn code_object(
     pending: &mut [u16],
 ) -> bool
     requires { ⌜ PassLent (now table) n b (now contents) (now bodies) (now counts) (length (now notes)) (length (now pending)) × (1 ≤ k) × (k ≤ n) ⌝ }
-    ensures { λ r. ⌜ ObjectNoted (objectsAt n b (now (contents .entry)) (now (bodies .entry))) k (now (notes .entry)) (now (notes .exit)) r ⌝ }
+    ensures { λ r. ⌜ ObjectNoted edition (objectsAt n b (now (contents .entry)) (now (bodies .entry))) k (now (notes .entry)) (now (notes .exit)) r ⌝ }
 {
     if readers::kind(contents, n, k) != readers::METHOD {
         return true;
     }
     let m = (2 * k) as u16;
-    if method_notes(table, contents, bodies, n, b, counts, m, notes, pending) {
+    if method_notes(
+        edition,
+        table,
+        contents,
+        bodies,
+        n,
+        b,
+        counts,
+        m,
+        notes,
+        pending,
+    ) {
         return true;
     }
     let header = readers::word_of(contents, bodies, n, b, Pointer(m), readers::HEADER) as usize;
@@ -315,6 +338,7 @@ fn code_object(
 
 // The third pass: the code of all methods.
 fn codes_fine(
+    edition: u16,
     table: &[u16; 256],
     contents: &[u16],
     bodies: &[u16],
@@ -325,11 +349,22 @@ fn codes_fine(
     pending: &mut [u16],
 ) -> bool
     requires { ⌜ PassLent (now table) n b (now contents) (now bodies) (now counts) (length (now notes)) (length (now pending)) ⌝ }
-    ensures { λ r. ⌜ CodesNoted (objectsAt n b (now (contents .entry)) (now (bodies .entry))) (now (notes .exit)) r ⌝ }
+    ensures { λ r. ⌜ CodesNoted edition (objectsAt n b (now (contents .entry)) (now (bodies .entry))) (now (notes .exit)) r ⌝ }
 {
     let mut k = 1;
     while k <= n {
-        if !code_object(table, contents, bodies, n, b, counts, k, notes, pending) {
+        if !code_object(
+            edition,
+            table,
+            contents,
+            bodies,
+            n,
+            b,
+            counts,
+            k,
+            notes,
+            pending,
+        ) {
             return false;
         }
         k += 1;
@@ -360,8 +395,28 @@ pub fn methods_fine(
     if b <= 2000 {
         // few positions can be pending: less to clear
         let mut few = [0; 4000];
-        return codes_fine(&table, contents, bodies, n, b, &counts, notes, &mut few);
+        return codes_fine(
+            edition,
+            &table,
+            contents,
+            bodies,
+            n,
+            b,
+            &counts,
+            notes,
+            &mut few,
+        );
     }
     let mut pending = [0; 48000];
-    codes_fine(&table, contents, bodies, n, b, &counts, notes, &mut pending)
+    codes_fine(
+        edition,
+        &table,
+        contents,
+        bodies,
+        n,
+        b,
+        &counts,
+        notes,
+        &mut pending,
+    )
 }

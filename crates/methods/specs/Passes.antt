@@ -30,8 +30,8 @@ shapeFine o k = implies (eqb (kind o k) methodKind) (allOf (shapeRules o (pointe
 unfoldable pub holderFine : Objects → ℕ → Bool
 holderFine o k = implies (eqb (kind o k) classKind) (dictionaryMethodsFine o (pointer k))
 
-unfoldable pub codeFine : Objects → ℕ → Bool
-codeFine o k = implies (eqb (kind o k) methodKind) (implies (runsCode o (pointer k)) (isSome (methodTable o (pointer k))))
+unfoldable pub codeFine : ℕ → Objects → ℕ → Bool
+codeFine e o k = implies (eqb (kind o k) methodKind) (implies (runsCode o (pointer k)) (isSome (methodTable e o (pointer k))))
 
 unfoldable pub shapes : Objects → Bool
 shapes o = upTo (o .n) (shapeFine o)
@@ -39,8 +39,8 @@ shapes o = upTo (o .n) (shapeFine o)
 unfoldable pub holders : Objects → Bool
 holders o = upTo (o .n) (holderFine o)
 
-unfoldable pub codes : Objects → Bool
-codes o = upTo (o .n) (codeFine o)
+unfoldable pub codes : ℕ → Objects → Bool
+codes e o = upTo (o .n) (codeFine e o)
 
 -- the last three of a method's shape
 unfoldable pub fieldRule : Objects → ℕ → Bool

@@ -70,7 +70,7 @@ returns c =
     let here = table-here _ _ ((at-start .pre) .1) (ap (λ (x : ℕ). x / 2) (at-word-of3 .word-of3 .ensures)) (at-word-of2 .word-of2 .ensures)
     (at-temporary-count .temporary-count .ensures ∙ ap temporariesOf h) (at-literal-count .literal-count .ensures ∙ ap literalsOf h)
     (frame-is _ _ h (at-frame-words .frame-words .ensures)) in
-    notes-none _ _ here (at-walk .walk .ensures) (not-true _ (c .if1 .taken))
+    notes-none _ _ _ here (at-walk .walk .ensures) (not-true _ (c .if1 .taken))
 
 all-fine-requires : tie.Need-all-fine-requires
 all-fine-requires c κs =
@@ -98,7 +98,7 @@ returns-2 c =
     let here = table-here _ _ ((at-start .pre) .1) (ap (λ (x : ℕ). x / 2) (at-word-of3 .word-of3 .ensures)) (at-word-of2 .word-of2 .ensures)
     (at-temporary-count .temporary-count .ensures ∙ ap temporariesOf h) (at-literal-count .literal-count .ensures ∙ ap literalsOf h)
     (frame-is _ _ h (at-frame-words .frame-words .ensures)) in
-    notes-some _ _ here (at-walk .walk .ensures)
+    notes-some _ _ _ here (at-walk .walk .ensures)
     (not-false _ (c .before .before .before .if1 .left)) (sym (c .before .all-fine .ensures) ∙ c .if2 .taken)
 
 clear-requires : tie.Need-clear-requires
@@ -127,7 +127,7 @@ returns-3 c =
     let here = table-here _ _ ((at-start .pre) .1) (ap (λ (x : ℕ). x / 2) (at-word-of3 .word-of3 .ensures)) (at-word-of2 .word-of2 .ensures)
     (at-temporary-count .temporary-count .ensures ∙ ap temporariesOf h) (at-literal-count .literal-count .ensures ∙ ap literalsOf h)
     (frame-is _ _ h (at-frame-words .frame-words .ensures)) in
-    notes-fail _ _ here (at-walk .walk .ensures) (not-false _ (at-if1 .if1 .left))
+    notes-fail _ _ _ here (at-walk .walk .ensures) (not-false _ (at-if1 .if1 .left))
     (sym (at-all-fine .all-fine .ensures) ∙ at-if2 .if2 .left) (c .before .before .clear .ensures ∙ ap (λ (k : ℕ). replicate k 0) (at-walk .walk .kept .1 .1 .1 .1 .1 .1 .0))
 
 pub code-notes-spec : {M : Type 1} → statement M

@@ -11,7 +11,7 @@ kind-requires : tie.Need-kind-requires
 kind-requires c κs = search needs
 
 returns : tie.Need-returns
-returns c = object-other _ (c .before .before .before .before .before .before .before .args .k) _ (λ e. c .if1 .taken (c .before .kind .ensures ∙ e))
+returns c = object-other _ _ (c .before .before .before .before .before .before .before .args .k) _ (λ e. c .if1 .taken (c .before .kind .ensures ∙ e))
 
 mul-m : tie.Need-mul-m
 mul-m c = search needs
@@ -40,7 +40,7 @@ returns-2 c =
     let at-if1 = at-method-notes .before .before .before in
     let at-kind = at-if1 .before in
     let at-start = at-kind .before .before .before .before .before .before in
-    object-sound ((at-start .pre) .0) (at-start .args .k) _ _ _ ((at-start .pre) .1) ((at-start .pre) .2) (sym (at-kind .kind .ensures) ∙ at-if1 .if1 .left)
+    object-sound ((at-start .pre) .0) _ (at-start .args .k) _ _ _ ((at-start .pre) .1) ((at-start .pre) .2) (sym (at-kind .kind .ensures) ∙ at-if1 .if1 .left)
     (at-method-notes .method-notes .ensures) (c .if2 .taken)
 
 word-of-requires : tie.Need-word-of-requires
@@ -70,7 +70,7 @@ returns-3 c =
     let at-kind = at-if1 .before in
     let at-start = at-kind .before .before .before .before .before .before in
     let args = at-start .args in
-    object-unsound ((at-start .pre) .0) (args .k) _ _ _ ((at-start .pre) .1) ((at-start .pre) .2) (sym (at-kind .kind .ensures) ∙ at-if1 .if1 .left)
+    object-unsound ((at-start .pre) .0) _ (args .k) _ _ _ ((at-start .pre) .1) ((at-start .pre) .2) (sym (at-kind .kind .ensures) ∙ at-if1 .if1 .left)
     (at-method-notes .method-notes .ensures) (c .runs-code .result) (c .before .before .if2 .left)
     (c .runs-code .ensures ∙ ap runsOf (c .before .word-of .ensures))
 

@@ -10,13 +10,13 @@ use Rattle.code.proofs.codes_fine.Statement.{statement}
 use Rattle.code.proofs.codes_fine.Tie as tie
 
 abbrev Inv-loop : tie.InvT-loop
-Inv-loop table contents bodies n b counts notes₀ pending₀ k₀ notes pending k = Going (objectsAt n b contents bodies) k notes × (length notes ≡ length notes₀) × (length pending ≡ length pending₀)
+Inv-loop edition table contents bodies n b counts notes₀ pending₀ k₀ notes pending k = Going edition (objectsAt n b contents bodies) k notes × (length notes ≡ length notes₀) × (length pending ≡ length pending₀)
 
 abbrev μ-loop : tie.MeasureT-loop
-μ-loop table contents bodies n b counts notes₀ pending₀ k₀ notes pending k = suc n - k
+μ-loop edition table contents bodies n b counts notes₀ pending₀ k₀ notes pending k = suc n - k
 
 loop-holds : tie.Need-loop-holds Inv-loop μ-loop
-loop-holds c = (going-first _ _, refl, refl)
+loop-holds c = (going-first _ _ _, refl, refl)
 
 code-object-requires : tie.Need-code-object-requires Inv-loop μ-loop
 code-object-requires c κs =
@@ -28,20 +28,20 @@ same-length : tie.Need-same-length Inv-loop μ-loop
 same-length c =
     let at-code-object = c .before .before .before .before .before in
     let at-loop = at-code-object .before .before .before .before in
-    at-code-object .code-object .kept .1 .1 .1 .1 .1 .1 .1 .0 ∙ at-loop .loop .inv .1
+    at-code-object .code-object .kept .1 .1 .1 .1 .1 .1 .1 .1 .0 ∙ at-loop .loop .inv .1
 
 same-length-2 : tie.Need-same-length-2 Inv-loop μ-loop
 same-length-2 c =
     let at-code-object = c .before .before .before .before .before in
     let at-loop = at-code-object .before .before .before .before in
-    at-code-object .code-object .kept .1 .1 .1 .1 .1 .1 .1 .1 .0 ∙ at-loop .loop .inv .2
+    at-code-object .code-object .kept .1 .1 .1 .1 .1 .1 .1 .1 .1 .0 ∙ at-loop .loop .inv .2
 
 returns : tie.Need-returns Inv-loop μ-loop
 returns c =
     let at-code-object = c .before .before .before .before .before in
     let at-loop-test = at-code-object .before .before .before in
     let at-loop = at-loop-test .before in
-    codes-stop _ (at-loop .loop .k) _ _ _ (at-loop .loop .inv .0 .least) (at-loop-test .loop-test .taken) (at-code-object .code-object .ensures) (not-true _ (c .if1 .taken))
+    codes-stop _ _ (at-loop .loop .k) _ _ _ (at-loop .loop .inv .0 .least) (at-loop-test .loop-test .taken) (at-code-object .code-object .ensures) (not-true _ (c .if1 .taken))
 
 add-k : tie.Need-add-k Inv-loop μ-loop
 add-k c =
@@ -57,10 +57,10 @@ loop-again c =
     let at-code-object = c .before .before .before .before .before in
     let at-loop-test = at-code-object .before .before .before in
     let at-loop = at-loop-test .before in (
-      going-on _ (at-loop .loop .k) _ _ _ (at-loop .loop .inv .0) (at-loop-test .loop-test .taken) (at-code-object .code-object .ensures)
+      going-on _ _ (at-loop .loop .k) _ _ _ (at-loop .loop .inv .0) (at-loop-test .loop-test .taken) (at-code-object .code-object .ensures)
           (not-false _ (c .if1 .left)),
-      at-code-object .code-object .kept .1 .1 .1 .1 .1 .1 .1 .0 ∙ at-loop .loop .inv .1,
-      at-code-object .code-object .kept .1 .1 .1 .1 .1 .1 .1 .1 .0 ∙ at-loop .loop .inv .2,
+      at-code-object .code-object .kept .1 .1 .1 .1 .1 .1 .1 .1 .0 ∙ at-loop .loop .inv .1,
+      at-code-object .code-object .kept .1 .1 .1 .1 .1 .1 .1 .1 .1 .0 ∙ at-loop .loop .inv .2,
     )
 
 same-length-3 : tie.Need-same-length-3 Inv-loop μ-loop
@@ -70,7 +70,7 @@ same-length-4 : tie.Need-same-length-4 Inv-loop μ-loop
 same-length-4 c = c .before .loop .inv .2
 
 returns-2 : tie.Need-returns-2 Inv-loop μ-loop
-returns-2 c = going-over _ (c .before .loop .k) _ (c .before .loop .inv .0) (c .loop-test .left)
+returns-2 c = going-over _ _ (c .before .loop .k) _ (c .before .loop .inv .0) (c .loop-test .left)
 
 pub codes-fine-spec : {M : Type 1} → statement M
 codes-fine-spec =

@@ -136,7 +136,7 @@ returns c =
     let p = at-start′ .pre in
     let l = at-literal-count .literal-count .ensures ∙ ap literalsOf (at-word-of .word-of .ensures) in
     let e = at-body-end .body-end .ensures (args .b) (args .bodies .now) in
-    walked-put (p .0) (args .notes .now) l (at-start .start .ensures) e (at-size .size .ensures) (p .1) _ (at-code-notes .code-notes .kept .1 .1 .1 .1 .1 .1 .1 .1 .0) _
+    walked-put (p .0) (args .notes .now) l (at-start .start .ensures) e (at-size .size .ensures) (p .1) _ (at-code-notes .code-notes .kept .1 .1 .1 .1 .1 .1 .1 .1 .1 .0) _ _
     (at-code-notes .code-notes .ensures)
 
 pub method-notes-spec : {M : Type 1} → statement M

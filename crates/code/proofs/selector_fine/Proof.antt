@@ -6,7 +6,7 @@ use Rattle.code.proofs.selector_fine.Statement.{statement}
 use Rattle.code.proofs.selector_fine.Tie as tie
 
 literal-word-requires : tie.Need-literal-word-requires
-literal-word-requires c κs = let p = c .before .before .before .pre in (method-entry p, p .ready .laid .words)
+literal-word-requires c κs = let p = c .before .before .before .pre in (method-entry p, p .ready .laid .words, omega arith)
 
 send-fine-requires : tie.Need-send-fine-requires
 send-fine-requires c κs = search needs
