@@ -45,7 +45,14 @@ fn special_fine(
     if k == 23 {
         return true;
     }
-    let s = readers::word_of(contents, bodies, n, b, Pointer(readers::SELECTORS), k as usize);
+    let s = readers::word_of(
+        contents,
+        bodies,
+        n,
+        b,
+        Pointer(readers::SELECTORS),
+        k as usize,
+    );
     methods::send_fine(contents, bodies, n, b, counts, s, special_count(table, k))
 }
 
@@ -227,7 +234,8 @@ fn code_notes(
 {
     let header = readers::word_of(contents, bodies, n, b, Pointer(m), readers::HEADER) as usize;
     let home = readers::word_of(contents, bodies, n, b, Pointer(m), readers::HOME);
-    let fields = (readers::word_of(contents, bodies, n, b, Pointer(home), readers::FIELDS_WORD) / 2) as u8;
+    let fields = (readers::word_of(contents, bodies, n, b, Pointer(home), readers::FIELDS_WORD)
+        / 2) as u8;
     let temporaries = readers::temporary_count(header) as u8;
     let literals = readers::literal_count(header) as u8;
     let limit = readers::frame_words(header);
@@ -361,6 +369,6 @@ pub fn methods_fine(
         let mut few = [0; 4000];
         return codes_fine(&table, contents, bodies, n, b, &counts, notes, &mut few);
     }
-    let mut pending = [0; 48000];
+    let mut pending = [0; readers::MOST_BODY_BYTES];
     codes_fine(&table, contents, bodies, n, b, &counts, notes, &mut pending)
 }

@@ -53,7 +53,12 @@ fn entry_fine(edition: u16, contents: &[u16], bodies: &[u16], n: usize, b: usize
     }
     let form = readers::word_of(contents, bodies, n, b, Pointer(c), readers::FORM_WORD) / 2;
     let fields = readers::word_of(contents, bodies, n, b, Pointer(c), readers::FIELDS_WORD) / 2;
-    fits_form(form, fields, readers::kind(contents, n, k), readers::size(contents, n, k))
+    fits_form(
+        form,
+        fields,
+        readers::kind(contents, n, k),
+        readers::size(contents, n, k),
+    )
 }
 
 // An integer from 0 to `most`.
@@ -298,7 +303,17 @@ pub fn known_fine(edition: u16, contents: &[u16], bodies: &[u16], n: usize, b: u
     if !known_kinds(contents, n) {
         return false;
     }
-    if readers::word_of(contents, bodies, n, b, Pointer(readers::INTEGER_CLASS), readers::FORM_WORD) / 2 != readers::OTHER {
+    if readers::word_of(
+        contents,
+        bodies,
+        n,
+        b,
+        Pointer(readers::INTEGER_CLASS),
+        readers::FORM_WORD,
+    )
+        / 2
+        != readers::OTHER
+    {
         return false;
     }
     selectors_fine(contents, bodies, n, b)

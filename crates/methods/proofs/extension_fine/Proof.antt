@@ -13,12 +13,12 @@ returns : tie.Need-returns
 returns c = simp (ap (leb 2) (sym (c .before .before .before .pre .1)) ∙ lt-leb _ _ (c .if1 .taken))
 
 word-of-requires : tie.Need-word-of-requires
-word-of-requires c κs = 
+word-of-requires c κs =
     let p = c .before .before .before .pre in
     method-inside (p .0 .laid) _ (p .0 .isMethod) (p .0 .holds) (omega arith)
 
 returns-2 : tie.Need-returns-2
-returns-2 c = 
+returns-2 c =
     let at-start = c .before .before .before .before .before in
     let args = at-start .args in
     let o = objectsAt (args .n) (args .b) (args .contents .now) (args .bodies .now) in
@@ -26,7 +26,7 @@ returns-2 c =
     simp (ap (leb 2) (sym (at-start .pre .1)) ∙ le-leb _ _ (c .before .before .if1 .left), ap (λ (w : ℕ). eqb (w % 2) 1) (sym x) ∙ ne-eqb _ _ (c .if2 .taken))
 
 returns-3 : tie.Need-returns-3
-returns-3 c = 
+returns-3 c =
     let at-start = c .before .before .before .before .before in
     let args = at-start .args in
     let o = objectsAt (args .n) (args .b) (args .contents .now) (args .bodies .now) in

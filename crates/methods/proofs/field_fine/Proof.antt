@@ -11,7 +11,7 @@ flag-requires : tie.Need-flag-requires
 flag-requires c κs = search needs
 
 returns : tie.Need-returns
-returns c = 
+returns c =
     let at-start = c .before .before .before .before in
     no-field-flag _ (at-start .args .m) (c .before .flag .ensures ∙ ap flagOf (at-start .pre .header)) (c .if1 .taken)
 
@@ -25,7 +25,7 @@ cast-result : tie.Need-cast-result
 cast-result c = search needs
 
 returns-2 : tie.Need-returns-2
-returns-2 c = 
+returns-2 c =
     let at-flag = c .before .before .before in
     let at-start = at-flag .before .before .before in
     let p = at-start .pre in

@@ -25,7 +25,7 @@ unfolding flagRules
 returns-2 c = simp (sym (c .before .before .before .field-fine .ensures) ∙ not-false _ (c .before .before .if1 .left), sym (c .before .primitive-fine .ensures) ∙ not-true _ (c .if2 .taken))
 
 argument-count-requires : tie.Need-argument-count-requires
-argument-count-requires c κs = 
+argument-count-requires c κs =
     let at-start = c .before .before .before .before .before .before in
     count-here (at-start .pre .method) (primitive-two _ (at-start .args .m) (true→T (sym (c .before .primitive-fine .ensures) ∙ not-false _ (c .if2 .left))))
 
@@ -34,7 +34,7 @@ temporary-count-requires c κs = search needs
 
 returns-3 : tie.Need-returns-3
 unfolding flagRules
-returns-3 c = 
+returns-3 c =
     let at-if2 = c .before .before in
     let at-if1 = at-if2 .before .before in
     let at-field-fine = at-if1 .before in

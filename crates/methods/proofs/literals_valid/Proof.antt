@@ -24,7 +24,7 @@ loop-holds c =
     (omega arith, before-none (λ j. isValid (args .n) (literal (objectsAt (args .n) (args .b) (args .contents .now) (args .bodies .now)) (args .m) j)))
 
 add-word-of : tie.Need-add-word-of Inv-loop μ-loop
-add-word-of c = 
+add-word-of c =
     let at-start = c .before .before .before .before in
     let p = at-start .pre in
     let h = method-inside (p .laid) {i = 1 + at-start .args .literals} (at-start .args .literals) (p .isMethod) (p .holds) (omega arith) in

@@ -11,7 +11,7 @@ flag-requires : tie.Need-flag-requires
 flag-requires c κs = search needs
 
 returns : tie.Need-returns
-returns c = 
+returns c =
     let at-start = c .before .before .before .before in
     no-primitive-flag _ (at-start .args .m) (c .before .flag .ensures ∙ ap flagOf (at-start .pre .header)) (c .if1 .taken)
 
@@ -19,14 +19,14 @@ literal-count-requires : tie.Need-literal-count-requires
 literal-count-requires c κs = search needs
 
 extension-fine-requires : tie.Need-extension-fine-requires
-extension-fine-requires c κs = 
+extension-fine-requires c κs =
     let at-start = c .before .before .before .before .before in
     let args = at-start .args in
     let e = c .literal-count .ensures ∙ ap literalsOf (at-start .pre .header) in
     (subst (Literals (args .n) (args .b) (args .contents .now) (args .bodies .now) (args .m)) (sym e) (at-start .pre .method), e)
 
 returns-2 : tie.Need-returns-2
-returns-2 c = 
+returns-2 c =
     let at-flag = c .before .before .before in
     let at-start = at-flag .before .before .before in
     primitive-flag _ (at-start .args .m) (at-flag .flag .ensures ∙ ap flagOf (at-start .pre .header)) (c .before .before .if1 .left) (c .extension-fine .ensures)

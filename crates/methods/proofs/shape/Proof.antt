@@ -23,7 +23,7 @@ cast-size-2 : tie.Need-cast-size-2
 cast-size-2 c = search needs
 
 returns : tie.Need-returns
-returns c = 
+returns c =
     let at-size = c .before in
     let at-start = at-size .before .before .before in
     let args = at-start .args in
@@ -31,7 +31,7 @@ returns c =
     sym (shape-is o (args .m) refl refl (at-size .size .ensures) refl ∙ simp (lt-leb _ _ (c .if1 .taken)))
 
 word-of-requires : tie.Need-word-of-requires
-word-of-requires c κs = 
+word-of-requires c κs =
     let at-size = c .before in
     let at-start = at-size .before .before .before in
     let z = at-size .size .ensures in
@@ -41,7 +41,7 @@ cast-header : tie.Need-cast-header
 cast-header c = search needs
 
 returns-2 : tie.Need-returns-2
-returns-2 c = 
+returns-2 c =
     let at-word-of = c .before in
     let at-if1 = at-word-of .before in
     let at-size = at-if1 .before in
@@ -60,7 +60,7 @@ add-if3 : tie.Need-add-if3
 add-if3 c = search needs
 
 returns-3 : tie.Need-returns-3
-returns-3 c = 
+returns-3 c =
     let at-literal-count = c .before in
     let at-if2 = at-literal-count .before in
     let at-word-of = at-if2 .before in
@@ -74,7 +74,7 @@ returns-3 c =
     ∙ simp (le-leb _ _ (at-if1 .if1 .left), eq-eqb _ _ (at-if2 .if2 .left), lt-leb _ _ (c .if3 .taken)))
 
 word-of-requires-2 : tie.Need-word-of-requires-2
-word-of-requires-2 c κs = 
+word-of-requires-2 c κs =
     let at-size = c .before .before .before .before .before in
     let at-start = at-size .before .before .before in
     let z = at-size .size .ensures in
@@ -84,7 +84,7 @@ is-kind-requires : tie.Need-is-kind-requires
 is-kind-requires c κs = search needs
 
 returns-4 : tie.Need-returns-4
-returns-4 c = 
+returns-4 c =
     let at-is-kind = c .before in
     let at-word-of2 = at-is-kind .before in
     let at-if3 = at-word-of2 .before in
@@ -106,7 +106,7 @@ returns-4 c =
     ))
 
 literals-valid-requires : tie.Need-literals-valid-requires
-literals-valid-requires c κs = 
+literals-valid-requires c κs =
     let at-if3 = c .before .before .before in
     let at-size = at-if3 .before .before .before .before .before in
     let at-start = at-size .before .before .before in
@@ -114,7 +114,7 @@ literals-valid-requires c κs =
     record { laid = at-start .pre .0; isMethod = at-start .pre .1; holds = omega (arith, at-if3 .if3 .left) }
 
 returns-5 : tie.Need-returns-5
-returns-5 c = 
+returns-5 c =
     let at-literals-valid = c .before in
     let at-if4 = at-literals-valid .before in
     let at-is-kind = at-if4 .before in
@@ -139,7 +139,7 @@ returns-5 c =
     ))
 
 flag-fine-requires : tie.Need-flag-fine-requires
-flag-fine-requires c κs = 
+flag-fine-requires c κs =
     let at-if4 = c .before .before in
     let at-is-kind = at-if4 .before in
     let at-word-of2 = at-is-kind .before in
@@ -160,7 +160,7 @@ flag-fine-requires c κs =
     }
 
 returns-6 : tie.Need-returns-6
-returns-6 c = 
+returns-6 c =
     let at-if5 = c .before in
     let at-literals-valid = at-if5 .before in
     let at-if4 = at-literals-valid .before in

@@ -6,7 +6,7 @@ use Rattle.objects.proofs.argument_count.Statement.{statement}
 use Rattle.objects.proofs.argument_count.Tie as tie
 
 argument-count-requires : tie.Need-argument-count-requires
-argument-count-requires c κs = 
+argument-count-requires c κs =
     let p = c .before .before .pre in
     let f = method-facts (p .right .1) (c .before .before .args .m .0) (p .kinds) in
     count-inside (holds-laid p) (p .kinds) (f .holds) (λ e. f .extended e .two)

@@ -7,7 +7,7 @@ returns : tie.Need-returns
 returns c = λ b bodies. class-integer _ b _ bodies _ (c .if1 .taken)
 
 class-word-requires : tie.Need-class-word-requires
-class-word-requires c κs = 
+class-word-requires c κs =
     let at-start = c .before .before in
     let args = at-start .args in
     valid-entry (args .n) (args .contents .now) (args .w) (at-start .pre .0) (c .if1 .left) (at-start .pre .1)

@@ -41,7 +41,7 @@ add-t15 : tie.Need-add-t15
 add-t15 c = search needs
 
 sub-t16 : tie.Need-sub-t16
-sub-t16 c = 
+sub-t16 c =
     let at-header = c .before .before .before .before in
     let at-start = at-header .before .before .before in
     let literals = c .before .before .before .literal-count .ensures ∙ ap literalsOf (at-header .header .ensures) in
@@ -51,14 +51,14 @@ mul-t17 : tie.Need-mul-t17
 mul-t17 c = search needs
 
 sub-t18 : tie.Need-sub-t18
-sub-t18 c = 
+sub-t18 c =
     let at-header = c .before .before .before .before in
     let at-start = at-header .before .before .before in
     let literals = c .before .before .before .literal-count .ensures ∙ ap literalsOf (at-header .header .ensures) in
     let f = code-fits (at-start .pre) literals (c .before .start .ensures) (c .size .ensures) in omega arith
 
 returns : tie.Need-returns
-returns c = 
+returns c =
     let at-header = c .before .before .before .before in
     let at-start = at-header .before .before .before in
     let literals = c .before .before .before .literal-count .ensures ∙ ap literalsOf (at-header .header .ensures) in

@@ -28,7 +28,7 @@ same-length : tie.Need-same-length
 same-length c = search needs
 
 returns : tie.Need-returns
-returns c = 
+returns c =
     let at-start = c .before .before .before .before in
     let args = at-start .args in
     let h = at-start .pre in

@@ -35,7 +35,7 @@ literal-count-requires c κs = search needs
 
 -- src/lib.rt:299:25
 word-of-requires-2 : tie.Need-word-of-requires-2
-word-of-requires-2 c κs = 
+word-of-requires-2 c κs =
     let at-flag = c .before .before .before in
     let at-word-of = at-flag .before in
     let at-start = at-word-of .before .before .before in
@@ -50,7 +50,7 @@ cast-extension c = search needs
 
 -- src/lib.rt:300:9
 returns-2 : tie.Need-returns-2
-returns-2 c = 
+returns-2 c =
     let at-literal-count = c .before in
     let at-if2 = at-literal-count .before in
     let at-if1 = at-if2 .before in

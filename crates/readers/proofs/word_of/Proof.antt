@@ -35,7 +35,7 @@ shared-slice-read-result c = search needs
 
 -- src/lib.rt:238:1
 returns : tie.Need-returns
-returns c = 
+returns c =
     let at-start = c .before .before .before .before .before in
     let args = at-start .args in
     let h = at-start .pre in
