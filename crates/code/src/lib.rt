@@ -407,7 +407,7 @@ pub fn methods_fine(
             &mut few,
         );
     }
-    let mut pending = [0; 48000];
+    let mut pending = [0; readers::MOST_BODY_BYTES];
     codes_fine(
         edition,
         &table,

@@ -15,10 +15,12 @@ use model::Pointer;
 
 pub mod edition;
 
-// Most objects and body words of an image.
+// Most objects, body words and body bytes of an image.
 pub const MOST_OBJECTS: u16 = 2047;
 
 pub const MOST_BODY_WORDS: u16 = 24000;
+
+pub const MOST_BODY_BYTES: usize = 48000;
 
 // An entry: class, kind, start, size.
 pub const ENTRY_WORDS: usize = 4;

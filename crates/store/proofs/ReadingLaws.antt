@@ -60,7 +60,7 @@ unfolding numberOf readingOf
 number-refused accepted h k e z = absurd (z e)
 number-refused (refused j) h k e z = ap Refused e
 
-number-accepted : (v : Verdict) (h : Header) → Positive v → 0 ≡ numberOf v → Accepted (h .n) (h .b) (h .receiver) (h .selector) ≡ readingOf v h
+number-accepted : (v : Verdict) (h : Header) → Positive v → 0 ≡ numberOf v → Accepted (h .edition) (h .n) (h .b) (h .receiver) (h .selector) ≡ readingOf v h
 unfolding numberOf readingOf Positive
 number-accepted accepted h p e = refl
 number-accepted (refused j) h p e = absurd (omega arith)
@@ -76,10 +76,10 @@ module _ (room : Room) (image contents bodies contents′ bodies′ : List ℕ) 
   reading-refused z = (number-refused (loadVerdict room image) (imageHeader image) k by-number z, e)
 
   pub reading-accepted : (h : Header) → k ≡ 0 → h ≡ imageHeader image
-      → (Accepted (h .n) (h .b) (h .receiver) (h .selector) ≡ readingOf (loadVerdict room image) (imageHeader image))
-      × (stored (readingNumber (Accepted (h .n) (h .b) (h .receiver) (h .selector))) contents′ bodies′ ≡ storedBy (loadVerdict room image) image contents bodies)
+      → (Accepted (h .edition) (h .n) (h .b) (h .receiver) (h .selector) ≡ readingOf (loadVerdict room image) (imageHeader image))
+      × (stored (readingNumber (Accepted (h .edition) (h .n) (h .b) (h .receiver) (h .selector))) contents′ bodies′ ≡ storedBy (loadVerdict room image) image contents bodies)
   unfolding readingNumber
   reading-accepted h z q = (
-    ap (λ (x : Header). Accepted (x .n) (x .b) (x .receiver) (x .selector)) q ∙ number-accepted (loadVerdict room image) (imageHeader image) (positive room image) (sym z ∙ by-number),
+    ap (λ (x : Header). Accepted (x .edition) (x .n) (x .b) (x .receiver) (x .selector)) q ∙ number-accepted (loadVerdict room image) (imageHeader image) (positive room image) (sym z ∙ by-number),
     ap (λ (j : ℕ). stored j contents′ bodies′) (sym z) ∙ e,
   )

@@ -3,7 +3,7 @@ use Prim.Native.Nat.{ℕ, _*_, _≤_}
 use mathlib.Core.Path.{_≡_, refl, sym, ap, ap₂, _∙_, subst}
 use mathlib.Core.Bool.{true, false, _&&_}
 use mathlib.Core.List.{List, [], _++_}
-use lib.Dec.{leb, eqb, leb→le, eqb→eq}
+use lib.Dec.{leb, eqb, leb→le}
 use lib.ListN.{length, take, drop, replicate}
 use lib.Seq.{take-at, drop-at}
 use Rattle.bytecode.proofs.TestLaws.{true→T, and-left, and-right}
@@ -20,7 +20,7 @@ use Rattle.store.proofs.Verdicts.{gives-2, gives-3, gives-rest, late, k
 pub stored-eq : {k k′ : ℕ} {c c′ b b′ : List ℕ} → k ≡ k′ → c ≡ c′ → b ≡ b′ → stored k c b ≡ stored k′ c′ b′
 stored-eq p q r = λ i. stored (p i) (q i) (r i)
 
-module _ (image : List ℕ) (n b : ℕ) (contents bodies : List ℕ) (passed : Passed image n b contents bodies) where
+module _ {image : List ℕ} {e n b : ℕ} {contents bodies : List ℕ} (passed : Passed image e n b contents bodies) where
   fit : Fitting (imageHeader image) (imageObjects image)
   fit = objects-fit image (passed .long)
 
@@ -30,7 +30,7 @@ module _ (image : List ℕ) (n b : ℕ) (contents bodies : List ℕ) (passed : P
   words : length (imageObjects image .bodies) ≡ b
   words = fit .bodies ∙ passed .words
 
-  module _ (contents′ bodies′ : List ℕ) (c : contents′ ≡ imageObjects image .contents ++ drop (entryWords * n) contents)
+  module _ {contents′ bodies′ : List ℕ} (c : contents′ ≡ imageObjects image .contents ++ drop (entryWords * n) contents)
       (d : bodies′ ≡ imageObjects image .bodies ++ drop b bodies) where
     pub objects-placed : objectsAt n b contents′ bodies′ ≡ imageObjects image
     objects-placed =
@@ -39,31 +39,28 @@ module _ (image : List ℕ) (n b : ℕ) (contents bodies : List ℕ) (passed : P
         (ap (take b) d ∙ take-at (imageObjects image .bodies) (drop b bodies) b words)
 
     module _ (receiver selector : ℕ) where
-      same : objectsVerdict 1 (objectsAt n b contents′ bodies′) receiver selector ≡ objectsVerdict 1 (imageObjects image) receiver selector
-      same = ap (λ (o : Objects). objectsVerdict 1 o receiver selector) objects-placed
+      same : objectsVerdict e (objectsAt n b contents′ bodies′) receiver selector ≡ objectsVerdict e (imageObjects image) receiver selector
+      same = ap (λ (o : Objects). objectsVerdict e o receiver selector) objects-placed
 
-      pub settled-yes : 0 ≡ numberOf (objectsVerdict 1 (objectsAt n b contents′ bodies′) receiver selector)
-          → stored 0 contents′ bodies′ ≡ storedBy (objectsVerdict 1 (imageObjects image) receiver selector) image contents bodies
-      settled-yes e =
+      pub settled-yes : 0 ≡ numberOf (objectsVerdict e (objectsAt n b contents′ bodies′) receiver selector)
+          → stored 0 contents′ bodies′ ≡ storedBy (objectsVerdict e (imageObjects image) receiver selector) image contents bodies
+      settled-yes t =
           stored-eq refl c d
-          ∙ sym (kept (objectsVerdict 1 (imageObjects image) receiver selector) image contents bodies (late 1 (imageObjects image) receiver selector) (e ∙ ap numberOf same)
+          ∙ sym (kept (objectsVerdict e (imageObjects image) receiver selector) image contents bodies (late e (imageObjects image) receiver selector) (t ∙ ap numberOf same)
           ∙ ap₂ (λ (x y : ℕ). inFront 0 x y (imageObjects image .contents) (imageObjects image .bodies) contents bodies) (passed .objects) (passed .words))
 
-      pub settled-no : (k : ℕ) (contents″ bodies″ : List ℕ) → k ≡ numberOf (objectsVerdict 1 (objectsAt n b contents′ bodies′) receiver selector) → (k ≡ 0 → ⊥)
+      pub settled-no : {k : ℕ} {contents″ bodies″ : List ℕ} → k ≡ numberOf (objectsVerdict e (objectsAt n b contents′ bodies′) receiver selector) → (k ≡ 0 → ⊥)
           → contents″ ≡ replicate (entryWords * n) 0 ++ drop (entryWords * n) contents′ → bodies″ ≡ replicate b 0 ++ drop b bodies′
-          → stored k contents″ bodies″ ≡ storedBy (objectsVerdict 1 (imageObjects image) receiver selector) image contents bodies
-      settled-no k contents″ bodies″ e nonzero p q =
+          → stored k contents″ bodies″ ≡ storedBy (objectsVerdict e (imageObjects image) receiver selector) image contents bodies
+      settled-no {k} t nonzero p q =
           stored-eq refl (p ∙ ap (λ (l : List ℕ). replicate (entryWords * n) 0 ++ l) (ap (drop (entryWords * n)) c ∙ drop-at (imageObjects image .contents)
           (drop (entryWords * n) contents) (entryWords * n) entries))
           (q ∙ ap (λ (l : List ℕ). replicate b 0 ++ l) (ap (drop b) d ∙ drop-at (imageObjects image .bodies) (drop b bodies) b words))
-          ∙ sym (undone (objectsVerdict 1 (imageObjects image) receiver selector) k image contents bodies (late 1 (imageObjects image) receiver selector) (e ∙ ap numberOf same) nonzero
+          ∙ sym (undone (objectsVerdict e (imageObjects image) receiver selector) k image contents bodies (late e (imageObjects image) receiver selector) (t ∙ ap numberOf same) nonzero
           ∙ ap₂ (λ (x y : ℕ). inFront k x y (replicate (entryWords * x) 0) (replicate y 0) contents bodies) (passed .objects) (passed .words))
 
 -- 1 to 3, by a header that was read
-header-is-1 : (e n b : ℕ) → headerFine e n b ≡ true → e ≡ 1
-header-is-1 e n b t = eqb→eq e 1 (and-left (isEdition e) (sizesFine e n b) (true→T t))
-
-pub lent-by : (e n b cache : ℕ) (contents bodies : List ℕ) → headerFine e n b ≡ true → buffersFine (roomFor (length contents) (length bodies) cache) n b ≡ true → Lent n b contents bodies
+pub lent-by : (e n b cache : ℕ) (contents bodies : List ℕ) → headerFine e n b ≡ true → buffersFine (roomFor (length contents) (length bodies) cache) n b ≡ true → Lent e n b contents bodies
 unfolding buffersFine
 lent-by e n b cache contents bodies two three =
     let s = and-right (isEdition e) (sizesFine e n b) (true→T two) in
@@ -79,7 +76,7 @@ lent-by e n b cache contents bodies two three =
       most-words = leb→le b mostBodyWords (and-right (leb n mostObjects) (leb b mostBodyWords) m);
     }
 
-module _ (room : Room) (image : List ℕ) (h : Header) (eq : h ≡ imageHeader image) (one : lengthFine image ≡ true) where
+module _ (room : Room) (image : List ℕ) {h : Header} (eq : h ≡ imageHeader image) (one : lengthFine image ≡ true) where
   pub read-2 : headerFine (h .edition) (h .n) (h .b) ≡ false → loadVerdict room image ≡ refused 2
   read-2 two = gives-2 room image one (subst (λ (x : Header). headerFine (x .edition) (x .n) (x .b) ≡ false) eq two)
 
@@ -90,8 +87,7 @@ module _ (room : Room) (image : List ℕ) (h : Header) (eq : h ≡ imageHeader i
     pub read-3 : buffersFine room (h .n) (h .b) ≡ false → loadVerdict room image ≡ refused 3
     read-3 three = gives-3 room image one two′ (subst (λ (x : Header). buffersFine room (x .n) (x .b) ≡ false) eq three)
 
-    pub read-on : buffersFine room (h .n) (h .b) ≡ true → loadVerdict room image ≡ objectsVerdict 1 (imageObjects image) (h .receiver) (h .selector)
+    pub read-on : buffersFine room (h .n) (h .b) ≡ true → loadVerdict room image ≡ objectsVerdict (h .edition) (imageObjects image) (h .receiver) (h .selector)
     read-on three =
         gives-rest room image one two′ (subst (λ (x : Header). buffersFine room (x .n) (x .b) ≡ true) eq three)
         ∙ ap (λ (x : Header). objectsVerdict (x .edition) (imageObjects image) (x .receiver) (x .selector)) (sym eq)
-        ∙ ap (λ (e : ℕ). objectsVerdict e (imageObjects image) (h .receiver) (h .selector)) (header-is-1 (h .edition) (h .n) (h .b) two)

@@ -12,7 +12,7 @@ use Rattle.model.specs.Word.{isValid}
 use Rattle.model.specs.Objects.{Objects, isKind}
 use Rattle.model.specs.Rules.{headerFine, rule4, rule5, rule6, rule7, rule8}
 use Rattle.model.specs.Image.{Room, imageHeader, imageObjects, Verdict, accepted, refused, unless, _then_, lengthFine, buffersFine, objectsVerdict, loadVerdict}
-use Rattle.rules.proofs.Loops.{and-true}
+use Rattle.readers.proofs.Loops.{and-true}
 use Rattle.store.specs.Answer.{numberOf, Stored, stored, inFront, storedBy}
 
 -- 4 to 8

@@ -41,8 +41,8 @@ storedBy (refused k) image contents bodies =
     inFront k (imageHeader image .n) (imageHeader image .b) (replicate (entryWords * imageHeader image .n) 0) (replicate (imageHeader image .b) 0) contents bodies
 
 -- What is settled once 1, 2 and 3 are passed
-pub record Passed (image : List ℕ) (n b : ℕ) (contents bodies : List ℕ) : Type 0 where
+pub record Passed (image : List ℕ) (e n b : ℕ) (contents bodies : List ℕ) : Type 0 where
   pub long : T (lengthFine image)
   pub objects : imageHeader image .n ≡ n
   pub words : imageHeader image .b ≡ b
-  pub lent : Lent n b contents bodies
+  pub lent : Lent e n b contents bodies

@@ -8,6 +8,6 @@ use Rattle.model.specs.Image.{objectsVerdict}
 use Rattle.store.specs.Answer.{numberOf}
 
 -- The number is that of the verdict. Where it is 0, all methods have their depth notes.
-pub record Judged (o : Objects) (receiver selector : ℕ) (notes : List ℕ) (r : ℕ) : Type 0 where
-  pub answer : r ≡ numberOf (objectsVerdict 1 o receiver selector)
+pub record Judged (e : ℕ) (o : Objects) (receiver selector : ℕ) (notes : List ℕ) (r : ℕ) : Type 0 where
+  pub answer : r ≡ numberOf (objectsVerdict e o receiver selector)
   pub noted : r ≡ 0 → NotedBefore o notes (suc (o .n))

@@ -6,10 +6,10 @@ use Rattle.store.specs.declared.Reading.the-variants.{Accepted, Refused}
 
 -- 01's number, 0 for an accepted image
 unfoldable pub readingNumber : Reading → ℕ
-readingNumber (Accepted n b receiver selector) = 0
+readingNumber (Accepted edition n b receiver selector) = 0
 readingNumber (Refused k) = k
 
 -- with the header's values where the image is accepted
 unfoldable pub readingOf : Verdict → Header → Reading
-readingOf accepted h = Accepted (h .n) (h .b) (h .receiver) (h .selector)
+readingOf accepted h = Accepted (h .edition) (h .n) (h .b) (h .receiver) (h .selector)
 readingOf (refused k) h = Refused k

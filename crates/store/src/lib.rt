@@ -12,9 +12,10 @@ ghost use Rattle.store.specs.Judged.{Judged};
 ghost use Rattle.store.specs.Answer.{roomFor, stored, storedBy, Passed};
 ghost use Rattle.store.specs.Readings.{readingNumber, readingOf};
 
-// What reading an image gives: its counts and start words, or the number of the refusal.
+// What reading an image gives: its edition, counts and start words, or the number of the refusal.
 pub enum Reading {
     Accepted {
+        edition: u16,
         n: u16,
         b: u16,
         receiver: u16,
@@ -23,55 +24,41 @@ pub enum Reading {
     Refused(u32),
 }
 
-// The edition, and the bounds of N and B.
-const EDITION: u16 = 1;
-
-const LEAST_OBJECTS: u16 = 5;
-
-const MOST_OBJECTS: u16 = 2047;
-
-const MOST_BODY_WORDS: u16 = 24000;
-
-// Words of an entry, and of the cache.
-const ENTRY_WORDS: usize = 4;
-
+// Words of the cache.
 const CACHE_WORDS: usize = 192;
-
-// Bytes of the most body words: a depth note for each.
-const MOST_BYTES: usize = 48000;
 
 // Rule 8 for words that come without arguments: a valid receiver and a kind 1 selector.
 pub fn starts_fine(contents: &[u16], n: usize, receiver: u16, selector: u16) -> bool
     requires { ⌜ entryWords * n ≤ length (now contents) ⌝ }
     ensures { λ r. ⌜ ((b : ℕ) (bodies : List ℕ) → r ≡ rule8 (objectsAt n b (now (contents .entry)) bodies) receiver selector []) ⌝ }
 {
-    if !rules::is_valid(n, receiver) {
+    if !readers::is_valid(n, receiver) {
         return false;
     }
-    rules::is_kind(contents, n, rules::BYTES, selector)
+    readers::is_kind(contents, n, readers::BYTES, selector)
 }
 
 // Rule 2: edition, N and B in range.
 pub fn header_fine(edition: u16, n: u16, b: u16) -> bool
     ensures { λ r. ⌜ r ≡ headerFine edition n b ⌝ }
 {
-    if edition != EDITION {
+    if !readers::edition::is_edition(edition) {
         return false;
     }
-    if n < LEAST_OBJECTS {
+    if n < readers::edition::least_objects(edition) {
         return false;
     }
-    if MOST_OBJECTS < n {
+    if readers::MOST_OBJECTS < n {
         return false;
     }
-    b <= MOST_BODY_WORDS
+    b <= readers::MOST_BODY_WORDS
 }
 
 // Rule 3: buffers of these lengths hold n objects and b body words, and the cache has its length.
 pub fn buffers_fine(contents: usize, bodies: usize, cache: usize, n: u16, b: u16) -> bool
     ensures { λ r. ⌜ r ≡ buffersFine (roomFor contents bodies cache) n b ⌝ }
 {
-    if contents < ENTRY_WORDS * (n as usize) {
+    if contents < readers::ENTRY_WORDS * (n as usize) {
         return false;
     }
     if bodies < b as usize {
@@ -83,6 +70,7 @@ pub fn buffers_fine(contents: usize, bodies: usize, cache: usize, n: u16, b: u16
 // Rules 4 to 8, each over all objects before the next: 0, or the number of the first that does not hold. Accepted, the notes are those of
 // the depth tables.
 pub fn judge(
+    edition: u16,
     contents: &[u16],
     bodies: &[u16],
     n: usize,
@@ -91,19 +79,19 @@ pub fn judge(
     selector: u16,
     notes: &mut [u8],
 ) -> u32
-    requires { ⌜ Lent n b (now contents) (now bodies) × (2 * b ≤ length (now notes)) ⌝ }
-    ensures { λ r. ⌜ Judged (objectsAt n b (now (contents .entry)) (now (bodies .entry))) receiver selector (now (notes .exit)) r ⌝ }
+    requires { ⌜ Lent edition n b (now contents) (now bodies) × (2 * b ≤ length (now notes)) ⌝ }
+    ensures { λ r. ⌜ Judged edition (objectsAt n b (now (contents .entry)) (now (bodies .entry))) receiver selector (now (notes .exit)) r ⌝ }
 {
-    if !rules::layout(contents, bodies, n, b) {
+    if !rules::layout(edition, contents, bodies, n, b) {
         return 4;
     }
-    if !rules::words(contents, bodies, n, b) {
+    if !rules::words(edition, contents, bodies, n, b) {
         return 5;
     }
-    if !rules::classes(contents, bodies, n, b) {
+    if !rules::classes(edition, contents, bodies, n, b) {
         return 6;
     }
-    if !code::methods_fine(contents, bodies, n, b, notes) {
+    if !code::methods_fine(edition, contents, bodies, n, b, notes) {
         return 7;
     }
     if !starts_fine(contents, n, receiver, selector) {
@@ -115,6 +103,7 @@ pub fn judge(
 // The image's objects put in place and judged; zeros in their place where they are refused.
 fn settle(
     image: &[u8],
+    edition: u16,
     n: usize,
     b: usize,
     receiver: u16,
@@ -122,12 +111,21 @@ fn settle(
     contents: &mut [u16],
     bodies: &mut [u16],
 ) -> u32
-    requires { ⌜ Passed (now image) n b (now contents) (now bodies) ⌝ }
-    ensures { λ r. ⌜ stored r (now (contents .exit)) (now (bodies .exit)) ≡ storedBy (objectsVerdict 1 (imageObjects (now (image .entry))) receiver selector) (now (image .entry)) (now (contents .entry)) (now (bodies .entry)) ⌝ }
+    requires { ⌜ Passed (now image) edition n b (now contents) (now bodies) ⌝ }
+    ensures { λ r. ⌜ stored r (now (contents .exit)) (now (bodies .exit)) ≡ storedBy (objectsVerdict edition (imageObjects (now (image .entry))) receiver selector) (now (image .entry)) (now (contents .entry)) (now (bodies .entry)) ⌝ }
 {
     image::place(image, n, b, contents, bodies);
-    let mut notes = [0u8; MOST_BYTES];
-    let number = judge(contents, bodies, n, b, receiver, selector, &mut notes);
+    let mut notes = [0u8; readers::MOST_BODY_BYTES];
+    let number = judge(
+        edition,
+        contents,
+        bodies,
+        n,
+        b,
+        receiver,
+        selector,
+        &mut notes,
+    );
     if number != 0 {
         image::zero(n, b, contents, bodies);
         return number;
@@ -156,6 +154,7 @@ pub fn read(image: &[u8], contents: &mut [u16], bodies: &mut [u16], cache: usize
     let selector = header.selector;
     let number = settle(
         image,
+        edition,
         n as usize,
         b as usize,
         receiver,
@@ -167,6 +166,7 @@ pub fn read(image: &[u8], contents: &mut [u16], bodies: &mut [u16], cache: usize
         return Reading::Refused(number);
     }
     Reading::Accepted {
+        edition: header.edition,
         n: header.n,
         b: header.b,
         receiver: header.receiver,

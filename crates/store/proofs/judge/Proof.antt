@@ -4,6 +4,7 @@ use native.Mathlib.Omega.{arith}
 use borrow.Author.Tests.{not-true, not-false}
 use Rattle.bytecode.proofs.TestLaws.{true→T}
 use Rattle.store.specs.Answer.{numberOf}
+use Rattle.rules.proofs.Laid.{layout-laid}
 use Rattle.store.proofs.Verdicts.{gives-4, gives-5, gives-6, gives-7, gives-8, gives-none}
 use borrow.Author.Needs.{needs}
 use Rattle.store.proofs.judge.Statement.{statement}
@@ -21,7 +22,7 @@ returns c =
     }
 
 words-requires : tie.Need-words-requires
-words-requires c κs = record { lent = c .before .before .before .before .before .pre .0; layout = sym (c .before .layout .ensures) ∙ not-false _ (c .if1 .left) }
+words-requires c κs = layout-laid _ _ _ _ _ (c .before .before .before .before .before .pre .0) (sym (c .before .layout .ensures) ∙ not-false _ (c .if1 .left))
 
 returns-2 : tie.Need-returns-2
 unfolding numberOf
@@ -36,7 +37,7 @@ classes-requires : tie.Need-classes-requires
 classes-requires c κs =
     let at-layout = c .before .before .before in
     let at-start = at-layout .before .before .before .before in
-    record { lent = at-start .pre .0; layout = sym (at-layout .layout .ensures) ∙ not-false _ (c .before .before .if1 .left) }
+    layout-laid _ _ _ _ _ (at-start .pre .0) (sym (at-layout .layout .ensures) ∙ not-false _ (c .before .before .if1 .left))
 
 returns-3 : tie.Need-returns-3
 unfolding numberOf
@@ -57,10 +58,9 @@ methods-fine-requires c κs =
     let at-layout = at-if1 .before in
     let at-start = at-layout .before .before .before .before in (
       record {
-        lent = at-start .pre .0;
+        edition = at-start .args .edition;
+        laid = layout-laid _ _ _ _ _ (at-start .pre .0) (sym (at-layout .layout .ensures) ∙ not-false _ (at-if1 .if1 .left));
         layout = true→T (sym (at-layout .layout .ensures) ∙ not-false _ (at-if1 .if1 .left));
-        words = true→T
-            (sym (at-words .words .ensures) ∙ not-false _ (c .before .before .before .if2 .left));
         classes = true→T (sym (c .before .before .classes .ensures)
             ∙ not-false _ (c .before .if3 .left));
       },

@@ -27,7 +27,7 @@ header-fine-requires c κs = search needs
 
 returns-2 : tie.Need-returns-2
 returns-2 c =
-    let number = refuse _ 2 _ _ _ (read-2 _ _ _ (c .before .before .header-of .ensures) (sym (c .before .before .before .before .length-fine .ensures)
+    let number = refuse _ 2 _ _ _ (read-2 _ _ (c .before .before .header-of .ensures) (sym (c .before .before .before .before .length-fine .ensures)
     ∙ not-false _ (c .before .before .before .if1 .left)) (sym (c .before .header-fine .ensures) ∙ not-true _ (c .if2 .taken))) (omega arith) in
     reading-refused _ _ _ _ _ _ _ number (omega arith)
 
@@ -40,7 +40,7 @@ returns-3 c =
     let at-header-of = at-header-fine .before in
     let at-if1 = at-header-of .before in
     let at-length-fine = at-if1 .before in
-    let number = refuse _ 3 _ _ _ (read-3 _ _ _ (at-header-of .header-of .ensures) (sym (at-length-fine .length-fine .ensures) ∙ not-false _ (at-if1 .if1 .left))
+    let number = refuse _ 3 _ _ _ (read-3 _ _ (at-header-of .header-of .ensures) (sym (at-length-fine .length-fine .ensures) ∙ not-false _ (at-if1 .if1 .left))
     (sym (at-header-fine .header-fine .ensures) ∙ not-false _ (c .before .before .if2 .left)) (sym (c .before .buffers-fine .ensures) ∙ not-true _ (c .if3 .taken))) (omega arith) in
     reading-refused _ _ _ _ _ _ _ number (omega arith)
 
@@ -83,7 +83,7 @@ returns-4 c =
     let at-header-of = at-header-fine .before in
     let at-if1 = at-header-of .before in
     let at-length-fine = at-if1 .before in
-    let number = stores _ _ _ _ _ _ (read-on _ _ _ (at-header-of .header-of .ensures) (sym (at-length-fine .length-fine .ensures) ∙ not-false _ (at-if1 .if1 .left))
+    let number = stores _ _ _ _ _ _ (read-on _ _ (at-header-of .header-of .ensures) (sym (at-length-fine .length-fine .ensures) ∙ not-false _ (at-if1 .if1 .left))
     (sym (at-header-fine .header-fine .ensures) ∙ not-false _ (at-if2 .if2 .left)) (sym (at-buffers-fine .buffers-fine .ensures)
     ∙ not-false _ (at-if3 .if3 .left))) (at-settle .settle .ensures) in
     reading-refused _ _ _ _ _ _ _ number (c .if4 .taken)
@@ -104,7 +104,7 @@ returns-5 c =
     let at-header-of = at-header-fine .before in
     let at-if1 = at-header-of .before in
     let at-length-fine = at-if1 .before in
-    let number = stores _ _ _ _ _ _ (read-on _ _ _ (at-header-of .header-of .ensures) (sym (at-length-fine .length-fine .ensures) ∙ not-false _ (at-if1 .if1 .left))
+    let number = stores _ _ _ _ _ _ (read-on _ _ (at-header-of .header-of .ensures) (sym (at-length-fine .length-fine .ensures) ∙ not-false _ (at-if1 .if1 .left))
     (sym (at-header-fine .header-fine .ensures) ∙ not-false _ (at-if2 .if2 .left)) (sym (at-buffers-fine .buffers-fine .ensures)
     ∙ not-false _ (at-if3 .if3 .left))) (at-settle .settle .ensures) in
     reading-accepted _ _ _ _ _ _ _ number _ (c .if4 .left) (at-header-of .header-of .ensures)

@@ -30,7 +30,7 @@ returns c =
     let at-judge = at-if1 .before .before in
     let at-place = at-judge .before .before .before .before .before .before .before .before in
     let at-start = at-place .before .before .before .before .before .before in
-    settled-no _ _ _ _ _ (at-start .pre) _ _ (at-place .place .ensures .0) (at-place .place .ensures .1) _ _ _ _ _ (at-judge .judge .ensures .answer)
+    settled-no (at-start .pre) (at-place .place .ensures .0) (at-place .place .ensures .1) _ _ (at-judge .judge .ensures .answer)
     (at-if1 .if1 .taken) (at-zero .zero .ensures .0) (at-zero .zero .ensures .1)
 
 same-length-3 : tie.Need-same-length-3
@@ -43,7 +43,7 @@ returns-2 : tie.Need-returns-2
 returns-2 c =
     let at-place = c .before .before .before .before .before .before .before .before .before .before in
     let at-start = at-place .before .before .before .before .before .before in
-    settled-yes _ _ _ _ _ (at-start .pre) _ _ (at-place .place .ensures .0) (at-place .place .ensures .1) _ _ (sym (c .if1 .left) ∙ c .before .before .judge .ensures .answer)
+    settled-yes (at-start .pre) (at-place .place .ensures .0) (at-place .place .ensures .1) _ _ (sym (c .if1 .left) ∙ c .before .before .judge .ensures .answer)
 
 pub settle-spec : {M : Type 1} → statement M
 settle-spec =
