@@ -34,30 +34,30 @@ fine-deep words size temporaries room r p d f =
     omega arith
 
 -- the position on top
-pub record Top (t s : List ℕ) (n room : ℕ) : Type 0 where
-  pub stack : n ≤ length s
-  pub inside : getD s (n - 1) 0 < length t
-  pub noted : 1 ≤ getD t (getD s (n - 1) 0) 0
-  pub shallow : getD t (getD s (n - 1) 0) 0 - 1 ≤ room
+pub record Top (t s : List ℕ) (waiting room : ℕ) : Type 0 where
+  pub stack : waiting ≤ length s
+  pub inside : getD s (waiting - 1) 0 < length t
+  pub noted : 1 ≤ getD t (getD s (waiting - 1) 0) 0
+  pub shallow : getD t (getD s (waiting - 1) 0) 0 - 1 ≤ room
 
-module _ (table counts words : List ℕ) (room : ℕ) (t s : List ℕ) (n : ℕ) (a : Static table counts words room t s) (some-left : 0 < n)
-    (w : WalkingAt counts words (length t) room t s n) where
+module _ (table counts words : List ℕ) (room : ℕ) (t s : List ℕ) (waiting : ℕ) (a : Static table counts words room t s) (some-left : 0 < waiting)
+    (w : WalkingAt counts words (length t) room t s waiting) where
   abbrev place : ℕ
-  place = getD s (n - 1) 0
+  place = getD s (waiting - 1) 0
 
   abbrev depth : ℕ
-  depth = getD t (getD s (n - 1) 0) 0 - 1
+  depth = getD t (getD s (waiting - 1) 0) 0 - 1
 
-  pub top : Top t s n room
+  pub top : Top t s waiting room
   unfolding WalkingAt
   top =
-      let q = w .queued (n - 1) (omega arith) in
+      let q = w .queued (waiting - 1) (omega arith) in
       let e : getD t place 0 ≡ suc (q .0) = q .1 in
       let d : q .0 ≤ room = w .within place (q .0) e in
       let c = w .count in
       record { stack = omega arith; inside = noted-inside t place (q .0) e; noted = omega arith; shallow = omega arith }
 
-  pub top-asks : Asks t s (n - 1) room
+  pub top-asks : Asks t s (waiting - 1) room
   unfolding WalkingAt
   top-asks = let c = w .count in record { count = omega arith; long = a .long; small = a .small; shallow = a .shallow }
 
@@ -68,22 +68,22 @@ module _ (table counts words : List ℕ) (room : ℕ) (t s : List ℕ) (n : ℕ)
   top-here b e h g =
       record { one = a .one; inside = top .inside; covered = a .covered; byte = h; entry = g; shallow = top .shallow }
 
-  pub top-turn : (t′ s′ : List ℕ) (r : Went) → Expand counts words (length t) room place depth t s (n - 1) t′ s′ r → TurnAt counts words (length t) room t s n t′ s′ r
+  pub top-turn : (t′ s′ : List ℕ) (r : Went) → Expand counts words (length t) room place depth t s (waiting - 1) t′ s′ r → TurnAt counts words (length t) room t s waiting t′ s′ r
   unfolding WalkingAt TurnAt Expand
   top-turn t′ s′ r x =
       let k = top .noted in
       turn-law (fineIn counts words (length t) room) (successorsAt words (length t)) (depthAfterAt words (length t)) room (length t)
       (fine-inside words (length t) (getD counts 2 0) (getD counts 2 0 + room) (indexedBy counts))
       (fine-deep words (length t) (getD counts 2 0) room (indexedBy counts))
-      t s n (n - 1) place depth refl (omega arith) refl (omega arith) w t′ s′ r x
+      t s waiting (waiting - 1) place depth refl (omega arith) refl (omega arith) w t′ s′ r x
 
 -- by what a turn answers
-module _ (counts words : List ℕ) (size room : ℕ) (t s : List ℕ) (n : ℕ) (t′ s′ : List ℕ) (r : Went) where
-  pub turn-on : (k : ℕ) → r ≡ On k → TurnAt counts words size room t s n t′ s′ r → WalkingAt counts words size room t′ s′ k × (k + zeros t′ < n + zeros t)
+module _ (counts words : List ℕ) (size room : ℕ) (t s : List ℕ) (waiting : ℕ) (t′ s′ : List ℕ) (r : Went) where
+  pub turn-on : (k : ℕ) → r ≡ On k → TurnAt counts words size room t s waiting t′ s′ r → WalkingAt counts words size room t′ s′ k × (k + zeros t′ < waiting + zeros t)
   unfolding WalkingAt TurnAt Turn
   turn-on k e x = rw e at x
 
-  pub turn-stuck : r ≡ Stuck → TurnAt counts words size room t s n t′ s′ r → tableBy counts words size room ≡ none
+  pub turn-stuck : r ≡ Stuck → TurnAt counts words size room t s waiting t′ s′ r → tableBy counts words size room ≡ none
   unfolding TurnAt Turn
   turn-stuck e x = table-none words size (getD counts 2 0) (getD counts 2 0 + room) (indexedBy counts) (rw e at x)
 
@@ -99,9 +99,9 @@ unfolding WalkingAt
 starts counts words room t s size e some-code long small shallow =
     begun (fineIn counts words (length (set t 0 1)) room) (successorsAt words (length (set t 0 1))) (depthAfterAt words (length (set t 0 1))) room size t s e some-code long small shallow
 
-pub finishes : (counts words : List ℕ) (size room : ℕ) (t s : List ℕ) (n : ℕ) → length t ≡ size → n ≡ 0 → WalkingAt counts words size room t s n → tableBy counts words size room ≡ some t
+pub finishes : (counts words : List ℕ) (size room : ℕ) (t s : List ℕ) (waiting : ℕ) → length t ≡ size → waiting ≡ 0 → WalkingAt counts words size room t s waiting → tableBy counts words size room ≡ some t
 unfolding WalkingAt
-finishes counts words size room t s n l e w =
+finishes counts words size room t s waiting l e w =
     table-is words size (getD counts 2 0) (getD counts 2 0 + room) (indexedBy counts) t
     (ended (fineIn counts words size room) (successorsAt words size) (depthAfterAt words size) room size
     (fine-inside words size (getD counts 2 0) (getD counts 2 0 + room) (indexedBy counts))

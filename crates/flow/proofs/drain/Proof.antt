@@ -11,11 +11,11 @@ use Rattle.flow.proofs.drain.Statement.{statement}
 use Rattle.flow.proofs.drain.Tie as tie
 
 abbrev Inv-loop : tie.InvT-loop
-Inv-loop table limits words room notes₀ pending₀ n₀ notes pending n = Static table limits words room notes pending × WalkingAt limits words (length notes) room
-    notes pending n × (length notes ≡ length notes₀) × (length pending ≡ length pending₀)
+Inv-loop table limits words room notes₀ pending₀ waiting₀ notes pending waiting = Static table limits words room notes pending × WalkingAt limits words (length notes) room
+    notes pending waiting × (length notes ≡ length notes₀) × (length pending ≡ length pending₀)
 
 abbrev μ-loop : tie.MeasureT-loop
-μ-loop table limits words room notes₀ pending₀ n₀ notes pending n = n + zeros notes
+μ-loop table limits words room notes₀ pending₀ waiting₀ notes pending waiting = waiting + zeros notes
 
 loop-holds : tie.Need-loop-holds Inv-loop μ-loop
 loop-holds c = (c .before .before .before .pre .0, c .before .before .before .pre .1, refl, refl)

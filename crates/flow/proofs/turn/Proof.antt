@@ -7,8 +7,8 @@ use Rattle.flow.proofs.CodeWalk.{top, top-asks, top-fetch, top-here, to
 use Rattle.flow.proofs.turn.Statement.{statement}
 use Rattle.flow.proofs.turn.Tie as tie
 
-sub-m : tie.Need-sub-m
-sub-m c = search needs
+sub-last : tie.Need-sub-last
+sub-last c = search needs
 
 mul-at : tie.Need-mul-at
 mul-at c = let k = top _ _ _ _ _ _ _ (c .before .before .before .pre .0) (c .before .before .before .pre .1 .0) (c .before .before .before .pre .1 .1) in omega arith
@@ -19,7 +19,7 @@ slice-read-at c =
     let k = top _ _ _ _ _ _ _ (at-start .pre .0) (at-start .pre .1 .0) (at-start .pre .1 .1) in omega arith
 
 cast-at : tie.Need-cast-at
-cast-at c = omega (arith, c .slice-known3 .given (c .before .before .before .before .args .n - 1))
+cast-at c = omega (arith, c .slice-known3 .given (c .before .before .before .before .args .waiting - 1))
 
 slice-read-depth : tie.Need-slice-read-depth
 slice-read-depth c =
@@ -27,7 +27,7 @@ slice-read-depth c =
     top _ _ _ _ _ _ _ (at-start .pre .0) (at-start .pre .1 .0) (at-start .pre .1 .1) .inside
 
 cast-depth : tie.Need-cast-depth
-cast-depth c = omega (arith, c .slice-known4 .given (getD (c .before .before .before .before .before .args .pending .now) (c .before .before .before .before .before .args .n - 1) 0))
+cast-depth c = omega (arith, c .slice-known4 .given (getD (c .before .before .before .before .before .args .pending .now) (c .before .before .before .before .before .args .waiting - 1) 0))
 
 sub-depth : tie.Need-sub-depth
 sub-depth c =
@@ -66,7 +66,7 @@ pub turn-spec : {M : Type 1} → statement M
 turn-spec =
     tie.close
     (tie.spec
-    sub-m
+    sub-last
     mul-at
     slice-read-at
     cast-at
