@@ -16,6 +16,7 @@ use Rattle.model.proofs.WalkLaws.{At, origin, further, at-reached, at-depth, No
 use Rattle.flow.specs.Walk.{Noted, Visited, Refused, Visits, Step, Nobody, Pending, Done, Walk, Turn, mostCode, mostDepth}
 use Rattle.flow.specs.declared.Went.{Went}
 use Rattle.flow.specs.declared.Went.the-variants.{On, Stuck}
+use Rattle.flow.proofs.StepLaws.{same-count, not-both}
 use Rattle.flow.proofs.VisitLaws.{visited-new}
 
 module _ (fine : ℕ → ℕ → Bool) (next : ℕ → List ℕ) (after : ℕ → ℕ → ℕ → ℕ) (room : ℕ) where
@@ -167,21 +168,23 @@ module _ (fine : ℕ → ℕ → Bool) (next : ℕ → List ℕ) (after : ℕ �
       path-here = w .path p d noted
 
       turned : (t′ s′ : List ℕ) (r : Went) → T (fine p d) → Outcome t m (next p) (λ q. after p q d) t′ s′ (λ q. q ≡ p) r → Turn fine next after room t s waiting t′ s′ r
-      unfolding Turn
-      turned t′ s′ r f (inl x) = rw (x .0) (x .1)
+      turned t′ s′ r f (inl x) = record { goes = λ k e. not-both e (x .0); ends = λ _. x .1 }
       turned t′ s′ r f (inr x) =
           let y = x .2 in
           let c : x .0 + zeros t′ ≡ m + zeros t = y .count in
-          rw (x .1)
-          (closed t′ s′ (x .0) p d (y .kept p d noted) (record { holds = f; along = λ q h. y .all q h }) (y .walk), omega arith)
+          let ended-here : Inv t′ s′ (x .0) Nobody = closed t′ s′ (x .0) p d (y .kept p d noted) (record { holds = f; along = λ q h. y .all q h }) (y .walk) in
+          record {
+            goes = λ k e. let same : x .0 ≡ k = same-count (x .1) e in (subst (λ (i : ℕ). Inv t′ s′ i Nobody) same ended-here, omega arith);
+            ends = λ e. not-both (x .1) e;
+          }
 
       turn-at : (t′ s′ : List ℕ) (r : Went) (b : Bool) → fine p d ≡ b → Step room b (next p) (λ q. after p q d) t s m t′ s′ r → Turn fine next after room t s waiting t′ s′ r
-      unfolding Step Turn
-      turn-at t′ s′ r false e x = rw x (not-fine p d path-here (λ y. subst T e y))
+      turn-at t′ s′ r false e x =
+          record { goes = λ k z. not-both z (x .fails refl); ends = λ _. not-fine p d path-here (λ y. subst T e y) }
       turn-at t′ s′ r true e x =
           turned t′ s′ r (true→T e)
           (visits-come (λ q. q ≡ p) (next p) (λ q. after p q d) t s m t′ s′ r long (λ q h. further path-here h)
-          (subst (λ (i : ℕ). Inv t s m (λ q. q ≡ i)) (sym place) (popped t s waiting m one-less w)) x)
+          (subst (λ (i : ℕ). Inv t s m (λ q. q ≡ i)) (sym place) (popped t s waiting m one-less w)) (x .holds refl))
 
       pub turn-law : (t′ s′ : List ℕ) (r : Went) → Step room (fine p d) (next p) (λ q. after p q d) t s m t′ s′ r → Turn fine next after room t s waiting t′ s′ r
       turn-law t′ s′ r x = turn-at t′ s′ r (fine p d) refl x
@@ -217,7 +220,7 @@ module _ (fine : ℕ → ℕ → Bool) (next : ℕ → List ℕ) (after : ℕ �
       let full : zeros t ≡ size = ap zeros e ∙ zeros-blank size in
       let all : length t ≡ size = ap length e ∙ length-replicate size 0 in
       let v : Visited room t s 0 0 0 (set t 0 1) (set s 0 0) 1 =
-      visited-new room t s 0 0 0 (record { count = omega arith; long = omega arith; small = omega arith; shallow = shallow }) (omega arith) (omega arith)
+      visited-new 0 0 (record { count = omega arith; long = omega arith; small = omega arith; shallow = shallow }) (omega arith) (omega arith)
       (ap (λ (l : List ℕ). getD l 0 0) e ∙ blank size 0) in
       let only : (p d : ℕ) → Noted (set t 0 1) p d → (p ≡ 0) × (d ≡ 0) =
       λ p d h. ⊎-elim (λ z. absurd (never p d (sym (ap (λ (l : List ℕ). getD l p 0) e ∙ blank size p) ∙ z))) (λ z. (z .0, z .1)) (v .grown p d h) in

@@ -49,9 +49,9 @@ pub record Visited (room : ℕ) (t s : List ℕ) (waiting p d : ℕ) (t′ s′ 
 abbrev pub Refused : ℕ → List ℕ → ℕ → ℕ → Type 0
 Refused room t p d = (room < d) ⊎ ((length t ≤ p) ⊎ ((e : ℕ) × Noted t p e × (e ≡ d → ⊥)))
 
-unfoldable pub Visit : ℕ → List ℕ → List ℕ → ℕ → ℕ → ℕ → List ℕ → List ℕ → Went → Type 0
-Visit room t s waiting p d t′ s′ (On waiting′) = Visited room t s waiting p d t′ s′ waiting′
-Visit room t s waiting p d t′ s′ Stuck = Refused room t p d
+pub record Visit (room : ℕ) (t s : List ℕ) (waiting p d : ℕ) (t′ s′ : List ℕ) (r : Went) : Type 0 where
+  pub goes : (k : ℕ) → r ≡ On k → Visited room t s waiting p d t′ s′ k
+  pub ends : r ≡ Stuck → Refused room t p d
 
 -- all positions of a list, in turn, position q with depth d q
 unfoldable pub Visits : ℕ → List ℕ → (ℕ → ℕ) → List ℕ → List ℕ → ℕ → List ℕ → List ℕ → Went → Type 0
@@ -61,9 +61,9 @@ Visits room (q ∷ qs) d t s waiting t′ s′ r =
     ⊎ ((t₁ : List ℕ) × (s₁ : List ℕ) × (waiting₁ : ℕ) × Visited room t s waiting q (d q) t₁ s₁ waiting₁ × Visits room qs d t₁ s₁ waiting₁ t′ s′ r)
 
 -- the same where the instruction keeps its rules
-unfoldable pub Step : ℕ → Bool → List ℕ → (ℕ → ℕ) → List ℕ → List ℕ → ℕ → List ℕ → List ℕ → Went → Type 0
-Step room false qs d t s waiting t′ s′ r = r ≡ Stuck
-Step room true qs d t s waiting t′ s′ r = Visits room qs d t s waiting t′ s′ r
+pub record Step (room : ℕ) (ok : Bool) (qs : List ℕ) (d : ℕ → ℕ) (t s : List ℕ) (waiting : ℕ) (t′ s′ : List ℕ) (r : Went) : Type 0 where
+  pub holds : ok ≡ true → Visits room qs d t s waiting t′ s′ r
+  pub fails : ok ≡ false → r ≡ Stuck
 
 -- one depth for every position
 abbrev pub alike : ℕ → ℕ → ℕ
@@ -93,9 +93,9 @@ module _ (fine : ℕ → ℕ → Bool) (next : ℕ → List ℕ) (after : ℕ �
     pub done : (p d : ℕ) → Noted t p d → Busy p ⊎ (Pending s waiting p ⊎ Done t p d)
 
   -- a turn keeps it and uses something up, or shows that there is no table
-  unfoldable pub Turn : List ℕ → List ℕ → ℕ → List ℕ → List ℕ → Went → Type 0
-  Turn t s waiting t′ s′ (On waiting′) = Walk t′ s′ waiting′ Nobody × (waiting′ + zeros t′ < waiting + zeros t)
-  Turn t s waiting t′ s′ Stuck = HasTable fine next after → ⊥
+  pub record Turn (t s : List ℕ) (waiting : ℕ) (t′ s′ : List ℕ) (r : Went) : Type 0 where
+    pub goes : (k : ℕ) → r ≡ On k → Walk t′ s′ k Nobody × (k + zeros t′ < waiting + zeros t)
+    pub ends : r ≡ Stuck → HasTable fine next after → ⊥
 
 -- The walk over code of `size` bytes, by counts of which number 2 is the temporaries; with room for so many operands beside them
 module _ (counts words : List ℕ) (size room : ℕ) where
@@ -114,14 +114,15 @@ module _ (counts words : List ℕ) (size room : ℕ) where
     pub entry : Entry b e
     pub shallow : d ≤ room
 
-  unfoldable pub Expand : ℕ → ℕ → List ℕ → List ℕ → ℕ → List ℕ → List ℕ → Went → Type 0
+  abbrev pub Expand : ℕ → ℕ → List ℕ → List ℕ → ℕ → List ℕ → List ℕ → Went → Type 0
   Expand p d t s waiting t′ s′ r = Step room (fineIn p d) (successorsAt words size p) (λ q. depthAfterAt words size p q d) t s waiting t′ s′ r
 
-  unfoldable pub WalkingAt : List ℕ → List ℕ → ℕ → Type 0
-  WalkingAt t s waiting = Walk fineIn (successorsAt words size) (depthAfterAt words size) room t s waiting Nobody
+  pub record WalkingAt (t s : List ℕ) (waiting : ℕ) : Type 0 where
+    pub walk : Walk fineIn (successorsAt words size) (depthAfterAt words size) room t s waiting Nobody
 
-  unfoldable pub TurnAt : List ℕ → List ℕ → ℕ → List ℕ → List ℕ → Went → Type 0
-  TurnAt t s waiting t′ s′ r = Turn fineIn (successorsAt words size) (depthAfterAt words size) room t s waiting t′ s′ r
+  pub record TurnAt (t s : List ℕ) (waiting : ℕ) (t′ s′ : List ℕ) (r : Went) : Type 0 where
+    pub goes : (k : ℕ) → r ≡ On k → WalkingAt t′ s′ k × (k + zeros t′ < waiting + zeros t)
+    pub ends : r ≡ Stuck → tableBy ≡ none
 
 -- what does not change on the way
 pub record Static (table counts words : List ℕ) (room : ℕ) (t s : List ℕ) : Type 0 where
