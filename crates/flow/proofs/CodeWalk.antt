@@ -111,11 +111,11 @@ module _ (words : List ℕ) (size temporaries limit : ℕ) (r : Instruction → 
       (λ h. let k = leb→le (temporaries + h .0 0) limit (rule (rulesAt words size temporaries limit r 0 (h .0 0)) (h .1 .kept 0 first) 3) in omega arith)
 
 -- the walk's answer
-pub walked-none : (o : Option (List ℕ)) (size : ℕ) (t : List ℕ) → o ≡ none → t ≡ replicate size 0 → Walked o size t false
-walked-none o size t e h = record { answer = rw e refl; noted = rw e h }
+pub walked-none : {o : Option (List ℕ)} {size : ℕ} {t : List ℕ} → o ≡ none → t ≡ replicate size 0 → Walked o size t false
+walked-none e h = record { answer = rw e refl; noted = rw e h }
 
-pub walked-some : (o : Option (List ℕ)) (size : ℕ) (t : List ℕ) → o ≡ some t → Walked o size t true
-walked-some o size t e = record { answer = rw e refl; noted = rw e refl }
+pub walked-some : {o : Option (List ℕ)} {size : ℕ} {t : List ℕ} → o ≡ some t → Walked o size t true
+walked-some e = record { answer = rw e refl; noted = rw e refl }
 
 pub answered-some : (o : Option (List ℕ)) (t : List ℕ) (r : Bool) → r ≡ true → Answer o t r → o ≡ some t
 unfolding Answer
@@ -136,9 +136,9 @@ table-as words size fields temporaries literals limit t h e =
 pub cleared-as : (t z y : List ℕ) (size : ℕ) → length t ≡ size → length z ≡ length (set t 0 1) → y ≡ replicate (length z) 0 → y ≡ replicate size 0
 cleared-as t z y size e f g = g ∙ ap (λ (k : ℕ). replicate k 0) (f ∙ length-set t 0 1 ∙ e)
 
-pub static-start : (table words : List ℕ) (fields temporaries literals limit : ℕ) (notes pending t : List ℕ) → Lent table words limit notes pending → length t ≡ length notes
+pub static-start : {table words : List ℕ} {fields temporaries literals limit : ℕ} {notes pending : List ℕ} (t : List ℕ) → Lent table words limit notes pending → length t ≡ length notes
     → Static table (1 ∷ fields ∷ temporaries ∷ literals ∷ []) words (limit - temporaries) (set t 0 1) (set pending 0 0)
-static-start table words fields temporaries literals limit notes pending t a e =
+static-start {pending = pending} t a e =
     record {
       entries = a .entries;
       one = refl;

@@ -58,15 +58,15 @@ returns c =
     let at-body-word = at-field-count .before in
     let at-header-of = at-body-word .before in
     let at-start = at-header-of .before .before .before .before .before .before .before in
-    notes-none _ _ _ (table-here _ _ _ _ _ _ _ _ _ ((at-start .pre) .1) (at-field-count .field-count .ensures) (at-body-word .body-word .ensures)
+    notes-none _ _ (table-here ((at-start .pre) .1) (at-field-count .field-count .ensures) (at-body-word .body-word .ensures)
     (ap (λ (h : ℕ). h / 256 % 32) (at-header-of .header-of .ensures)) (ap (λ (h : ℕ). h / 2 % 64) (at-header-of .header-of .ensures))
-    (at-frame-limit .frame-limit .ensures .0 _ _ (at-header-of .header-of .ensures))) _ _ _ (at-walk .walk .ensures) (not-true _ (c .if1 .taken))
+    (at-frame-limit .frame-limit .ensures .0 _ _ (at-header-of .header-of .ensures))) (at-walk .walk .ensures) (not-true _ (c .if1 .taken))
 
 all-fine-requires : tie.Need-all-fine-requires
 all-fine-requires c κs =
     let at-walk = c .before .before .before .before .before .before in
     let at-start = at-walk .before .before .before .before .before .before .before .before .before .before .before .before .before in
-    ((at-start .pre) .0, code-lent-by _ _ _ _ _ (at-walk .walk .kept .1 .1 .1 .1 .1 .1 .0) ((at-start .pre) .1))
+    ((at-start .pre) .0, code-lent-by (at-walk .walk .kept .1 .1 .1 .1 .1 .1 .0) ((at-start .pre) .1))
 
 same-length-3 : tie.Need-same-length-3
 same-length-3 c = search needs
@@ -82,9 +82,9 @@ returns-2 c =
     let at-body-word = at-field-count .before in
     let at-header-of = at-body-word .before in
     let at-start = at-header-of .before .before .before .before .before .before .before in
-    notes-some _ _ _ (table-here _ _ _ _ _ _ _ _ _ ((at-start .pre) .1) (at-field-count .field-count .ensures) (at-body-word .body-word .ensures)
+    notes-some _ _ (table-here ((at-start .pre) .1) (at-field-count .field-count .ensures) (at-body-word .body-word .ensures)
     (ap (λ (h : ℕ). h / 256 % 32) (at-header-of .header-of .ensures)) (ap (λ (h : ℕ). h / 2 % 64) (at-header-of .header-of .ensures))
-    (at-frame-limit .frame-limit .ensures .0 _ _ (at-header-of .header-of .ensures))) _ _ _ (at-walk .walk .ensures)
+    (at-frame-limit .frame-limit .ensures .0 _ _ (at-header-of .header-of .ensures))) (at-walk .walk .ensures)
     (not-false _ (c .before .before .before .if1 .left)) (sym (c .before .all-fine .ensures) ∙ c .if2 .taken)
 
 clear-requires : tie.Need-clear-requires
@@ -107,9 +107,9 @@ returns-3 c =
     let at-body-word = at-field-count .before in
     let at-header-of = at-body-word .before in
     let at-start = at-header-of .before .before .before .before .before .before .before in
-    notes-fail _ _ _ (table-here _ _ _ _ _ _ _ _ _ ((at-start .pre) .1) (at-field-count .field-count .ensures) (at-body-word .body-word .ensures)
+    notes-fail _ _ (table-here ((at-start .pre) .1) (at-field-count .field-count .ensures) (at-body-word .body-word .ensures)
     (ap (λ (h : ℕ). h / 256 % 32) (at-header-of .header-of .ensures)) (ap (λ (h : ℕ). h / 2 % 64) (at-header-of .header-of .ensures))
-    (at-frame-limit .frame-limit .ensures .0 _ _ (at-header-of .header-of .ensures))) _ _ _ (at-walk .walk .ensures) _ (not-false _ (at-if1 .if1 .left))
+    (at-frame-limit .frame-limit .ensures .0 _ _ (at-header-of .header-of .ensures))) (at-walk .walk .ensures) _ (not-false _ (at-if1 .if1 .left))
     (sym (at-all-fine .all-fine .ensures) ∙ at-if2 .if2 .left) (c .before .before .clear .ensures ∙ ap (λ (k : ℕ). replicate k 0) (at-walk .walk .kept .1 .1 .1 .1 .1 .1 .0))
 
 pub code-notes-spec : {M : Type 1} → statement M
