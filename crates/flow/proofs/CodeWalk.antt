@@ -87,9 +87,11 @@ static-again e f a =
 pub starts : (counts words : List ℕ) (room : ℕ) (t s : List ℕ) (size : ℕ) → t ≡ replicate size 0 → 0 < size → size ≤ length s → size ≤ mostCode
     → room ≤ mostDepth → WalkingAt counts words (length (set t 0 1)) room (set t 0 1) (set s 0 0) 1
 starts counts words room t s size e some-code long small shallow =
-    record { walk = begun (fineIn counts words (length (set t 0 1)) room) (successorsAt words (length (set t 0 1))) (depthAfterAt words (length (set t 0 1))) room size t s e some-code long small shallow }
+    let size₁ = length (set t 0 1) in
+    record { walk = begun (fineIn counts words size₁ room) (successorsAt words size₁) (depthAfterAt words size₁) room size t s e some-code long small shallow }
 
-pub finishes : {counts words : List ℕ} {size room : ℕ} {t s : List ℕ} {waiting : ℕ} → length t ≡ size → waiting ≡ 0 → WalkingAt counts words size room t s waiting → tableBy counts words size room ≡ some t
+pub finishes : {counts words : List ℕ} {size room : ℕ} {t s : List ℕ} {waiting : ℕ} → length t ≡ size → waiting ≡ 0
+    → WalkingAt counts words size room t s waiting → tableBy counts words size room ≡ some t
 finishes {counts} {words} {size} {room} {t} {s} l e w =
     table-is words size (getD counts 2 0) (getD counts 2 0 + room) (indexedBy counts) t
     (ended (fineIn counts words size room) (successorsAt words size) (depthAfterAt words size) room size

@@ -102,7 +102,8 @@ module _ {counts words : List ℕ} {size room p d b e : ℕ} (small : b < 256) (
 
     -- 128 to 134
     pub expand-extended : 128 ≤ b → b < 135 → p + lengthPart e ≤ size
-        → Step room (indexedBy counts (instructionOf b following) && leb (needPart e + extraOf b x) d) ((p + lengthPart e) ∷ []) (alike (d - (needPart e + extraOf b x) + leavesPart e)) t s waiting t′ s′ r
+        → Step room (indexedBy counts (instructionOf b following) && leb (needPart e + extraOf b x) d) ((p + lengthPart e) ∷ [])
+        (alike (d - (needPart e + extraOf b x) + leavesPart e)) t s waiting t′ s′ r
         → Expand counts words size room p d t s waiting t′ s′ r
     expand-extended l u whole z =
         let a = whole-here whole in
@@ -166,11 +167,13 @@ module _ {counts words : List ℕ} {size room p d b e : ℕ} (small : b < 256) (
       expand-fork l u z =
           as-fork false (b % 8 + 1) (p + 1) (p + 2 + b % 8) (whole-here whole .decoded ∙ jump-on-short b following l u) (next-at whole 1 (length-middle b (omega arith) u)) (omega arith) z
 
-      pub expand-long : 160 ≤ b → b < 168 → (to : ℕ) → p + 2 + b % 8 * 256 + x ≡ 1024 + to → Step room true (to ∷ []) (alike d) t s waiting t′ s′ r → Expand counts words size room p d t s waiting t′ s′ r
+      pub expand-long : 160 ≤ b → b < 168 → (to : ℕ) → p + 2 + b % 8 * 256 + x ≡ 1024 + to → Step room true (to ∷ []) (alike d) t s waiting t′ s′ r
+          → Expand counts words size room p d t s waiting t′ s′ r
       expand-long l u to q z =
           as-jump (b % 8 * 256 + x) 1024 to (whole-here whole .decoded ∙ jump-long b following l u) (omega (arith, next-at whole 2 (length-jump b (omega arith) l (omega arith)))) z
 
-      pub expand-fork-long : 168 ≤ b → b < 176 → Step room (leb 1 d) ((p + 2) ∷ (p + 2 + b % 4 * 256 + x) ∷ []) (alike (d - 1)) t s waiting t′ s′ r → Expand counts words size room p d t s waiting t′ s′ r
+      pub expand-fork-long : 168 ≤ b → b < 176 → Step room (leb 1 d) ((p + 2) ∷ (p + 2 + b % 4 * 256 + x) ∷ []) (alike (d - 1)) t s waiting t′ s′ r
+          → Expand counts words size room p d t s waiting t′ s′ r
       expand-fork-long l u z =
           let i = jump-on-long b following l u in
           as-fork (i .0) (b % 4 * 256 + x) (p + 2) (p + 2 + b % 4 * 256 + x) (whole-here whole .decoded ∙ i .1) (next-at whole 2 (length-jump b (omega arith) (omega arith) u)) (omega arith) z
