@@ -1,5 +1,5 @@
 // The depth walk as one writes it in C: a table entry for each byte, along the line, only branch targets kept for later.
-// Entries are packed as those of crates/bytecode: group 3 bits, length 2, need 2, leaves 2, bound 2, index 5.
+// Entries are packed as those of crates/bytecode: group 2 bits, length 3, need 2, leaves 2, bound 2, index 5.
 #include "walk.h"
 #include <string.h>
 
@@ -17,9 +17,9 @@ static bool walked(const uint16_t *entries, const uint16_t *words, unsigned fiel
         size_t at = pending[--n];
         unsigned depth = notes[at] - 1u;
         for (;;) {
-            const unsigned b = byte_at(words, at), e = entries[b], group = e >> 13;
+            const unsigned b = byte_at(words, at), e = entries[b], group = e >> 14;
             unsigned need = e >> 9 & 3;
-            if (group < 2) {
+            if (group == 0) {
                 if (counts[e >> 5 & 3] <= (e & 31) || depth < need) return false;
                 depth = depth - need + (e >> 7 & 3);
                 at++;
@@ -31,13 +31,13 @@ static bool walked(const uint16_t *entries, const uint16_t *words, unsigned fiel
                 notes[at] = depth + 1;
                 continue;
             }
-            if (group == 2) {
+            if (group == 1) {
                 if (depth < need) return false;
                 break;
             }
-            size_t next = at + (e >> 11 & 3), target = 0;
+            size_t next = at + (e >> 11 & 7), target = 0;
             bool fork = false;
-            if (group > 3 || size < next) return false;
+            if (group > 2 || size < next) return false;
             if (b < 131) {
                 const unsigned x = byte_at(words, at + 1), place = x >> 6;
                 if (counts[place == 3 ? 3 : place + 1] <= (x & 63) || (b > 128 && place == 2)) return false;

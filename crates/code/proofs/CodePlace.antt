@@ -30,15 +30,15 @@ use Rattle.code.specs.Asked.{Asked, CodeLent, MethodWalked}
 pub code-lent-by : {o : Objects} {m : ℕ} {words : List ℕ} {s s′ : ℕ} → s′ ≡ s → CodeLent o m words s → CodeLent o m words s′
 code-lent-by {o} {m} {words} e c = subst (CodeLent o m words) (sym e) c
 
-module _ (o : Objects) (m : ℕ) where
-  pub table-here : {words : List ℕ} {size fields temporaries literals limit w : ℕ} → CodeLent o m words size
-      → fields ≡ fieldCount o w → w ≡ home o m → temporaries ≡ temporaryCount o m → literals ≡ literalCount o m → limit ≡ frameWords o m
-      → depthTable words size temporaries limit (indexed fields temporaries literals) ≡ indexTable o m
-  table-here {words} {size} {fields} {temporaries} {literals} {limit} {w} c f h t l r =
-      ap₂ (λ (w : List ℕ) (s : ℕ). depthTable w s temporaries limit (indexed fields temporaries literals)) (c .isWords) (c .isSize)
-      ∙ ap₂ (λ (t l : ℕ). depthTable (codeWords o m) (codeSize o m) t l (indexed fields t literals)) t r
-      ∙ ap₂ (λ (f l : ℕ). depthTable (codeWords o m) (codeSize o m) (temporaryCount o m) (frameWords o m) (indexed f (temporaryCount o m) l)) (f ∙ ap (fieldCount o) h) l
+pub table-here : {o : Objects} {m : ℕ} {words : List ℕ} {size fields temporaries literals limit w : ℕ} → CodeLent o m words size
+    → fields ≡ fieldCount o w → w ≡ home o m → temporaries ≡ temporaryCount o m → literals ≡ literalCount o m → limit ≡ frameWords o m
+    → depthTable words size temporaries limit (indexed fields temporaries literals) ≡ indexTable o m
+table-here {o} {m} {fields = fields} {temporaries} {literals} {limit} c f h t l r =
+    ap₂ (λ (w : List ℕ) (s : ℕ). depthTable w s temporaries limit (indexed fields temporaries literals)) (c .isWords) (c .isSize)
+    ∙ ap₂ (λ (t l : ℕ). depthTable (codeWords o m) (codeSize o m) t l (indexed fields t literals)) t r
+    ∙ ap₂ (λ (f l : ℕ). depthTable (codeWords o m) (codeSize o m) (temporaryCount o m) (frameWords o m) (indexed f (temporaryCount o m) l)) (f ∙ ap (fieldCount o) h) l
 
+module _ (o : Objects) (m : ℕ) where
   module _ (edition : ℕ) {found : Option (List ℕ)} (e : found ≡ indexTable o m) {size : ℕ} {notes : List ℕ} {r : Bool} (w : Walked found size notes r) where
     pub notes-none : r ≡ false → Walked (methodTable edition o m) size notes false
     notes-none h =

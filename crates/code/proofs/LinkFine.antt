@@ -48,28 +48,28 @@ module _ (o : Objects) (m k : ℕ) where
   unfolding linked
   special-class e = subst (λ (j : ℕ). true ≡ linked o m (SpecialSend j)) (sym e) refl
 
-  pub special-sent : (s a : ℕ) → (k ≡ 22 → ⊥) → (k ≡ 23 → ⊥) → s ≡ bodyWord o 5 k → a ≡ specialCount k → sendFine o s a ≡ linked o m (SpecialSend k)
+  pub special-sent : {s a : ℕ} → (k ≡ 22 → ⊥) → (k ≡ 23 → ⊥) → s ≡ bodyWord o 5 k → a ≡ specialCount k → sendFine o s a ≡ linked o m (SpecialSend k)
   unfolding linked
-  special-sent s a h g e f =
+  special-sent h g e f =
       ap₂ (sendFine o) e f
       ∙ sym (ap₂ (λ (x y : Bool). x || (y || sendFine o (specialSelector o k) (specialCount k))) (ne-eqb k 22 h) (ne-eqb k 23 g))
 
 -- a literal that is sent
-pub literal-sent : (o : Objects) (m i n w : ℕ) → w ≡ bodyWord o (m / 2) (2 + i) → sendFine o w n ≡ sendFine o (literal o m i) n
-literal-sent o m i n w e = ap (λ (v : ℕ). sendFine o v n) e
+pub literal-sent : (o : Objects) (m i n : ℕ) {w : ℕ} → w ≡ bodyWord o (m / 2) (2 + i) → sendFine o w n ≡ sendFine o (literal o m i) n
+literal-sent o m i n e = ap (λ (v : ℕ). sendFine o v n) e
 
 -- a place that is told
-module _ (o : Objects) (m : ℕ) (p : Place) where
-  pub place-free : (q : Place) → p ≡ q → true ≡ placeLinked o m q → true ≡ placeLinked o m p
-  place-free q e f = f ∙ ap (placeLinked o m) (sym e)
+module _ (o : Objects) (m : ℕ) {p : Place} where
+  pub place-free : {q : Place} → p ≡ q → true ≡ placeLinked o m q → true ≡ placeLinked o m p
+  place-free e f = f ∙ ap (placeLinked o m) (sym e)
 
-  pub place-variable : (i w : ℕ) → p ≡ LiteralVariable i → w ≡ bodyWord o (m / 2) (2 + i) → variableFine o w ≡ placeLinked o m p
+  pub place-variable : {i w : ℕ} → p ≡ LiteralVariable i → w ≡ bodyWord o (m / 2) (2 + i) → variableFine o w ≡ placeLinked o m p
   unfolding placeLinked
-  place-variable i w e f = ap (variableFine o) f ∙ ap (placeLinked o m) (sym e)
+  place-variable e f = ap (variableFine o) f ∙ ap (placeLinked o m) (sym e)
 
 -- an instruction that is told
-pub told : (o : Objects) (m : ℕ) (i j : Instruction) (b : Bool) → i ≡ j → b ≡ linked o m j → b ≡ linked o m i
-told o m i j b e f = f ∙ ap (linked o m) (sym e)
+pub told : (o : Objects) (m : ℕ) {i j : Instruction} {b : Bool} → i ≡ j → b ≡ linked o m j → b ≡ linked o m i
+told o m e f = f ∙ ap (linked o m) (sym e)
 
 -- the words that are read of a method and of object 5
 module _ {table contents bodies counts : List ℕ} {n b m : ℕ} (a : Asked table n b contents bodies counts m) where
@@ -99,10 +99,10 @@ module _ (o : Objects) (m : ℕ) (t : List ℕ) (p : ℕ) where
   linked-free e =
       sym (ap (λ (v : ℕ). implies (ltb 0 v) (linked o m (decodeAt (codeWords o m) (codeSize o m) p))) e)
 
-  pub linked-noted : (words : List ℕ) (i : Instruction) → (getD t p 0 ≡ 0 → ⊥) → CodeLent o m words (length t)
+  pub linked-noted : {words : List ℕ} {i : Instruction} → (getD t p 0 ≡ 0 → ⊥) → CodeLent o m words (length t)
       → i ≡ decodeAt words (length t) p → linked o m i ≡ linkedAt o m t p
   unfolding linkedAt
-  linked-noted words i h c e =
+  linked-noted h c e =
       ap (linked o m) (e ∙ ap₂ (λ (w : List ℕ) (s : ℕ). decodeAt w s p) (c .isWords) (c .isSize))
       ∙ sym (ap (λ (x : Bool). implies x (linked o m (decodeAt (codeWords o m) (codeSize o m) p))) (lt-ltb 0 (getD t p 0) (positive (getD t p 0) h)))
     where
@@ -110,7 +110,7 @@ module _ (o : Objects) (m : ℕ) (t : List ℕ) (p : ℕ) where
       positive zero k = absurd (k refl)
       positive (suc v) k = omega arith
 
-module _ (o : Objects) (m : ℕ) (t words : List ℕ) (c : CodeLent o m words (length t)) (p : ℕ) where
+module _ {o : Objects} {m : ℕ} (t : List ℕ) {words : List ℕ} (c : CodeLent o m words (length t)) (p : ℕ) where
   pub linked-stops : p < length t → linkedAt o m t p ≡ false → false ≡ allLinked o m t
   unfolding allLinked
   linked-stops h e = let q = c .isSize in sym (below-no (codeSize o m) (linkedAt o m t) p (omega arith) e)

@@ -34,32 +34,30 @@ fine-deep words size temporaries room r p d f =
     omega arith
 
 -- the position on top
-pub record Top (t s : List ℕ) (n room : ℕ) : Type 0 where
-  pub stack : n ≤ length s
-  pub inside : getD s (n - 1) 0 < length t
-  pub noted : 1 ≤ getD t (getD s (n - 1) 0) 0
-  pub shallow : getD t (getD s (n - 1) 0) 0 - 1 ≤ room
+pub record Top (t s : List ℕ) (waiting room : ℕ) : Type 0 where
+  pub stack : waiting ≤ length s
+  pub inside : getD s (waiting - 1) 0 < length t
+  pub noted : 1 ≤ getD t (getD s (waiting - 1) 0) 0
+  pub shallow : getD t (getD s (waiting - 1) 0) 0 - 1 ≤ room
 
-module _ (table counts words : List ℕ) (room : ℕ) (t s : List ℕ) (n : ℕ) (a : Static table counts words room t s) (some-left : 0 < n)
-    (w : WalkingAt counts words (length t) room t s n) where
+module _ {table counts words : List ℕ} {room : ℕ} {t s : List ℕ} {waiting : ℕ} (a : Static table counts words room t s) (some-left : 0 < waiting)
+    (w : WalkingAt counts words (length t) room t s waiting) where
   abbrev place : ℕ
-  place = getD s (n - 1) 0
+  place = getD s (waiting - 1) 0
 
   abbrev depth : ℕ
-  depth = getD t (getD s (n - 1) 0) 0 - 1
+  depth = getD t (getD s (waiting - 1) 0) 0 - 1
 
-  pub top : Top t s n room
-  unfolding WalkingAt
+  pub top : Top t s waiting room
   top =
-      let q = w .queued (n - 1) (omega arith) in
+      let q = w .walk .queued (waiting - 1) (omega arith) in
       let e : getD t place 0 ≡ suc (q .0) = q .1 in
-      let d : q .0 ≤ room = w .within place (q .0) e in
-      let c = w .count in
+      let d : q .0 ≤ room = w .walk .within place (q .0) e in
+      let c = w .walk .count in
       record { stack = omega arith; inside = noted-inside t place (q .0) e; noted = omega arith; shallow = omega arith }
 
-  pub top-asks : Asks t s (n - 1) room
-  unfolding WalkingAt
-  top-asks = let c = w .count in record { count = omega arith; long = a .long; small = a .small; shallow = a .shallow }
+  pub top-asks : Asks t s (waiting - 1) room
+  top-asks = let c = w .walk .count in record { count = omega arith; long = a .long; small = a .small; shallow = a .shallow }
 
   pub top-fetch : place / 2 < length words
   top-fetch = let c = a .covered in let i = top .inside in omega arith
@@ -68,45 +66,38 @@ module _ (table counts words : List ℕ) (room : ℕ) (t s : List ℕ) (n : ℕ)
   top-here b e h g =
       record { one = a .one; inside = top .inside; covered = a .covered; byte = h; entry = g; shallow = top .shallow }
 
-  pub top-turn : (t′ s′ : List ℕ) (r : Went) → Expand counts words (length t) room place depth t s (n - 1) t′ s′ r → TurnAt counts words (length t) room t s n t′ s′ r
-  unfolding WalkingAt TurnAt Expand
-  top-turn t′ s′ r x =
+  pub top-turn : {t′ s′ : List ℕ} {r : Went} → Expand counts words (length t) room place depth t s (waiting - 1) t′ s′ r → TurnAt counts words (length t) room t s waiting t′ s′ r
+  top-turn {t′} {s′} {r} x =
       let k = top .noted in
-      turn-law (fineIn counts words (length t) room) (successorsAt words (length t)) (depthAfterAt words (length t)) room (length t)
+      let turn = turn-law (fineIn counts words (length t) room) (successorsAt words (length t)) (depthAfterAt words (length t)) room (length t)
       (fine-inside words (length t) (getD counts 2 0) (getD counts 2 0 + room) (indexedBy counts))
       (fine-deep words (length t) (getD counts 2 0) room (indexedBy counts))
-      t s n (n - 1) place depth refl (omega arith) refl (omega arith) w t′ s′ r x
+      t s waiting (waiting - 1) place depth refl (omega arith) refl (omega arith) (w .walk) t′ s′ r x in
+      record {
+        goes = λ j e. (record { walk = turn .goes j e .0 }, turn .goes j e .1);
+        ends = λ e. table-none words (length t) (getD counts 2 0) (getD counts 2 0 + room) (indexedBy counts) (turn .ends e);
+      }
 
--- by what a turn answers
-module _ (counts words : List ℕ) (size room : ℕ) (t s : List ℕ) (n : ℕ) (t′ s′ : List ℕ) (r : Went) where
-  pub turn-on : (k : ℕ) → r ≡ On k → TurnAt counts words size room t s n t′ s′ r → WalkingAt counts words size room t′ s′ k × (k + zeros t′ < n + zeros t)
-  unfolding WalkingAt TurnAt Turn
-  turn-on k e x = rw e at x
-
-  pub turn-stuck : r ≡ Stuck → TurnAt counts words size room t s n t′ s′ r → tableBy counts words size room ≡ none
-  unfolding TurnAt Turn
-  turn-stuck e x = table-none words size (getD counts 2 0) (getD counts 2 0 + room) (indexedBy counts) (rw e at x)
-
-pub static-again : (table counts words : List ℕ) (room : ℕ) (t s t′ s′ : List ℕ) → length t′ ≡ length t → length s′ ≡ length s → Static table counts words room
-    t s → Static table counts words room t′ s′
-static-again table counts words room t s t′ s′ e f a =
+pub static-again : {table counts words : List ℕ} {room : ℕ} {t s t′ s′ : List ℕ} → length t′ ≡ length t → length s′ ≡ length s
+    → Static table counts words room t s → Static table counts words room t′ s′
+static-again e f a =
     record { entries = a .entries; one = a .one; covered = rw e (a .covered); long = rw (e, f) (a .long); small = rw e (a .small); shallow = a .shallow }
 
 -- begin and end
 pub starts : (counts words : List ℕ) (room : ℕ) (t s : List ℕ) (size : ℕ) → t ≡ replicate size 0 → 0 < size → size ≤ length s → size ≤ mostCode
     → room ≤ mostDepth → WalkingAt counts words (length (set t 0 1)) room (set t 0 1) (set s 0 0) 1
-unfolding WalkingAt
 starts counts words room t s size e some-code long small shallow =
-    begun (fineIn counts words (length (set t 0 1)) room) (successorsAt words (length (set t 0 1))) (depthAfterAt words (length (set t 0 1))) room size t s e some-code long small shallow
+    let size₁ = length (set t 0 1) in
+    record { walk = begun (fineIn counts words size₁ room) (successorsAt words size₁) (depthAfterAt words size₁) room size t s e some-code long small shallow }
 
-pub finishes : (counts words : List ℕ) (size room : ℕ) (t s : List ℕ) (n : ℕ) → length t ≡ size → n ≡ 0 → WalkingAt counts words size room t s n → tableBy counts words size room ≡ some t
-unfolding WalkingAt
-finishes counts words size room t s n l e w =
+pub finishes : {counts words : List ℕ} {size room : ℕ} {t s : List ℕ} {waiting : ℕ} → length t ≡ size → waiting ≡ 0
+    → WalkingAt counts words size room t s waiting → tableBy counts words size room ≡ some t
+finishes {counts} {words} {size} {room} {t} {s} l e w =
     table-is words size (getD counts 2 0) (getD counts 2 0 + room) (indexedBy counts) t
     (ended (fineIn counts words size room) (successorsAt words size) (depthAfterAt words size) room size
     (fine-inside words size (getD counts 2 0) (getD counts 2 0 + room) (indexedBy counts))
     (fine-deep words size (getD counts 2 0) room (indexedBy counts))
-    t s l (rw e at w))
+    t s l (rw e at (w .walk)))
 
 -- no code, and no room for the temporaries
 module _ (words : List ℕ) (size temporaries limit : ℕ) (r : Instruction → Bool) where
@@ -122,11 +113,11 @@ module _ (words : List ℕ) (size temporaries limit : ℕ) (r : Instruction → 
       (λ h. let k = leb→le (temporaries + h .0 0) limit (rule (rulesAt words size temporaries limit r 0 (h .0 0)) (h .1 .kept 0 first) 3) in omega arith)
 
 -- the walk's answer
-pub walked-none : (o : Option (List ℕ)) (size : ℕ) (t : List ℕ) → o ≡ none → t ≡ replicate size 0 → Walked o size t false
-walked-none o size t e h = record { answer = rw e refl; noted = rw e h }
+pub walked-none : {o : Option (List ℕ)} {size : ℕ} {t : List ℕ} → o ≡ none → t ≡ replicate size 0 → Walked o size t false
+walked-none e h = record { answer = rw e refl; noted = rw e h }
 
-pub walked-some : (o : Option (List ℕ)) (size : ℕ) (t : List ℕ) → o ≡ some t → Walked o size t true
-walked-some o size t e = record { answer = rw e refl; noted = rw e refl }
+pub walked-some : {o : Option (List ℕ)} {size : ℕ} {t : List ℕ} → o ≡ some t → Walked o size t true
+walked-some e = record { answer = rw e refl; noted = rw e refl }
 
 pub answered-some : (o : Option (List ℕ)) (t : List ℕ) (r : Bool) → r ≡ true → Answer o t r → o ≡ some t
 unfolding Answer
@@ -147,9 +138,9 @@ table-as words size fields temporaries literals limit t h e =
 pub cleared-as : (t z y : List ℕ) (size : ℕ) → length t ≡ size → length z ≡ length (set t 0 1) → y ≡ replicate (length z) 0 → y ≡ replicate size 0
 cleared-as t z y size e f g = g ∙ ap (λ (k : ℕ). replicate k 0) (f ∙ length-set t 0 1 ∙ e)
 
-pub static-start : (table words : List ℕ) (fields temporaries literals limit : ℕ) (notes pending t : List ℕ) → Lent table words limit notes pending → length t ≡ length notes
+pub static-start : {table words : List ℕ} {fields temporaries literals limit : ℕ} {notes pending : List ℕ} (t : List ℕ) → Lent table words limit notes pending → length t ≡ length notes
     → Static table (1 ∷ fields ∷ temporaries ∷ literals ∷ []) words (limit - temporaries) (set t 0 1) (set pending 0 0)
-static-start table words fields temporaries literals limit notes pending t a e =
+static-start {pending = pending} t a e =
     record {
       entries = a .entries;
       one = refl;

@@ -15,7 +15,7 @@ use Rattle.bytecode.specs.declared.Instruction.the-variants.{Jump, JumpOn, Unus
 use Rattle.bytecode.proofs.Choice.{if-le}
 use Rattle.bytecode.proofs.CodeLaws.{jump-short, jump-on-short, length-middle, length-jump}
 use Rattle.bytecode.proofs.EntryLaws.{goes-on, group-of}
-use Rattle.bytecode.proofs.PositionLaws.{decoded-alone, plain-at, return-at, unused-at, short-at, whole-at}
+use Rattle.bytecode.proofs.PositionLaws.{WholeAt, decoded-alone, plain-at, return-at, unused-at, short-at, whole-at}
 use Rattle.model.specs.Depth.{successorsAt, depthAfterAt, rulesAt, fineAt}
 use Rattle.flow.specs.Index.{indexed, indexedBy}
 use Rattle.flow.specs.Walk.{alike, Step, fineIn, Here, Expand}
@@ -28,7 +28,7 @@ and-true : (a : Bool) → a && true ≡ a
 and-true true = refl
 and-true false = refl
 
-module _ (counts words : List ℕ) (size room p d b e : ℕ) (small : b < 256) (h : Here counts words size room p d b e) where
+module _ {counts words : List ℕ} {size room p d b e : ℕ} (small : b < 256) (h : Here counts words size room p d b e) where
   abbrev here : Instruction
   here = decodeAt words size p
 
@@ -63,17 +63,21 @@ module _ (counts words : List ℕ) (size room p d b e : ℕ) (small : b < 256) (
   unfolding depthAfterAt
   after-of = refl
 
-  module _ (t s : List ℕ) (n : ℕ) (t′ s′ : List ℕ) (r : Went) where
+  whole-here : p + lengthPart e ≤ size → WholeAt words size p b e
+  whole-here whole = whole-at words size p b e (h .inside) (h .byte) (h .entry) small whole
+
+  next-at : p + lengthPart e ≤ size → (k : ℕ) → lengthOf b ≡ k → nextAt words p ≡ p + k
+  next-at whole k l = whole-here whole .after ∙ ap (λ (j : ℕ). p + j) (h .entry .length ∙ l)
+
+  module _ {t s : List ℕ} {waiting : ℕ} {t′ s′ : List ℕ} {r : Went} where
     expand-as : (ok : Bool) (qs : List ℕ) (k : ℕ) → fineIn counts words size room p d ≡ ok → successorsAt words size p ≡ qs → d - need here + leaves here ≡ k
-        → Step room ok qs (alike k) t s n t′ s′ r → Expand counts words size room p d t s n t′ s′ r
-    unfolding Expand
-    expand-as ok qs k f g i z = step-as room (fineIn counts words size room p d) (successorsAt words size p) (λ q. depthAfterAt words size p q d) t s n t′ s′ r
-        ok qs (alike k) f g (after-of ∙ ap alike i) z
+        → Step room ok qs (alike k) t s waiting t′ s′ r → Expand counts words size room p d t s waiting t′ s′ r
+    expand-as ok qs k f g i z = step-as f g (after-of ∙ ap alike i) z
 
     -- group 0
     pub expand-plain : groupPart e ≡ 0
-        → Step room (ltb (indexPart e) (getD counts (boundPart e) 0) && leb (needPart e) d) ((p + 1) ∷ []) (alike (d - needPart e + leavesPart e)) t s n t′ s′ r
-        → Expand counts words size room p d t s n t′ s′ r
+        → Step room (ltb (indexPart e) (getD counts (boundPart e) 0) && leb (needPart e) d) ((p + 1) ∷ []) (alike (d - needPart e + leavesPart e)) t s waiting t′ s′ r
+        → Expand counts words size room p d t s waiting t′ s′ r
     expand-plain g z =
         let a = plain-at words size p b e (h .inside) (h .byte) (h .entry) g in
         let w = decoded-alone words size p b e (h .inside) (h .byte) (h .entry) (group-of b (λ q. let v = h .entry .group in omega arith) .0) in
@@ -86,7 +90,7 @@ module _ (counts words : List ℕ) (size room p d b e : ℕ) (small : b < 256) (
         (λ k. d - a .said .needs k + a .said .leave k)
         z
 
-    pub expand-return : groupPart e ≡ 1 → Step room (leb (needPart e) d) [] (alike (d - needPart e + leavesPart e)) t s n t′ s′ r → Expand counts words size room p d t s n t′ s′ r
+    pub expand-return : groupPart e ≡ 1 → Step room (leb (needPart e) d) [] (alike (d - needPart e + leavesPart e)) t s waiting t′ s′ r → Expand counts words size room p d t s waiting t′ s′ r
     expand-return g z =
         let a = return-at words size p b e (h .inside) (h .byte) (h .entry) g in
         let i : indexedBy counts here ≡ true = return-indexed counts here (a .said .groups ∙ g) in
@@ -98,10 +102,11 @@ module _ (counts words : List ℕ) (size room p d b e : ℕ) (small : b < 256) (
 
     -- 128 to 134
     pub expand-extended : 128 ≤ b → b < 135 → p + lengthPart e ≤ size
-        → Step room (indexedBy counts (instructionOf b following) && leb (needPart e + extraOf b x) d) ((p + lengthPart e) ∷ []) (alike (d - (needPart e + extraOf b x) + leavesPart e)) t s n t′ s′ r
-        → Expand counts words size room p d t s n t′ s′ r
+        → Step room (indexedBy counts (instructionOf b following) && leb (needPart e + extraOf b x) d) ((p + lengthPart e) ∷ [])
+        (alike (d - (needPart e + extraOf b x) + leavesPart e)) t s waiting t′ s′ r
+        → Expand counts words size room p d t s waiting t′ s′ r
     expand-extended l u whole z =
-        let a = whole-at words size p b e (h .inside) (h .byte) (h .entry) small whole in
+        let a = whole-here whole in
         let g = goes-on (nextAt words p) here (ap group (a .decoded) ∙ extended-goes-on following b l u) in
         expand-as (indexedBy counts (instructionOf b following) && leb (needPart e + extraOf b x) d) ((p + lengthPart e) ∷ []) (d - (needPart e + extraOf b x) + leavesPart e)
         (fine-of (g .0) ∙ (λ k. indexedBy counts (a .decoded k) && leb (a .needs k) d))
@@ -111,7 +116,7 @@ module _ (counts words : List ℕ) (size room p d b e : ℕ) (small : b < 256) (
 
     -- jumps, by the instruction that is there
     as-jump : (ahead back to : ℕ) → here ≡ Jump ahead back → nextAt words p + ahead ≡ back + to
-        → Step room true (to ∷ []) (alike d) t s n t′ s′ r → Expand counts words size room p d t s n t′ s′ r
+        → Step room true (to ∷ []) (alike d) t s waiting t′ s′ r → Expand counts words size room p d t s waiting t′ s′ r
     as-jump ahead back to i q z =
         let ok : leb back (nextAt words p + ahead) ≡ true = le-leb back (nextAt words p + ahead) (omega arith) in
         expand-as true (to ∷ []) d
@@ -133,7 +138,7 @@ module _ (counts words : List ℕ) (size room p d b e : ℕ) (small : b < 256) (
         jump-after = unfold need in unfold leaves in omega arith
 
     as-fork : (c : Bool) (ahead next to : ℕ) → here ≡ JumpOn c ahead → nextAt words p ≡ next → next + ahead ≡ to
-        → Step room (leb 1 d) (next ∷ to ∷ []) (alike (d - 1)) t s n t′ s′ r → Expand counts words size room p d t s n t′ s′ r
+        → Step room (leb 1 d) (next ∷ to ∷ []) (alike (d - 1)) t s waiting t′ s′ r → Expand counts words size room p d t s waiting t′ s′ r
     as-fork c ahead next to i f q z =
         expand-as (leb 1 d) (next ∷ to ∷ []) (d - 1)
         (fine-of (ap (usable (nextAt words p)) i ∙ fork-usable) ∙ (λ k. indexedBy counts (i k) && leb (need (i k)) d) ∙ fork-fine)
@@ -154,47 +159,42 @@ module _ (counts words : List ℕ) (size room p d b e : ℕ) (small : b < 256) (
         fork-after = unfold need in unfold leaves in omega arith
 
     module _ (whole : p + lengthPart e ≤ size) where
-      decoded : here ≡ instructionOf b following
-      decoded = whole-at words size p b e (h .inside) (h .byte) (h .entry) small whole .decoded
-
-      next-at : (k : ℕ) → lengthOf b ≡ k → nextAt words p ≡ p + k
-      next-at k l = whole-at words size p b e (h .inside) (h .byte) (h .entry) small whole .after ∙ ap (λ (j : ℕ). p + j) (h .entry .length ∙ l)
-
-      pub expand-jump : 144 ≤ b → b < 152 → Step room true ((p + 2 + b % 8) ∷ []) (alike d) t s n t′ s′ r → Expand counts words size room p d t s n t′ s′ r
+      pub expand-jump : 144 ≤ b → b < 152 → Step room true ((p + 2 + b % 8) ∷ []) (alike d) t s waiting t′ s′ r → Expand counts words size room p d t s waiting t′ s′ r
       expand-jump l u z =
-          as-jump (b % 8 + 1) 0 (p + 2 + b % 8) (decoded ∙ jump-short b following l u) (omega (arith, next-at 1 (length-middle b (omega arith) (omega arith)))) z
+          as-jump (b % 8 + 1) 0 (p + 2 + b % 8) (whole-here whole .decoded ∙ jump-short b following l u) (omega (arith, next-at whole 1 (length-middle b (omega arith) (omega arith)))) z
 
-      pub expand-fork : 152 ≤ b → b < 160 → Step room (leb 1 d) ((p + 1) ∷ (p + 2 + b % 8) ∷ []) (alike (d - 1)) t s n t′ s′ r → Expand counts words size room p d t s n t′ s′ r
+      pub expand-fork : 152 ≤ b → b < 160 → Step room (leb 1 d) ((p + 1) ∷ (p + 2 + b % 8) ∷ []) (alike (d - 1)) t s waiting t′ s′ r → Expand counts words size room p d t s waiting t′ s′ r
       expand-fork l u z =
-          as-fork false (b % 8 + 1) (p + 1) (p + 2 + b % 8) (decoded ∙ jump-on-short b following l u) (next-at 1 (length-middle b (omega arith) u)) (omega arith) z
+          as-fork false (b % 8 + 1) (p + 1) (p + 2 + b % 8) (whole-here whole .decoded ∙ jump-on-short b following l u) (next-at whole 1 (length-middle b (omega arith) u)) (omega arith) z
 
-      pub expand-long : 160 ≤ b → b < 168 → (to : ℕ) → p + 2 + b % 8 * 256 + x ≡ 1024 + to → Step room true (to ∷ []) (alike d) t s n t′ s′ r → Expand counts words size room p d t s n t′ s′ r
+      pub expand-long : 160 ≤ b → b < 168 → (to : ℕ) → p + 2 + b % 8 * 256 + x ≡ 1024 + to → Step room true (to ∷ []) (alike d) t s waiting t′ s′ r
+          → Expand counts words size room p d t s waiting t′ s′ r
       expand-long l u to q z =
-          as-jump (b % 8 * 256 + x) 1024 to (decoded ∙ jump-long b following l u) (omega (arith, next-at 2 (length-jump b (omega arith) l (omega arith)))) z
+          as-jump (b % 8 * 256 + x) 1024 to (whole-here whole .decoded ∙ jump-long b following l u) (omega (arith, next-at whole 2 (length-jump b (omega arith) l (omega arith)))) z
 
-      pub expand-fork-long : 168 ≤ b → b < 176 → Step room (leb 1 d) ((p + 2) ∷ (p + 2 + b % 4 * 256 + x) ∷ []) (alike (d - 1)) t s n t′ s′ r → Expand counts words size room p d t s n t′ s′ r
+      pub expand-fork-long : 168 ≤ b → b < 176 → Step room (leb 1 d) ((p + 2) ∷ (p + 2 + b % 4 * 256 + x) ∷ []) (alike (d - 1)) t s waiting t′ s′ r
+          → Expand counts words size room p d t s waiting t′ s′ r
       expand-fork-long l u z =
           let i = jump-on-long b following l u in
-          as-fork (i .0) (b % 4 * 256 + x) (p + 2) (p + 2 + b % 4 * 256 + x) (decoded ∙ i .1) (next-at 2 (length-jump b (omega arith) (omega arith) u)) (omega arith) z
+          as-fork (i .0) (b % 4 * 256 + x) (p + 2) (p + 2 + b % 4 * 256 + x) (whole-here whole .decoded ∙ i .1) (next-at whole 2 (length-jump b (omega arith) (omega arith) u)) (omega arith) z
 
   -- where it is stuck at once
-  module _ (t s : List ℕ) (n : ℕ) (t′ s′ : List ℕ) where
-    stuck-as : fineIn counts words size room p d ≡ false → Expand counts words size room p d t s n t′ s′ Stuck
-    unfolding Expand
-    stuck-as f = step-no room (fineIn counts words size room p d) (successorsAt words size p) (λ q. depthAfterAt words size p q d) t s n t′ s′ f
+  module _ {t s : List ℕ} {waiting : ℕ} {t′ s′ : List ℕ} where
+    stuck-as : fineIn counts words size room p d ≡ false → Expand counts words size room p d t s waiting t′ s′ Stuck
+    stuck-as f = step-no f
 
-    pub expand-unused : 3 ≤ groupPart e → Expand counts words size room p d t s n t′ s′ Stuck
+    pub expand-unused : 3 ≤ groupPart e → Expand counts words size room p d t s waiting t′ s′ Stuck
     expand-unused g = stuck-as (fine-unused (unused-at words size p b e (h .inside) (h .byte) (h .entry) g))
 
-    pub expand-short : size < p + lengthPart e → Expand counts words size room p d t s n t′ s′ Stuck
+    pub expand-short : size < p + lengthPart e → Expand counts words size room p d t s waiting t′ s′ Stuck
     expand-short g = stuck-as (fine-unused (short-at words size p b e (h .inside) (h .byte) (h .entry) g))
 
     -- a jump before position 0
-    pub expand-before : p + lengthPart e ≤ size → 160 ≤ b → b < 168 → p + 2 + b % 8 * 256 + x < 1024 → Expand counts words size room p d t s n t′ s′ Stuck
+    pub expand-before : p + lengthPart e ≤ size → 160 ≤ b → b < 168 → p + 2 + b % 8 * 256 + x < 1024 → Expand counts words size room p d t s waiting t′ s′ Stuck
     unfolding fineAt rulesAt usable
     expand-before whole l u q =
-        let a = whole-at words size p b e (h .inside) (h .byte) (h .entry) small whole in
+        let a = whole-here whole in
         let i : here ≡ Jump (b % 8 * 256 + x) 1024 = a .decoded ∙ jump-long b following l u in
-        let v : nextAt words p ≡ p + 2 = a .after ∙ ap (λ (j : ℕ). p + j) (h .entry .length ∙ length-jump b (omega arith) l (omega arith)) in
+        let v = next-at whole 2 (length-jump b (omega arith) l (omega arith)) in
         let no : leb 1024 (nextAt words p + (b % 8 * 256 + x)) ≡ false = lt-leb 1024 (nextAt words p + (b % 8 * 256 + x)) (omega arith) in
         stuck-as (rw (i, no) refl)

@@ -16,6 +16,7 @@ use Rattle.model.proofs.WalkLaws.{At, origin, further, at-reached, at-depth, No
 use Rattle.flow.specs.Walk.{Noted, Visited, Refused, Visits, Step, Nobody, Pending, Done, Walk, Turn, mostCode, mostDepth}
 use Rattle.flow.specs.declared.Went.{Went}
 use Rattle.flow.specs.declared.Went.the-variants.{On, Stuck}
+use Rattle.flow.proofs.StepLaws.{same-count, not-both}
 use Rattle.flow.proofs.VisitLaws.{visited-new}
 
 module _ (fine : ℕ → ℕ → Bool) (next : ℕ → List ℕ) (after : ℕ → ℕ → ℕ → ℕ) (room : ℕ) where
@@ -23,19 +24,19 @@ module _ (fine : ℕ → ℕ → Bool) (next : ℕ → List ℕ) (after : ℕ �
   None = HasTable fine next after → ⊥
 
   abbrev Inv : List ℕ → List ℕ → ℕ → (ℕ → Type 0) → Type 0
-  Inv t s n Busy = Walk fine next after room t s n Busy
+  Inv t s waiting Busy = Walk fine next after room t s waiting Busy
 
   -- a table has no choice where a path leads
   not-fine : (p d : ℕ) → At next after p d → (T (fine p d) → ⊥) → None
-  not-fine p d a n s =
-      n (subst (λ (k : ℕ). T (fine p k)) (at-depth fine next after (s .0) (s .1) a) (s .1 .kept p (at-reached a)))
+  not-fine p d a breaks s =
+      breaks (subst (λ (k : ℕ). T (fine p k)) (at-depth fine next after (s .0) (s .1) a) (s .1 .kept p (at-reached a)))
 
   two-depths : (p d e : ℕ) → At next after p d → At next after p e → (d ≡ e → ⊥) → None
-  two-depths p d e a b n s = n (sym (at-depth fine next after (s .0) (s .1) a) ∙ at-depth fine next after (s .0) (s .1) b)
+  two-depths p d e a b differ s = differ (sym (at-depth fine next after (s .0) (s .1) a) ∙ at-depth fine next after (s .0) (s .1) b)
 
   -- the last pending position becomes busy
-  popped : (t s : List ℕ) (n m : ℕ) → n ≡ m + 1 → Inv t s n Nobody → Inv t s m (λ q. q ≡ getD s m 0)
-  popped t s n m e w =
+  popped : (t s : List ℕ) (waiting m : ℕ) → waiting ≡ m + 1 → Inv t s waiting Nobody → Inv t s m (λ q. q ≡ getD s m 0)
+  popped t s waiting m e w =
       record {
         count = let h = w .count in omega arith;
         first = w .first;
@@ -45,55 +46,55 @@ module _ (fine : ℕ → ℕ → Bool) (next : ℕ → List ℕ) (after : ℕ �
         done = λ p d h. ⊎-elim (λ z. absurd z) (⊎-elim (λ z. split p d z (ℕ-discrete (z .0) m)) (λ z. inr (inr z))) (w .done p d h);
       }
     where
-      split : (p d : ℕ) → (z : Pending s n p) → Dec (z .0 ≡ m) → (p ≡ getD s m 0) ⊎ (Pending s m p ⊎ Done fine next after room t p d)
+      split : (p d : ℕ) → (z : Pending s waiting p) → Dec (z .0 ≡ m) → (p ≡ getD s m 0) ⊎ (Pending s m p ⊎ Done fine next after room t p d)
       split p d z (yes u) = inl (sym (subst (λ (k : ℕ). getD s k 0 ≡ p) u (z .2)))
-      split p d z (no u) = inr (inl (z .0, let h : z .0 < n = z .1 in omega arith, z .2))
+      split p d z (no u) = inr (inl (z .0, let h : z .0 < waiting = z .1 in omega arith, z .2))
 
   -- a visit keeps the invariant, whoever is busy
-  module _ (Busy : ℕ → Type 0) (t s : List ℕ) (n q e : ℕ) (t′ s′ : List ℕ) (n′ : ℕ) (v : Visited room t s n q e t′ s′ n′)
-      (here : At next after q e) (w : Inv t s n Busy) where
-    path-at : (p d : ℕ) → Noted t p d ⊎ ((p ≡ q) × (d ≡ e) × (n < n′)) → At next after p d
+  module _ (Busy : ℕ → Type 0) (t s : List ℕ) (waiting q e : ℕ) (t′ s′ : List ℕ) (waiting′ : ℕ) (v : Visited room t s waiting q e t′ s′ waiting′)
+      (here : At next after q e) (w : Inv t s waiting Busy) where
+    path-at : (p d : ℕ) → Noted t p d ⊎ ((p ≡ q) × (d ≡ e) × (waiting < waiting′)) → At next after p d
     path-at p d (inl h) = w .path p d h
     path-at p d (inr z) = subst (λ (i : ℕ). At next after i d) (sym (z .0)) (subst (At next after q) (sym (z .1)) here)
 
-    within-at : (p d : ℕ) → Noted t p d ⊎ ((p ≡ q) × (d ≡ e) × (n < n′)) → d ≤ room
+    within-at : (p d : ℕ) → Noted t p d ⊎ ((p ≡ q) × (d ≡ e) × (waiting < waiting′)) → d ≤ room
     within-at p d (inl h) = w .within p d h
     within-at p d (inr z) = let x = z .1 in let y = v .within in omega arith
 
-    queued-at : (k : ℕ) → k < n′ → Dec (k < n) → (d : ℕ) × Noted t′ (getD s′ k 0) d
+    queued-at : (k : ℕ) → k < waiting′ → Dec (k < waiting) → (d : ℕ) × Noted t′ (getD s′ k 0) d
     queued-at k h (yes l) =
         let x = w .queued k l in
         (x .0, ap (λ (i : ℕ). getD t′ i 0) (v .stack k l) ∙ v .kept (getD s k 0) (x .0) (x .1))
     queued-at k h (no l) = (e, ap (λ (i : ℕ). getD t′ i 0) (v .pushed k (omega arith) h) ∙ v .here)
 
     abbrev Fate : ℕ → ℕ → Type 0
-    Fate p d = Busy p ⊎ (Pending s′ n′ p ⊎ Done fine next after room t′ p d)
+    Fate p d = Busy p ⊎ (Pending s′ waiting′ p ⊎ Done fine next after room t′ p d)
 
-    old-fate : (p d : ℕ) → Busy p ⊎ (Pending s n p ⊎ Done fine next after room t p d) → Fate p d
+    old-fate : (p d : ℕ) → Busy p ⊎ (Pending s waiting p ⊎ Done fine next after room t p d) → Fate p d
     old-fate p d (inl z) = inl z
     old-fate p d (inr (inl z)) =
-        inr (inl (z .0, let h : z .0 < n = z .1 in let g = v .more in omega arith, v .stack (z .0) (z .1) ∙ z .2))
+        inr (inl (z .0, let h : z .0 < waiting = z .1 in let g = v .more in omega arith, v .stack (z .0) (z .1) ∙ z .2))
     old-fate p d (inr (inr z)) =
         inr (inr (record { holds = z .holds; along = λ r m. v .kept r (after p r d) (z .along r m) }))
 
-    done-at : (p d : ℕ) → Noted t p d ⊎ ((p ≡ q) × (d ≡ e) × (n < n′)) → Fate p d
+    done-at : (p d : ℕ) → Noted t p d ⊎ ((p ≡ q) × (d ≡ e) × (waiting < waiting′)) → Fate p d
     done-at p d (inl h) = old-fate p d (w .done p d h)
-    done-at p d (inr z) = inr (inl (n, z .2, v .pushed n (omega arith) (z .2) ∙ sym (z .0)))
+    done-at p d (inr z) = inr (inl (waiting, z .2, v .pushed waiting (omega arith) (z .2) ∙ sym (z .0)))
 
-    visit-keeps : Inv t′ s′ n′ Busy
+    visit-keeps : Inv t′ s′ waiting′ Busy
     visit-keeps =
         record {
           count = let a = w .count in let b = v .count in let c = v .lengths .0 in omega arith;
           first = v .kept 0 0 (w .first);
           path = λ p d h. path-at p d (v .grown p d h);
           within = λ p d h. within-at p d (v .grown p d h);
-          queued = λ k h. queued-at k h (decLt k n);
+          queued = λ k h. queued-at k h (decLt k waiting);
           done = λ p d h. done-at p d (v .grown p d h);
         }
 
   -- the busy position is dealt with
-  closed : (t s : List ℕ) (n p d : ℕ) → Noted t p d → Done fine next after room t p d → Inv t s n (λ q. q ≡ p) → Inv t s n Nobody
-  closed t s n p d h x w =
+  closed : (t s : List ℕ) (waiting p d : ℕ) → Noted t p d → Done fine next after room t p d → Inv t s waiting (λ q. q ≡ p) → Inv t s waiting Nobody
+  closed t s waiting p d h x w =
       record {
         count = w .count;
         first = w .first;
@@ -109,29 +110,29 @@ module _ (fine : ℕ → ℕ → Bool) (next : ℕ → List ℕ) (after : ℕ �
           subst (λ (i : ℕ). Done fine next after room t i k) (sym z) (subst (Done fine next after room t p) e x)
 
   module _ (size : ℕ) (inside : (p d : ℕ) → T (fine p d) → p < size) (deep : (p d : ℕ) → T (fine p d) → d ≤ room) where
-    refused : (t s : List ℕ) (n : ℕ) (Busy : ℕ → Type 0) → Inv t s n Busy → length t ≡ size
+    refused : (t s : List ℕ) (waiting : ℕ) (Busy : ℕ → Type 0) → Inv t s waiting Busy → length t ≡ size
         → (q e : ℕ) → At next after q e → Refused room t q e → None
-    refused t s n Busy w l q e a (inl h) = not-fine q e a (λ x. let y = deep q e x in omega arith)
-    refused t s n Busy w l q e a (inr (inl h)) = not-fine q e a (λ x. let y = inside q e x in omega arith)
-    refused t s n Busy w l q e a (inr (inr h)) = two-depths q (h .0) e (w .path q (h .0) (h .1)) a (h .2)
+    refused t s waiting Busy w l q e a (inl h) = not-fine q e a (λ x. let y = deep q e x in omega arith)
+    refused t s waiting Busy w l q e a (inr (inl h)) = not-fine q e a (λ x. let y = inside q e x in omega arith)
+    refused t s waiting Busy w l q e a (inr (inr h)) = two-depths q (h .0) e (w .path q (h .0) (h .1)) a (h .2)
 
     -- what visits of a list come to
-    record Passed (t : List ℕ) (n : ℕ) (qs : List ℕ) (e : ℕ → ℕ) (t′ s′ : List ℕ) (n′ : ℕ) (Busy : ℕ → Type 0) : Type 0 where
-      walk : Inv t′ s′ n′ Busy
-      count : n′ + zeros t′ ≡ n + zeros t
+    record Passed (t : List ℕ) (waiting : ℕ) (qs : List ℕ) (e : ℕ → ℕ) (t′ s′ : List ℕ) (waiting′ : ℕ) (Busy : ℕ → Type 0) : Type 0 where
+      walk : Inv t′ s′ waiting′ Busy
+      count : waiting′ + zeros t′ ≡ waiting + zeros t
       kept : (q k : ℕ) → Noted t q k → Noted t′ q k
       all : (q : ℕ) → List·Memᴰ q qs → Noted t′ q (e q)
 
     abbrev Outcome : List ℕ → ℕ → List ℕ → (ℕ → ℕ) → List ℕ → List ℕ → (ℕ → Type 0) → Went → Type 0
-    Outcome t n qs e t′ s′ Busy r = ((r ≡ Stuck) × None) ⊎ ((n′ : ℕ) × (r ≡ On n′) × Passed t n qs e t′ s′ n′ Busy)
+    Outcome t waiting qs e t′ s′ Busy r = ((r ≡ Stuck) × None) ⊎ ((waiting′ : ℕ) × (r ≡ On waiting′) × Passed t waiting qs e t′ s′ waiting′ Busy)
 
-    visits-come : (Busy : ℕ → Type 0) (qs : List ℕ) (e : ℕ → ℕ) (t s : List ℕ) (n : ℕ) (t′ s′ : List ℕ) (r : Went)
-        → length t ≡ size → ((q : ℕ) → List·Memᴰ q qs → At next after q (e q)) → Inv t s n Busy
-        → Visits room qs e t s n t′ s′ r → Outcome t n qs e t′ s′ Busy r
+    visits-come : (Busy : ℕ → Type 0) (qs : List ℕ) (e : ℕ → ℕ) (t s : List ℕ) (waiting : ℕ) (t′ s′ : List ℕ) (r : Went)
+        → length t ≡ size → ((q : ℕ) → List·Memᴰ q qs → At next after q (e q)) → Inv t s waiting Busy
+        → Visits room qs e t s waiting t′ s′ r → Outcome t waiting qs e t′ s′ Busy r
     unfolding Visits
-    visits-come Busy [] e t s n t′ s′ r l a w v =
+    visits-come Busy [] e t s waiting t′ s′ r l a w v =
         inr (
-          n,
+          waiting,
           v .2,
           record {
             walk = rw (v .0, v .1) w;
@@ -140,20 +141,20 @@ module _ (fine : ℕ → ℕ → Bool) (next : ℕ → List ℕ) (after : ℕ �
             all = λ q m. absurd (List·Memᴰ·not-nil m);
           },
         )
-    visits-come Busy (q ∷ qs) e t s n t′ s′ r l a w (inl x) =
-        inl (x .1, refused t s n Busy w l q (e q) (a q (List·Memᴰ·head refl)) (x .0))
-    visits-come Busy (q ∷ qs) e t s n t′ s′ r l a w (inr x) =
+    visits-come Busy (q ∷ qs) e t s waiting t′ s′ r l a w (inl x) =
+        inl (x .1, refused t s waiting Busy w l q (e q) (a q (List·Memᴰ·head refl)) (x .0))
+    visits-come Busy (q ∷ qs) e t s waiting t′ s′ r l a w (inr x) =
         let t₁ = x .0 in
         let s₁ = x .1 in
-        let n₁ = x .2 in
-        let v : Visited room t s n q (e q) t₁ s₁ n₁ = x .3 in
-        let w₁ = visit-keeps Busy t s n q (e q) t₁ s₁ n₁ v (a q (List·Memᴰ·head refl)) w in
-        ⊎-elim (λ z. inl z) (λ z. inr (z .0, z .1, further-on q qs e t n t₁ n₁ s₁ s v (z .0) (z .2)))
-        (visits-come Busy qs e t₁ s₁ n₁ t′ s′ r (v .lengths .0 ∙ l) (λ p m. a p (List·Memᴰ·tail m)) w₁ (x .4))
+        let waiting₁ = x .2 in
+        let v : Visited room t s waiting q (e q) t₁ s₁ waiting₁ = x .3 in
+        let w₁ = visit-keeps Busy t s waiting q (e q) t₁ s₁ waiting₁ v (a q (List·Memᴰ·head refl)) w in
+        ⊎-elim (λ z. inl z) (λ z. inr (z .0, z .1, further-on q qs e t waiting t₁ waiting₁ s₁ s v (z .0) (z .2)))
+        (visits-come Busy qs e t₁ s₁ waiting₁ t′ s′ r (v .lengths .0 ∙ l) (λ p m. a p (List·Memᴰ·tail m)) w₁ (x .4))
       where
-        further-on : (q : ℕ) (qs : List ℕ) (e : ℕ → ℕ) (t : List ℕ) (n : ℕ) (t₁ : List ℕ) (n₁ : ℕ) (s₁ s : List ℕ) → Visited room t s n q (e q) t₁ s₁ n₁
-            → (n′ : ℕ) → Passed t₁ n₁ qs e t′ s′ n′ Busy → Passed t n (q ∷ qs) e t′ s′ n′ Busy
-        further-on q qs e t n t₁ n₁ s₁ s v n′ y =
+        further-on : (q : ℕ) (qs : List ℕ) (e : ℕ → ℕ) (t : List ℕ) (waiting : ℕ) (t₁ : List ℕ) (waiting₁ : ℕ) (s₁ s : List ℕ) → Visited room t s waiting q (e q) t₁ s₁ waiting₁
+            → (waiting′ : ℕ) → Passed t₁ waiting₁ qs e t′ s′ waiting′ Busy → Passed t waiting (q ∷ qs) e t′ s′ waiting′ Busy
+        further-on q qs e t waiting t₁ waiting₁ s₁ s v waiting′ y =
             record {
               walk = y .walk;
               count = y .count ∙ v .count;
@@ -161,29 +162,31 @@ module _ (fine : ℕ → ℕ → Bool) (next : ℕ → List ℕ) (after : ℕ �
               all = λ p m. ⊎-elim (λ z. subst (λ (i : ℕ). Noted t′ i (e i)) (sym z) (y .kept q (e q) (v .here))) (λ z. y .all p z) (List·Memᴰ·cases-cons m);
             }
 
-    module _ (t s : List ℕ) (n m p d : ℕ) (long : length t ≡ size) (one-less : n ≡ m + 1) (place : p ≡ getD s m 0) (noted : Noted t p d)
-        (w : Inv t s n Nobody) where
+    module _ (t s : List ℕ) (waiting m p d : ℕ) (long : length t ≡ size) (one-less : waiting ≡ m + 1) (place : p ≡ getD s m 0) (noted : Noted t p d)
+        (w : Inv t s waiting Nobody) where
       path-here : At next after p d
       path-here = w .path p d noted
 
-      turned : (t′ s′ : List ℕ) (r : Went) → T (fine p d) → Outcome t m (next p) (λ q. after p q d) t′ s′ (λ q. q ≡ p) r → Turn fine next after room t s n t′ s′ r
-      unfolding Turn
-      turned t′ s′ r f (inl x) = rw (x .0) (x .1)
+      turned : (t′ s′ : List ℕ) (r : Went) → T (fine p d) → Outcome t m (next p) (λ q. after p q d) t′ s′ (λ q. q ≡ p) r → Turn fine next after room t s waiting t′ s′ r
+      turned t′ s′ r f (inl x) = record { goes = λ k e. not-both e (x .0); ends = λ _. x .1 }
       turned t′ s′ r f (inr x) =
           let y = x .2 in
           let c : x .0 + zeros t′ ≡ m + zeros t = y .count in
-          rw (x .1)
-          (closed t′ s′ (x .0) p d (y .kept p d noted) (record { holds = f; along = λ q h. y .all q h }) (y .walk), omega arith)
+          let ended-here : Inv t′ s′ (x .0) Nobody = closed t′ s′ (x .0) p d (y .kept p d noted) (record { holds = f; along = λ q h. y .all q h }) (y .walk) in
+          record {
+            goes = λ k e. let same : x .0 ≡ k = same-count (x .1) e in (subst (λ (i : ℕ). Inv t′ s′ i Nobody) same ended-here, omega arith);
+            ends = λ e. not-both (x .1) e;
+          }
 
-      turn-at : (t′ s′ : List ℕ) (r : Went) (b : Bool) → fine p d ≡ b → Step room b (next p) (λ q. after p q d) t s m t′ s′ r → Turn fine next after room t s n t′ s′ r
-      unfolding Step Turn
-      turn-at t′ s′ r false e x = rw x (not-fine p d path-here (λ y. subst T e y))
+      turn-at : (t′ s′ : List ℕ) (r : Went) (b : Bool) → fine p d ≡ b → Step room b (next p) (λ q. after p q d) t s m t′ s′ r → Turn fine next after room t s waiting t′ s′ r
+      turn-at t′ s′ r false e x =
+          record { goes = λ k z. not-both z (x .fails refl); ends = λ _. not-fine p d path-here (λ y. subst T e y) }
       turn-at t′ s′ r true e x =
           turned t′ s′ r (true→T e)
           (visits-come (λ q. q ≡ p) (next p) (λ q. after p q d) t s m t′ s′ r long (λ q h. further path-here h)
-          (subst (λ (i : ℕ). Inv t s m (λ q. q ≡ i)) (sym place) (popped t s n m one-less w)) x)
+          (subst (λ (i : ℕ). Inv t s m (λ q. q ≡ i)) (sym place) (popped t s waiting m one-less w)) (x .holds refl))
 
-      pub turn-law : (t′ s′ : List ℕ) (r : Went) → Step room (fine p d) (next p) (λ q. after p q d) t s m t′ s′ r → Turn fine next after room t s n t′ s′ r
+      pub turn-law : (t′ s′ : List ℕ) (r : Went) → Step room (fine p d) (next p) (λ q. after p q d) t s m t′ s′ r → Turn fine next after room t s waiting t′ s′ r
       turn-law t′ s′ r x = turn-at t′ s′ r (fine p d) refl x
 
     -- when nothing is pending
@@ -217,7 +220,7 @@ module _ (fine : ℕ → ℕ → Bool) (next : ℕ → List ℕ) (after : ℕ �
       let full : zeros t ≡ size = ap zeros e ∙ zeros-blank size in
       let all : length t ≡ size = ap length e ∙ length-replicate size 0 in
       let v : Visited room t s 0 0 0 (set t 0 1) (set s 0 0) 1 =
-      visited-new room t s 0 0 0 (record { count = omega arith; long = omega arith; small = omega arith; shallow = shallow }) (omega arith) (omega arith)
+      visited-new 0 0 (record { count = omega arith; long = omega arith; small = omega arith; shallow = shallow }) (omega arith) (omega arith)
       (ap (λ (l : List ℕ). getD l 0 0) e ∙ blank size 0) in
       let only : (p d : ℕ) → Noted (set t 0 1) p d → (p ≡ 0) × (d ≡ 0) =
       λ p d h. ⊎-elim (λ z. absurd (never p d (sym (ap (λ (l : List ℕ). getD l p 0) e ∙ blank size p) ∙ z))) (λ z. (z .0, z .1)) (v .grown p d h) in

@@ -13,10 +13,11 @@ use Rattle.model.proofs.Marks.{zeros-set}
 use Rattle.flow.specs.Walk.{Noted, Asks, Visited, Refused, Visit, Visits}
 use Rattle.flow.specs.declared.Went.{Went}
 use Rattle.flow.specs.declared.Went.the-variants.{On, Stuck}
+use Rattle.flow.proofs.StepLaws.{same-count, not-both}
 
-module _ (room : ℕ) (t s : List ℕ) (n p d : ℕ) (asks : Asks t s n room) (deep : d ≤ room) (in-t : p < length t) where
+module _ {room : ℕ} {t s : List ℕ} {waiting : ℕ} (p d : ℕ) (asks : Asks t s waiting room) (deep : d ≤ room) (in-t : p < length t) where
   -- a position without a note is left, so that there is room to push it
-  pub has-room : getD t p 0 ≡ 0 → n < length s
+  pub has-room : getD t p 0 ≡ 0 → waiting < length s
   has-room e = omega (arith, zeros-set t p d in-t e)
 
   module _ (e : getD t p 0 ≡ 0) where
@@ -26,29 +27,29 @@ module _ (room : ℕ) (t s : List ℕ) (n p d : ℕ) (asks : Asks t s n room) (d
     new-here : Noted (set t p (suc d)) p d
     new-here = getD-set-same t p (suc d) 0 in-t
 
-    grown-at : (q k : ℕ) → Dec (q ≡ p) → Noted (set t p (suc d)) q k → Noted t q k ⊎ ((q ≡ p) × (k ≡ d) × (n < n + 1))
+    grown-at : (q k : ℕ) → Dec (q ≡ p) → Noted (set t p (suc d)) q k → Noted t q k ⊎ ((q ≡ p) × (k ≡ d) × (waiting < waiting + 1))
     grown-at q k (yes z) h =
         inr (z, suc-inj (sym h ∙ ap (λ (i : ℕ). getD (set t p (suc d)) i 0) z ∙ new-here), omega arith)
     grown-at q k (no z) h = inl (sym (getD-set-other t p q (suc d) 0 z) ∙ h)
 
-    new-visit : Visited room t s n p d (set t p (suc d)) (set s n p) (n + 1)
+    new-visit : Visited room t s waiting p d (set t p (suc d)) (set s waiting p) (waiting + 1)
     new-visit =
         record {
           within = deep;
-          lengths = (length-set t p (suc d), length-set s n p);
+          lengths = (length-set t p (suc d), length-set s waiting p);
           count = omega (arith, zeros-set t p d in-t e);
           more = omega arith;
           here = new-here;
           kept = λ q k h. getD-set-other t p q (suc d) 0 (other q k h) ∙ h;
           grown = λ q k h. grown-at q k (ℕ-discrete q p) h;
-          stack = λ k h. getD-set-other s n k p 0 (λ z. omega arith);
-          pushed = λ k h l. subst (λ (j : ℕ). getD (set s n p) j 0 ≡ p) (omega arith) (getD-set-same s n p 0 (has-room e));
+          stack = λ k h. getD-set-other s waiting k p 0 (λ z. omega arith);
+          pushed = λ k h l. subst (λ (j : ℕ). getD (set s waiting p) j 0 ≡ p) (omega arith) (getD-set-same s waiting p 0 (has-room e));
         }
 
-  pub visited-new : getD t p 0 ≡ 0 → Visited room t s n p d (set t p (d + 1)) (set s n p) (n + 1)
+  pub visited-new : getD t p 0 ≡ 0 → Visited room t s waiting p d (set t p (d + 1)) (set s waiting p) (waiting + 1)
   visited-new e = rw (add-one d) (new-visit e)
 
-  pub visited-same : getD t p 0 ≡ d + 1 → Visited room t s n p d t s n
+  pub visited-same : getD t p 0 ≡ d + 1 → Visited room t s waiting p d t s waiting
   visited-same e =
       record {
         within = deep;
@@ -70,27 +71,33 @@ clash-at room t p d (suc k) e z h = inr (inr (k, e, λ x. h (ap suc x ∙ sym (a
 pub clash : (room : ℕ) (t : List ℕ) (p d : ℕ) → (getD t p 0 ≡ 0 → ⊥) → (getD t p 0 ≡ d + 1 → ⊥) → Refused room t p d
 clash room t p d z h = clash-at room t p d (getD t p 0) refl z h
 
--- what a visit needs for the next one
-pub asks-again : (room : ℕ) (t s : List ℕ) (n p d : ℕ) (t′ s′ : List ℕ) (n′ : ℕ) → Asks t s n room → Visited room t s n p d t′ s′ n′ → Asks t′ s′ n′ room
-asks-again room t s n p d t′ s′ n′ a v =
-    record { count = omega arith; long = omega arith; small = omega arith; shallow = a .shallow }
+-- what a visit answers
+module _ {room : ℕ} {t s : List ℕ} {waiting p d : ℕ} {t′ s′ : List ℕ} where
+  pub visit-on : {k : ℕ} → Visited room t s waiting p d t′ s′ k → Visit room t s waiting p d t′ s′ (On k)
+  visit-on v = record { goes = λ j e. subst (λ (i : ℕ). Visited room t s waiting p d t′ s′ i) (same-count refl e) v; ends = λ e. not-both refl e }
+
+  pub visit-stuck : Refused room t p d → Visit room t s waiting p d t′ s′ Stuck
+  visit-stuck v = record { goes = λ j e. not-both e refl; ends = λ _. v }
+
+  -- what a visit needs for the next one
+  pub asks-again : {k : ℕ} → Asks t s waiting room → Visited room t s waiting p d t′ s′ k → Asks t′ s′ k room
+  asks-again a v = record { count = omega arith; long = omega arith; small = omega arith; shallow = a .shallow }
 
 -- one visit, and one before others
-pub visits-one : (room : ℕ) (t s : List ℕ) (n p : ℕ) (d : ℕ → ℕ) (t′ s′ : List ℕ) (r : Went) → Visit room t s n p (d p) t′ s′ r → Visits room (p ∷ []) d t s n t′ s′ r
-unfolding Visit Visits
-visits-one room t s n p d t′ s′ (On n′) v = inr (t′, s′, n′, v, (refl, refl, refl))
-visits-one room t s n p d t′ s′ Stuck v = inl (v, refl)
+module _ {room : ℕ} {t s : List ℕ} {waiting p : ℕ} (d : ℕ → ℕ) {t₁ s₁ : List ℕ} {r₁ : Went} (v : Visit room t s waiting p (d p) t₁ s₁ r₁) where
+  pub visits-one : Visits room (p ∷ []) d t s waiting t₁ s₁ r₁
+  unfolding Visits
+  visits-one = by r₁ refl
+    where
+      by : (r : Went) → r₁ ≡ r → Visits room (p ∷ []) d t s waiting t₁ s₁ r₁
+      by (On k) e = inr (t₁, s₁, k, v .goes k e, (refl, refl, e))
+      by Stuck e = inl (v .ends e, e)
 
-pub visits-more : (room : ℕ) (t s : List ℕ) (n p : ℕ) (d : ℕ → ℕ) (qs : List ℕ) (t₁ s₁ : List ℕ) (n₁ : ℕ) (r₁ : Went) (t′ s′ : List ℕ) (r : Went)
-    → r₁ ≡ On n₁ → Visit room t s n p (d p) t₁ s₁ r₁ → Visits room qs d t₁ s₁ n₁ t′ s′ r → Visits room (p ∷ qs) d t s n t′ s′ r
-unfolding Visit Visits
-visits-more room t s n p d qs t₁ s₁ n₁ r₁ t′ s′ r e v rest = inr (t₁, s₁, n₁, rw e at v, rest)
+  module _ (qs t′ s′ : List ℕ) where
+    pub visits-more : {k : ℕ} (r : Went) → r₁ ≡ On k → Visits room qs d t₁ s₁ k t′ s′ r → Visits room (p ∷ qs) d t s waiting t′ s′ r
+    unfolding Visits
+    visits-more {k} r e rest = inr (t₁, s₁, k, v .goes k e, rest)
 
-pub visits-stuck : (room : ℕ) (t s : List ℕ) (n p : ℕ) (d : ℕ → ℕ) (qs : List ℕ) (t₁ s₁ : List ℕ) (r₁ : Went) (t′ s′ : List ℕ)
-    → r₁ ≡ Stuck → Visit room t s n p (d p) t₁ s₁ r₁ → Visits room (p ∷ qs) d t s n t′ s′ Stuck
-unfolding Visit Visits
-visits-stuck room t s n p d qs t₁ s₁ r₁ t′ s′ e v = inl (rw e at v, refl)
-
-pub visited-on : (room : ℕ) (t s : List ℕ) (n p d : ℕ) (t′ s′ : List ℕ) (n′ : ℕ) (r : Went) → r ≡ On n′ → Visit room t s n p d t′ s′ r → Visited room t s n p d t′ s′ n′
-unfolding Visit
-visited-on room t s n p d t′ s′ n′ r e v = rw e at v
+    pub visits-stuck : r₁ ≡ Stuck → Visits room (p ∷ qs) d t s waiting t′ s′ Stuck
+    unfolding Visits
+    visits-stuck e = inl (v .ends e, refl)

@@ -1,4 +1,4 @@
--- What the functions of the walk ask of and promise each other. `t` are the notes, `s` the pending positions, of which the first n count.
+-- What the functions of the walk ask of and promise each other. `t` are the notes, `s` the pending positions, of which the first `waiting` count.
 use Prim.Native.Nat.{ℕ, suc, _+_, _*_, _<_, _≤_}
 use mathlib.Core.Path.{_≡_}
 use mathlib.Core.Logic.{_⊎_}
@@ -27,43 +27,43 @@ abbrev pub Noted : List ℕ → ℕ → ℕ → Type 0
 Noted t p d = getD t p 0 ≡ suc d
 
 -- The sum has two uses: each position is pushed once, so that there is room for it; and it falls with each turn.
-pub record Asks (t s : List ℕ) (n room : ℕ) : Type 0 where
-  pub count : n + zeros t ≤ length t
+pub record Asks (t s : List ℕ) (waiting room : ℕ) : Type 0 where
+  pub count : waiting + zeros t ≤ length t
   pub long : length t ≤ length s
   pub small : length t ≤ mostCode
   pub shallow : room ≤ mostDepth
 
 -- Position p has the depth d now: it had it before, or is new and pending.
-pub record Visited (room : ℕ) (t s : List ℕ) (n p d : ℕ) (t′ s′ : List ℕ) (n′ : ℕ) : Type 0 where
+pub record Visited (room : ℕ) (t s : List ℕ) (waiting p d : ℕ) (t′ s′ : List ℕ) (waiting′ : ℕ) : Type 0 where
   pub within : d ≤ room
   pub lengths : (length t′ ≡ length t) × (length s′ ≡ length s)
-  pub count : n′ + zeros t′ ≡ n + zeros t
-  pub more : n ≤ n′
+  pub count : waiting′ + zeros t′ ≡ waiting + zeros t
+  pub more : waiting ≤ waiting′
   pub here : Noted t′ p d
   pub kept : (q k : ℕ) → Noted t q k → Noted t′ q k
-  pub grown : (q k : ℕ) → Noted t′ q k → Noted t q k ⊎ ((q ≡ p) × (k ≡ d) × (n < n′))
-  pub stack : (k : ℕ) → k < n → getD s′ k 0 ≡ getD s k 0
-  pub pushed : (k : ℕ) → n ≤ k → k < n′ → getD s′ k 0 ≡ p
+  pub grown : (q k : ℕ) → Noted t′ q k → Noted t q k ⊎ ((q ≡ p) × (k ≡ d) × (waiting < waiting′))
+  pub stack : (k : ℕ) → k < waiting → getD s′ k 0 ≡ getD s k 0
+  pub pushed : (k : ℕ) → waiting ≤ k → k < waiting′ → getD s′ k 0 ≡ p
 
 -- too deep, outside, or noted with another depth
 abbrev pub Refused : ℕ → List ℕ → ℕ → ℕ → Type 0
 Refused room t p d = (room < d) ⊎ ((length t ≤ p) ⊎ ((e : ℕ) × Noted t p e × (e ≡ d → ⊥)))
 
-unfoldable pub Visit : ℕ → List ℕ → List ℕ → ℕ → ℕ → ℕ → List ℕ → List ℕ → Went → Type 0
-Visit room t s n p d t′ s′ (On n′) = Visited room t s n p d t′ s′ n′
-Visit room t s n p d t′ s′ Stuck = Refused room t p d
+pub record Visit (room : ℕ) (t s : List ℕ) (waiting p d : ℕ) (t′ s′ : List ℕ) (r : Went) : Type 0 where
+  pub goes : (k : ℕ) → r ≡ On k → Visited room t s waiting p d t′ s′ k
+  pub ends : r ≡ Stuck → Refused room t p d
 
 -- all positions of a list, in turn, position q with depth d q
 unfoldable pub Visits : ℕ → List ℕ → (ℕ → ℕ) → List ℕ → List ℕ → ℕ → List ℕ → List ℕ → Went → Type 0
-Visits room [] d t s n t′ s′ r = (t′ ≡ t) × (s′ ≡ s) × (r ≡ On n)
-Visits room (q ∷ qs) d t s n t′ s′ r =
+Visits room [] d t s waiting t′ s′ r = (t′ ≡ t) × (s′ ≡ s) × (r ≡ On waiting)
+Visits room (q ∷ qs) d t s waiting t′ s′ r =
     (Refused room t q (d q) × (r ≡ Stuck))
-    ⊎ ((t₁ : List ℕ) × (s₁ : List ℕ) × (n₁ : ℕ) × Visited room t s n q (d q) t₁ s₁ n₁ × Visits room qs d t₁ s₁ n₁ t′ s′ r)
+    ⊎ ((t₁ : List ℕ) × (s₁ : List ℕ) × (waiting₁ : ℕ) × Visited room t s waiting q (d q) t₁ s₁ waiting₁ × Visits room qs d t₁ s₁ waiting₁ t′ s′ r)
 
 -- the same where the instruction keeps its rules
-unfoldable pub Step : ℕ → Bool → List ℕ → (ℕ → ℕ) → List ℕ → List ℕ → ℕ → List ℕ → List ℕ → Went → Type 0
-Step room false qs d t s n t′ s′ r = r ≡ Stuck
-Step room true qs d t s n t′ s′ r = Visits room qs d t s n t′ s′ r
+pub record Step (room : ℕ) (ok : Bool) (qs : List ℕ) (d : ℕ → ℕ) (t s : List ℕ) (waiting : ℕ) (t′ s′ : List ℕ) (r : Went) : Type 0 where
+  pub holds : ok ≡ true → Visits room qs d t s waiting t′ s′ r
+  pub fails : ok ≡ false → r ≡ Stuck
 
 -- one depth for every position
 abbrev pub alike : ℕ → ℕ → ℕ
@@ -75,7 +75,7 @@ Nobody p = ⊥
 
 -- p is among the pending
 abbrev pub Pending : List ℕ → ℕ → ℕ → Type 0
-Pending s n p = (k : ℕ) × (k < n) × (getD s k 0 ≡ p)
+Pending s waiting p = (k : ℕ) × (k < waiting) × (getD s k 0 ≡ p)
 
 module _ (fine : ℕ → ℕ → Bool) (next : ℕ → List ℕ) (after : ℕ → ℕ → ℕ → ℕ) (room : ℕ) where
   -- a position is dealt with: it keeps its rules, and what follows is noted
@@ -84,18 +84,18 @@ module _ (fine : ℕ → ℕ → Bool) (next : ℕ → List ℕ) (after : ℕ �
     pub along : (q : ℕ) → List·Memᴰ q (next p) → Noted t q (after p q d)
 
   -- The invariant: each noted position is reached with its depth, and is busy, pending or dealt with.
-  pub record Walk (t s : List ℕ) (n : ℕ) (Busy : ℕ → Type 0) : Type 0 where
-    pub count : n + zeros t ≤ length t
+  pub record Walk (t s : List ℕ) (waiting : ℕ) (Busy : ℕ → Type 0) : Type 0 where
+    pub count : waiting + zeros t ≤ length t
     pub first : Noted t 0 0
     pub path : (p d : ℕ) → Noted t p d → At next after p d
     pub within : (p d : ℕ) → Noted t p d → d ≤ room
-    pub queued : (k : ℕ) → k < n → (d : ℕ) × Noted t (getD s k 0) d
-    pub done : (p d : ℕ) → Noted t p d → Busy p ⊎ (Pending s n p ⊎ Done t p d)
+    pub queued : (k : ℕ) → k < waiting → (d : ℕ) × Noted t (getD s k 0) d
+    pub done : (p d : ℕ) → Noted t p d → Busy p ⊎ (Pending s waiting p ⊎ Done t p d)
 
   -- a turn keeps it and uses something up, or shows that there is no table
-  unfoldable pub Turn : List ℕ → List ℕ → ℕ → List ℕ → List ℕ → Went → Type 0
-  Turn t s n t′ s′ (On n′) = Walk t′ s′ n′ Nobody × (n′ + zeros t′ < n + zeros t)
-  Turn t s n t′ s′ Stuck = HasTable fine next after → ⊥
+  pub record Turn (t s : List ℕ) (waiting : ℕ) (t′ s′ : List ℕ) (r : Went) : Type 0 where
+    pub goes : (k : ℕ) → r ≡ On k → Walk t′ s′ k Nobody × (k + zeros t′ < waiting + zeros t)
+    pub ends : r ≡ Stuck → HasTable fine next after → ⊥
 
 -- The walk over code of `size` bytes, by counts of which number 2 is the temporaries; with room for so many operands beside them
 module _ (counts words : List ℕ) (size room : ℕ) where
@@ -114,14 +114,15 @@ module _ (counts words : List ℕ) (size room : ℕ) where
     pub entry : Entry b e
     pub shallow : d ≤ room
 
-  unfoldable pub Expand : ℕ → ℕ → List ℕ → List ℕ → ℕ → List ℕ → List ℕ → Went → Type 0
-  Expand p d t s n t′ s′ r = Step room (fineIn p d) (successorsAt words size p) (λ q. depthAfterAt words size p q d) t s n t′ s′ r
+  abbrev pub Expand : ℕ → ℕ → List ℕ → List ℕ → ℕ → List ℕ → List ℕ → Went → Type 0
+  Expand p d t s waiting t′ s′ r = Step room (fineIn p d) (successorsAt words size p) (λ q. depthAfterAt words size p q d) t s waiting t′ s′ r
 
-  unfoldable pub WalkingAt : List ℕ → List ℕ → ℕ → Type 0
-  WalkingAt t s n = Walk fineIn (successorsAt words size) (depthAfterAt words size) room t s n Nobody
+  pub record WalkingAt (t s : List ℕ) (waiting : ℕ) : Type 0 where
+    pub walk : Walk fineIn (successorsAt words size) (depthAfterAt words size) room t s waiting Nobody
 
-  unfoldable pub TurnAt : List ℕ → List ℕ → ℕ → List ℕ → List ℕ → Went → Type 0
-  TurnAt t s n t′ s′ r = Turn fineIn (successorsAt words size) (depthAfterAt words size) room t s n t′ s′ r
+  pub record TurnAt (t s : List ℕ) (waiting : ℕ) (t′ s′ : List ℕ) (r : Went) : Type 0 where
+    pub goes : (k : ℕ) → r ≡ On k → WalkingAt t′ s′ k × (k + zeros t′ < waiting + zeros t)
+    pub ends : r ≡ Stuck → tableBy ≡ none
 
 -- what does not change on the way
 pub record Static (table counts words : List ℕ) (room : ℕ) (t s : List ℕ) : Type 0 where

@@ -22,13 +22,13 @@ enum Went {
 fn visit(
     notes: &mut [u8],
     pending: &mut [u16],
-    n: usize,
+    waiting: usize,
     at: usize,
     depth: usize,
     room: usize,
 ) -> Went
-    requires { ⌜ Asks (now notes) (now pending) n room ⌝ }
-    ensures { λ r. ⌜ Visit room (now (notes .entry)) (now (pending .entry)) n at depth (now (notes .exit)) (now (pending .exit)) r ⌝ }
+    requires { ⌜ Asks (now notes) (now pending) waiting room ⌝ }
+    ensures { λ r. ⌜ Visit room (now (notes .entry)) (now (pending .entry)) waiting at depth (now (notes .exit)) (now (pending .exit)) r ⌝ }
 {
     if room < depth {
         return Went::Stuck;
@@ -39,11 +39,11 @@ fn visit(
     let old = notes[at] as usize;
     if old == 0 {
         notes[at] = (depth + 1) as u8;
-        pending[n] = at as u16;
-        return Went::On(n + 1);
+        pending[waiting] = at as u16;
+        return Went::On(waiting + 1);
     }
     if old == depth + 1 {
-        return Went::On(n);
+        return Went::On(waiting);
     }
     Went::Stuck
 }
@@ -52,16 +52,16 @@ fn visit(
 fn both(
     notes: &mut [u8],
     pending: &mut [u16],
-    n: usize,
+    waiting: usize,
     a: usize,
     b: usize,
     depth: usize,
     room: usize,
 ) -> Went
-    requires { ⌜ Asks (now notes) (now pending) n room ⌝ }
-    ensures { λ r. ⌜ Visits room (a ∷ b ∷ []) (alike depth) (now (notes .entry)) (now (pending .entry)) n (now (notes .exit)) (now (pending .exit)) r ⌝ }
+    requires { ⌜ Asks (now notes) (now pending) waiting room ⌝ }
+    ensures { λ r. ⌜ Visits room (a ∷ b ∷ []) (alike depth) (now (notes .entry)) (now (pending .entry)) waiting (now (notes .exit)) (now (pending .exit)) r ⌝ }
 {
-    match visit(notes, pending, n, a, depth, room) {
+    match visit(notes, pending, waiting, a, depth, room) {
         Went::On(k) => visit(notes, pending, k, b, depth, room),
         Went::Stuck => Went::Stuck,
     }
@@ -71,40 +71,40 @@ fn both(
 fn fork(
     notes: &mut [u8],
     pending: &mut [u16],
-    n: usize,
+    waiting: usize,
     next: usize,
     target: usize,
     depth: usize,
     room: usize,
 ) -> Went
-    requires { ⌜ Asks (now notes) (now pending) n room ⌝ }
-    ensures { λ r. ⌜ Step room (leb 1 depth) (next ∷ target ∷ []) (alike (depth - 1)) (now (notes .entry)) (now (pending .entry)) n (now (notes .exit)) (now (pending .exit)) r ⌝ }
+    requires { ⌜ Asks (now notes) (now pending) waiting room ⌝ }
+    ensures { λ r. ⌜ Step room (leb 1 depth) (next ∷ target ∷ []) (alike (depth - 1)) (now (notes .entry)) (now (pending .entry)) waiting (now (notes .exit)) (now (pending .exit)) r ⌝ }
 {
     if depth < 1 {
         return Went::Stuck;
     }
-    both(notes, pending, n, next, target, depth - 1, room)
+    both(notes, pending, waiting, next, target, depth - 1, room)
 }
 
 // After an instruction that needs and leaves so many operands.
 fn onward(
     notes: &mut [u8],
     pending: &mut [u16],
-    n: usize,
+    waiting: usize,
     next: usize,
     depth: usize,
     need: usize,
     leaves: usize,
     room: usize,
 ) -> Went
-    requires { ⌜ Asks (now notes) (now pending) n room ⌝ }
+    requires { ⌜ Asks (now notes) (now pending) waiting room ⌝ }
     requires { ⌜ (depth ≤ room) × (leaves ≤ 3) ⌝ }
-    ensures { λ r. ⌜ Step room (leb need depth) (next ∷ []) (alike (depth - need + leaves)) (now (notes .entry)) (now (pending .entry)) n (now (notes .exit)) (now (pending .exit)) r ⌝ }
+    ensures { λ r. ⌜ Step room (leb need depth) (next ∷ []) (alike (depth - need + leaves)) (now (notes .entry)) (now (pending .entry)) waiting (now (notes .exit)) (now (pending .exit)) r ⌝ }
 {
     if depth < need {
         return Went::Stuck;
     }
-    visit(notes, pending, n, next, depth - need + leaves, room)
+    visit(notes, pending, waiting, next, depth - need + leaves, room)
 }
 
 // An instruction of one byte that goes on to the next: its entry says all of it.
@@ -113,14 +113,14 @@ fn plain(
     room: usize,
     notes: &mut [u8],
     pending: &mut [u16],
-    n: usize,
+    waiting: usize,
     at: usize,
     depth: usize,
     e: usize,
 ) -> Went
-    requires { ⌜ Asks (now notes) (now pending) n room ⌝ }
+    requires { ⌜ Asks (now notes) (now pending) waiting room ⌝ }
     requires { ⌜ (depth ≤ room) × (at ≤ 48000) ⌝ }
-    ensures { λ r. ⌜ Step room (ltb (indexPart e) (getD (now (limits .entry)) (boundPart e) 0) && leb (needPart e) depth) ((at + 1) ∷ []) (alike (depth - needPart e + leavesPart e)) (now (notes .entry)) (now (pending .entry)) n (now (notes .exit)) (now (pending .exit)) r ⌝ }
+    ensures { λ r. ⌜ Step room (ltb (indexPart e) (getD (now (limits .entry)) (boundPart e) 0) && leb (needPart e) depth) ((at + 1) ∷ []) (alike (depth - needPart e + leavesPart e)) (now (notes .entry)) (now (pending .entry)) waiting (now (notes .exit)) (now (pending .exit)) r ⌝ }
 {
     let bound = bytecode::entry_bound(e);
     let index = bytecode::entry_index(e) as u8;
@@ -130,7 +130,7 @@ fn plain(
     onward(
         notes,
         pending,
-        n,
+        waiting,
         at + 1,
         depth,
         bytecode::entry_need(e),
@@ -194,16 +194,16 @@ fn extended(
     room: usize,
     notes: &mut [u8],
     pending: &mut [u16],
-    n: usize,
+    waiting: usize,
     at: usize,
     depth: usize,
     b: u8,
     e: usize,
 ) -> Went
-    requires { ⌜ Asks (now notes) (now pending) n room ⌝ }
+    requires { ⌜ Asks (now notes) (now pending) waiting room ⌝ }
     requires { ⌜ Here (now limits) (now words) (length (now notes)) room at depth b e ⌝ }
     requires { ⌜ (128 ≤ b) × (b < 135) × (at + lengthPart e ≤ length (now notes)) ⌝ }
-    ensures { λ r. ⌜ Expand (now (limits .entry)) (now (words .entry)) (length (now (notes .entry))) room at depth (now (notes .entry)) (now (pending .entry)) n (now (notes .exit)) (now (pending .exit)) r ⌝ }
+    ensures { λ r. ⌜ Expand (now (limits .entry)) (now (words .entry)) (length (now (notes .entry))) room at depth (now (notes .entry)) (now (pending .entry)) waiting (now (notes .exit)) (now (pending .exit)) r ⌝ }
 {
     let x = bytecode::byte(words, at + 1);
     let y = bytecode::byte(words, at + 2);
@@ -213,7 +213,7 @@ fn extended(
     onward(
         notes,
         pending,
-        n,
+        waiting,
         at + bytecode::entry_length(e),
         depth,
         bytecode::entry_need(e) + bytecode::extra(b, x),
@@ -229,25 +229,32 @@ fn jump(
     room: usize,
     notes: &mut [u8],
     pending: &mut [u16],
-    n: usize,
+    waiting: usize,
     at: usize,
     depth: usize,
     b: u8,
     e: usize,
 ) -> Went
-    requires { ⌜ Asks (now notes) (now pending) n room ⌝ }
+    requires { ⌜ Asks (now notes) (now pending) waiting room ⌝ }
     requires { ⌜ Here (now limits) (now words) (length (now notes)) room at depth b e ⌝ }
     requires { ⌜ (144 ≤ b) × (b < 176) × (at + lengthPart e ≤ length (now notes)) ⌝ }
-    ensures { λ r. ⌜ Expand (now (limits .entry)) (now (words .entry)) (length (now (notes .entry))) room at depth (now (notes .entry)) (now (pending .entry)) n (now (notes .exit)) (now (pending .exit)) r ⌝ }
+    ensures { λ r. ⌜ Expand (now (limits .entry)) (now (words .entry)) (length (now (notes .entry))) room at depth (now (notes .entry)) (now (pending .entry)) waiting (now (notes .exit)) (now (pending .exit)) r ⌝ }
 {
     if b < 152 {
-        return visit(notes, pending, n, at + 2 + (b % 8) as usize, depth, room);
+        return visit(
+            notes,
+            pending,
+            waiting,
+            at + 2 + (b % 8) as usize,
+            depth,
+            room,
+        );
     }
     if b < 160 {
         return fork(
             notes,
             pending,
-            n,
+            waiting,
             at + 1,
             at + 2 + (b % 8) as usize,
             depth,
@@ -260,12 +267,12 @@ fn jump(
         if to < 1024 {
             return Went::Stuck;
         }
-        return visit(notes, pending, n, to - 1024, depth, room);
+        return visit(notes, pending, waiting, to - 1024, depth, room);
     }
     fork(
         notes,
         pending,
-        n,
+        waiting,
         at + 2,
         at + 2 + (b % 4) as usize * 256 + x,
         depth,
@@ -280,24 +287,46 @@ fn far(
     room: usize,
     notes: &mut [u8],
     pending: &mut [u16],
-    n: usize,
+    waiting: usize,
     at: usize,
     depth: usize,
     b: u8,
     e: usize,
 ) -> Went
-    requires { ⌜ Asks (now notes) (now pending) n room ⌝ }
+    requires { ⌜ Asks (now notes) (now pending) waiting room ⌝ }
     requires { ⌜ Here (now limits) (now words) (length (now notes)) room at depth b e ⌝ }
     requires { ⌜ groupPart e ≡ 2 ⌝ }
-    ensures { λ r. ⌜ Expand (now (limits .entry)) (now (words .entry)) (length (now (notes .entry))) room at depth (now (notes .entry)) (now (pending .entry)) n (now (notes .exit)) (now (pending .exit)) r ⌝ }
+    ensures { λ r. ⌜ Expand (now (limits .entry)) (now (words .entry)) (length (now (notes .entry))) room at depth (now (notes .entry)) (now (pending .entry)) waiting (now (notes .exit)) (now (pending .exit)) r ⌝ }
 {
     if notes.len() < at + bytecode::entry_length(e) {
         return Went::Stuck;
     }
     if b < 144 {
-        return extended(limits, words, room, notes, pending, n, at, depth, b, e);
+        return extended(
+            limits,
+            words,
+            room,
+            notes,
+            pending,
+            waiting,
+            at,
+            depth,
+            b,
+            e,
+        );
     }
-    jump(limits, words, room, notes, pending, n, at, depth, b, e)
+    jump(
+        limits,
+        words,
+        room,
+        notes,
+        pending,
+        waiting,
+        at,
+        depth,
+        b,
+        e,
+    )
 }
 
 // Examines the instruction at a position, and visits what follows it.
@@ -307,30 +336,41 @@ fn expand(
     room: usize,
     notes: &mut [u8],
     pending: &mut [u16],
-    n: usize,
+    waiting: usize,
     at: usize,
     depth: usize,
     b: u8,
     e: usize,
 ) -> Went
-    requires { ⌜ Asks (now notes) (now pending) n room ⌝ }
+    requires { ⌜ Asks (now notes) (now pending) waiting room ⌝ }
     requires { ⌜ Here (now limits) (now words) (length (now notes)) room at depth b e ⌝ }
-    ensures { λ r. ⌜ Expand (now (limits .entry)) (now (words .entry)) (length (now (notes .entry))) room at depth (now (notes .entry)) (now (pending .entry)) n (now (notes .exit)) (now (pending .exit)) r ⌝ }
+    ensures { λ r. ⌜ Expand (now (limits .entry)) (now (words .entry)) (length (now (notes .entry))) room at depth (now (notes .entry)) (now (pending .entry)) waiting (now (notes .exit)) (now (pending .exit)) r ⌝ }
 {
     let group = bytecode::entry_group(e);
     if group == 0 {
-        return plain(limits, room, notes, pending, n, at, depth, e);
+        return plain(limits, room, notes, pending, waiting, at, depth, e);
     }
     if group == 1 {
         if depth < bytecode::entry_need(e) {
             return Went::Stuck;
         }
-        return Went::On(n);
+        return Went::On(waiting);
     }
     if 2 < group {
         return Went::Stuck;
     }
-    far(limits, words, room, notes, pending, n, at, depth, b, e)
+    far(
+        limits,
+        words,
+        room,
+        notes,
+        pending,
+        waiting,
+        at,
+        depth,
+        b,
+        e,
+    )
 }
 
 // Deals with the last pending position.
@@ -341,19 +381,19 @@ fn turn(
     room: usize,
     notes: &mut [u8],
     pending: &mut [u16],
-    n: usize,
+    waiting: usize,
 ) -> Went
     requires { ⌜ Static (now table) (now limits) (now words) room (now notes) (now pending) ⌝ }
-    requires { ⌜ 0 < n ⌝ }
-    requires { ⌜ WalkingAt (now limits) (now words) (length (now notes)) room (now notes) (now pending) n ⌝ }
-    ensures { λ r. ⌜ TurnAt (now (limits .entry)) (now (words .entry)) (length (now (notes .entry))) room (now (notes .entry)) (now (pending .entry)) n (now (notes .exit)) (now (pending .exit)) r ⌝ }
+    requires { ⌜ 0 < waiting ⌝ }
+    requires { ⌜ WalkingAt (now limits) (now words) (length (now notes)) room (now notes) (now pending) waiting ⌝ }
+    ensures { λ r. ⌜ TurnAt (now (limits .entry)) (now (words .entry)) (length (now (notes .entry))) room (now (notes .entry)) (now (pending .entry)) waiting (now (notes .exit)) (now (pending .exit)) r ⌝ }
 {
-    let m = n - 1;
-    let at = pending[m] as usize;
+    let last = waiting - 1;
+    let at = pending[last] as usize;
     let depth = notes[at] as usize - 1;
     let b = bytecode::fetch(words, at);
     let e = bytecode::entry(table, b);
-    expand(limits, words, room, notes, pending, m, at, depth, b, e)
+    expand(limits, words, room, notes, pending, last, at, depth, b, e)
 }
 
 // Deals with pending positions until none is left.
@@ -369,11 +409,11 @@ fn drain(
     requires { ⌜ WalkingAt (now limits) (now words) (length (now notes)) room (now notes) (now pending) 1 ⌝ }
     ensures { λ r. ⌜ Answer (tableBy (now (limits .entry)) (now (words .entry)) (length (now (notes .entry))) room) (now (notes .exit)) r ⌝ }
 {
-    let mut n: usize = 1;
-    while 0 < n {
-        match turn(table, limits, words, room, notes, pending, n) {
+    let mut waiting: usize = 1;
+    while 0 < waiting {
+        match turn(table, limits, words, room, notes, pending, waiting) {
             Went::On(k) => {
-                n = k;
+                waiting = k;
             }
             Went::Stuck => {
                 return false;

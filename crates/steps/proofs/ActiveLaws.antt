@@ -6,7 +6,7 @@ use mathlib.Core.List.{List, [], _∷_}
 use native.Mathlib.Omega.{arith}
 use lib.ListN.{length, getD, set, take, drop, length-set}
 use lib.Seq.{getD-set-same, getD-set-other}
-use Rattle.bytecode.specs.Code.{byteAt, instructionOf, lengthOf, nextAt}
+use Rattle.bytecode.specs.Code.{byteAt, bytesAfter, instructionOf, lengthOf, nextAt}
 use Rattle.bytecode.specs.declared.Instruction.{Instruction}
 use Rattle.bytecode.proofs.DecodeLaws.{next-is}
 use Rattle.model.specs.Limits.{methodKind}
@@ -210,7 +210,7 @@ module _ {n b : ℕ} {contents bodies stack : List ℕ} (t : StackPosition) (r :
 -- ---- its instruction, by the bytes
 
 abbrev at-bytes : List ℕ → ℕ → Instruction
-at-bytes c q = instructionOf (byteAt c q) (byteAt c (q + 1)) (byteAt c (q + 2))
+at-bytes c q = instructionOf (byteAt c q) (bytesAfter c q)
 
 module _ {n b : ℕ} {contents bodies stack : List ℕ} {a : Active} {op : ℕ} (f : Fetched n b contents bodies stack a op) where
   abbrev oₒ : Objects
@@ -235,7 +235,7 @@ module _ {n b : ℕ} {contents bodies stack : List ℕ} {a : Active} {op : ℕ} 
       (subst (λ (k : ℕ). nextAt (codeWords oₒ (frameMethod (written a stack) (a .base .0))) (framePosition (written a stack) (a .base .0)) ≤ codeSize oₒ k)
       (method-read (f .active)) (next-inside (f .active .runs)))
 
-  pub doing : (k next : ℕ) (i : Instruction) → lengthOf op ≡ k → next ≡ p + k → instructionOf op (byteAt words (p + 1)) (byteAt words (p + 2)) ≡ i → Doing n b contents bodies stack a next i
+  pub doing : (k next : ℕ) (i : Instruction) → lengthOf op ≡ k → next ≡ p + k → instructionOf op (bytesAfter words p) ≡ i → Doing n b contents bodies stack a next i
   doing k next i e d g =
       record {
         active = f .active;
@@ -243,7 +243,7 @@ module _ {n b : ℕ} {contents bodies stack : List ℕ} {a : Active} {op : ℕ} 
           runs = f .active .runs;
           behind = d ∙ ap (λ (x : ℕ). p + x) (sym e) ∙ sym op-next ∙ next-read;
           decoded = sym g
-              ∙ ap (λ (x : ℕ). instructionOf x (byteAt words (p + 1)) (byteAt words (p + 2))) (f .byte) ∙ read ∙ decode-is (f .active .runs);
+              ∙ ap (λ (x : ℕ). instructionOf x (bytesAfter words p)) (f .byte) ∙ read ∙ decode-is (f .active .runs);
         };
       }
     where

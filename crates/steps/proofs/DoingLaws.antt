@@ -8,7 +8,7 @@ use mathlib.Core.Option.{some}
 use native.Mathlib.Omega.{arith}
 use lib.Dec.{T, eqb}
 use lib.ListN.{length, getD, set}
-use Rattle.bytecode.specs.Code.{byteAt, instructionOf, lengthOf}
+use Rattle.bytecode.specs.Code.{bytesAfter, instructionOf, lengthOf}
 use Rattle.bytecode.specs.Effect.{specialCount}
 use Rattle.bytecode.specs.declared.Place.{Place}
 use Rattle.bytecode.specs.declared.Place.the-variants.{Field, Temporary, Literal, LiteralVariable}
@@ -53,13 +53,11 @@ use Rattle.steps.proofs.SpecialLaws as S
 -- The instruction of a byte that is known
 pub doing-at : {n b : ℕ} {contents bodies stack : List ℕ} {a : Active} {op : ℕ} → Fetched n b contents bodies stack a op → (c k next : ℕ) (i : Instruction)
     → op ≡ c → lengthOf c ≡ k → next ≡ a .position .0 + k
-    → instructionOf c (byteAt (codeWords (objectsAt n b contents bodies) (frameMethod stack (a .base .0))) (a .position .0 + 1))
-    (byteAt (codeWords (objectsAt n b contents bodies) (frameMethod stack (a .base .0))) (a .position .0 + 2)) ≡ i
+    → instructionOf c (bytesAfter (codeWords (objectsAt n b contents bodies) (frameMethod stack (a .base .0))) (a .position .0)) ≡ i
     → Doing n b contents bodies stack a next i
 doing-at {n} {b} {contents} {bodies} {stack} {a} f c k next i e l d g =
     doing f k next i (ap lengthOf e ∙ l) d
-    (ap (λ (x : ℕ). instructionOf x (byteAt (codeWords (objectsAt n b contents bodies) (frameMethod stack (a .base .0))) (a .position .0 + 1))
-    (byteAt (codeWords (objectsAt n b contents bodies) (frameMethod stack (a .base .0))) (a .position .0 + 2))) e ∙ g)
+    (ap (λ (x : ℕ). instructionOf x (bytesAfter (codeWords (objectsAt n b contents bodies) (frameMethod stack (a .base .0))) (a .position .0))) e ∙ g)
 
 module _ {n b : ℕ} {contents bodies stack : List ℕ} {a : Active} {next : ℕ} {i : Instruction} (d : Doing n b contents bodies stack a next i) where
   room-of : Answers (a .base .0) (written a stack) (hereOf stack a next) 0 → Pushing stack a

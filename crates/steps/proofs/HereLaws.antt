@@ -9,7 +9,7 @@ use native.Mathlib.Decide.{decLt}
 use borrow.Author.Tests.{lt-ltb}
 use lib.Dec.{T}
 use lib.ListN.{length, getD, getElem?}
-use Rattle.bytecode.specs.Code.{byteAt, instructionOf, nextAt, decodeAt}
+use Rattle.bytecode.specs.Code.{byteAt, bytesAfter, instructionOf, nextAt, decodeAt}
 use Rattle.bytecode.specs.Effect.{usable}
 use Rattle.bytecode.specs.declared.Instruction.{Instruction}
 use Rattle.bytecode.specs.declared.Instruction.the-variants.{Unused}
@@ -107,7 +107,7 @@ module _ {n b top : ℕ} {contents bodies stack : List ℕ} (r : Runs n b top co
           absurd (never-unused (nextAt (codeWords o m) p) (subst (λ (i : Instruction). T (usable (nextAt (codeWords o m) p) i)) (decode-short (codeWords o m) (codeSize o m) p h) usable-here))
       go (no h) = omega arith
 
-  pub decode-is : instructionOf (byteAt (codeWords o m) p) (byteAt (codeWords o m) (p + 1)) (byteAt (codeWords o m) (p + 2)) ≡ decodeAt (codeWords o m) (codeSize o m) p
+  pub decode-is : instructionOf (byteAt (codeWords o m) p) (bytesAfter (codeWords o m) p) ≡ decodeAt (codeWords o m) (codeSize o m) p
   decode-is = sym (decode-whole (codeWords o m) (codeSize o m) p next-inside)
 
 -- Numbers of the running frame

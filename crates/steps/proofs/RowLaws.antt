@@ -15,6 +15,7 @@ use Rattle.bytecode.specs.declared.Instruction.{Instruction}
 use Rattle.bytecode.specs.declared.Instruction.the-variants.{Push, Store, PopStore, Pop, Duplicate, Jump, JumpOn, Send, SuperSend, SpecialSend, Unused}
 use Rattle.bytecode.proofs.Choice.{ranges}
 use Rattle.bytecode.proofs.CodeLaws.{constant-unused, length-low, length-middle, length-jump, length-send, push-field, push-temporary, push-literal, push-variable, pop-field, pop-temporary, is-constant, is-extended, is-jump, is-send, jump-short, jump-on-short}
+use Rattle.bytecode.proofs.CodeLaws as B
 use Rattle.model.specs.Objects.{objectsAt}
 use Rattle.model.specs.Method.{codeWords, codeSize}
 use Rattle.plain.specs.Flat.{frameMethod}
@@ -50,31 +51,31 @@ module _ {n b : ℕ} {contents bodies stack : List ℕ} {a : Active} {op : ℕ} 
   -- ---- by the row
 
   pub row-field : op / 16 ≡ 0 → Does (p + 1) (Push (Field (op % 16)))
-  row-field h = doing f 1 (p + 1) (Push (Field (op % 16))) (length-low op (omega arith)) refl (push-field op _ _ (omega arith))
+  row-field h = doing f 1 (p + 1) (Push (Field (op % 16))) (length-low op (omega arith)) refl (push-field op _ (omega arith))
 
   pub row-temporary : op / 16 ≡ 1 → Does (p + 1) (Push (Temporary (op % 16)))
   row-temporary h =
-      doing f 1 (p + 1) (Push (Temporary (op % 16))) (length-low op (omega arith)) refl (push-temporary op _ _ (omega arith) (omega arith))
+      doing f 1 (p + 1) (Push (Temporary (op % 16))) (length-low op (omega arith)) refl (push-temporary op _ (omega arith) (omega arith))
 
   pub row-literal : 32 ≤ op → op < 64 → Does (p + 1) (Push (Literal (op % 32)))
-  row-literal h l = doing f 1 (p + 1) (Push (Literal (op % 32))) (length-low op (omega arith)) refl (push-literal op _ _ h l)
+  row-literal h l = doing f 1 (p + 1) (Push (Literal (op % 32))) (length-low op (omega arith)) refl (push-literal op _ h l)
 
   pub row-variable : 64 ≤ op → op < 96 → Does (p + 1) (Push (LiteralVariable (op % 32)))
   row-variable h l =
-      doing f 1 (p + 1) (Push (LiteralVariable (op % 32))) (length-low op (omega arith)) refl (push-variable op _ _ h l)
+      doing f 1 (p + 1) (Push (LiteralVariable (op % 32))) (length-low op (omega arith)) refl (push-variable op _ h l)
 
   pub row-pop-field : op / 16 ≡ 6 → op < 104 → Does (p + 1) (PopStore (Field (op % 8)))
   row-pop-field h l =
-      doing f 1 (p + 1) (PopStore (Field (op % 8))) (length-low op (omega arith)) refl (pop-field op _ _ (omega arith) l)
+      doing f 1 (p + 1) (PopStore (Field (op % 8))) (length-low op (omega arith)) refl (pop-field op _ (omega arith) l)
 
   pub row-pop-temporary : op / 16 ≡ 6 → 104 ≤ op → Does (p + 1) (PopStore (Temporary (op % 8)))
   row-pop-temporary h l =
-      doing f 1 (p + 1) (PopStore (Temporary (op % 8))) (length-low op (omega arith)) refl (pop-temporary op _ _ l (omega arith))
+      doing f 1 (p + 1) (PopStore (Temporary (op % 8))) (length-low op (omega arith)) refl (pop-temporary op _ l (omega arith))
 
   pub row-special : 176 ≤ op → op < 208 → Does (p + 1) (SpecialSend (op - 176))
   unfolding sendOf
   row-special h l =
-      doing f 1 (p + 1) (SpecialSend (op - 176)) (length-send op (omega arith) h) refl (is-send op _ _ h ∙ search ranges)
+      doing f 1 (p + 1) (SpecialSend (op - 176)) (length-send op (omega arith) h) refl (is-send op _ h ∙ search ranges)
 
   pub row-send : (k : ℕ) → op / 16 ≡ 13 + k → Does (p + 1) (Send (op % 16) k)
   unfolding sendOf
@@ -82,13 +83,13 @@ module _ {n b : ℕ} {contents bodies stack : List ℕ} {a : Active} {op : ℕ} 
       let l : 208 ≤ op = omega arith in
       let e : (op - 208) / 16 ≡ k = omega arith in
       let g : sendOf op ≡ Send (op % 16) ((op - 208) / 16) = search ranges in
-      doing f 1 (p + 1) (Send (op % 16) k) (length-send op (omega arith) (omega arith)) refl (is-send op _ _ (omega arith) ∙ g ∙ ap (Send (op % 16)) e)
+      doing f 1 (p + 1) (Send (op % 16) k) (length-send op (omega arith) (omega arith)) refl (is-send op _ (omega arith) ∙ g ∙ ap (Send (op % 16)) e)
 
   -- ---- 112 to 127
 
   pub row-unused : 125 ≤ op → op < 128 → ⊥
   row-unused h l =
-      never (doing f 1 (p + 1) Unused (length-low op l) refl (is-constant op _ _ (omega arith) l ∙ constant-unused op h))
+      never (doing f 1 (p + 1) Unused (length-low op l) refl (is-constant op _ (omega arith) l ∙ constant-unused op h))
 
   -- ---- 128 to 143
 
@@ -133,28 +134,18 @@ module _ {n b : ℕ} {contents bodies stack : List ℕ} {a : Active} {op : ℕ} 
   extended-duplicate e = doing-at f 136 1 (p + 1) Duplicate e refl refl refl
 
   pub extended-unused : op / 16 ≡ 8 → 137 ≤ op → ⊥
-  unfolding extendedOf
   extended-unused h l =
-      let h₁ : (op ≡ 128 → ⊥) = λ e. omega arith in
-      let h₂ : (op ≡ 129 → ⊥) = λ e. omega arith in
-      let h₃ : (op ≡ 130 → ⊥) = λ e. omega arith in
-      let h₄ : (op ≡ 131 → ⊥) = λ e. omega arith in
-      let h₅ : (op ≡ 132 → ⊥) = λ e. omega arith in
-      let h₆ : (op ≡ 133 → ⊥) = λ e. omega arith in
-      let h₇ : (op ≡ 134 → ⊥) = λ e. omega arith in
-      let h₈ : (op ≡ 135 → ⊥) = λ e. omega arith in
-      let h₉ : (op ≡ 136 → ⊥) = λ e. omega arith in
-      never (doing f 1 (p + 1) Unused (length-middle op (omega arith) (omega arith)) refl (is-extended op _ _ (omega arith) (omega arith) ∙ search ranges))
+      never (doing f 1 (p + 1) Unused (length-middle op (omega arith) (omega arith)) refl (is-extended op _ (omega arith) (omega arith) ∙ B.extended-unused op _ l))
 
   -- ---- jumps
 
   pub near-jump : op / 16 ≡ 9 → op < 152 → Does (p + 1) (Jump (op % 8 + 1) 0)
   near-jump h l =
-      doing f 1 (p + 1) (Jump (op % 8 + 1) 0) (length-middle op (omega arith) (omega arith)) refl (jump-short op _ _ (omega arith) l)
+      doing f 1 (p + 1) (Jump (op % 8 + 1) 0) (length-middle op (omega arith) (omega arith)) refl (jump-short op _ (omega arith) l)
 
   pub near-on : op / 16 ≡ 9 → 152 ≤ op → Does (p + 1) (JumpOn false (op % 8 + 1))
   near-on h l =
-      doing f 1 (p + 1) (JumpOn false (op % 8 + 1)) (length-middle op (omega arith) (omega arith)) refl (jump-on-short op _ _ l (omega arith))
+      doing f 1 (p + 1) (JumpOn false (op % 8 + 1)) (length-middle op (omega arith) (omega arith)) refl (jump-on-short op _ l (omega arith))
 
   far-length : op / 16 ≡ 10 → lengthOf op ≡ 2
   far-length h = length-jump op (omega arith) (omega arith) (omega arith)
@@ -168,7 +159,7 @@ module _ {n b : ℕ} {contents bodies stack : List ℕ} {a : Active} {op : ℕ} 
       let l₁ : 152 ≤ op = omega arith in
       let l₂ : 160 ≤ op = omega arith in
       doing f 2 (p + 2) (Jump (op % 8 * 256 + x) 1024) (far-length h) refl
-      (is-jump op _ _ (omega arith) (omega arith) ∙ search ranges ∙ ap (λ (y : ℕ). Jump (op % 8 * 256 + y) 1024) (sym d))
+      (is-jump op _ (omega arith) (omega arith) ∙ search ranges ∙ ap (λ (y : ℕ). Jump (op % 8 * 256 + y) 1024) (sym d))
 
   pub far-on : op / 16 ≡ 10 → 168 ≤ op → (x : ℕ) → x ≡ byteAt words (p + 1) → Does (p + 2) (JumpOn (ltb op 172) (op % 4 * 256 + x))
   unfolding jumpOf
@@ -183,8 +174,8 @@ module _ {n b : ℕ} {contents bodies stack : List ℕ} {a : Active} {op : ℕ} 
       by : Dec (op < 172) → Does (p + 2) (JumpOn (ltb op 172) (op % 4 * 256 + x))
       by (yes k) =
           doing f 2 (p + 2) (JumpOn (ltb op 172) (op % 4 * 256 + x)) (far-length h) refl
-          (is-jump op _ _ (omega arith) (omega arith) ∙ search (ranges, l₁, l₂) ∙ (λ i. JumpOn (sym (lt-ltb op 172 k) i) (op % 4 * 256 + sym d i)))
+          (is-jump op _ (omega arith) (omega arith) ∙ search (ranges, l₁, l₂) ∙ (λ i. JumpOn (sym (lt-ltb op 172 k) i) (op % 4 * 256 + sym d i)))
       by (no k) =
           let k′ : 172 ≤ op = omega arith in
           doing f 2 (p + 2) (JumpOn (ltb op 172) (op % 4 * 256 + x)) (far-length h) refl
-          (is-jump op _ _ (omega arith) (omega arith) ∙ search (ranges, l₁, l₂) ∙ (λ i. JumpOn (sym (le-ltb op 172 k′) i) (op % 4 * 256 + sym d i)))
+          (is-jump op _ (omega arith) (omega arith) ∙ search (ranges, l₁, l₂) ∙ (λ i. JumpOn (sym (le-ltb op 172 k′) i) (op % 4 * 256 + sym d i)))

@@ -124,16 +124,16 @@ fn read(
     match place {
         Place::Field(i) => {
             let receiver = stack[base + 5];
-            objects::word_of(contents, bodies, n, b, Pointer(receiver), i as usize)
+            objects::word_of(contents, bodies, n, b, Pointer(receiver), i)
         }
-        Place::Temporary(i) => stack[base + 6 + i as usize],
+        Place::Temporary(i) => stack[base + 6 + i],
         Place::Literal(i) => {
             let method = Pointer(stack[base + 3]);
-            objects::literal(contents, bodies, n, b, method, i as usize)
+            objects::literal(contents, bodies, n, b, method, i)
         }
         Place::LiteralVariable(i) => {
             let method = Pointer(stack[base + 3]);
-            let v = objects::literal(contents, bodies, n, b, method, i as usize);
+            let v = objects::literal(contents, bodies, n, b, method, i);
             objects::word_of(contents, bodies, n, b, Pointer(v), 1)
         }
     }
@@ -190,16 +190,16 @@ fn store(
     match place {
         Place::Field(i) => {
             let receiver = stack[base + 5];
-            objects::store_word(contents, bodies, n, b, Pointer(receiver), i as usize, w);
+            objects::store_word(contents, bodies, n, b, Pointer(receiver), i, w);
         }
         Place::Temporary(i) => {
-            stack[base + 6 + i as usize] = w;
+            stack[base + 6 + i] = w;
         }
         // no reached store goes to a literal
         Place::Literal(_) => {}
         Place::LiteralVariable(i) => {
             let method = Pointer(stack[base + 3]);
-            let v = objects::literal(contents, bodies, n, b, method, i as usize);
+            let v = objects::literal(contents, bodies, n, b, method, i);
             objects::store_word(contents, bodies, n, b, Pointer(v), 1, w);
         }
     }
@@ -712,7 +712,7 @@ pub fn step(
             b,
             active,
             next,
-            Place::Field(op % 16),
+            Place::Field((op % 16) as usize),
         ),
         1 => push(
             contents,
@@ -722,7 +722,7 @@ pub fn step(
             b,
             active,
             next,
-            Place::Temporary(op % 16),
+            Place::Temporary((op % 16) as usize),
         ),
         2 => push(
             contents,
@@ -732,7 +732,7 @@ pub fn step(
             b,
             active,
             next,
-            Place::Literal(op % 32),
+            Place::Literal((op % 32) as usize),
         ),
         3 => push(
             contents,
@@ -742,7 +742,7 @@ pub fn step(
             b,
             active,
             next,
-            Place::Literal(op % 32),
+            Place::Literal((op % 32) as usize),
         ),
         4 => push(
             contents,
@@ -752,7 +752,7 @@ pub fn step(
             b,
             active,
             next,
-            Place::LiteralVariable(op % 32),
+            Place::LiteralVariable((op % 32) as usize),
         ),
         5 => push(
             contents,
@@ -762,7 +762,7 @@ pub fn step(
             b,
             active,
             next,
-            Place::LiteralVariable(op % 32),
+            Place::LiteralVariable((op % 32) as usize),
         ),
         6 => {
             let end = StackPosition(active.end.0 - 1);
@@ -775,7 +775,7 @@ pub fn step(
                     b,
                     active,
                     next,
-                    Place::Field(op % 8),
+                    Place::Field((op % 8) as usize),
                     end,
                 );
             }
@@ -787,7 +787,7 @@ pub fn step(
                 b,
                 active,
                 next,
-                Place::Temporary(op % 8),
+                Place::Temporary((op % 8) as usize),
                 end,
             )
         }

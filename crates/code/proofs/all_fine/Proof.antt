@@ -31,7 +31,7 @@ position-fine-requires c κs =
 returns : tie.Need-returns Inv-loop μ-loop
 returns c =
     let at-start = c .before .before .before .before .before .before .before .before .before in
-    linked-stops _ _ _ _ ((at-start .pre) .1) _ (c .before .before .loop-test .taken) (sym (c .before .position-fine .ensures) ∙ not-true _ (c .if1 .taken))
+    linked-stops _ ((at-start .pre) .1) _ (c .before .before .loop-test .taken) (sym (c .before .position-fine .ensures) ∙ not-true _ (c .if1 .taken))
 
 add-p : tie.Need-add-p Inv-loop μ-loop
 add-p c = search needs
@@ -49,7 +49,7 @@ loop-again c =
     )
 
 returns-2 : tie.Need-returns-2 Inv-loop μ-loop
-returns-2 c = linked-over _ _ _ _ ((c .before .before .before .before .before .before .before .pre) .1) _ (c .loop-test .left) (c .before .loop .inv .1)
+returns-2 c = linked-over _ ((c .before .before .before .before .before .before .before .pre) .1) _ (c .loop-test .left) (c .before .loop .inv .1)
 
 pub all-fine-spec : {M : Type 1} → statement M
 all-fine-spec =

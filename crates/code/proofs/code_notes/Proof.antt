@@ -67,7 +67,7 @@ returns c =
     let at-word-of = at-word-of2 .before in
     let at-start = at-word-of .before .before .before .before .before .before .before in
     let h = at-word-of .word-of .ensures in
-    let here = table-here _ _ ((at-start .pre) .1) (ap (λ (x : ℕ). x / 2) (at-word-of3 .word-of3 .ensures)) (at-word-of2 .word-of2 .ensures)
+    let here = table-here ((at-start .pre) .1) (ap (λ (x : ℕ). x / 2) (at-word-of3 .word-of3 .ensures)) (at-word-of2 .word-of2 .ensures)
     (at-temporary-count .temporary-count .ensures ∙ ap temporariesOf h) (at-literal-count .literal-count .ensures ∙ ap literalsOf h)
     (frame-is _ _ h (at-frame-words .frame-words .ensures)) in
     notes-none _ _ _ here (at-walk .walk .ensures) (not-true _ (c .if1 .taken))
@@ -95,7 +95,7 @@ returns-2 c =
     let at-word-of = at-word-of2 .before in
     let at-start = at-word-of .before .before .before .before .before .before .before in
     let h = at-word-of .word-of .ensures in
-    let here = table-here _ _ ((at-start .pre) .1) (ap (λ (x : ℕ). x / 2) (at-word-of3 .word-of3 .ensures)) (at-word-of2 .word-of2 .ensures)
+    let here = table-here ((at-start .pre) .1) (ap (λ (x : ℕ). x / 2) (at-word-of3 .word-of3 .ensures)) (at-word-of2 .word-of2 .ensures)
     (at-temporary-count .temporary-count .ensures ∙ ap temporariesOf h) (at-literal-count .literal-count .ensures ∙ ap literalsOf h)
     (frame-is _ _ h (at-frame-words .frame-words .ensures)) in
     notes-some _ _ _ here (at-walk .walk .ensures)
@@ -124,7 +124,7 @@ returns-3 c =
     let at-word-of = at-word-of2 .before in
     let at-start = at-word-of .before .before .before .before .before .before .before in
     let h = at-word-of .word-of .ensures in
-    let here = table-here _ _ ((at-start .pre) .1) (ap (λ (x : ℕ). x / 2) (at-word-of3 .word-of3 .ensures)) (at-word-of2 .word-of2 .ensures)
+    let here = table-here ((at-start .pre) .1) (ap (λ (x : ℕ). x / 2) (at-word-of3 .word-of3 .ensures)) (at-word-of2 .word-of2 .ensures)
     (at-temporary-count .temporary-count .ensures ∙ ap temporariesOf h) (at-literal-count .literal-count .ensures ∙ ap literalsOf h)
     (frame-is _ _ h (at-frame-words .frame-words .ensures)) in
     notes-fail _ _ _ here (at-walk .walk .ensures) (not-false _ (at-if1 .if1 .left))

@@ -73,67 +73,67 @@ enum-told-10 c = search needs
 
 returns : tie.Need-returns
 unfolding linked
-returns c = told _ _ _ _ _ (c .before .before .i .given .1) (c .place-fine .ensures)
+returns c = told _ _ (c .before .before .i .given .1) (c .place-fine .ensures)
 
 returns-2 : tie.Need-returns-2
 unfolding linked
-returns-2 c = told _ _ _ _ _ (c .before .before .i2 .given .1) (c .place-fine2 .ensures)
+returns-2 c = told _ _ (c .before .before .i2 .given .1) (c .place-fine2 .ensures)
 
 returns-3 : tie.Need-returns-3
 unfolding linked
-returns-3 c = told _ _ _ _ _ (c .before .before .i3 .given .1) (c .place-fine3 .ensures)
+returns-3 c = told _ _ (c .before .before .i3 .given .1) (c .place-fine3 .ensures)
 
 returns-4 : tie.Need-returns-4
 unfolding linked
-returns-4 c = told _ _ _ _ _ (c .enum-told .given .1) refl
+returns-4 c = told _ _ (c .enum-told .given .1) refl
 
 returns-5 : tie.Need-returns-5
 unfolding linked
-returns-5 c = told _ _ _ _ _ (c .enum-told2 .given .1) refl
+returns-5 c = told _ _ (c .enum-told2 .given .1) refl
 
 returns-6 : tie.Need-returns-6
 unfolding linked
-returns-6 c = told _ _ _ _ _ (c .enum-told3 .given .1) refl
+returns-6 c = told _ _ (c .enum-told3 .given .1) refl
 
 returns-7 : tie.Need-returns-7
 unfolding linked
-returns-7 c = told _ _ _ _ _ (c .enum-told4 .given .1) refl
+returns-7 c = told _ _ (c .enum-told4 .given .1) refl
 
 returns-8 : tie.Need-returns-8
 unfolding linked
-returns-8 c = told _ _ _ _ _ (c .enum-told5 .given .1) refl
+returns-8 c = told _ _ (c .enum-told5 .given .1) refl
 
 returns-9 : tie.Need-returns-9
 unfolding linked
-returns-9 c = told _ _ _ _ _ (c .enum-told6 .given .1) refl
+returns-9 c = told _ _ (c .enum-told6 .given .1) refl
 
 returns-10 : tie.Need-returns-10
 unfolding linked
-returns-10 c = told _ _ _ _ _ (c .enum-told7 .given .1) refl
+returns-10 c = told _ _ (c .enum-told7 .given .1) refl
 
 returns-11 : tie.Need-returns-11
 unfolding linked
-returns-11 c = told _ _ _ _ _ (c .enum-told8 .given .1) refl
+returns-11 c = told _ _ (c .enum-told8 .given .1) refl
 
 returns-12 : tie.Need-returns-12
 unfolding linked
-returns-12 c = told _ _ _ _ _ (c .enum-told9 .given .1) refl
+returns-12 c = told _ _ (c .enum-told9 .given .1) refl
 
 returns-13 : tie.Need-returns-13
 unfolding linked
-returns-13 c = told _ _ _ _ _ (c .before .before .i4 .given .1) (c .selector-fine .ensures)
+returns-13 c = told _ _ (c .before .before .i4 .given .1) (c .selector-fine .ensures)
 
 returns-14 : tie.Need-returns-14
 unfolding linked
-returns-14 c = told _ _ _ _ _ (c .before .before .i5 .given .1) (c .selector-fine2 .ensures)
+returns-14 c = told _ _ (c .before .before .i5 .given .1) (c .selector-fine2 .ensures)
 
 returns-15 : tie.Need-returns-15
 unfolding linked
-returns-15 c = told _ _ _ _ _ (c .before .before .i6 .given .1) (c .special-fine .ensures)
+returns-15 c = told _ _ (c .before .before .i6 .given .1) (c .special-fine .ensures)
 
 returns-16 : tie.Need-returns-16
 unfolding linked
-returns-16 c = told _ _ _ _ _ (c .enum-told10 .given .1) refl
+returns-16 c = told _ _ (c .enum-told10 .given .1) refl
 
 pub instruction-fine-spec : {M : Type 1} → statement M
 instruction-fine-spec =

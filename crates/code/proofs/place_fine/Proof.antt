@@ -27,18 +27,18 @@ variable-fine-requires c κs = search needs
 
 returns : tie.Need-returns
 unfolding placeLinked
-returns c = place-free _ _ _ _ (c .enum-told .given .1) refl
+returns c = place-free _ _ (c .enum-told .given .1) refl
 
 returns-2 : tie.Need-returns-2
 unfolding placeLinked
-returns-2 c = place-free _ _ _ _ (c .enum-told2 .given .1) refl
+returns-2 c = place-free _ _ (c .enum-told2 .given .1) refl
 
 returns-3 : tie.Need-returns-3
 unfolding placeLinked
-returns-3 c = place-free _ _ _ _ (c .enum-told3 .given .1) refl
+returns-3 c = place-free _ _ (c .enum-told3 .given .1) refl
 
 returns-4 : tie.Need-returns-4
-returns-4 c = c .variable-fine .ensures _ _ ∙ place-variable _ _ _ _ _ (c .before .before .before .p .given .1) (c .before .literal-word .ensures)
+returns-4 c = c .variable-fine .ensures _ _ ∙ place-variable _ _ (c .before .before .before .p .given .1) (c .before .literal-word .ensures)
 
 pub place-fine-spec : {M : Type 1} → statement M
 place-fine-spec =

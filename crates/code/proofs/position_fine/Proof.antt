@@ -20,7 +20,7 @@ instruction-fine-requires c κs = ((c .before .before .before .before .before .b
 returns-2 : tie.Need-returns-2
 returns-2 c =
     let at-start = c .before .before .before .before .before .before .before .before .before in
-    c .instruction-fine .ensures ∙ linked-noted _ _ _ _ _ _ (c .before .before .if1 .left) ((at-start .pre) .1) (c .before .decode .ensures)
+    c .instruction-fine .ensures ∙ linked-noted _ _ _ _ (c .before .before .if1 .left) ((at-start .pre) .1) (c .before .decode .ensures)
 
 pub position-fine-spec : {M : Type 1} → statement M
 position-fine-spec =

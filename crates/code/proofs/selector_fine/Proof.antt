@@ -12,7 +12,7 @@ send-fine-requires : tie.Need-send-fine-requires
 send-fine-requires c κs = search needs
 
 returns : tie.Need-returns
-returns c = c .send-fine .ensures ∙ literal-sent _ _ _ _ _ (c .before .literal-word .ensures)
+returns c = c .send-fine .ensures ∙ literal-sent _ _ _ _ (c .before .literal-word .ensures)
 
 pub selector-fine-spec : {M : Type 1} → statement M
 selector-fine-spec =

@@ -20,7 +20,7 @@ send-fine-requires : tie.Need-send-fine-requires
 send-fine-requires c κs = search needs
 
 returns-3 : tie.Need-returns-3
-returns-3 c = c .send-fine .ensures ∙ special-sent _ _ _ _ _ (c .before .before .before .before .if1 .left) (c .before .before .before .if2 .left)
+returns-3 c = c .send-fine .ensures ∙ special-sent _ _ _ (c .before .before .before .before .if1 .left) (c .before .before .before .if2 .left)
     (c .before .before .word-of .ensures) (c .before .special-count .ensures)
 
 pub special-fine-spec : {M : Type 1} → statement M

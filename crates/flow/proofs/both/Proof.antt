@@ -1,6 +1,6 @@
 -- `both` is two visits in turn.
 use borrow.Author.Needs.{needs}
-use Rattle.flow.proofs.VisitLaws.{asks-again, visited-on, visits-one, visits-more, visits-stuck}
+use Rattle.flow.proofs.VisitLaws.{asks-again, visits-one, visits-more, visits-stuck}
 use Rattle.flow.proofs.both.Statement.{statement}
 use Rattle.flow.proofs.both.Tie as tie
 
@@ -15,7 +15,7 @@ visit-requires-2 c κs =
     let at-k = c .before .before .before in
     let at-visit = at-k .before .before .before .before .before .before in
     let at-start = at-visit .before .before .before .before .before in
-    asks-again _ _ _ _ _ _ _ _ _ (at-start .pre) (visited-on _ _ _ _ _ _ _ _ _ _ (at-k .k .given .1) (at-visit .visit .ensures))
+    asks-again (at-start .pre) (at-visit .visit .ensures .goes _ (at-k .k .given .1))
 
 enum-told : tie.Need-enum-told
 enum-told c = search needs
@@ -31,7 +31,7 @@ returns c =
     let at-visit2 = c .before .before .before .before in
     let at-k = at-visit2 .before .before .before .before in
     let at-visit = at-k .before .before .before .before .before .before in
-    visits-more _ _ _ _ _ _ _ _ _ _ _ _ _ _ (at-k .k .given .1) (at-visit .visit .ensures) (visits-one _ _ _ _ _ _ _ _ _ (at-visit2 .visit2 .ensures))
+    visits-more _ (at-visit .visit .ensures) _ _ _ _ (at-k .k .given .1) (visits-one _ (at-visit2 .visit2 .ensures))
 
 same-length-3 : tie.Need-same-length-3
 same-length-3 c = search needs
@@ -40,7 +40,7 @@ same-length-4 : tie.Need-same-length-4
 same-length-4 c = search needs
 
 returns-2 : tie.Need-returns-2
-returns-2 c = visits-stuck _ _ _ _ _ _ _ _ _ _ _ _ (c .enum-told .given .1) (c .before .before .before .before .before .before .visit .ensures)
+returns-2 c = visits-stuck _ (c .before .before .before .before .before .before .visit .ensures) _ _ _ (c .enum-told .given .1)
 
 pub both-spec : {M : Type 1} → statement M
 both-spec =

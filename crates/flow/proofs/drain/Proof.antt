@@ -6,16 +6,16 @@ use borrow.Author.Needs.{needs}
 use lib.ListN.{length}
 use Rattle.model.proofs.Marks.{zeros}
 use Rattle.flow.specs.Walk.{Static, WalkingAt, Answer}
-use Rattle.flow.proofs.CodeWalk.{turn-on, turn-stuck, static-again, finishes}
+use Rattle.flow.proofs.CodeWalk.{static-again, finishes}
 use Rattle.flow.proofs.drain.Statement.{statement}
 use Rattle.flow.proofs.drain.Tie as tie
 
 abbrev Inv-loop : tie.InvT-loop
-Inv-loop table limits words room notes₀ pending₀ n₀ notes pending n = Static table limits words room notes pending × WalkingAt limits words (length notes) room
-    notes pending n × (length notes ≡ length notes₀) × (length pending ≡ length pending₀)
+Inv-loop table limits words room notes₀ pending₀ waiting₀ notes pending waiting = Static table limits words room notes pending × WalkingAt limits words (length notes) room
+    notes pending waiting × (length notes ≡ length notes₀) × (length pending ≡ length pending₀)
 
 abbrev μ-loop : tie.MeasureT-loop
-μ-loop table limits words room notes₀ pending₀ n₀ notes pending n = n + zeros notes
+μ-loop table limits words room notes₀ pending₀ waiting₀ notes pending waiting = waiting + zeros notes
 
 loop-holds : tie.Need-loop-holds Inv-loop μ-loop
 loop-holds c = (c .before .before .before .pre .0, c .before .before .before .pre .1, refl, refl)
@@ -27,7 +27,7 @@ enum-known-k : tie.Need-enum-known-k Inv-loop μ-loop
 enum-known-k c = search needs
 
 loop-less : tie.Need-loop-less Inv-loop μ-loop
-loop-less c = turn-on _ _ _ _ _ _ _ _ _ _ _ (c .before .k .given .1) (c .before .before .before .before .before .before .before .turn .ensures) .1
+loop-less c = c .before .before .before .before .before .before .before .turn .ensures .goes _ (c .before .k .given .1) .1
 
 loop-again : tie.Need-loop-again Inv-loop μ-loop
 loop-again c =
@@ -37,7 +37,7 @@ loop-again c =
     let I = at-loop .loop .inv in
     let kt = T .kept .1 .1 .1 .1 .0 in
     let ks = T .kept .1 .1 .1 .1 .1 .0 in
-    (static-again _ _ _ _ _ _ _ _ kt ks (I .0), rw kt (turn-on _ _ _ _ _ _ _ _ _ _ _ (c .before .k .given .1) (T .ensures) .0), kt ∙ I .2, ks ∙ I .3)
+    (static-again kt ks (I .0), rw kt (T .ensures .goes _ (c .before .k .given .1) .0), kt ∙ I .2, ks ∙ I .3)
 
 enum-told : tie.Need-enum-told Inv-loop μ-loop
 enum-told c = search needs
@@ -59,7 +59,7 @@ unfolding Answer
 returns c =
     let at-turn = c .before .before .before .before .before .before in
     let at-loop = at-turn .before .before .before .before in
-    rw (sym (at-loop .loop .inv .2)) (turn-stuck _ _ _ _ _ _ _ _ _ _ (c .enum-told .given .1) (at-turn .turn .ensures))
+    rw (sym (at-loop .loop .inv .2)) (at-turn .turn .ensures .ends (c .enum-told .given .1))
 
 same-length-3 : tie.Need-same-length-3 Inv-loop μ-loop
 same-length-3 c = c .before .loop .inv .2
@@ -69,7 +69,7 @@ same-length-4 c = c .before .loop .inv .3
 
 returns-2 : tie.Need-returns-2 Inv-loop μ-loop
 unfolding Answer
-returns-2 c = rw (sym (c .before .loop .inv .2)) (finishes _ _ _ _ _ _ _ refl (omega arith) (c .before .loop .inv .1))
+returns-2 c = rw (sym (c .before .loop .inv .2)) (finishes refl (omega arith) (c .before .loop .inv .1))
 
 pub drain-spec : {M : Type 1} → statement M
 drain-spec =

@@ -25,7 +25,7 @@ returns c =
     let at-if1 = at-plain .before .before .before in
     let at-start = at-if1 .before .before .before .before .before in
     let group = rw (at-if1 .before .entry-group .ensures) at (at-if1 .if1 .taken) in
-    expand-plain _ _ _ _ _ _ _ _ (omega arith) (at-start .pre .1) _ _ _ _ _ _ group (at-plain .plain .ensures)
+    expand-plain (omega arith) (at-start .pre .1) group (at-plain .plain .ensures)
 
 entry-need-requires : tie.Need-entry-need-requires
 entry-need-requires c κs = search needs
@@ -34,20 +34,20 @@ returns-2 : tie.Need-returns-2
 returns-2 c =
     let at-start = c .before .before .before .before .before .before .before .before in
     let group = rw (c .before .before .before .before .entry-group .ensures) at (c .before .before .if2 .taken) in
-    expand-return _ _ _ _ _ _ _ _ (omega arith) (at-start .pre .1) _ _ _ _ _ _ group
-    (step-no _ _ _ _ _ _ _ _ _ (rw (c .before .entry-need .ensures) at (lt-leb _ _ (c .if3 .taken))))
+    expand-return (omega arith) (at-start .pre .1) group
+    (step-no (rw (c .before .entry-need .ensures) at (lt-leb _ _ (c .if3 .taken))))
 
 returns-3 : tie.Need-returns-3
 returns-3 c =
     let at-start = c .before .before .before .before .before .before .before .before in
     let group = rw (c .before .before .before .before .entry-group .ensures) at (c .before .before .if2 .taken) in
-    expand-return _ _ _ _ _ _ _ _ (omega arith) (at-start .pre .1) _ _ _ _ _ _ group
-    (step-none _ _ _ _ _ _ (rw (c .before .entry-need .ensures) at (le-leb _ _ (c .if3 .left))))
+    expand-return (omega arith) (at-start .pre .1) group
+    (step-none (rw (c .before .entry-need .ensures) at (le-leb _ _ (c .if3 .left))))
 
 returns-4 : tie.Need-returns-4
 returns-4 c =
     let group = rw (c .before .before .before .entry-group .ensures) at (c .if4 .taken) in
-    expand-unused _ _ _ _ _ _ _ _ (omega arith) (c .before .before .before .before .before .before .before .pre .1) _ _ _ _ _ group
+    expand-unused (omega arith) (c .before .before .before .before .before .before .before .pre .1) group
 
 far-requires : tie.Need-far-requires
 far-requires c κs = search needs

@@ -27,8 +27,8 @@ extended-fits-requires c κs = search needs
 returns : tie.Need-returns
 returns c =
     let at-start = c .before .before .before .before .before .before .before in
-    expand-extended _ _ _ _ _ _ _ _ (omega arith) (at-start .pre .1 .0) _ _ _ _ _ _ (at-start .pre .1 .1 .0) (at-start .pre .1 .1 .1) (at-start .pre .1 .1 .2)
-    (step-no _ _ _ _ _ _ _ _ _ (and-no _ _ (sym (c .before .extended-fits .ensures _
+    expand-extended (omega arith) (at-start .pre .1 .0) (at-start .pre .1 .1 .0) (at-start .pre .1 .1 .1) (at-start .pre .1 .1 .2)
+    (step-no (and-no _ (sym (c .before .extended-fits .ensures _
     (c .before .before .before .byte .ensures) (c .before .before .byte2 .ensures)) ∙ not-true _ (c .if1 .taken))))
 
 entry-length-requires : tie.Need-entry-length-requires
@@ -73,8 +73,8 @@ returns-2 c =
     let at-byte2 = at-extended-fits .before in
     let at-byte = at-byte2 .before in
     let at-start = at-byte .before .before .before .before in
-    expand-extended _ _ _ _ _ _ _ _ (omega arith) (at-start .pre .1 .0) _ _ _ _ _ _ (at-start .pre .1 .1 .0) (at-start .pre .1 .1 .1) (at-start .pre .1 .1 .2)
-    (step-and _ _ _ _ _ _ _ _ _ _ _ (sym (at-extended-fits .extended-fits .ensures _ (at-byte .byte .ensures) (at-byte2 .byte2 .ensures))
+    expand-extended (omega arith) (at-start .pre .1 .0) (at-start .pre .1 .1 .0) (at-start .pre .1 .1 .1) (at-start .pre .1 .1 .2)
+    (step-and (sym (at-extended-fits .extended-fits .ensures _ (at-byte .byte .ensures) (at-byte2 .byte2 .ensures))
     ∙ not-false _ (at-if1 .if1 .left)) (rw (
       at-extra .extra .ensures,
       at-byte .byte .ensures,

@@ -14,7 +14,7 @@ add-if1 : tie.Need-add-if1
 add-if1 c = search needs
 
 returns : tie.Need-returns
-returns c = expand-short _ _ _ _ _ _ _ _ (omega arith) (c .before .before .before .before .before .pre .1 .0) _ _ _ _ _ (rw (c .before .entry-length .ensures) at (c .if1 .taken))
+returns c = expand-short (omega arith) (c .before .before .before .before .before .pre .1 .0) (rw (c .before .entry-length .ensures) at (c .if1 .taken))
 
 extended-requires : tie.Need-extended-requires
 extended-requires c κs =

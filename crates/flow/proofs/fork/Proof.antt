@@ -6,7 +6,7 @@ use Rattle.flow.proofs.fork.Statement.{statement}
 use Rattle.flow.proofs.fork.Tie as tie
 
 returns : tie.Need-returns
-returns c = step-no _ _ _ _ _ _ _ _ _ (lt-leb _ _ (c .if1 .taken))
+returns c = step-no (lt-leb _ _ (c .if1 .taken))
 
 both-requires : tie.Need-both-requires
 both-requires c κs = search needs
@@ -18,7 +18,7 @@ same-length-2 : tie.Need-same-length-2
 same-length-2 c = search needs
 
 returns-2 : tie.Need-returns-2
-returns-2 c = step-yes _ _ _ _ _ _ _ _ _ _ (le-leb _ _ (c .before .before .before .before .before .before .before .if1 .left)) (c .before .before .before .before .both .ensures)
+returns-2 c = step-yes (le-leb _ _ (c .before .before .before .before .before .before .before .if1 .left)) (c .before .before .before .before .both .ensures)
 
 pub fork-spec : {M : Type 1} → statement M
 fork-spec = tie.close (tie.spec returns both-requires same-length same-length-2 returns-2)

@@ -18,7 +18,7 @@ element-copy-out-if1 : tie.Need-element-copy-out-if1
 element-copy-out-if1 c = search needs
 
 returns : tie.Need-returns
-returns c = step-no _ _ _ _ _ _ _ _ _ (and-no _ _ (rw (c .before .before .before .entry-bound .ensures, c .before .before .entry-index .ensures) at (le-ltb _ _ (c .if1 .taken))))
+returns c = step-no (and-no _ (rw (c .before .before .before .entry-bound .ensures, c .before .before .entry-index .ensures) at (le-ltb _ _ (c .if1 .taken))))
 
 add-onward : tie.Need-add-onward
 add-onward c = search needs
@@ -45,7 +45,7 @@ returns-2 c =
     let at-need = at-leaves .before in
     let at-if1 = at-need .before .before .before in
     let at-index = at-if1 .before .before in
-    step-and _ _ _ _ _ _ _ _ _ _ _
+    step-and
     (rw (at-index .before .entry-bound .ensures, at-index .entry-index .ensures) at (lt-ltb _ _ (at-if1 .if1 .left)))
     (rw (at-need .entry-need .ensures, at-leaves .entry-leaves .ensures) at (at-onward .onward .ensures))
 

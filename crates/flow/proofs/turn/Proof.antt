@@ -7,37 +7,37 @@ use Rattle.flow.proofs.CodeWalk.{top, top-asks, top-fetch, top-here, to
 use Rattle.flow.proofs.turn.Statement.{statement}
 use Rattle.flow.proofs.turn.Tie as tie
 
-sub-m : tie.Need-sub-m
-sub-m c = search needs
+sub-last : tie.Need-sub-last
+sub-last c = search needs
 
 mul-at : tie.Need-mul-at
-mul-at c = let k = top _ _ _ _ _ _ _ (c .before .before .before .pre .0) (c .before .before .before .pre .1 .0) (c .before .before .before .pre .1 .1) in omega arith
+mul-at c = let k = top (c .before .before .before .pre .0) (c .before .before .before .pre .1 .0) (c .before .before .before .pre .1 .1) in omega arith
 
 slice-read-at : tie.Need-slice-read-at
 slice-read-at c =
     let at-start = c .before .before .before .before in
-    let k = top _ _ _ _ _ _ _ (at-start .pre .0) (at-start .pre .1 .0) (at-start .pre .1 .1) in omega arith
+    let k = top (at-start .pre .0) (at-start .pre .1 .0) (at-start .pre .1 .1) in omega arith
 
 cast-at : tie.Need-cast-at
-cast-at c = omega (arith, c .slice-known3 .given (c .before .before .before .before .args .n - 1))
+cast-at c = omega (arith, c .slice-known3 .given (c .before .before .before .before .args .waiting - 1))
 
 slice-read-depth : tie.Need-slice-read-depth
 slice-read-depth c =
     let at-start = c .before .before .before .before .before in
-    top _ _ _ _ _ _ _ (at-start .pre .0) (at-start .pre .1 .0) (at-start .pre .1 .1) .inside
+    top (at-start .pre .0) (at-start .pre .1 .0) (at-start .pre .1 .1) .inside
 
 cast-depth : tie.Need-cast-depth
-cast-depth c = omega (arith, c .slice-known4 .given (getD (c .before .before .before .before .before .args .pending .now) (c .before .before .before .before .before .args .n - 1) 0))
+cast-depth c = omega (arith, c .slice-known4 .given (getD (c .before .before .before .before .before .args .pending .now) (c .before .before .before .before .before .args .waiting - 1) 0))
 
 sub-depth : tie.Need-sub-depth
 sub-depth c =
     let at-start = c .before .before .before .before .before in
-    top _ _ _ _ _ _ _ (at-start .pre .0) (at-start .pre .1 .0) (at-start .pre .1 .1) .noted
+    top (at-start .pre .0) (at-start .pre .1 .0) (at-start .pre .1 .1) .noted
 
 fetch-requires : tie.Need-fetch-requires
 fetch-requires c κs =
     let at-start = c .before .before .before .before .before in
-    top-fetch _ _ _ _ _ _ _ (at-start .pre .0) (at-start .pre .1 .0) (at-start .pre .1 .1)
+    top-fetch (at-start .pre .0) (at-start .pre .1 .0) (at-start .pre .1 .1)
 
 entry-requires : tie.Need-entry-requires
 entry-requires c κs = search needs
@@ -45,8 +45,8 @@ entry-requires c κs = search needs
 expand-requires : tie.Need-expand-requires
 expand-requires c κs =
     let at-start = c .before .before .before .before .before .before .before .before .before in (
-      top-asks _ _ _ _ _ _ _ (at-start .pre .0) (at-start .pre .1 .0) (at-start .pre .1 .1),
-      top-here _ _ _ _ _ _ _ (at-start .pre .0) (at-start .pre .1 .0)
+      top-asks (at-start .pre .0) (at-start .pre .1 .0) (at-start .pre .1 .1),
+      top-here (at-start .pre .0) (at-start .pre .1 .0)
           (at-start .pre .1 .1) _ _ (c .before .before .before .fetch .ensures) (c .before .before .entry .ensures),
     )
 
@@ -60,13 +60,13 @@ returns : tie.Need-returns
 returns c =
     let at-expand = c .before .before .before .before in
     let at-start = at-expand .before .before .before .before .before .before .before .before .before .before in
-    top-turn _ _ _ _ _ _ _ (at-start .pre .0) (at-start .pre .1 .0) (at-start .pre .1 .1) _ _ _ (at-expand .expand .ensures)
+    top-turn (at-start .pre .0) (at-start .pre .1 .0) (at-start .pre .1 .1) (at-expand .expand .ensures)
 
 pub turn-spec : {M : Type 1} → statement M
 turn-spec =
     tie.close
     (tie.spec
-    sub-m
+    sub-last
     mul-at
     slice-read-at
     cast-at

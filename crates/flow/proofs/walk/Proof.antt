@@ -14,13 +14,13 @@ same-length : tie.Need-same-length
 same-length c = search needs
 
 returns : tie.Need-returns
-returns c = walked-none _ _ _ (no-code _ _ _ _ _ (omega (arith, c .before .before .before .clear .kept .0, c .if1 .taken))) (c .before .before .before .clear .ensures)
+returns c = walked-none (no-code _ _ _ _ _ (omega (arith, c .before .before .before .clear .kept .0, c .if1 .taken))) (c .before .before .before .clear .ensures)
 
 same-length-2 : tie.Need-same-length-2
 same-length-2 c = search needs
 
 returns-2 : tie.Need-returns-2
-returns-2 c = walked-none _ _ _ (no-room _ _ _ _ _ (c .if2 .taken)) (c .before .before .before .before .clear .ensures)
+returns-2 c = walked-none (no-room _ _ _ _ _ (c .if2 .taken)) (c .before .before .before .before .clear .ensures)
 
 slice-write-notes : tie.Need-slice-write-notes
 slice-write-notes c = search needs
@@ -33,7 +33,7 @@ drain-requires c κs =
     let at-if1 = c .before .before .before .before in
     let at-clear = at-if1 .before .before .before in
     let at-start = at-clear .before .before .before .before .before in (
-      static-start _ _ _ _ _ _ _ _ (at-clear .clear .last .0) (at-start .pre) (at-clear .clear .kept .0),
+      static-start (at-clear .clear .last .0) (at-start .pre) (at-clear .clear .kept .0),
       starts _ _ _ (at-clear .clear .last .0)
           (at-start .args .pending .now) _ (at-clear .clear .ensures) (omega (arith, at-clear .clear .kept .0, at-if1 .if1 .left)) (at-start .pre .long)
           (at-start .pre .small) (omega (arith, at-start .pre .shallow)),
@@ -53,7 +53,7 @@ returns-3 c =
     let at-drain = c .before .before .before .before .before in
     let at-if2 = at-drain .before .before .before .before in
     let at-clear = at-if2 .before .before .before .before in
-    walked-some _ _ _ (table-as _ _ _ _ _ _ (at-clear .clear .last .0) (at-if2 .if2 .left) (at-clear .clear .kept .0) ∙ answered-some _ _ _ (c .if3 .taken) (at-drain .drain .ensures))
+    walked-some (table-as _ _ _ _ _ _ (at-clear .clear .last .0) (at-if2 .if2 .left) (at-clear .clear .kept .0) ∙ answered-some _ _ _ (c .if3 .taken) (at-drain .drain .ensures))
 
 clear-requires-2 : tie.Need-clear-requires-2
 clear-requires-2 c κs = search needs
@@ -73,7 +73,7 @@ returns-4 c =
     let at-drain = at-if3 .before .before .before .before .before in
     let at-if2 = at-drain .before .before .before .before in
     let at-clear = at-if2 .before .before .before .before in
-    walked-none _ _ _ (table-as _ _ _ _ _ _ (at-clear .clear .last .0) (at-if2 .if2 .left) (at-clear .clear .kept .0) ∙ answered-none _ _ _ (at-if3 .if3 .left)
+    walked-none (table-as _ _ _ _ _ _ (at-clear .clear .last .0) (at-if2 .if2 .left) (at-clear .clear .kept .0) ∙ answered-none _ _ _ (at-if3 .if3 .left)
     (at-drain .drain .ensures)) (cleared-as (at-clear .clear .last .0) (at-drain .drain .last .1 .1 .1 .1 .0) _ _ (at-clear .clear .kept .0)
     (at-drain .drain .kept .1 .1 .1 .1 .0) (c .before .before .clear2 .ensures))
 

@@ -20,9 +20,6 @@ mul-receiver c = let k = ends (c .before .before .before .before .before .before
 shared-slice-read-receiver : tie.Need-shared-slice-read-receiver
 shared-slice-read-receiver c = let k = ends (c .before .before .before .before .before .before .before .pre .active) in omega arith
 
-cast-word-of : tie.Need-cast-word-of
-cast-word-of c = search needs
-
 word-of-requires : tie.Need-word-of-requires
 word-of-requires c κs = field-there (push-as (c .before .before .before .before .before .before .before .pre) (Field _) (c .before .before .place .given .1))
 
@@ -31,9 +28,6 @@ enum-known-place-2 c = search needs
 
 add-result : tie.Need-add-result
 add-result c = search needs
-
-cast-result : tie.Need-cast-result
-cast-result c = search needs
 
 add-result-2 : tie.Need-add-result-2
 add-result-2 c = let k = temporary-there (push-as (c .before .before .before .before .before .before .pre) (Temporary _) (c .before .place2 .given .1)) in omega arith
@@ -47,17 +41,14 @@ shared-slice-read-result c = temporary-there (push-as (c .before .before .before
 enum-known-place-3 : tie.Need-enum-known-place-3
 enum-known-place-3 c = search needs
 
-add-t30 : tie.Need-add-t30
-add-t30 c = search needs
+add-t29 : tie.Need-add-t29
+add-t29 c = search needs
 
-mul-t31 : tie.Need-mul-t31
-mul-t31 c = let k = ends (c .before .before .before .before .before .before .pre .active) in omega arith
+mul-t30 : tie.Need-mul-t30
+mul-t30 c = let k = ends (c .before .before .before .before .before .before .pre .active) in omega arith
 
-shared-slice-read-t33 : tie.Need-shared-slice-read-t33
-shared-slice-read-t33 c = let k = ends (c .before .before .before .before .before .before .before .pre .active) in omega arith
-
-cast-literal : tie.Need-cast-literal
-cast-literal c = search needs
+shared-slice-read-t32 : tie.Need-shared-slice-read-t32
+shared-slice-read-t32 c = let k = ends (c .before .before .before .before .before .before .before .pre .active) in omega arith
 
 literal-requires : tie.Need-literal-requires
 literal-requires c κs = literal-lies (push-as (c .before .before .before .before .before .before .before .pre) (Literal _) (c .before .before .place3 .given .1))
@@ -65,17 +56,14 @@ literal-requires c κs = literal-lies (push-as (c .before .before .before .befor
 enum-known-place-4 : tie.Need-enum-known-place-4
 enum-known-place-4 c = search needs
 
-add-t34 : tie.Need-add-t34
-add-t34 c = search needs
+add-t33 : tie.Need-add-t33
+add-t33 c = search needs
 
-mul-t35 : tie.Need-mul-t35
-mul-t35 c = let k = ends (c .before .before .before .before .before .before .pre .active) in omega arith
+mul-t34 : tie.Need-mul-t34
+mul-t34 c = let k = ends (c .before .before .before .before .before .before .pre .active) in omega arith
 
-shared-slice-read-t37 : tie.Need-shared-slice-read-t37
-shared-slice-read-t37 c = let k = ends (c .before .before .before .before .before .before .before .pre .active) in omega arith
-
-cast-literal-2 : tie.Need-cast-literal-2
-cast-literal-2 c = search needs
+shared-slice-read-t36 : tie.Need-shared-slice-read-t36
+shared-slice-read-t36 c = let k = ends (c .before .before .before .before .before .before .before .pre .active) in omega arith
 
 literal-requires-2 : tie.Need-literal-requires-2
 literal-requires-2 c κs = variable-lies (push-as (c .before .before .before .before .before .before .before .pre) (LiteralVariable _) (c .before .before .place4 .given .1))
@@ -114,25 +102,21 @@ read-spec =
     add-receiver
     mul-receiver
     shared-slice-read-receiver
-    cast-word-of
     word-of-requires
     enum-known-place-2
     add-result
-    cast-result
     add-result-2
     mul-result
     shared-slice-read-result
     enum-known-place-3
-    add-t30
-    mul-t31
-    shared-slice-read-t33
-    cast-literal
+    add-t29
+    mul-t30
+    shared-slice-read-t32
     literal-requires
     enum-known-place-4
-    add-t34
-    mul-t35
-    shared-slice-read-t37
-    cast-literal-2
+    add-t33
+    mul-t34
+    shared-slice-read-t36
     literal-requires-2
     word-of-requires-2
     returns

@@ -14,17 +14,26 @@ code-byte-requires c κs = (c .before .before .before .before .before .pre, firs
 add-t14 : tie.Need-add-t14
 add-t14 c = let k = position-small (c .before .before .before .before .before .before .before .pre) in omega arith
 
+cast-t22 : tie.Need-cast-t22
+cast-t22 c = search needs
+
 push-requires : tie.Need-push-requires
 push-requires c κs =
     let at-code-byte = c .before .before .before .before in
     let at-start = at-code-byte .before .before .before .before .before .before in
     row-field (fetched (at-start .pre) _ (at-code-byte .code-byte .ensures)) (c .before .before .match .keys1)
 
+cast-t29 : tie.Need-cast-t29
+cast-t29 c = search needs
+
 push-requires-2 : tie.Need-push-requires-2
 push-requires-2 c κs =
     let at-code-byte = c .before .before .before .before in
     let at-start = at-code-byte .before .before .before .before .before .before in
     row-temporary (fetched (at-start .pre) _ (at-code-byte .code-byte .ensures)) (c .before .before .match .keys2)
+
+cast-t36 : tie.Need-cast-t36
+cast-t36 c = search needs
 
 push-requires-3 : tie.Need-push-requires-3
 push-requires-3 c κs =
@@ -33,12 +42,18 @@ push-requires-3 c κs =
     let at-start = at-code-byte .before .before .before .before .before .before in
     row-literal (fetched (at-start .pre) _ (at-code-byte .code-byte .ensures)) (omega (arith, at-match .match .keys3)) (omega (arith, at-match .match .keys3))
 
+cast-t43 : tie.Need-cast-t43
+cast-t43 c = search needs
+
 push-requires-4 : tie.Need-push-requires-4
 push-requires-4 c κs =
     let at-match = c .before .before in
     let at-code-byte = at-match .before .before in
     let at-start = at-code-byte .before .before .before .before .before .before in
     row-literal (fetched (at-start .pre) _ (at-code-byte .code-byte .ensures)) (omega (arith, at-match .match .keys4)) (omega (arith, at-match .match .keys4))
+
+cast-t50 : tie.Need-cast-t50
+cast-t50 c = search needs
 
 push-requires-5 : tie.Need-push-requires-5
 push-requires-5 c κs =
@@ -47,6 +62,9 @@ push-requires-5 c κs =
     let at-start = at-code-byte .before .before .before .before .before .before in
     row-variable (fetched (at-start .pre) _ (at-code-byte .code-byte .ensures)) (omega (arith, at-match .match .keys5)) (omega (arith, at-match .match .keys5))
 
+cast-t57 : tie.Need-cast-t57
+cast-t57 c = search needs
+
 push-requires-6 : tie.Need-push-requires-6
 push-requires-6 c κs =
     let at-match = c .before .before in
@@ -54,8 +72,11 @@ push-requires-6 c κs =
     let at-start = at-code-byte .before .before .before .before .before .before in
     row-variable (fetched (at-start .pre) _ (at-code-byte .code-byte .ensures)) (omega (arith, at-match .match .keys6)) (omega (arith, at-match .match .keys6))
 
-sub-t53 : tie.Need-sub-t53
-sub-t53 c = search needs
+sub-t59 : tie.Need-sub-t59
+sub-t59 c = search needs
+
+cast-t66 : tie.Need-cast-t66
+cast-t66 c = search needs
 
 store-requires : tie.Need-store-requires
 store-requires c κs =
@@ -72,6 +93,9 @@ same-length-2 c = search needs
 
 returns : tie.Need-returns
 returns c = search needs
+
+cast-t59 : tie.Need-cast-t59
+cast-t59 c = search needs
 
 store-requires-2 : tie.Need-store-requires-2
 store-requires-2 c κs =
@@ -298,17 +322,25 @@ step-spec =
     (tie.spec
     code-byte-requires
     add-t14
+    cast-t22
     push-requires
+    cast-t29
     push-requires-2
+    cast-t36
     push-requires-3
+    cast-t43
     push-requires-4
+    cast-t50
     push-requires-5
+    cast-t57
     push-requires-6
-    sub-t53
+    sub-t59
+    cast-t66
     store-requires
     same-length
     same-length-2
     returns
+    cast-t59
     store-requires-2
     constant-requires
     extended-requires

@@ -28,9 +28,6 @@ mul-receiver c = let k = store-ends (c .before .before .before .before .before .
 slice-read-receiver : tie.Need-slice-read-receiver
 slice-read-receiver c = let k = store-ends (c .before .before .before .before .before .before .before .before .before .pre) in omega arith
 
-cast-store-word : tie.Need-cast-store-word
-cast-store-word c = search needs
-
 store-word-requires : tie.Need-store-word-requires
 store-word-requires c κs =
     let at-place = c .before .before .before in
@@ -42,9 +39,6 @@ enum-known-place-2 c = search needs
 
 add-stack : tie.Need-add-stack
 add-stack c = search needs
-
-cast-stack : tie.Need-cast-stack
-cast-stack c = search needs
 
 add-stack-2 : tie.Need-add-stack-2
 add-stack-2 c = let k = temporary-room (store-as (c .before .before .before .before .before .before .before .before .pre) (Temporary _) (c .before .place2 .given .1)) in omega arith
@@ -61,17 +55,14 @@ enum-told c = search needs
 enum-known-place-3 : tie.Need-enum-known-place-3
 enum-known-place-3 c = search needs
 
-add-t35 : tie.Need-add-t35
-add-t35 c = search needs
+add-t34 : tie.Need-add-t34
+add-t34 c = search needs
 
-mul-t36 : tie.Need-mul-t36
-mul-t36 c = let k = store-ends (c .before .before .before .before .before .before .before .before .pre) in omega arith
+mul-t35 : tie.Need-mul-t35
+mul-t35 c = let k = store-ends (c .before .before .before .before .before .before .before .before .pre) in omega arith
 
-slice-read-t38 : tie.Need-slice-read-t38
-slice-read-t38 c = let k = store-ends (c .before .before .before .before .before .before .before .before .before .pre) in omega arith
-
-cast-literal : tie.Need-cast-literal
-cast-literal c = search needs
+slice-read-t37 : tie.Need-slice-read-t37
+slice-read-t37 c = let k = store-ends (c .before .before .before .before .before .before .before .before .before .pre) in omega arith
 
 literal-requires : tie.Need-literal-requires
 literal-requires c κs =
@@ -124,20 +115,17 @@ store-spec =
     add-receiver
     mul-receiver
     slice-read-receiver
-    cast-store-word
     store-word-requires
     enum-known-place-2
     add-stack
-    cast-stack
     add-stack-2
     mul-stack
     slice-write-stack
     enum-told
     enum-known-place-3
-    add-t35
-    mul-t36
-    slice-read-t38
-    cast-literal
+    add-t34
+    mul-t35
+    slice-read-t37
     literal-requires
     store-word-requires-2
     same-length
