@@ -125,12 +125,12 @@ module _ (image : List ℕ) (t : T (lengthFine image)) where
   image-read h = ap bytesOf words-back ∙ bytes-words image (let b = exact in omega arith) h
 
 -- The three parts of an image, stored one after the other
-pub put-image : (h : Header) (contents bodies output first second third : List ℕ) → entryWords * h .n ≤ length contents → h .b ≤ length bodies
+pub written-image : (h : Header) (contents bodies output first second third : List ℕ) → entryWords * h .n ≤ length contents → h .b ≤ length bodies
     → imageBytes (h .n) (h .b) ≤ length output → first ≡ sets output 0 (bytesOf (headWords h)) → second ≡ sets first (2 * headerWords) (bytesOf (take (entryWords * h .n) contents))
     → third ≡ sets second (2 * (headerWords + entryWords * h .n)) (bytesOf (take (h .b) bodies))
     → third ≡ imageOf h (objectsAt (h .n) (h .b) contents bodies) ++ drop (imageBytes (h .n) (h .b)) output
 unfolding imageOf
-put-image h contents bodies output first second third lc lb lo p q r =
+written-image h contents bodies output first second third lc lb lo p q r =
     let e = length-image h o fit in
     r ∙ ap (λ (l : List ℕ). sets l (2 * (headerWords + entryWords * h .n)) (bytesOf ws)) (q ∙ ap (λ (l : List ℕ). sets l (2 * headerWords) (bytesOf vs)) p)
     ∙ ap (λ (k : ℕ). sets (sets (sets output 0 (bytesOf (headWords h))) 10 (bytesOf vs)) k (bytesOf ws)) there

@@ -1,4 +1,4 @@
--- Words that are copied, the base of a new frame, and its words written into a part of the stack.
+-- Arguments in the stack, the base of a new frame, and its words written into a part of the stack.
 use Prim.Native.Nat.{ℕ, zero, suc, _+_, _-_, _/_, _%_, _≤_, _<_}
 use mathlib.Core.Path.{_≡_, refl, sym, ap, ap₂, _∙_, subst}
 use mathlib.Core.Bool.{Bool, true, false, _&&_}
@@ -7,7 +7,7 @@ use native.Mathlib.Omega.{arith}
 use borrow.Author.Tests.{eq-eqb, ne-eqb, le-leb, lt-leb}
 use lib.Dec.{T, leb, eqb}
 use lib.ListN.{length, getD, take, drop, set, length-drop, drop-of-length-le}
-use lib.Seq.{sets, take-all, take-suc, take-suc-set, getD-take, getD-drop}
+use lib.Seq.{sets, take-all, getD-take, getD-drop}
 use Rattle.bytecode.proofs.Choice.{if-yes, if-no}
 use Rattle.model.specs.Limits.{classKind, mostStackWords}
 use Rattle.model.specs.Word.{isValid, integerClass}
@@ -30,16 +30,6 @@ argument-none l from count i h = go (drop from l) count i h
 
 pub argument-at : (l : List ℕ) (from count i : ℕ) → i < count → getD l (from + i) 0 ≡ getD (part l from count) i 0
 argument-at l from count i h = sym (getD-take count (drop from l) i 0 h ∙ getD-drop from l i 0)
-
-pub copied-more : (words l : List ℕ) (from i : ℕ) → i < length words → from + i < length l → take i words ≡ part l from i
-    → take (i + 1) (set words i (getD l (from + i) 0)) ≡ part l from (i + 1)
-copied-more words l from i h g e =
-    ap (λ (k : ℕ). take k (set words i (getD l (from + i) 0))) (one i) ∙ take-suc-set words i (getD l (from + i) 0) h
-    ∙ ap₂ (λ (xs : List ℕ) (v : ℕ). xs ++ (v ∷ [])) e (sym (getD-drop from l i 0))
-    ∙ sym (take-suc (drop from l) i 0 (let q = length-drop from l in omega arith)) ∙ ap (λ (k : ℕ). part l from k) (sym (one i))
-  where
-    one : (k : ℕ) → k + 1 ≡ suc k
-    one k = omega arith
 
 -- ---- the base of a frame
 
