@@ -69,7 +69,7 @@ bytes-words (x ∷ y ∷ bs) e h =
     low x y l = omega arith
 
 -- one more word behind those that stand
-pub written-next : (l : List ℕ) (at i : ℕ) (ws : List ℕ) → i < length ws
+written-next : (l : List ℕ) (at i : ℕ) (ws : List ℕ) → i < length ws
     → sets (sets l (2 * at) (bytesOf (take i ws))) (2 * (at + i)) (bytesOf (getD ws i 0 ∷ [])) ≡ sets l (2 * at) (bytesOf (take (i + 1) ws))
 written-next l at i ws h =
     ap (λ (k : ℕ). sets (sets l (2 * at) (bytesOf (take i ws))) k (bytesOf (getD ws i 0 ∷ []))) there
@@ -80,14 +80,14 @@ written-next l at i ws h =
     there = let a = length-bytes (take i ws) in let b = length-take-le i ws (omega arith) in omega arith
 
 -- What a function that stores a word leaves, after those before it
-pub written-more : (l out next : List ℕ) (at i : ℕ) (ws : List ℕ) → i < length ws → out ≡ sets l (2 * at) (bytesOf (take i ws))
+pub written-more : {out next : List ℕ} (l : List ℕ) (at i : ℕ) (ws : List ℕ) → i < length ws → out ≡ sets l (2 * at) (bytesOf (take i ws))
     → next ≡ sets out (2 * (at + i)) (bytesOf (getD ws i 0 ∷ [])) → next ≡ sets l (2 * at) (bytesOf (take (i + 1) ws))
-written-more l out next at i ws h p q =
+written-more l at i ws h p q =
     q ∙ ap (λ (o : List ℕ). sets o (2 * (at + i)) (bytesOf (getD ws i 0 ∷ []))) p ∙ written-next l at i ws h
 
-pub written-five : (l l1 l2 l3 l4 l5 : List ℕ) (a b c d e : ℕ) → l1 ≡ sets l 0 (bytesOf (a ∷ [])) → l2 ≡ sets l1 2 (bytesOf (b ∷ [])) → l3 ≡ sets l2 4 (bytesOf (c ∷ []))
+pub written-five : {l1 l2 l3 l4 l5 : List ℕ} (l : List ℕ) (a b c d e : ℕ) → l1 ≡ sets l 0 (bytesOf (a ∷ [])) → l2 ≡ sets l1 2 (bytesOf (b ∷ [])) → l3 ≡ sets l2 4 (bytesOf (c ∷ []))
     → l4 ≡ sets l3 6 (bytesOf (d ∷ [])) → l5 ≡ sets l4 8 (bytesOf (e ∷ [])) → l5 ≡ sets l 0 (bytesOf (a ∷ b ∷ c ∷ d ∷ e ∷ []))
 unfolding bytesOf
-written-five l l1 l2 l3 l4 l5 a b c d e p q r s t =
+written-five l a b c d e p q r s t =
     t ∙ ap (λ (o : List ℕ). sets o 8 (bytesOf (e ∷ []))) (s ∙ ap (λ (o : List ℕ). sets o 6 (bytesOf (d ∷ [])))
     (r ∙ ap (λ (o : List ℕ). sets o 4 (bytesOf (c ∷ []))) (q ∙ ap (λ (o : List ℕ). sets o 2 (bytesOf (b ∷ []))) p)))

@@ -61,7 +61,7 @@ class-starts {o} r w c v e = subst (λ (k : ℕ). T (isNilOr o classKind k)) (sy
 
 -- ---- words written into the part from a base on
 
-pub part-sets : (ws l : List ℕ) (base : ℕ) → base ≤ length l → take base l ++ sets (drop base l) 0 ws ≡ sets l base ws
+part-sets : (ws l : List ℕ) (base : ℕ) → base ≤ length l → take base l ++ sets (drop base l) 0 ws ≡ sets l base ws
 part-sets ws l base h = go ws l base 0 h ∙ ap (λ (k : ℕ). sets l k ws) (plus-zero base)
   where
     plus-zero : (k : ℕ) → k + 0 ≡ k
@@ -84,9 +84,9 @@ part-sets ws l base h = go ws l base 0 h ∙ ap (λ (k : ℕ). sets l k ws) (plu
         behind l k i w h = sym (lib.Seq.drop-set-add k l i w)
 
 -- A part that is lent up to the end, and given back with words written at its front
-pub lent-sets : (ws xs ys : List ℕ) (base : ℕ) → base ≤ length xs → ys ≡ sets (part xs base (length xs - base)) 0 ws
+pub lent-sets : {ys : List ℕ} (ws xs : List ℕ) (base : ℕ) → base ≤ length xs → ys ≡ sets (part xs base (length xs - base)) 0 ws
     → take base xs ++ (ys ++ drop (length xs - base) (drop base xs)) ≡ sets xs base ws
-lent-sets ws xs ys base h e =
+lent-sets ws xs base h e =
     ap₂ (λ (y z : List ℕ). take base xs ++ (y ++ z)) (e ∙ ap (λ (l : List ℕ). sets l 0 ws) whole) none
     ∙ ap (λ (y : List ℕ). take base xs ++ y) (append-nil (sets (drop base xs) 0 ws)) ∙ part-sets ws xs base h
   where

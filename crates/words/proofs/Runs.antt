@@ -1,5 +1,5 @@
 -- Runs of stores: one more at the end, and at the front of a buffer.
-use Prim.Native.Nat.{ℕ, suc, _+_, _≤_, _<_}
+use Prim.Native.Nat.{ℕ, _+_, _≤_, _<_}
 use mathlib.Core.Path.{_≡_, sym, ap, ap₂, _∙_}
 use mathlib.Core.List.{List, [], _∷_, _++_}
 use native.Mathlib.Omega.{arith}
@@ -41,7 +41,7 @@ behind l ws b h = sets-eq ws l b h ∙ ap (λ (k : ℕ). (take b l ++ ws) ++ dro
     long : length (take b l ++ ws) ≡ b + length ws
     long = length-append (take b l) ws ∙ ap (λ (k : ℕ). k + length ws) (length-take-le b l (omega arith))
 
-in-front : (l ws : List ℕ) {k : ℕ} → length ws ≡ k → k ≤ length l → sets l 0 ws ≡ ws ++ drop k l
+pub in-front : (l ws : List ℕ) {k : ℕ} → length ws ≡ k → k ≤ length l → sets l 0 ws ≡ ws ++ drop k l
 in-front l ws e h = behind l ws 0 (omega arith) ∙ ap (λ (k : ℕ). ws ++ drop k l) e
 
 pub filled-front : (l : List ℕ) (count w : ℕ) → count ≤ length l → sets l 0 (replicate count w) ≡ replicate count w ++ drop count l

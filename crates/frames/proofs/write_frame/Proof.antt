@@ -1,8 +1,9 @@
+-- Six words, then the arguments, then nil.
 use mathlib.Core.List.{List, [], _∷_, _++_}
 use Prim.Native.Nat.{ℕ, _≤_, _-_, _+_}
 use mathlib.Core.Path.{_≡_, sym, ap, _∙_}
 use native.Mathlib.Omega.{arith}
-use lib.ListN.{length, length-set, take, set, replicate}
+use lib.ListN.{length, length-set, take, replicate}
 use lib.Seq.{sets, length-sets, length-take-le}
 use Rattle.bytecode.specs.Constant.{nilWord}
 use Rattle.model.specs.Limits.{frameHeaderWords}

@@ -41,7 +41,7 @@ returns c =
     let at-length-of = at-write-header .before .before .before .before in
     let at-start = at-length-of .before .before .before .before in (
       at-length-of .length-of .ensures,
-      written-image _ _ _ _ _ _ _ (at-start .pre .0) (at-start .pre .1) (at-start .pre .2) (at-write-header .write-header .ensures)
+      written-image _ _ _ _ (at-start .pre .0) (at-start .pre .1) (at-start .pre .2) (at-write-header .write-header .ensures)
           (at-write-words .write-words .ensures) (c .before .before .write-words2 .ensures),
     )
 

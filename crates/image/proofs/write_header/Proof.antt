@@ -28,7 +28,8 @@ returns c =
     let at-write-word3 = at-write-word4 .before .before .before .before in
     let at-write-word2 = at-write-word3 .before .before .before .before in
     let at-write-word = at-write-word2 .before .before .before .before in
-    written-five _ _ _ _ _ _ _ _ _ _ _ (at-write-word .write-word .ensures) (at-write-word2 .write-word2 .ensures) (at-write-word3 .write-word3 .ensures) (at-write-word4 .write-word4 .ensures) (c .before .before .write-word5 .ensures)
+    written-five _ _ _ _ _ _ (at-write-word .write-word .ensures) (at-write-word2 .write-word2 .ensures)
+    (at-write-word3 .write-word3 .ensures) (at-write-word4 .write-word4 .ensures) (c .before .before .write-word5 .ensures)
 
 pub write-header-spec : {M : Type 1} → statement M
 write-header-spec =

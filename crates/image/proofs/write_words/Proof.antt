@@ -44,7 +44,7 @@ loop-again c =
     let at-start = at-loop .before .before .before in
     let args = at-start .args in (
       omega arith,
-      written-more (args .output .now) (at-loop .loop .output) _ (args .at) (at-loop .loop .i) (args .words .now) (omega arith) (at-loop .loop .inv .1)
+      written-more (args .output .now) (args .at) (at-loop .loop .i) (args .words .now) (omega arith) (at-loop .loop .inv .1)
           (at-write-word .write-word .ensures),
       at-write-word .write-word .kept .0 ∙ at-loop .loop .inv .2,
     )

@@ -1,3 +1,4 @@
+-- Zeros at both fronts.
 use Prim.Native.Nat.{_*_}
 use mathlib.Core.Path.{_∙_}
 use Rattle.model.specs.Limits.{entryWords}

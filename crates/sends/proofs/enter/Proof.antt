@@ -50,7 +50,7 @@ returns c =
     let args = at-start .args in
     let none = replicate {A = ℕ} 32 0 in
     lent-sets (newWords (args .top .0) (args .method .0) (args .receiver) (args .temporaries) (take (args .count) (at-copy .copy .last .0)))
-    (at-move-to .move-to .last .0) (at-write-frame .write-frame .last .0) (args .base)
+    (at-move-to .move-to .last .0) (args .base)
     (let f = at-start .pre .fits in let l = at-move-to .move-to .kept .0 in omega arith) (at-write-frame .write-frame .ensures)
     ∙ ap₂ (λ (xs ws : List ℕ). sets xs (args .base) (newWords (args .top .0) (args .method .0) (args .receiver) (args .temporaries) ws))
     (at-move-to .move-to .ensures)

@@ -1,3 +1,4 @@
+-- What the loop begins with is the first two words, copied into a list l; what it leaves is said of l.
 use Prim.Native.Nat.{ℕ, _+_, _-_, _≤_}
 use mathlib.Core.Path.{_≡_, refl, sym, ap, _∙_}
 use mathlib.Core.List.{List}
@@ -14,7 +15,8 @@ before-loop : (l a : List ℕ) (at from : ℕ) → length l ≡ length (set (set
 before-loop l a at from = simp length-set
 
 abbrev Inv-loop : tie.InvT-loop
-Inv-loop words₀ at source from count i₀ words i = (i ≤ count) × (length words ≡ length words₀) × ((l : List ℕ) → words₀ ≡ sets l at (part source from 2) → words ≡ sets l at (part source from i))
+Inv-loop words₀ at source from count i₀ words i =
+    (i ≤ count) × (length words ≡ length words₀) × ((l : List ℕ) → words₀ ≡ sets l at (part source from 2) → words ≡ sets l at (part source from i))
 
 abbrev μ-loop : tie.MeasureT-loop
 μ-loop words₀ at source from count i₀ words i = count - i
@@ -38,7 +40,10 @@ same-length : tie.Need-same-length Inv-loop μ-loop
 same-length c = search needs
 
 returns-2 : tie.Need-returns-2 Inv-loop μ-loop
-returns-2 c = let args = c .before .before .before .args in copied-one (args .words .now) (args .source .now) (args .at) (args .from) (omega arith) ∙ ap (λ (k : ℕ). sets (args .words .now) (args .at) (part (args .source .now) (args .from) k)) (sym (c .if2 .taken))
+returns-2 c =
+    let args = c .before .before .before .args in
+    copied-one (args .words .now) (args .source .now) (args .at) (args .from) (omega arith)
+    ∙ ap (λ (k : ℕ). sets (args .words .now) (args .at) (part (args .source .now) (args .from) k)) (sym (c .if2 .taken))
 
 add-words : tie.Need-add-words Inv-loop μ-loop
 add-words c = omega arith
