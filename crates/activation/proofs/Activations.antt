@@ -48,7 +48,7 @@ not-arithmetic k t e h l = go (native.Mathlib.Decide.decLe k 17)
 -- they take one argument
 one-argument : (k : ℕ) → k ≤ 17 → primitiveCount k ≡ 1
 one-argument k h =
-    sym (Rattle.primitives.proofs.Performing.count-one k (λ q. omega arith) (λ q. omega arith) (λ q. omega arith) (λ q. omega arith))
+    sym (Rattle.primitives.proofs.Performing.count-one {k = k} (λ q. omega arith) (λ q. omega arith) (λ q. omega arith) (λ q. omega arith))
 
 pub arithmetic-is : (edition : ℕ) (room : Room) (o : Objects) (k count w x y : ℕ) (r : Computed) → (1 ≤ k) × (k ≤ 17) → count ≡ 1 → r ≡ arithmetic k w x
     → computed o r ≡ primitive edition room o k count w (x ∷ y ∷ [])

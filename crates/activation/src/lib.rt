@@ -45,18 +45,10 @@ pub fn try_primitive(
         return primitives::primitive(contents, bodies, edition, n, b, k, count, w, x, y);
     }
     if count != 1 {
-        return Done {
-            answer: Computed::Failed,
-            n: n,
-            b: b,
-        };
+        return primitives::failed(n, b);
     }
     let answer = arithmetic::compute(k as u8, w, x);
-    Done {
-        answer: answer,
-        n: n,
-        b: b,
-    }
+    primitives::computed(answer, n, b)
 }
 
 // Flag 5 answers the receiver, flag 6 its field T, flag 7 tries a primitive.

@@ -1,46 +1,18 @@
 // Frames in the stack: the words that sends, pushes, pops and returns write.
 ghost use mathlib.Core.Path.{_≡_};
-ghost use Prim.Native.Nat.{_+_, _-_, _≤_, _<_};
-ghost use lib.ListN.{length, set, take, replicate};
+ghost use Prim.Native.Nat.{_+_, _≤_, _<_};
+ghost use lib.ListN.{length, set, take};
 ghost use lib.Seq.{sets};
-ghost use Rattle.bytecode.specs.Constant.{nilWord};
+ghost use Rattle.model.specs.Limits.{frameHeaderWords};
 ghost use Rattle.frames.specs.Words.{newWords};
 use model::CodePosition;
 use model::Pointer;
 use model::StackPosition;
 
-// The arguments, as the first temporaries of the frame whose words are lent. The first two by themselves: the loop is compiled to a call, and
-// few sends have more.
-fn copy_arguments(words: &mut [u16], count: usize, arguments: &[u16])
-    requires { ⌜ (6 + count ≤ length (now words)) × (count ≤ length (now arguments)) ⌝ }
-    ensures { λ r. ⌜ now (words .exit) ≡ sets (now (words .entry)) 6 (take count (now (arguments .entry))) ⌝ }
-{
-    if count == 0 {
-        return;
-    }
-    words[6] = arguments[0];
-    if count == 1 {
-        return;
-    }
-    words[7] = arguments[1];
-    let mut i: usize = 2;
-    while i < count {
-        words[6 + i] = arguments[i];
-        i += 1;
-    }
-}
+// The words of a frame before its temporaries.
+const FRAME_HEADER_WORDS: usize = 6;
 
-// nil in the temporaries from one on.
-fn fill_nil(words: &mut [u16], from: usize, temporaries: usize)
-    requires { ⌜ (from ≤ temporaries) × (6 + temporaries ≤ length (now words)) ⌝ }
-    ensures { λ r. ⌜ now (words .exit) ≡ sets (now (words .entry)) (6 + from) (replicate (temporaries - from) nilWord) ⌝ }
-{
-    let mut i = from;
-    while i < temporaries {
-        words[6 + i] = 2;
-        i += 1;
-    }
-}
+const NIL: u16 = 2;
 
 // The words of a new frame, lent as the part of the stack from its base: six words, the arguments, nil in the other temporaries.
 pub fn write_frame(
@@ -52,7 +24,7 @@ pub fn write_frame(
     count: usize,
     arguments: &[u16],
 )
-    requires { ⌜ (6 + temporaries ≤ length (now words)) × (count ≤ temporaries) × (count ≤ length (now arguments)) × (sender .0 < 65536) ⌝ }
+    requires { ⌜ (frameHeaderWords + temporaries ≤ length (now words)) × (count ≤ temporaries) × (count ≤ length (now arguments)) × (sender .0 < 65536) ⌝ }
     ensures { λ r. ⌜ now (words .exit) ≡ sets (now (words .entry)) 0 (newWords (sender .0) (method .0) receiver temporaries (take count (now (arguments .entry)))) ⌝ }
 {
     let base = sender.0;
@@ -63,8 +35,8 @@ pub fn write_frame(
     words[3] = pointer;
     words[4] = 0;
     words[5] = receiver;
-    copy_arguments(words, count, arguments);
-    fill_nil(words, count, temporaries);
+    words::copy(words, FRAME_HEADER_WORDS, arguments, 0, count);
+    words::fill(words, FRAME_HEADER_WORDS + count, temporaries - count, NIL);
 }
 
 // The frame at a base goes on at another position, with so many operands.

@@ -5,7 +5,7 @@ use mathlib.Core.List.{List, [], _∷_, _++_}
 use native.Mathlib.Omega.{arith}
 use lib.Dec.{T, leb, eqb, le→leb, eqb→eq}
 use lib.ListN.{length, getD, take, drop, length-append, length-drop, take-append-drop}
-use lib.Seq.{take-at, drop-at, take-all, length-take-le, drop-drop, sets, sets-eq}
+use lib.Seq.{take-at, drop-at, take-all, length-take-le, drop-drop, sets}
 use borrow.Author.Tests.{eq-eqb}
 use Rattle.bytecode.proofs.TestLaws.{true→T, and-right, and-both}
 use Rattle.model.specs.Limits.{headerWords, entryWords}
@@ -13,6 +13,7 @@ use Rattle.model.specs.Objects.{Objects, objectsAt, part}
 use Rattle.model.specs.Image.{Header, wordsOf, bytesOf, headerOf, objectsIn, imageHeader, imageObjects, imageOf, imageBytes, lengthFine}
 use Rattle.model.proofs.Lent.{objects-eq}
 use Rattle.model.proofs.Parts.{length-part, sets-append}
+use Rattle.words.proofs.Runs.{in-front}
 use Rattle.image.specs.Heads.{headWords}
 use Rattle.image.proofs.Words.{length-words, length-bytes, words-bytes, bytes-words, bytes-append}
 
@@ -125,21 +126,19 @@ module _ (image : List ℕ) (t : T (lengthFine image)) where
   image-read h = ap bytesOf words-back ∙ bytes-words image (let b = exact in omega arith) h
 
 -- The three parts of an image, stored one after the other
-pub put-image : (h : Header) (contents bodies output first second third : List ℕ) → entryWords * h .n ≤ length contents → h .b ≤ length bodies
+pub written-image : {first second third : List ℕ} (h : Header) (contents bodies output : List ℕ) → entryWords * h .n ≤ length contents → h .b ≤ length bodies
     → imageBytes (h .n) (h .b) ≤ length output → first ≡ sets output 0 (bytesOf (headWords h)) → second ≡ sets first (2 * headerWords) (bytesOf (take (entryWords * h .n) contents))
     → third ≡ sets second (2 * (headerWords + entryWords * h .n)) (bytesOf (take (h .b) bodies))
     → third ≡ imageOf h (objectsAt (h .n) (h .b) contents bodies) ++ drop (imageBytes (h .n) (h .b)) output
 unfolding imageOf
-put-image h contents bodies output first second third lc lb lo p q r =
-    let e = length-image h o fit in
+written-image h contents bodies output lc lb lo p q r =
     r ∙ ap (λ (l : List ℕ). sets l (2 * (headerWords + entryWords * h .n)) (bytesOf ws)) (q ∙ ap (λ (l : List ℕ). sets l (2 * headerWords) (bytesOf vs)) p)
     ∙ ap (λ (k : ℕ). sets (sets (sets output 0 (bytesOf (headWords h))) 10 (bytesOf vs)) k (bytesOf ws)) there
     ∙ sym (sets-append (sets output 0 (bytesOf (headWords h))) 10 (bytesOf vs) (bytesOf ws))
     ∙ ap (λ (k : ℕ). sets (sets output 0 (bytesOf (headWords h))) k (bytesOf vs ++ bytesOf ws)) ten
     ∙ sym (sets-append output 0 (bytesOf (headWords h)) (bytesOf vs ++ bytesOf ws))
     ∙ ap (sets output 0) (ap (λ (l : List ℕ). bytesOf (headWords h) ++ l) (sym (bytes-append vs ws)) ∙ sym (bytes-append (headWords h) (vs ++ ws)))
-    ∙ sets-eq (imageOf h o) output 0 (omega arith)
-    ∙ ap (λ (k : ℕ). imageOf h o ++ drop k output) (none (length (imageOf h o)) ∙ e)
+    ∙ in-front output (imageOf h o) (length-image h o fit) lo
   where
     o : Objects
     o = objectsAt (h .n) (h .b) contents bodies
@@ -152,9 +151,6 @@ put-image h contents bodies output first second third lc lb lo p q r =
 
     ten : 10 ≡ 0 + length (bytesOf (headWords h))
     ten = let a = length-bytes (headWords h) in omega arith
-
-    none : (k : ℕ) → 0 + k ≡ k
-    none k = omega arith
 
     fit : Fitting h o
     fit = record { objects = refl; words = refl; contents = length-take-le (entryWords * h .n) contents lc; bodies = length-take-le (h .b) bodies lb }

@@ -4,10 +4,8 @@ use mathlib.Core.Path.{_≡_, refl, sym, ap, ap₂, _∙_}
 use mathlib.Core.List.{List, [], _∷_, _++_}
 use native.Mathlib.Omega.{arith}
 use native.Mathlib.Numerals.{add-one}
-use lib.ListN.{length, getD, take, drop, set, replicate, length-drop, List·getD-eq-default}
-use borrow.Author.Fill.{fill-more}
-use lib.Seq.{sets, take-suc, length-take-le, getD-drop}
-use Rattle.model.specs.Objects.{part}
+use lib.ListN.{length, getD, take, List·getD-eq-default}
+use lib.Seq.{sets, take-suc, length-take-le}
 use Rattle.model.specs.Image.{wordsOf, bytesOf}
 use Rattle.model.proofs.Parts.{sets-append}
 
@@ -71,9 +69,9 @@ bytes-words (x ∷ y ∷ bs) e h =
     low x y l = omega arith
 
 -- one more word behind those that stand
-pub put-next : (l : List ℕ) (at i : ℕ) (ws : List ℕ) → i < length ws
+written-next : (l : List ℕ) (at i : ℕ) (ws : List ℕ) → i < length ws
     → sets (sets l (2 * at) (bytesOf (take i ws))) (2 * (at + i)) (bytesOf (getD ws i 0 ∷ [])) ≡ sets l (2 * at) (bytesOf (take (i + 1) ws))
-put-next l at i ws h =
+written-next l at i ws h =
     ap (λ (k : ℕ). sets (sets l (2 * at) (bytesOf (take i ws))) k (bytesOf (getD ws i 0 ∷ []))) there
     ∙ sym (sets-append l (2 * at) (bytesOf (take i ws)) (bytesOf (getD ws i 0 ∷ [])))
     ∙ ap (sets l (2 * at)) (sym (bytes-append (take i ws) (getD ws i 0 ∷ [])) ∙ ap bytesOf (sym (take-suc ws i 0 h) ∙ ap (λ (k : ℕ). take k ws) (sym (add-one i))))
@@ -81,34 +79,15 @@ put-next l at i ws h =
     there : 2 * (at + i) ≡ 2 * at + length (bytesOf (take i ws))
     there = let a = length-bytes (take i ws) in let b = length-take-le i ws (omega arith) in omega arith
 
--- One more word of a copy at the front
-front-next : (s d : List ℕ) (i : ℕ) → i < length d → i < length s → set (take i s ++ drop i d) i (getD s i 0) ≡ take (suc i) s ++ drop (suc i) d
-front-next [] d i h g = absurd (omega arith)
-front-next (x ∷ s) [] i h g = absurd (omega arith)
-front-next (x ∷ s) (y ∷ d) zero h g = refl
-front-next (x ∷ s) (y ∷ d) (suc i) h g = ap (λ (l : List ℕ). x ∷ l) (front-next s d i (omega arith) (omega arith))
-
-pub copy-next : (bs old words : List ℕ) (from i w : ℕ) → 2 * (from + i) + 1 < length bs → i < length old → w ≡ getD (wordsOf bs) (from + i) 0
-    → words ≡ part (wordsOf bs) from i ++ drop i old → set words i w ≡ part (wordsOf bs) from (i + 1) ++ drop (i + 1) old
-copy-next bs old words from i w h g e p =
-    let a = length-words bs in
-    let b = length-drop from (wordsOf bs) in
-    ap₂ (λ (l : List ℕ) (v : ℕ). set l i v) p (e ∙ sym (getD-drop from (wordsOf bs) i 0))
-    ∙ front-next (drop from (wordsOf bs)) old i g (omega arith)
-    ∙ ap (λ (k : ℕ). part (wordsOf bs) from k ++ drop k old) (sym (add-one i))
-
-pub clear-next : (old words : List ℕ) (i : ℕ) → i < length old → words ≡ replicate i 0 ++ drop i old → set words i 0 ≡ replicate (i + 1) 0 ++ drop (i + 1) old
-clear-next old words i h p = ap (λ (l : List ℕ). set l i 0) p ∙ fill-more i 0 old h
-
 -- What a function that stores a word leaves, after those before it
-pub put-more : (l out next : List ℕ) (at i : ℕ) (ws : List ℕ) → i < length ws → out ≡ sets l (2 * at) (bytesOf (take i ws))
+pub written-more : {out next : List ℕ} (l : List ℕ) (at i : ℕ) (ws : List ℕ) → i < length ws → out ≡ sets l (2 * at) (bytesOf (take i ws))
     → next ≡ sets out (2 * (at + i)) (bytesOf (getD ws i 0 ∷ [])) → next ≡ sets l (2 * at) (bytesOf (take (i + 1) ws))
-put-more l out next at i ws h p q =
-    q ∙ ap (λ (o : List ℕ). sets o (2 * (at + i)) (bytesOf (getD ws i 0 ∷ []))) p ∙ put-next l at i ws h
+written-more l at i ws h p q =
+    q ∙ ap (λ (o : List ℕ). sets o (2 * (at + i)) (bytesOf (getD ws i 0 ∷ []))) p ∙ written-next l at i ws h
 
-pub put-five : (l l1 l2 l3 l4 l5 : List ℕ) (a b c d e : ℕ) → l1 ≡ sets l 0 (bytesOf (a ∷ [])) → l2 ≡ sets l1 2 (bytesOf (b ∷ [])) → l3 ≡ sets l2 4 (bytesOf (c ∷ []))
+pub written-five : {l1 l2 l3 l4 l5 : List ℕ} (l : List ℕ) (a b c d e : ℕ) → l1 ≡ sets l 0 (bytesOf (a ∷ [])) → l2 ≡ sets l1 2 (bytesOf (b ∷ [])) → l3 ≡ sets l2 4 (bytesOf (c ∷ []))
     → l4 ≡ sets l3 6 (bytesOf (d ∷ [])) → l5 ≡ sets l4 8 (bytesOf (e ∷ [])) → l5 ≡ sets l 0 (bytesOf (a ∷ b ∷ c ∷ d ∷ e ∷ []))
 unfolding bytesOf
-put-five l l1 l2 l3 l4 l5 a b c d e p q r s t =
+written-five l a b c d e p q r s t =
     t ∙ ap (λ (o : List ℕ). sets o 8 (bytesOf (e ∷ []))) (s ∙ ap (λ (o : List ℕ). sets o 6 (bytesOf (d ∷ [])))
     (r ∙ ap (λ (o : List ℕ). sets o 4 (bytesOf (c ∷ []))) (q ∙ ap (λ (o : List ℕ). sets o 2 (bytesOf (b ∷ []))) p)))

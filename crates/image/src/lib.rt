@@ -5,10 +5,16 @@ ghost use Prim.Native.Nat.{_+_, _*_, _<_, _≤_};
 ghost use lib.Dec.{T};
 ghost use lib.ListN.{length, getD, take, drop, replicate};
 ghost use lib.Seq.{sets};
-ghost use Rattle.model.specs.Limits.{entryWords};
+ghost use Rattle.model.specs.Limits.{headerWords, entryWords};
 ghost use Rattle.model.specs.Objects.{objectsAt, part};
 ghost use Rattle.model.specs.Image.{wordsOf, bytesOf, imageHeader, imageObjects, imageOf, imageBytes, lengthFine};
 ghost use Rattle.image.specs.Heads.{asHeader, headWords};
+
+const HEADER_WORDS: usize = 5;
+
+const HEADER_BYTES: usize = 10;
+
+const ENTRY_WORDS: usize = 4;
 
 // The five words at the front of an image.
 pub struct Header {
@@ -32,7 +38,7 @@ fn word(image: &[u8], i: usize) -> u16
 
 // The same for a word of the header: 0 where the image ends before it.
 fn header_word(image: &[u8], i: usize) -> u16
-    requires { ⌜ i < 5 ⌝ }
+    requires { ⌜ i < headerWords ⌝ }
     ensures { λ r. ⌜ r ≡ getD (wordsOf (now (image .entry))) i 0 ⌝ }
 {
     if image.len() <= 2 * i + 1 {
@@ -62,14 +68,14 @@ pub fn header_of(image: &[u8]) -> Header
 pub fn length_of(n: u16, b: u16) -> usize
     ensures { λ r. ⌜ r ≡ imageBytes n b ⌝ }
 {
-    10 + 8 * (n as usize) + 2 * (b as usize)
+    HEADER_BYTES + 2 * ENTRY_WORDS * (n as usize) + 2 * (b as usize)
 }
 
 // Whether an image has the length that its own header asks for.
 pub fn length_fine(image: &[u8]) -> bool
     ensures { λ r. ⌜ r ≡ lengthFine (now (image .entry)) ⌝ }
 {
-    if image.len() < 10 {
+    if image.len() < HEADER_BYTES {
         return false;
     }
     let n = header_word(image, 1);
@@ -79,9 +85,9 @@ pub fn length_fine(image: &[u8]) -> bool
 }
 
 // As many words of the image, from one on, to the front of `words`.
-fn copy(image: &[u8], from: usize, count: usize, words: &mut [u16])
+fn read_words(image: &[u8], from: usize, count: usize, words: &mut [u16])
     requires { ⌜ (2 * (from + count) ≤ length (now image)) × (count ≤ length (now words)) ⌝ }
-    ensures { λ _. ⌜ now (words .exit) ≡ part (wordsOf (now (image .entry))) from count ++ drop count (now (words .entry)) ⌝ }
+    ensures { λ _. ⌜ now (words .exit) ≡ sets (now (words .entry)) 0 (part (wordsOf (now (image .entry))) from count) ⌝ }
 {
     let mut i: usize = 0;
     while i < count {
@@ -96,20 +102,8 @@ pub fn place(image: &[u8], n: usize, b: usize, contents: &mut [u16], bodies: &mu
     requires { ⌜ T (lengthFine (now image)) × (imageHeader (now image) .n ≡ n) × (imageHeader (now image) .b ≡ b) × (entryWords * n ≤ length (now contents)) × (b ≤ length (now bodies)) ⌝ }
     ensures { λ _. ⌜ (now (contents .exit) ≡ imageObjects (now (image .entry)) .contents ++ drop (entryWords * n) (now (contents .entry))) × (now (bodies .exit) ≡ imageObjects (now (image .entry)) .bodies ++ drop b (now (bodies .entry))) ⌝ }
 {
-    copy(image, 5, 4 * n, contents);
-    copy(image, 5 + 4 * n, b, bodies);
-}
-
-// Zeros at the front.
-pub fn clear(words: &mut [u16], count: usize)
-    requires { ⌜ count ≤ length (now words) ⌝ }
-    ensures { λ _. ⌜ now (words .exit) ≡ replicate count 0 ++ drop count (now (words .entry)) ⌝ }
-{
-    let mut k: usize = 0;
-    while k < count {
-        words[k] = 0;
-        k += 1;
-    }
+    read_words(image, HEADER_WORDS, ENTRY_WORDS * n, contents);
+    read_words(image, HEADER_WORDS + ENTRY_WORDS * n, b, bodies);
 }
 
 // Zeros in place of n objects and b body words; what lies behind them stays.
@@ -117,12 +111,12 @@ pub fn zero(n: usize, b: usize, contents: &mut [u16], bodies: &mut [u16])
     requires { ⌜ (entryWords * n ≤ length (now contents)) × (b ≤ length (now bodies)) ⌝ }
     ensures { λ _. ⌜ (now (contents .exit) ≡ replicate (entryWords * n) 0 ++ drop (entryWords * n) (now (contents .entry))) × (now (bodies .exit) ≡ replicate b 0 ++ drop b (now (bodies .entry))) ⌝ }
 {
-    clear(contents, 4 * n);
-    clear(bodies, b);
+    words::fill(contents, 0, ENTRY_WORDS * n, 0);
+    words::fill(bodies, 0, b, 0);
 }
 
 // A word's two bytes at the place of word i.
-fn put(output: &mut [u8], i: usize, w: u16)
+fn write_word(output: &mut [u8], i: usize, w: u16)
     requires { ⌜ 2 * i + 1 < length (now output) ⌝ }
     ensures { λ _. ⌜ now (output .exit) ≡ sets (now (output .entry)) (2 * i) (bytesOf (w ∷ [])) ⌝ }
 {
@@ -132,27 +126,27 @@ fn put(output: &mut [u8], i: usize, w: u16)
 }
 
 // The first words of `words`, from the place of word `at` on.
-fn put_all(words: &[u16], count: usize, at: usize, output: &mut [u8])
+fn write_words(words: &[u16], count: usize, at: usize, output: &mut [u8])
     requires { ⌜ (count ≤ length (now words)) × (2 * (at + count) ≤ length (now output)) ⌝ }
     ensures { λ _. ⌜ now (output .exit) ≡ sets (now (output .entry)) (2 * at) (bytesOf (take count (now (words .entry)))) ⌝ }
 {
     let mut i: usize = 0;
     while i < count {
-        put(output, at + i, words[i]);
+        write_word(output, at + i, words[i]);
         i += 1;
     }
 }
 
 // The header's five words at the front.
-fn put_header(header: Header, output: &mut [u8])
-    requires { ⌜ 10 ≤ length (now output) ⌝ }
+fn write_header(header: Header, output: &mut [u8])
+    requires { ⌜ 2 * headerWords ≤ length (now output) ⌝ }
     ensures { λ _. ⌜ now (output .exit) ≡ sets (now (output .entry)) 0 (bytesOf (headWords (asHeader header))) ⌝ }
 {
-    put(output, 0, header.edition);
-    put(output, 1, header.n);
-    put(output, 2, header.b);
-    put(output, 3, header.receiver);
-    put(output, 4, header.selector);
+    write_word(output, 0, header.edition);
+    write_word(output, 1, header.n);
+    write_word(output, 2, header.b);
+    write_word(output, 3, header.receiver);
+    write_word(output, 4, header.selector);
 }
 
 // The image of the objects in the two buffers, under this header, at the output's front, and how many bytes it has.
@@ -163,8 +157,8 @@ pub fn write(header: Header, contents: &[u16], bodies: &[u16], output: &mut [u8]
     let bytes = length_of(header.n, header.b);
     let n = header.n as usize;
     let b = header.b as usize;
-    put_header(header, output);
-    put_all(contents, 4 * n, 5, output);
-    put_all(bodies, b, 5 + 4 * n, output);
+    write_header(header, output);
+    write_words(contents, ENTRY_WORDS * n, HEADER_WORDS, output);
+    write_words(bodies, b, HEADER_WORDS + ENTRY_WORDS * n, output);
     bytes
 }

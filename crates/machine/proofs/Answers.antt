@@ -5,6 +5,7 @@ use mathlib.Core.Bool.{Bool, true, false}
 use mathlib.Core.List.{List, _++_}
 use lib.Dec.{T}
 use lib.ListN.{length, drop, replicate}
+use lib.Seq.{sets}
 use Rattle.bytecode.proofs.TestLaws.{true→T}
 use Rattle.model.specs.Limits.{entryWords}
 use Rattle.model.specs.Objects.{objectsAt}
@@ -71,7 +72,7 @@ module _ (r : Registers) (contents bodies stack cache : List ℕ) where
     unfolding forgetGives
     forgets-not k q = forget-refused (state r contents bodies stack cache) k (was-refused k q)
 
-    pub forgets : x ≡ C.Right → (cache′ : List ℕ) → cache′ ≡ replicate (length cache) 0 ++ drop (length cache) cache → forgetGives F.Emptied r contents bodies
+    pub forgets : x ≡ C.Right → (cache′ : List ℕ) → cache′ ≡ sets cache 0 (replicate (length cache) 0) → forgetGives F.Emptied r contents bodies
         stack cache′ ≡ flatForget (state r contents bodies stack cache)
     unfolding forgetGives
     forgets q cache′ c = forget-done (registersOf r) contents bodies stack cache cache′ (was-right q) c

@@ -7,11 +7,12 @@ use native.Mathlib.Omega.{arith}
 use borrow.Author.Tests.{le-leb, lt-leb}
 use lib.Dec.{T, leb}
 use lib.ListN.{length, drop, take, replicate}
-use lib.Seq.{drop-length, length-take-le}
+use lib.Seq.{sets, drop-length, length-take-le}
 use Rattle.bytecode.proofs.TestLaws.{true→T, T→true}
 use Rattle.model.specs.Limits.{entryWords, cacheWords}
 use Rattle.model.specs.Objects.{Objects, objectsAt}
 use Rattle.model.specs.Image.{Header, Verdict, accepted, refused, unless, _then_, buffersFine, imageBytes, imageOf}
+use Rattle.words.proofs.Runs.{filled-front}
 use Rattle.image.proofs.RoundTrip.{Fitting, length-image}
 use Rattle.plain.specs.Registers.{Registers, withPhase}
 use Rattle.plain.specs.Flat.{Flat, flat, roomOf, flatObjects, plainOf}
@@ -23,9 +24,10 @@ use Rattle.plain.proofs.FlatLaws.{FlatRight, check-right}
 use Rattle.model.proofs.Lent.{front-same}
 
 -- A cache of its length, cleared
-pub emptied : (cache : List ℕ) → length cache ≡ cacheWords → replicate (length cache) 0 ++ drop (length cache) cache ≡ emptyCache
+pub emptied : (cache : List ℕ) → length cache ≡ cacheWords → sets cache 0 (replicate (length cache) 0) ≡ emptyCache
 emptied cache y =
-    ap (λ (l : List ℕ). replicate (length cache) 0 ++ l) (drop-length cache) ∙ append-nil (replicate (length cache) 0) ∙ ap (λ (k : ℕ). replicate {A = ℕ} k 0) y
+    filled-front cache (length cache) 0 (omega arith) ∙ ap (λ (l : List ℕ). replicate (length cache) 0 ++ l) (drop-length cache)
+    ∙ append-nil (replicate (length cache) 0) ∙ ap (λ (k : ℕ). replicate {A = ℕ} k 0) y
 
 -- ---- check: 3, then 11
 pub check-3 : (s : Flat) → buffersFine (roomOf s) (s .registers .n) (s .registers .b) ≡ false → refused 3 ≡ check s
@@ -63,8 +65,7 @@ pub forget-refused : (s : Flat) (k : ℕ) → refused k ≡ check s → gives (r
 unfolding flatForget
 forget-refused s k e = refuses s k _ e
 
-pub forget-done : (r : Registers) (contents bodies stack cache cache′ : List ℕ) → accepted ≡ check (flat r contents bodies stack cache) → cache′ ≡ replicate
-    (length cache) 0 ++ drop (length cache) cache
+pub forget-done : (r : Registers) (contents bodies stack cache cache′ : List ℕ) → accepted ≡ check (flat r contents bodies stack cache) → cache′ ≡ sets cache 0 (replicate (length cache) 0)
     → gives done (flat r contents bodies stack cache′) ≡ flatForget (flat r contents bodies stack cache)
 unfolding flatForget
 forget-done r contents bodies stack cache cache′ e c =

@@ -7,6 +7,7 @@ use lib.Dec.{T, leb, eqb, le→leb}
 use lib.ListN.{length, drop, replicate, length-replicate}
 use native.Mathlib.Omega.{arith}
 use borrow.Author.Tests.{eq-eqb}
+use lib.Seq.{sets}
 use Rattle.bytecode.proofs.TestLaws.{and-both, true→T}
 use Rattle.bytecode.specs.Test.{if_then_else_}
 use Rattle.model.specs.Limits.{entryWords, cacheWords, headerWords}
@@ -69,7 +70,7 @@ module _ (image contents bodies cache contents′ bodies′ : List ℕ) where
     load-is v e = ap (afterLoad s image) (same-verdict ∙ e)
 
     load-accepted : (n b receiver selector : ℕ) (cache′ : List ℕ) → Accepted n b receiver selector ≡ readingOf verdict h → stored 0 contents′ bodies′ ≡ storedBy verdict image contents bodies
-        → cache′ ≡ replicate (length cache) 0 ++ drop (length cache) cache
+        → cache′ ≡ sets cache 0 (replicate (length cache) 0)
         → loadGives (L.Accepted (record { n = n; b = b; receiver = receiver; selector = selector; phase = 0; top = 0; value = 0 })) contents′ bodies′ stack cache′ ≡ flatLoad s image
     load-accepted n b receiver selector cache′ e q c = go verdict refl e q
       where
@@ -106,7 +107,7 @@ module _ (image contents bodies cache contents′ bodies′ : List ℕ) where
 
     -- as the reading gives it
     pub read-accepted : (r : Reading) (n b receiver selector : ℕ) (cache′ : List ℕ) → r ≡ Accepted n b receiver selector → r ≡ readingOf verdict h
-        → stored (readingNumber r) contents′ bodies′ ≡ storedBy verdict image contents bodies → cache′ ≡ replicate (length cache) 0 ++ drop (length cache) cache
+        → stored (readingNumber r) contents′ bodies′ ≡ storedBy verdict image contents bodies → cache′ ≡ sets cache 0 (replicate (length cache) 0)
         → loadGives (L.Accepted (record { n = n; b = b; receiver = receiver; selector = selector; phase = 0; top = 0; value = 0 })) contents′ bodies′ stack cache′ ≡ flatLoad s image
     unfolding readingNumber
     read-accepted r n b receiver selector cache′ x e q c =

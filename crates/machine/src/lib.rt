@@ -36,7 +36,7 @@ pub fn load(image: &[u8], contents: &mut [u16], bodies: &mut [u16], cache: &mut 
             receiver,
             selector,
         } => {
-            image::clear(cache, cache.len()); // lookups of what stood here before
+            words::fill(cache, 0, cache.len(), 0); // lookups of what stood here before
             Loaded::Accepted(Registers {
                 n: n,
                 b: b,
@@ -137,7 +137,7 @@ pub fn forget(
     match check(registers, contents, bodies, stack, cache) {
         Checked::Refused(k) => Forgotten::Refused(k),
         Checked::Right => {
-            image::clear(cache, cache.len()); // every entry
+            words::fill(cache, 0, cache.len(), 0); // every entry
             Forgotten::Emptied
         }
     }

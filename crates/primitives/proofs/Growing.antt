@@ -3,120 +3,105 @@ use Prim.Native.Nat.{ℕ, suc, _+_, _*_, _/_, _%_, _≤_, _<_}
 use mathlib.Core.Path.{_≡_, refl, sym, ap, ap₂, _∙_, subst}
 use mathlib.Core.Logic.{_≢_}
 use mathlib.Core.Bool.{Bool, true, false, _&&_}
-use mathlib.Core.List.{List, [], _∷_, _++_, append-assoc, append-nil}
+use mathlib.Core.List.{List, [], _∷_, _++_}
 use native.Mathlib.Omega.{arith}
 use borrow.Author.Tests.{eq-eqb, ne-eqb, le-leb, lt-leb}
-use lib.Dec.{T, leb, ltb, eqb, le→leb, lt→ltb}
-use lib.ListN.{length, take, drop, set, replicate, length-append, length-replicate, replicate-append-replicate}
-use lib.Seq.{length-take-le, drop-cons, set-at, append-snoc}
+use lib.Dec.{leb, eqb}
+use lib.ListN.{length, take, set, replicate}
+use lib.Seq.{sets, length-sets, take-add}
 use Rattle.bytecode.specs.Constant.{nilWord}
 use Rattle.bytecode.proofs.Choice.{if-yes, if-no}
-use Rattle.bytecode.proofs.TestLaws.{T→true, and-both}
+use Rattle.model.specs.declared.Computed.{Computed}
 use Rattle.model.specs.declared.Computed.the-variants.{Word, Failed}
-use Rattle.model.specs.Limits.{entryWords, mostObjects, mostBodyWords, largestInteger, fieldsKind, bytesKind, classKind, fixedForm, indexedForm, bytesForm}
-use Rattle.model.specs.Word.{isNatural}
-use Rattle.model.specs.Objects.{Objects, objectsAt, isKind, fieldCount, form, atFront}
+use Rattle.model.specs.Limits.{entryWords, largestInteger, fieldsKind, bytesKind, classKind, fixedForm, indexedForm, bytesForm}
+use Rattle.model.specs.Word.{isNatural, pointer}
+use Rattle.model.specs.Objects.{Objects, objectsAt, isKind, fieldCount, form, atFront, part}
 use Rattle.model.specs.Image.{Room}
 use Rattle.model.specs.Rules.{Right}
-use Rattle.model.specs.Primitive.{Outcome, fails, appended, hasRoom, make, new, newWith}
-use Rattle.model.proofs.AppendLaws.{HasRoom, room-facts}
+use Rattle.model.specs.Primitive.{Outcome, answers, fails, computed, appended, hasRoom, make, new, newWith}
+use Rattle.model.proofs.Parts.{length-part}
+use Rattle.words.proofs.Runs.{behind}
 use Rattle.primitives.specs.declared.Done.{Done}
-use Rattle.primitives.specs.Outcomes.{answerOf, objectsAfter, roomOf, Does}
+use Rattle.primitives.specs.Outcomes.{answerOf, objectsAfter, doneWith, Does}
 use Rattle.objects.proofs.Buffers.{contents-room, bodies-room, front-same}
 
--- One more word at the front
-front-next : (p l : List ℕ) (i v : ℕ) → length p ≡ i → i < length l → set (atFront p l) i v ≡ atFront (p ++ (v ∷ [])) l
-front-next p l i v e h =
-    ap (λ (k : ℕ). set (p ++ drop k l) i v) e ∙ ap (λ (r : List ℕ). set (p ++ r) i v) (drop-cons l i 0 h) ∙ set-at p _ (drop (suc i) l) v i e
-    ∙ sym (append-snoc p v (drop (suc i) l)) ∙ ap (λ (k : ℕ). (p ++ (v ∷ [])) ++ drop k l) there
-  where
-    there : suc i ≡ length (p ++ (v ∷ []))
-    there = let a = length-append p (v ∷ []) in omega arith
-
-pub fill-first : (l : List ℕ) (b w : ℕ) → b ≤ length l → l ≡ atFront (take b l ++ replicate 0 w) l
-fill-first l b w h = sym (front-same b l h) ∙ ap (λ (x : List ℕ). atFront x l) (sym (append-nil (take b l)))
-
-pub fill-next : (l bodies : List ℕ) (b i w : ℕ) → b + i < length l → bodies ≡ atFront (take b l ++ replicate i w) l → set bodies (b + i) w ≡ atFront (take b l ++ replicate (i + 1) w) l
-fill-next l bodies b i w h p =
-    ap (λ (x : List ℕ). set x (b + i) w) p ∙ front-next (take b l ++ replicate i w) l (b + i) w long h
-    ∙ ap (λ (x : List ℕ). atFront x l) (append-assoc (take b l) (replicate i w) (w ∷ []) ∙ ap (λ (x : List ℕ). take b l ++ x) (replicate-append-replicate i 1 w))
-  where
-    long : length (take b l ++ replicate i w) ≡ b + i
-    long = let a = length-append (take b l) (replicate i w) in let t = length-take-le b l (omega arith) in let r = length-replicate i w in omega arith
-
-pub entered : (l : List ℕ) (at c k s z : ℕ) → at + 4 ≤ length l → set (set (set (set l at c) (at + 1) k) (at + 2) s) (at + 3) z ≡ atFront (take at l ++ (c ∷ k ∷ s ∷ z ∷ [])) l
+-- Four stores are one entry.
+entered : (l : List ℕ) (at c k s z : ℕ) → at + entryWords ≤ length l
+    → set (set (set (set l at c) (at + 1) k) (at + 2) s) (at + 3) z ≡ atFront (take at l ++ (c ∷ k ∷ s ∷ z ∷ [])) l
 entered l at c k s z h =
-    ap (λ (x : List ℕ). set (set (set (set x at c) (at + 1) k) (at + 2) s) (at + 3) z) (sym (front-same at l (omega arith)))
-    ∙ ap (λ (x : List ℕ). set (set (set x (at + 1) k) (at + 2) s) (at + 3) z) (front-next p l at c zero-long (omega arith))
-    ∙ ap (λ (x : List ℕ). set (set x (at + 2) s) (at + 3) z) (front-next (p ++ (c ∷ [])) l (at + 1) k one-long (omega arith))
-    ∙ ap (λ (x : List ℕ). set x (at + 3) z) (front-next (p ++ (c ∷ []) ++ (k ∷ [])) l (at + 2) s two-long (omega arith))
-    ∙ front-next (p ++ (c ∷ []) ++ (k ∷ []) ++ (s ∷ [])) l (at + 3) z three-long (omega arith)
-    ∙ ap (λ (x : List ℕ). atFront x l) joined
-  where
-    joined : take at l ++ (c ∷ []) ++ (k ∷ []) ++ (s ∷ []) ++ (z ∷ []) ≡ take at l ++ (c ∷ k ∷ s ∷ z ∷ [])
-    joined = simp append-assoc
+    let one : at + 1 ≡ suc at = omega arith in
+    let two : at + 2 ≡ suc (suc at) = omega arith in
+    let three : at + 3 ≡ suc (suc (suc at)) = omega arith in
+    rw (one, two, three) (behind l (c ∷ k ∷ s ∷ z ∷ []) at h)
 
-    p : List ℕ
-    p = take at l
-
-    zero-long : length p ≡ at
-    zero-long = length-take-le at l (omega arith)
-
-    one-long : length (p ++ (c ∷ [])) ≡ at + 1
-    one-long = length-append p (c ∷ []) ∙ ap (λ (x : ℕ). x + 1) zero-long
-
-    two-long : length (p ++ (c ∷ []) ++ (k ∷ [])) ≡ at + 2
-    two-long = let a = length-append (p ++ (c ∷ [])) (k ∷ []) in let b = one-long in omega arith
-
-    three-long : length (p ++ (c ∷ []) ++ (k ∷ []) ++ (s ∷ [])) ≡ at + 3
-    three-long = let a = length-append (p ++ (c ∷ []) ++ (k ∷ [])) (s ∷ []) in let b = two-long in omega arith
-
--- What a failure leaves, and one outcome for another
-pub does-none : {e : ℕ} (n b : ℕ) (contents bodies : List ℕ) {z : Outcome} → Right e (objectsAt n b contents bodies) → fails ≡ z
-    → Does (objectsAt n b contents bodies) z (record { answer = Failed; n = n; b = b }) contents bodies contents bodies
+-- What leaves the objects, and one outcome for another
+pub does-computed : {n b : ℕ} {contents bodies : List ℕ} {r : Done} {z : Outcome} (x : Computed) → Right e (objectsAt n b contents bodies) → r ≡ doneWith x n b
+    → computed (objectsAt n b contents bodies) x ≡ z → Does (objectsAt n b contents bodies) z r contents bodies contents bodies
 unfolding answerOf objectsAfter
-does-none n b contents bodies r p =
-    subst (λ (z : Outcome). Does (objectsAt n b contents bodies) z (record { answer = Failed; n = n; b = b }) contents bodies contents bodies) p
-    (record {
-      answer = refl;
-      count = refl;
-      size = refl;
-      entries = sym (front-same (entryWords * n) contents (contents-room n b contents bodies r));
-      words = sym
-          (front-same b bodies (bodies-room n b contents bodies r));
-    })
+does-computed {n} {b} {contents} {bodies} {r} {z} x h e p =
+    subst (λ (y : Done). Does (objectsAt n b contents bodies) z y contents bodies contents bodies) (sym e)
+    (subst (λ (y : Outcome). Does (objectsAt n b contents bodies) y (doneWith x n b) contents bodies contents bodies) p (go x))
+  where
+    entries : contents ≡ atFront (take (entryWords * n) contents) contents
+    entries = sym (front-same (entryWords * n) contents (contents-room n b contents bodies h))
+
+    words : bodies ≡ atFront (take b bodies) bodies
+    words = sym (front-same b bodies (bodies-room n b contents bodies h))
+
+    go : (x : Computed) → Does (objectsAt n b contents bodies) (computed (objectsAt n b contents bodies) x) (doneWith x n b) contents bodies contents bodies
+    go (Word w) = record { answer = refl; count = refl; size = refl; entries = entries; words = words }
+    go Failed = record { answer = refl; count = refl; size = refl; entries = entries; words = words }
+
+pub does-none : {n b : ℕ} {contents bodies : List ℕ} {r : Done} {z : Outcome} → Right e (objectsAt n b contents bodies) → r ≡ doneWith Failed n b → fails ≡ z
+    → Does (objectsAt n b contents bodies) z r contents bodies contents bodies
+does-none = does-computed Failed
 
 pub does-same : {o : Objects} {z z′ : Outcome} {r : Done} {contents bodies contents′ bodies′ : List ℕ} → z ≡ z′ → Does o z r contents bodies contents′ bodies′
     → Does o z′ r contents bodies contents′ bodies′
 does-same {o} {z} {z′} {r} {contents} {bodies} {contents′} {bodies′} p h = subst (λ (x : Outcome). Does o x r contents bodies contents′ bodies′) p h
 
 -- Room for one more
-not-test : (t : Bool) → (T t → ⊥) → t ≡ false
-not-test true f = absurd (f tt)
-not-test false f = refl
+module _ (room : Room) (o : Objects) (class kd sz count w : ℕ) where
+  pub no-room : hasRoom room o count ≡ false → fails ≡ make room o class kd sz count w
+  unfolding make
+  no-room p = sym (if-no _ _ p)
 
-pub no-room : (room : Room) (o : Objects) (class kd sz count w : ℕ) → (HasRoom room o count → ⊥) → fails ≡ make room o class kd sz count w
-unfolding make
-no-room room o class kd sz count w f = sym (if-no _ _ (not-test (hasRoom room o count) (λ t. f (room-facts room o count t))))
+  pub is-made : hasRoom room o count ≡ true → answers (pointer (o .n + 1)) (appended o class kd sz (replicate count w)) ≡ make room o class kd sz count w
+  unfolding make
+  is-made p = sym (if-yes _ _ p)
 
-has-room : (room : Room) (o : Objects) (count : ℕ) → HasRoom room o count → hasRoom room o count ≡ true
-unfolding hasRoom
-has-room room o count h =
-    T→true _ (and-both (ltb (o .n) mostObjects) (leb (o .b + count) mostBodyWords && (leb (entryWords * (o .n + 1)) (room .contents) && leb (o .b + count)
-    (room .bodies))) (lt→ltb (o .n) mostObjects (h .objects))
-    (and-both (leb (o .b + count) mostBodyWords) (leb (entryWords * (o .n + 1)) (room .contents) && leb (o .b + count) (room .bodies)) (le→leb (o .b + count) mostBodyWords (h .words))
-    (and-both (leb (entryWords * (o .n + 1)) (room .contents)) (leb (o .b + count) (room .bodies)) (le→leb (entryWords * (o .n + 1)) (room .contents)
-    (h .contents)) (le→leb (o .b + count) (room .bodies) (h .bodies)))))
+-- The entry of an object whose body stands
+pub does-append : (n b class kd sz count : ℕ) (contents bodies : List ℕ) → entryWords * (n + 1) ≤ length contents → b + count ≤ length bodies
+    → Does (objectsAt n b contents bodies) (answers (pointer (n + 1)) (appended (objectsAt n b contents bodies) class kd sz (part bodies b count)))
+    (doneWith (Word (pointer (n + 1))) (n + 1) (b + count)) contents bodies
+    (set (set (set (set contents (entryWords * n) class) (entryWords * n + 1) kd) (entryWords * n + 2) b) (entryWords * n + 3) sz) bodies
+unfolding answerOf objectsAfter appended
+does-append n b class kd sz count contents bodies h g =
+    record {
+      answer = refl;
+      count = refl;
+      size = ap (λ (k : ℕ). b + k) (sym (length-part bodies b count g));
+      entries = entered contents (entryWords * n) class kd b sz (omega arith);
+      words = sym (front-same (b + count) bodies g) ∙ ap (λ (x : List ℕ). atFront x bodies) (take-add b count bodies);
+    }
 
--- The new object in the buffers
-pub does-make : (n b : ℕ) (contents bodies contents′ bodies′ : List ℕ) (class kd sz count w : ℕ) → HasRoom (roomOf contents bodies) (objectsAt n b contents bodies) count
-    → contents′ ≡ atFront (take (entryWords * n) contents ++ (class ∷ kd ∷ b ∷ sz ∷ [])) contents → bodies′ ≡ atFront (take b bodies ++ replicate count w) bodies
-    → Does (objectsAt n b contents bodies) (make (roomOf contents bodies) (objectsAt n b contents bodies) class kd sz count w)
-    (record { answer = Word (2 * (n + 1)); n = n + 1; b = b + count }) contents bodies contents′ bodies′
-unfolding make answerOf objectsAfter appended
-does-make n b contents bodies contents′ bodies′ class kd sz count w h p q =
-    does-same (sym (if-yes _ _ (has-room (roomOf contents bodies) (objectsAt n b contents bodies) count h)))
-    (record { answer = refl; count = refl; size = ap (λ (k : ℕ). b + k) (sym (length-replicate count w)); entries = p; words = q })
+-- What it gives where the body was written behind those of other bodies, in the terms of these
+pub does-written : {n b w count : ℕ} {r : Done} {contents contents′ bodies bodies′ : List ℕ} (class kd sz : ℕ) (body : List ℕ) → length body ≡ count → b + count ≤ length bodies
+    → bodies′ ≡ sets bodies b body
+    → Does (objectsAt n b contents bodies′) (answers w (appended (objectsAt n b contents bodies′) class kd sz (part bodies′ b count))) r contents bodies′ contents′ bodies′
+    → Does (objectsAt n b contents bodies) (answers w (appended (objectsAt n b contents bodies) class kd sz body)) r contents bodies contents′ bodies′
+unfolding answerOf objectsAfter appended
+does-written {b = b} {count = count} {bodies = bodies} {bodies′ = bodies′} class kd sz body e h p d =
+    record {
+      answer = d .answer;
+      count = d .count;
+      size = d .size ∙ ap (λ (k : ℕ). b + k) (length-part bodies′ b count long ∙ sym e);
+      entries = d .entries;
+      words = p ∙ behind bodies body b (omega arith);
+    }
+  where
+    long : b + count ≤ length bodies′
+    long = let l = ap length p ∙ length-sets bodies b body in omega arith
 
 -- 70 and 71, case by case
 module _ (room : Room) (o : Objects) (w : ℕ) where
@@ -129,30 +114,30 @@ module _ (room : Room) (o : Objects) (w : ℕ) where
   with-no-class x p = sym (if-no _ _ (ap (λ (t : Bool). t && isNatural largestInteger x) p))
 
   module _ (t : isKind o classKind w ≡ true) where
-    pub new-other : (f : ℕ) → f ≡ form o w → f ≢ 0 → fails ≡ new room o w
+    pub new-other : {f : ℕ} → f ≡ form o w → f ≢ 0 → fails ≡ new room o w
     unfolding new
-    new-other f e d = sym (if-no _ _ (ap₂ _&&_ t (ne-eqb (form o w) fixedForm (λ q. d (e ∙ q)))))
+    new-other e d = sym (if-no _ _ (ap₂ _&&_ t (ne-eqb (form o w) fixedForm (λ q. d (e ∙ q)))))
 
-    pub new-is : (f k : ℕ) → f ≡ form o w → f ≡ 0 → k ≡ fieldCount o w → make room o w fieldsKind k k nilWord ≡ new room o w
+    pub new-is : {f k : ℕ} → f ≡ form o w → f ≡ 0 → k ≡ fieldCount o w → make room o w fieldsKind k k nilWord ≡ new room o w
     unfolding new
-    new-is f k e d p =
+    new-is e d p =
         ap (λ (j : ℕ). make room o w fieldsKind j j nilWord) p ∙ sym (if-yes _ _ (ap₂ _&&_ t (eq-eqb (form o w) fixedForm (sym e ∙ d))))
 
     pub with-even : (x : ℕ) → x % 2 ≢ 1 → fails ≡ newWith room o w x
     unfolding newWith
     with-even x d = sym (if-no _ _ (ap₂ _&&_ t (ap (λ (y : Bool). y && leb (x / 2) largestInteger) (ne-eqb (x % 2) 1 d))))
 
-    pub with-large : (x : ℕ) → x % 2 ≡ 1 → 16383 < x / 2 → fails ≡ newWith room o w x
+    pub with-large : (x : ℕ) → x % 2 ≡ 1 → largestInteger < x / 2 → fails ≡ newWith room o w x
     unfolding newWith
     with-large x e l = sym (if-no _ _ (ap₂ _&&_ t (ap₂ _&&_ (eq-eqb (x % 2) 1 e) (lt-leb (x / 2) largestInteger l))))
 
-    module _ (x f : ℕ) (a : x % 2 ≡ 1) (l : x / 2 ≤ 16383) (e : f ≡ form o w) where
+    module _ (x : ℕ) {f : ℕ} (a : x % 2 ≡ 1) (l : x / 2 ≤ largestInteger) (e : f ≡ form o w) where
       fine : (isKind o classKind w && isNatural largestInteger x) ≡ true
       fine = ap₂ _&&_ t (ap₂ _&&_ (eq-eqb (x % 2) 1 a) (le-leb (x / 2) largestInteger l))
 
-      pub with-words : (k : ℕ) → f ≡ 1 → k ≡ fieldCount o w → make room o w fieldsKind (k + x / 2) (k + x / 2) nilWord ≡ newWith room o w x
+      pub with-words : {k : ℕ} → f ≡ 1 → k ≡ fieldCount o w → make room o w fieldsKind (k + x / 2) (k + x / 2) nilWord ≡ newWith room o w x
       unfolding newWith
-      with-words k d p =
+      with-words d p =
           ap (λ (j : ℕ). make room o w fieldsKind (j + x / 2) (j + x / 2) nilWord) p
           ∙ sym (if-yes _ _ fine ∙ if-yes _ _ (eq-eqb (form o w) indexedForm (sym e ∙ d)))
 

@@ -69,12 +69,12 @@ module _ (o : Objects) (w : ℕ) where
   pub elements-odd : w % 2 ≡ 1 → 0 ≡ elementsOf o w
   elements-odd h = none (λ q. q .even h)
 
-  pub elements-large : (sz : ℕ) → sz ≡ size o (objectNumber w) → 16383 < sz → 0 ≡ elementsOf o w
-  elements-large sz e h = none (λ q. let l = q .small in omega arith)
+  pub elements-large : {sz : ℕ} → sz ≡ size o (objectNumber w) → mostElements < sz → 0 ≡ elementsOf o w
+  elements-large e h = none (λ q. let l = q .small in omega arith)
 
-  pub elements-form : (f sz : ℕ) → w % 2 ≢ 1 → sz ≡ size o (objectNumber w) → sz ≤ 16383 → f ≡ form o (classOf o w) → (f ≡ 1) ⊎ (f ≡ 2) → f ≡ elementsOf o w
+  pub elements-form : {f sz : ℕ} → w % 2 ≢ 1 → sz ≡ size o (objectNumber w) → sz ≤ mostElements → f ≡ form o (classOf o w) → (f ≡ 1) ⊎ (f ≡ 2) → f ≡ elementsOf o w
   unfolding elementsOf
-  elements-form f sz d p l e g =
+  elements-form {f} d p l e g =
       e ∙ sym (if-yes _ _ (T→true (isIndexable o w) (facts-indexable o w (record { even = d; forms = go g; small = small }))))
     where
       small : size o (objectNumber w) ≤ mostElements
@@ -84,8 +84,8 @@ module _ (o : Objects) (w : ℕ) where
       go (inl q) = inl (sym e ∙ q)
       go (inr q) = inr (sym e ∙ q)
 
-  pub elements-other : (f : ℕ) → f ≡ form o (classOf o w) → f ≢ 1 → f ≢ 2 → 0 ≡ elementsOf o w
-  elements-other f e a b = none (λ q. go (q .forms))
+  pub elements-other : {f : ℕ} → f ≡ form o (classOf o w) → f ≢ 1 → f ≢ 2 → 0 ≡ elementsOf o w
+  elements-other e a b = none (λ q. go (q .forms))
     where
       go : (form o (classOf o w) ≡ indexedForm) ⊎ (form o (classOf o w) ≡ bytesForm) → ⊥
       go (inl q) = a (e ∙ q)
@@ -99,7 +99,7 @@ pub record Taken (o : Objects) (w f : ℕ) : Type 0 where
   pub by : (f ≡ 1) ⊎ (f ≡ 2)
   pub small : size o (objectNumber w) ≤ 16383
 
-module _ (o : Objects) (w f : ℕ) (e : f ≡ elementsOf o w) where
+module _ (o : Objects) (w : ℕ) {f : ℕ} (e : f ≡ elementsOf o w) where
   pub not-taken : f ≡ 0 → isIndexable o w ≡ false
   unfolding elementsOf
   not-taken z = not-test (isIndexable o w) (λ t. go (indexable-facts o w t .forms) (sym (if-yes _ _ (T→true (isIndexable o w) t)) ∙ sym e ∙ z))
@@ -108,6 +108,7 @@ module _ (o : Objects) (w f : ℕ) (e : f ≡ elementsOf o w) where
       go (inl q) s = omega arith
       go (inr q) s = omega arith
 
+module _ {o : Objects} {w f : ℕ} (e : f ≡ elementsOf o w) where
   pub taken : f ≢ 0 → Taken o w f
   unfolding elementsOf
   taken d = go (isIndexable o w) refl
@@ -159,26 +160,27 @@ pub record Indexed (o : Objects) (w x i : ℕ) : Type 0 where
   pub least : 1 ≤ i
   pub most : i ≤ size o (objectNumber w)
 
-module _ (o : Objects) (w x i count : ℕ) (s : count ≡ size o (objectNumber w)) (e : i ≡ indexOf count x) where
-  abbrev here : i ≡ indexOf (size o (objectNumber w)) x
-  here = e ∙ ap (λ (k : ℕ). indexOf k x) s
+sized : (o : Objects) (w x : ℕ) {i count : ℕ} → count ≡ size o (objectNumber w) → i ≡ indexOf count x → i ≡ indexOf (size o (objectNumber w)) x
+sized o w x s e = e ∙ ap (λ (k : ℕ). indexOf k x) s
 
+module _ (o : Objects) (w x : ℕ) {i count : ℕ} (s : count ≡ size o (objectNumber w)) (e : i ≡ indexOf count x) where
   pub not-indexed : i ≡ 0 → isIndex o w x ≡ false
   unfolding indexOf
-  not-indexed z = not-test (isIndex o w x) (λ t. absurd (go (index-facts (size o (objectNumber w)) x t) (sym (if-yes _ _ (T→true (isIndex o w x) t)) ∙ sym here ∙ z)))
+  not-indexed z = not-test (isIndex o w x) (λ t. absurd (go (index-facts (size o (objectNumber w)) x t) (sym (if-yes _ _ (T→true (isIndex o w x) t)) ∙ sym (sized o w x s e) ∙ z)))
     where
       go : Index (size o (objectNumber w)) x → x / 2 ≡ 0 → ⊥
       go h q = let l = h .least in omega arith
 
+module _ {o : Objects} {w x i count : ℕ} (s : count ≡ size o (objectNumber w)) (e : i ≡ indexOf count x) where
   pub indexed-by : i ≢ 0 → Indexed o w x i
   unfolding indexOf
   indexed-by d = go (isIndex o w x) refl
     where
       go : (t : Bool) → isIndex o w x ≡ t → Indexed o w x i
-      go false p = absurd (d (here ∙ if-no _ _ p))
+      go false p = absurd (d (sized o w x s e ∙ if-no _ _ p))
       go true p =
           let h = index-facts (size o (objectNumber w)) x (true→T p) in
-          let q : i ≡ x / 2 = here ∙ if-yes _ _ p in
+          let q : i ≡ x / 2 = sized o w x s e ∙ if-yes _ _ p in
           let l = h .least in
           let m = h .most in
           record { test = p; number = q; least = omega arith; most = omega arith }
@@ -192,8 +194,8 @@ module _ {n b : ℕ} {contents bodies : List ℕ} {w : ℕ} (r : Receives n b co
   unfolding classOf
   class-is d = if-no _ _ (ne-eqb (w % 2) 1 d)
 
-  pub receiver-class : (c : ℕ) → w % 2 ≢ 1 → c ≡ classOf (objectsAt n b contents bodies) w → Holds 2 n b contents bodies c
-  receiver-class c d e =
+  pub receiver-class : {c : ℕ} → w % 2 ≢ 1 → c ≡ classOf (objectsAt n b contents bodies) w → Holds 2 n b contents bodies c
+  receiver-class d e =
       let l = receiver-listed d in
       record { right = r .right; kinds = subst (λ (x : ℕ). T (isKind (objectsAt n b contents bodies) 2 x)) (sym (e ∙ class-is d)) (entry-class (r .right .1) (objectNumber w) (l .least) (l .most)) }
 
@@ -202,8 +204,8 @@ module _ {n b : ℕ} {contents bodies : List ℕ} {w : ℕ} (r : Receives n b co
       let l = receiver-listed d in
       subst (Fits (objectsAt n b contents bodies) (objectNumber w)) (sym (class-is d)) (entry-fits (r .right .1) (objectNumber w) (l .least) (l .most))
 
-  pub word-inside : (f x i : ℕ) → Taken (objectsAt n b contents bodies) w f → Indexed (objectsAt n b contents bodies) w x i → f ≢ 2 → Inside n b contents bodies w (i - 1)
-  word-inside f x i t k d =
+  pub word-inside : {f x i : ℕ} → Taken (objectsAt n b contents bodies) w f → Indexed (objectsAt n b contents bodies) w x i → f ≢ 2 → Inside n b contents bodies w (i - 1)
+  word-inside {f} {x} {i} t k d =
       let l = receiver-listed (t .even) in
       record { right = r .right; least = l .least; most = l .most; word = go (fitting (t .even)) (t .forms) (t .by) }
     where
@@ -219,8 +221,8 @@ module _ {n b : ℕ} {contents bodies : List ℕ} {w : ℕ} (r : Receives n b co
       go (other x y) p (inl q) = absurd (omega arith)
       go (other x y) p (inr q) = absurd (d q)
 
-  pub byte-inside : (f x i : ℕ) → Taken (objectsAt n b contents bodies) w f → Indexed (objectsAt n b contents bodies) w x i → f ≡ 2 → Inside n b contents bodies w ((i - 1) / 2)
-  byte-inside f x i t k e =
+  pub byte-inside : {f x i : ℕ} → Taken (objectsAt n b contents bodies) w f → Indexed (objectsAt n b contents bodies) w x i → f ≡ 2 → Inside n b contents bodies w ((i - 1) / 2)
+  byte-inside {f} {x} {i} t k e =
       let l = receiver-listed (t .even) in
       record { right = r .right; least = l .least; most = l .most; word = go (fitting (t .even)) (t .forms) }
     where
@@ -233,77 +235,76 @@ module _ {n b : ℕ} {contents bodies : List ℕ} {w : ℕ} (r : Receives n b co
       go (other x y) p = absurd (omega arith)
 
 -- 60 to 62, case by case
-module _ (o : Objects) (w x : ℕ) where
-  pub at-none : isIndexable o w ≡ false → fails ≡ at o w x
-  unfolding at
-  at-none p = sym (if-no _ _ (ap (λ (t : Bool). t && isIndex o w x) p))
+pub size-none : (o : Objects) (w : ℕ) → isIndexable o w ≡ false → fails ≡ sizeAnswer o w
+unfolding sizeAnswer
+size-none o w p = sym (if-no _ _ p)
 
-  pub put-none : (v : ℕ) → isIndexable o w ≡ false → fails ≡ atPut o w x v
-  unfolding atPut
-  put-none v p = sym (if-no _ _ (ap (λ (t : Bool). t && isIndex o w x) p))
+pub at-none : (o : Objects) (w x : ℕ) → isIndexable o w ≡ false → fails ≡ at o w x
+unfolding at
+at-none o w x p = sym (if-no _ _ (ap (λ (t : Bool). t && isIndex o w x) p))
 
-  pub size-none : isIndexable o w ≡ false → fails ≡ sizeAnswer o w
+pub put-none : (o : Objects) (w x v : ℕ) → isIndexable o w ≡ false → fails ≡ atPut o w x v
+unfolding atPut
+put-none o w x v p = sym (if-no _ _ (ap (λ (t : Bool). t && isIndex o w x) p))
+
+module _ {o : Objects} {w f : ℕ} (t : Taken o w f) where
+  pub size-some : {sz : ℕ} → sz ≡ size o (objectNumber w) → answers (2 * sz + 1) o ≡ sizeAnswer o w
   unfolding sizeAnswer
-  size-none p = sym (if-no _ _ p)
+  size-some e = ap (λ (k : ℕ). answers (2 * k + 1) o) e ∙ sym (if-yes _ _ (t .test))
 
-  module _ (f : ℕ) (t : Taken o w f) where
-    pub size-some : (sz : ℕ) → sz ≡ size o (objectNumber w) → answers (2 * sz + 1) o ≡ sizeAnswer o w
-    unfolding sizeAnswer
-    size-some sz e = ap (λ (k : ℕ). answers (2 * k + 1) o) e ∙ sym (if-yes _ _ (t .test))
+  pub at-no-index : (x : ℕ) → isIndex o w x ≡ false → fails ≡ at o w x
+  unfolding at
+  at-no-index x p = sym (if-no _ _ (ap₂ _&&_ (t .test) p))
 
-    pub at-no-index : isIndex o w x ≡ false → fails ≡ at o w x
+  pub put-no-index : (x v : ℕ) → isIndex o w x ≡ false → fails ≡ atPut o w x v
+  unfolding atPut
+  put-no-index x v p = sym (if-no _ _ (ap₂ _&&_ (t .test) p))
+
+  holds : f ≡ 2 → holdsBytes o w ≡ true
+  holds e = eq-eqb (form o (classOf o w)) bytesForm (t .forms ∙ e)
+
+  holds-not : f ≢ 2 → holdsBytes o w ≡ false
+  holds-not d = ne-eqb (form o (classOf o w)) bytesForm (λ q. d (sym (t .forms) ∙ q))
+
+  module _ {x i : ℕ} (k : Indexed o w x i) where
+    both : (isIndexable o w && isIndex o w x) ≡ true
+    both = ap₂ _&&_ (t .test) (k .test)
+
+    abbrev less : i - 1 ≡ x / 2 - 1
+    less = ap (λ (j : ℕ). j - 1) (k .number)
+
+    pub at-byte : {v : ℕ} → f ≡ 2 → v ≡ objectByte o (objectNumber w) (i - 1) → answers (2 * v + 1) o ≡ at o w x
     unfolding at
-    at-no-index p = sym (if-no _ _ (ap₂ _&&_ (t .test) p))
+    at-byte e p =
+        ap (λ (y : ℕ). answers (2 * y + 1) o) (p ∙ ap (objectByte o (objectNumber w)) less)
+        ∙ sym (if-yes _ _ both ∙ ap (λ (y : ℕ). answers y o) (if-yes _ _ (holds e)))
 
-    pub put-no-index : (v : ℕ) → isIndex o w x ≡ false → fails ≡ atPut o w x v
+    pub at-word : {v : ℕ} → f ≢ 2 → v ≡ bodyWord o (objectNumber w) (i - 1) → answers v o ≡ at o w x
+    unfolding at
+    at-word d p =
+        ap (λ (y : ℕ). answers y o) (p ∙ ap (bodyWord o (objectNumber w)) less)
+        ∙ sym (if-yes _ _ both ∙ ap (λ (y : ℕ). answers y o) (if-no _ _ (holds-not d)))
+
+    pub put-word : {v : ℕ} → f ≢ 2 → answers v (storeWord o (objectNumber w) (i - 1) v) ≡ atPut o w x v
     unfolding atPut
-    put-no-index v p = sym (if-no _ _ (ap₂ _&&_ (t .test) p))
+    put-word {v} d =
+        ap (λ (j : ℕ). answers v (storeWord o (objectNumber w) j v)) less ∙ sym (if-yes _ _ both ∙ if-no _ _ (holds-not d))
 
-    holds : f ≡ 2 → holdsBytes o w ≡ true
-    holds e = eq-eqb (form o (classOf o w)) bytesForm (t .forms ∙ e)
+    pub put-byte : {v : ℕ} → f ≡ 2 → v % 2 ≡ 1 → v / 2 ≤ 255 → answers v (storeByte o (objectNumber w) (i - 1) (v / 2)) ≡ atPut o w x v
+    unfolding atPut
+    put-byte {v} e p q =
+        ap (λ (j : ℕ). answers v (storeByte o (objectNumber w) j (v / 2))) less
+        ∙ sym (if-yes _ _ both ∙ if-yes _ _ (holds e) ∙ if-yes _ _ (ap₂ _&&_ (eq-eqb (v % 2) 1 p) (le-leb (v / 2) 255 q)))
 
-    holds-not : f ≢ 2 → holdsBytes o w ≡ false
-    holds-not d = ne-eqb (form o (classOf o w)) bytesForm (λ q. d (sym (t .forms) ∙ q))
+    pub put-even : (v : ℕ) → f ≡ 2 → v % 2 ≢ 1 → fails ≡ atPut o w x v
+    unfolding atPut
+    put-even v e p =
+        sym (if-yes _ _ both ∙ if-yes _ _ (holds e) ∙ if-no _ _ (ap (λ (y : Bool). y && leb (v / 2) 255) (ne-eqb (v % 2) 1 p)))
 
-    module _ (i : ℕ) (k : Indexed o w x i) where
-      both : (isIndexable o w && isIndex o w x) ≡ true
-      both = ap₂ _&&_ (t .test) (k .test)
-
-      abbrev less : i - 1 ≡ x / 2 - 1
-      less = ap (λ (j : ℕ). j - 1) (k .number)
-
-      pub at-byte : (v : ℕ) → f ≡ 2 → v ≡ objectByte o (objectNumber w) (i - 1) → answers (2 * v + 1) o ≡ at o w x
-      unfolding at
-      at-byte v e p =
-          ap (λ (y : ℕ). answers (2 * y + 1) o) (p ∙ ap (objectByte o (objectNumber w)) less)
-          ∙ sym (if-yes _ _ both ∙ ap (λ (y : ℕ). answers y o) (if-yes _ _ (holds e)))
-
-      pub at-word : (v : ℕ) → f ≢ 2 → v ≡ bodyWord o (objectNumber w) (i - 1) → answers v o ≡ at o w x
-      unfolding at
-      at-word v d p =
-          ap (λ (y : ℕ). answers y o) (p ∙ ap (bodyWord o (objectNumber w)) less)
-          ∙ sym (if-yes _ _ both ∙ ap (λ (y : ℕ). answers y o) (if-no _ _ (holds-not d)))
-
-      pub put-word : (v : ℕ) → f ≢ 2 → answers v (storeWord o (objectNumber w) (i - 1) v) ≡ atPut o w x v
-      unfolding atPut
-      put-word v d =
-          ap (λ (j : ℕ). answers v (storeWord o (objectNumber w) j v)) less ∙ sym (if-yes _ _ both ∙ if-no _ _ (holds-not d))
-
-      pub put-byte : (v : ℕ) → f ≡ 2 → v % 2 ≡ 1 → v / 2 ≤ 255 → answers v (storeByte o (objectNumber w) (i - 1) (v / 2)) ≡ atPut o w x v
-      unfolding atPut
-      put-byte v e p q =
-          ap (λ (j : ℕ). answers v (storeByte o (objectNumber w) j (v / 2))) less
-          ∙ sym (if-yes _ _ both ∙ if-yes _ _ (holds e) ∙ if-yes _ _ (ap₂ _&&_ (eq-eqb (v % 2) 1 p) (le-leb (v / 2) 255 q)))
-
-      pub put-even : (v : ℕ) → f ≡ 2 → v % 2 ≢ 1 → fails ≡ atPut o w x v
-      unfolding atPut
-      put-even v e p =
-          sym (if-yes _ _ both ∙ if-yes _ _ (holds e) ∙ if-no _ _ (ap (λ (y : Bool). y && leb (v / 2) 255) (ne-eqb (v % 2) 1 p)))
-
-      pub put-large : (v : ℕ) → f ≡ 2 → v % 2 ≡ 1 → 255 < v / 2 → fails ≡ atPut o w x v
-      unfolding atPut
-      put-large v e p q =
-          sym (if-yes _ _ both ∙ if-yes _ _ (holds e) ∙ if-no _ _ (ap₂ _&&_ (eq-eqb (v % 2) 1 p) (lt-leb (v / 2) 255 q)))
+    pub put-large : (v : ℕ) → f ≡ 2 → v % 2 ≡ 1 → 255 < v / 2 → fails ≡ atPut o w x v
+    unfolding atPut
+    put-large v e p q =
+        sym (if-yes _ _ both ∙ if-yes _ _ (holds e) ∙ if-no _ _ (ap₂ _&&_ (eq-eqb (v % 2) 1 p) (lt-leb (v / 2) 255 q)))
 
 -- in the buffer
 pub puts-none : {n b : ℕ} {contents bodies : List ℕ} {w : ℕ} {z : Outcome} → Receives n b contents bodies w → fails ≡ z → Puts (objectsAt n b contents bodies) z Failed bodies bodies

@@ -12,32 +12,16 @@ use lib.ListN.{length, getD}
 use Rattle.bytecode.specs.Test.{if_then_else_}
 use Rattle.bytecode.proofs.Choice.{if-yes, if-no, if-cases}
 use Rattle.model.specs.declared.Computed.{Computed}
-use Rattle.model.specs.declared.Computed.the-variants.{Word, Failed}
 use Rattle.model.specs.Limits.{entryWords}
 use Rattle.model.specs.Word.{booleanWord}
 use Rattle.model.specs.Objects.{Objects, objectsAt, classOf, atFront}
 use Rattle.model.specs.Image.{Room}
 use Rattle.model.specs.Rules.{Right}
-use Rattle.model.specs.Primitive.{Outcome, answers, fails, storeWord, storeByte, at, atPut, sizeAnswer, hasRoom, make, new, newWith, computed, perform, primitiveCount, primitive}
-use Rattle.objects.proofs.Buffers.{contents-room, bodies-room, front-same}
-use Rattle.primitives.specs.Outcomes.{answerOf, objectsAfter, roomOf, Puts, Does}
-use Rattle.primitives.proofs.Growing.{does-none}
-
--- An outcome that leaves the objects
-pub does-computed : {e : ℕ} (n b : ℕ) (contents bodies : List ℕ) (r : Computed) {z : Outcome} → Right e (objectsAt n b contents bodies) → computed (objectsAt n b contents bodies) r ≡ z
-    → Does (objectsAt n b contents bodies) z (record { answer = r; n = n; b = b }) contents bodies contents bodies
-unfolding answerOf objectsAfter
-does-computed n b contents bodies (Word v) h p =
-    subst (λ (z : Outcome). Does (objectsAt n b contents bodies) z (record { answer = Word v; n = n; b = b }) contents bodies contents bodies) p
-    (record {
-      answer = refl;
-      count = refl;
-      size = refl;
-      entries = sym (front-same (entryWords * n) contents (contents-room n b contents bodies h));
-      words = sym
-          (front-same b bodies (bodies-room n b contents bodies h));
-    })
-does-computed n b contents bodies Failed h p = does-none n b contents bodies h p
+use Rattle.model.specs.Primitive.{Outcome, answers, fails, storeWord, storeByte, at, atPut, sizeAnswer, hasRoom, make, new, newWith, perform, primitiveCount, primitive}
+use Rattle.objects.proofs.Buffers.{contents-room, front-same}
+use Rattle.primitives.specs.declared.Done.{Done}
+use Rattle.primitives.specs.Outcomes.{objectsAfter, roomOf, doneWith, Puts, Does}
+use Rattle.primitives.proofs.Growing.{does-same}
 
 -- 61 leaves entries, n and b.
 record Stays (o : Objects) (z : Outcome) : Type 0 where
@@ -54,19 +38,19 @@ put-stays o w x v =
     (λ q. record { n = refl; b = refl; contents = refl }))
     (λ p. record { n = refl; b = refl; contents = refl })
 
-pub does-put : {e : ℕ} (n b : ℕ) (contents bodies after : List ℕ) (r : Computed) (w x v : ℕ) {z : Outcome} → Right e (objectsAt n b contents bodies) → atPut (objectsAt n b contents bodies) w x v ≡ z
-    → Puts (objectsAt n b contents bodies) (atPut (objectsAt n b contents bodies) w x v) r bodies after
-    → Does (objectsAt n b contents bodies) z (record { answer = r; n = n; b = b }) contents bodies contents after
-does-put n b contents bodies after r w x v h p q =
+pub does-put : {n b : ℕ} {contents bodies after : List ℕ} {y : Computed} {r : Done} {z : Outcome} (w x v : ℕ) → Right e (objectsAt n b contents bodies) → r ≡ doneWith y n b
+    → atPut (objectsAt n b contents bodies) w x v ≡ z → Puts (objectsAt n b contents bodies) (atPut (objectsAt n b contents bodies) w x v) y bodies after
+    → Does (objectsAt n b contents bodies) z r contents bodies contents after
+does-put {n} {b} {contents} {bodies} {after} {y} {r} {z} w x v h e p q =
     let s = put-stays (objectsAt n b contents bodies) w x v in
-    subst (λ (z : Outcome). Does (objectsAt n b contents bodies) z (record { answer = r; n = n; b = b }) contents bodies contents after) p
-    (record {
+    subst (λ (d : Done). Does (objectsAt n b contents bodies) z d contents bodies contents after) (sym e)
+    (does-same p (record {
       answer = q .answer;
       count = sym (s .n);
       size = sym (s .b);
       entries = sym (front-same (entryWords * n) contents (contents-room n b contents bodies h)) ∙ ap (λ (l : List ℕ). atFront l contents) (sym (s .contents));
       words = q .words;
-    })
+    }))
 
 -- The primitive of a number
 module _ (edition : ℕ) (room : Room) (o : Objects) (k w x y : ℕ) where
@@ -136,23 +120,23 @@ primitive-same edition room contents bodies o k count w arguments p q =
 counted : (k j c : ℕ) → c ≡ primitiveCount j → k ≡ j → c ≡ primitiveCount k
 counted k j c p e = p ∙ ap primitiveCount (sym e)
 
-pub count-61 : (k : ℕ) → k ≡ 61 → 2 ≡ primitiveCount k
+pub count-61 : {k : ℕ} → k ≡ 61 → 2 ≡ primitiveCount k
 unfolding primitiveCount if_then_else_
-count-61 k e = counted k 61 2 refl e
+count-61 {k} e = counted k 61 2 refl e
 
-pub count-62 : (k : ℕ) → k ≡ 62 → 0 ≡ primitiveCount k
+pub count-62 : {k : ℕ} → k ≡ 62 → 0 ≡ primitiveCount k
 unfolding primitiveCount if_then_else_
-count-62 k e = counted k 62 0 refl e
+count-62 {k} e = counted k 62 0 refl e
 
-pub count-70 : (k : ℕ) → k ≡ 70 → 0 ≡ primitiveCount k
+pub count-70 : {k : ℕ} → k ≡ 70 → 0 ≡ primitiveCount k
 unfolding primitiveCount if_then_else_
-count-70 k e = counted k 70 0 refl e
+count-70 {k} e = counted k 70 0 refl e
 
-pub count-111 : (k : ℕ) → k ≡ 111 → 0 ≡ primitiveCount k
+pub count-111 : {k : ℕ} → k ≡ 111 → 0 ≡ primitiveCount k
 unfolding primitiveCount if_then_else_
-count-111 k e = counted k 111 0 refl e
+count-111 {k} e = counted k 111 0 refl e
 
-pub count-one : (k : ℕ) → k ≢ 61 → k ≢ 62 → k ≢ 70 → k ≢ 111 → 1 ≡ primitiveCount k
+pub count-one : {k : ℕ} → k ≢ 61 → k ≢ 62 → k ≢ 70 → k ≢ 111 → 1 ≡ primitiveCount k
 unfolding primitiveCount
-count-one k a b c d =
+count-one {k} a b c d =
     sym (if-no _ _ (ne-eqb k 61 a) ∙ if-no _ _ (ap₂ _||_ (ne-eqb k 62 b) (ap₂ _||_ (ne-eqb k 70 c) (ne-eqb k 111 d))))

@@ -26,8 +26,14 @@ objectsAfter o (answers w o′) = o′
 objectsAfter o fails = o
 
 -- The lengths of the buffers that a primitive asks for
+abbrev pub roomFor : ℕ → ℕ → Room
+roomFor contents bodies = record { contents = contents; bodies = bodies; stack = 0; cache = 0 }
+
 abbrev pub roomOf : List ℕ → List ℕ → Room
-roomOf contents bodies = record { contents = length contents; bodies = length bodies; stack = 0; cache = 0 }
+roomOf contents bodies = roomFor (length contents) (length bodies)
+
+abbrev pub doneWith : Computed → ℕ → ℕ → Done
+doneWith answer n b = record { answer = answer; n = n; b = b }
 
 -- Right objects, and a valid word as receiver
 pub record Receives (n b : ℕ) (contents bodies : List ℕ) (w : ℕ) : Type 0 where

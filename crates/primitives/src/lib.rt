@@ -1,23 +1,71 @@
 // Primitives 60 to 62, 70, 71, 110 and 111. The definitions are model's specs/Primitive.antt; what fails changes nothing.
 ghost use mathlib.Core.Path.{_≡_};
-ghost use mathlib.Core.List.{[], _∷_, _++_};
-ghost use Prim.Native.Nat.{_+_, _*_, _<_, _≤_};
-ghost use lib.ListN.{length, take, replicate};
-ghost use Rattle.model.specs.Limits.{entryWords};
-ghost use Rattle.model.specs.Objects.{objectsAt, atFront};
+ghost use mathlib.Core.List.{List, [], _∷_};
+ghost use Prim.Native.Nat.{ℕ, _+_, _*_, _<_, _≤_};
+ghost use lib.ListN.{length};
+ghost use Rattle.model.specs.Limits.{entryWords, mostObjects, mostBodyWords};
+ghost use Rattle.model.specs.Objects.{objectsAt, part};
 ghost use Rattle.model.specs.Rules.{IsRight};
-ghost use Rattle.model.specs.Primitive.{at, atPut, sizeAnswer, make, new, newWith, computed, perform, primitiveCount, primitive};
-ghost use Rattle.model.specs.Word.{booleanWord};
+ghost use Rattle.model.specs.Primitive.{answers, at, atPut, sizeAnswer, appended, hasRoom, make, new, newWith, computed, perform, primitiveCount, primitive};
+ghost use Rattle.model.specs.Word.{pointer, booleanWord};
 ghost use lib.Dec.{eqb};
-ghost use Rattle.primitives.specs.Outcomes.{roomOf, Receives, Puts, Does, elementsOf, indexOf};
+ghost use Rattle.primitives.specs.Outcomes.{roomFor, roomOf, doneWith, Receives, Puts, Does, elementsOf, indexOf};
 use model::Computed;
 use model::Pointer;
+
+const ENTRY_WORDS: usize = 4;
+
+const MOST_OBJECTS: usize = 2047;
+
+const MOST_BODY_WORDS: usize = 24000;
+
+const LARGEST_INTEGER: usize = 16383;
+
+// Objects that are larger are none for 60 to 62.
+const MOST_ELEMENTS: usize = 16383;
+
+// Kinds
+const FIELDS: u16 = 0;
+
+const BYTES: u16 = 1;
+
+const CLASS: u16 = 2;
+
+// Forms
+const FIXED: usize = 0;
+
+const INDEXED: usize = 1;
+
+const OF_BYTES: usize = 2;
+
+const NIL: u16 = 2;
+
+const FALSE: u16 = 4;
+
+const TRUE: u16 = 6;
 
 // What a primitive gives: a word or failure, and how many objects and body words there are then.
 pub struct Done {
     pub answer: Computed,
     pub n: usize,
     pub b: usize,
+}
+
+// What is computed, or failure, with as many objects and body words as before.
+pub fn computed(answer: Computed, n: usize, b: usize) -> Done
+    ensures { λ r. ⌜ r ≡ doneWith answer n b ⌝ }
+{
+    Done {
+        answer: answer,
+        n: n,
+        b: b,
+    }
+}
+
+pub fn failed(n: usize, b: usize) -> Done
+    ensures { λ r. ⌜ r ≡ doneWith Computed.Failed n b ⌝ }
+{
+    computed(Computed::Failed, n, b)
 }
 
 // How 60 to 62 take a receiver: 1 by words, 2 by bytes, 0 not at all.
@@ -29,15 +77,15 @@ fn elements(contents: &[u16], bodies: &[u16], n: usize, b: usize, w: u16) -> usi
         return 0;
     }
     let size = objects::size_of(contents, n, Pointer(w));
-    if 16383 < size {
+    if MOST_ELEMENTS < size {
         return 0;
     }
     let class = objects::class_of(contents, n, w);
     let form = objects::form_of(contents, bodies, n, b, class);
-    if form == 1 {
+    if form == INDEXED {
         return 1;
     }
-    if form == 2 {
+    if form == OF_BYTES {
         return 2;
     }
     0
@@ -51,7 +99,7 @@ fn index(count: usize, x: u16) -> usize
         return 0;
     }
     let i = x as usize / 2;
-    if 16383 < i {
+    if LARGEST_INTEGER < i {
         return 0;
     }
     if i < 1 {
@@ -133,32 +181,49 @@ pub fn size_answer(contents: &[u16], bodies: &[u16], n: usize, b: usize, w: u16)
     Computed::Word((2 * size + 1) as u16)
 }
 
-// The entry of one more object.
-fn enter(contents: &mut [u16], n: usize, class: Pointer, kind: u16, start: u16, size: u16)
-    requires { ⌜ entryWords * (n + 1) ≤ length (now contents) ⌝ }
-    ensures { λ _. ⌜ now (contents .exit) ≡ atFront (take (entryWords * n) (now (contents .entry)) ++ (class .0 ∷ kind ∷ start ∷ size ∷ [])) (now (contents .entry)) ⌝ }
+// Room for one more object of so many body words, in buffers of these lengths.
+pub fn has_room(contents: usize, bodies: usize, n: usize, b: usize, count: usize) -> bool
+    requires { ⌜ (b ≤ mostBodyWords) × (count < 65536) ⌝ }
+    ensures { λ r. ⌜ ((entries words : List ℕ) → r ≡ hasRoom (roomFor contents bodies) (objectsAt n b entries words) count) ⌝ }
 {
-    let at = 4 * n;
-    contents[at] = class.0;
-    contents[at + 1] = kind;
-    contents[at + 2] = start;
-    contents[at + 3] = size;
+    if MOST_OBJECTS <= n {
+        return false;
+    }
+    if MOST_BODY_WORDS < b + count {
+        return false;
+    }
+    if contents < ENTRY_WORDS * (n + 1) {
+        return false;
+    }
+    b + count <= bodies
 }
 
-// Body words behind those that stand, all the same.
-fn fill(bodies: &mut [u16], b: usize, count: usize, w: u16)
-    requires { ⌜ b + count ≤ length (now bodies) ⌝ }
-    ensures { λ _. ⌜ now (bodies .exit) ≡ atFront (take b (now (bodies .entry)) ++ replicate count w) (now (bodies .entry)) ⌝ }
+// The entry of one more object, whose body words stand behind the others already. No body is read, so it is the same whatever they hold.
+pub fn append(
+    contents: &mut [u16],
+    n: usize,
+    b: usize,
+    class: Pointer,
+    kind: u16,
+    size: u16,
+    count: usize,
+) -> Done
+    requires { ⌜ (n < mostObjects) × (b + count ≤ mostBodyWords) × (entryWords * (n + 1) ≤ length (now contents)) ⌝ }
+    ensures { λ r. ⌜ ((bodies : List ℕ) → b + count ≤ length bodies → Does (objectsAt n b (now (contents .entry)) bodies) (answers (pointer (n + 1)) (appended (objectsAt n b (now (contents .entry)) bodies) (class .0) kind size (part bodies b count))) r (now (contents .entry)) bodies (now (contents .exit)) bodies) ⌝ }
 {
-    let mut i: usize = 0;
-    while i < count {
-        let at = b + i;
-        bodies[at] = w;
-        i += 1;
+    let at = ENTRY_WORDS * n;
+    contents[at] = class.0;
+    contents[at + 1] = kind;
+    contents[at + 2] = b as u16;
+    contents[at + 3] = size;
+    Done {
+        answer: Computed::Word((2 * (n + 1)) as u16),
+        n: n + 1,
+        b: b + count,
     }
 }
 
-// One more object, if there is room for it.
+// One more object whose body words are all the same, if there is room for it.
 fn make(
     contents: &mut [u16],
     bodies: &mut [u16],
@@ -173,41 +238,11 @@ fn make(
     requires { ⌜ IsRight (objectsAt n b (now contents) (now bodies)) × (count < 65536) ⌝ }
     ensures { λ r. ⌜ Does (objectsAt n b (now (contents .entry)) (now (bodies .entry))) (make (roomOf (now (contents .entry)) (now (bodies .entry))) (objectsAt n b (now (contents .entry)) (now (bodies .entry))) (class .0) kind size count w) r (now (contents .entry)) (now (bodies .entry)) (now (contents .exit)) (now (bodies .exit)) ⌝ }
 {
-    if 2047 <= n {
-        return Done {
-            answer: Computed::Failed,
-            n: n,
-            b: b,
-        };
+    if !has_room(contents.len(), bodies.len(), n, b, count) {
+        return failed(n, b);
     }
-    if 24000 < b + count {
-        return Done {
-            answer: Computed::Failed,
-            n: n,
-            b: b,
-        };
-    }
-    if contents.len() < 4 * (n + 1) {
-        return Done {
-            answer: Computed::Failed,
-            n: n,
-            b: b,
-        };
-    }
-    if bodies.len() < b + count {
-        return Done {
-            answer: Computed::Failed,
-            n: n,
-            b: b,
-        };
-    }
-    enter(contents, n, class, kind, b as u16, size);
-    fill(bodies, b, count, w);
-    Done {
-        answer: Computed::Word((2 * (n + 1)) as u16),
-        n: n + 1,
-        b: b + count,
-    }
+    words::fill(bodies, b, count, w);
+    append(contents, n, b, class, kind, size, count)
 }
 
 // 70
@@ -215,20 +250,12 @@ pub fn new_object(contents: &mut [u16], bodies: &mut [u16], n: usize, b: usize, 
     requires { ⌜ IsRight (objectsAt n b (now contents) (now bodies)) ⌝ }
     ensures { λ r. ⌜ Does (objectsAt n b (now (contents .entry)) (now (bodies .entry))) (new (roomOf (now (contents .entry)) (now (bodies .entry))) (objectsAt n b (now (contents .entry)) (now (bodies .entry))) w) r (now (contents .entry)) (now (bodies .entry)) (now (contents .exit)) (now (bodies .exit)) ⌝ }
 {
-    if !objects::is_kind(contents, n, 2, w) {
-        return Done {
-            answer: Computed::Failed,
-            n: n,
-            b: b,
-        };
+    if !objects::is_kind(contents, n, CLASS, w) {
+        return failed(n, b);
     }
     let form = objects::form_of(contents, bodies, n, b, Pointer(w));
-    if form != 0 {
-        return Done {
-            answer: Computed::Failed,
-            n: n,
-            b: b,
-        };
+    if form != FIXED {
+        return failed(n, b);
     }
     let count = objects::field_count(contents, bodies, n, b, Pointer(w));
     make(
@@ -237,10 +264,10 @@ pub fn new_object(contents: &mut [u16], bodies: &mut [u16], n: usize, b: usize, 
         n,
         b,
         Pointer(w),
-        0,
+        FIELDS,
         count as u16,
         count,
-        2,
+        NIL,
     )
 }
 
@@ -256,30 +283,18 @@ pub fn new_with(
     requires { ⌜ IsRight (objectsAt n b (now contents) (now bodies)) ⌝ }
     ensures { λ r. ⌜ Does (objectsAt n b (now (contents .entry)) (now (bodies .entry))) (newWith (roomOf (now (contents .entry)) (now (bodies .entry))) (objectsAt n b (now (contents .entry)) (now (bodies .entry))) w x) r (now (contents .entry)) (now (bodies .entry)) (now (contents .exit)) (now (bodies .exit)) ⌝ }
 {
-    if !objects::is_kind(contents, n, 2, w) {
-        return Done {
-            answer: Computed::Failed,
-            n: n,
-            b: b,
-        };
+    if !objects::is_kind(contents, n, CLASS, w) {
+        return failed(n, b);
     }
     if x % 2 != 1 {
-        return Done {
-            answer: Computed::Failed,
-            n: n,
-            b: b,
-        };
+        return failed(n, b);
     }
     let more = x as usize / 2;
-    if 16383 < more {
-        return Done {
-            answer: Computed::Failed,
-            n: n,
-            b: b,
-        };
+    if LARGEST_INTEGER < more {
+        return failed(n, b);
     }
     let form = objects::form_of(contents, bodies, n, b, Pointer(w));
-    if form == 1 {
+    if form == INDEXED {
         let count = objects::field_count(contents, bodies, n, b, Pointer(w)) + more;
         return make(
             contents,
@@ -287,30 +302,26 @@ pub fn new_with(
             n,
             b,
             Pointer(w),
-            0,
+            FIELDS,
             count as u16,
             count,
-            2,
+            NIL,
         );
     }
-    if form == 2 {
+    if form == OF_BYTES {
         return make(
             contents,
             bodies,
             n,
             b,
             Pointer(w),
-            1,
+            BYTES,
             more as u16,
             (more + 1) / 2,
             0,
         );
     }
-    Done {
-        answer: Computed::Failed,
-        n: n,
-        b: b,
-    }
+    failed(n, b)
 }
 
 // How many arguments a primitive takes.
@@ -337,9 +348,9 @@ fn same(w: u16, x: u16) -> u16
     ensures { λ r. ⌜ r ≡ booleanWord (eqb w x) ⌝ }
 {
     if w == x {
-        return 6;
+        return TRUE;
     }
-    4
+    FALSE
 }
 
 // A primitive that is none of 1 to 17, on a receiver and two arguments, those that it takes.
@@ -359,27 +370,15 @@ pub fn perform(
 {
     if k == 60 {
         let answer = at(contents, bodies, n, b, w, x);
-        return Done {
-            answer: answer,
-            n: n,
-            b: b,
-        };
+        return computed(answer, n, b);
     }
     if k == 61 {
         let answer = at_put(contents, bodies, n, b, w, x, y);
-        return Done {
-            answer: answer,
-            n: n,
-            b: b,
-        };
+        return computed(answer, n, b);
     }
     if k == 62 {
         let answer = size_answer(contents, bodies, n, b, w);
-        return Done {
-            answer: answer,
-            n: n,
-            b: b,
-        };
+        return computed(answer, n, b);
     }
     if k == 70 {
         return new_object(contents, bodies, n, b, w);
@@ -388,25 +387,13 @@ pub fn perform(
         return new_with(contents, bodies, n, b, w, x);
     }
     if k == 110 {
-        return Done {
-            answer: Computed::Word(same(w, x)),
-            n: n,
-            b: b,
-        };
+        return computed(Computed::Word(same(w, x)), n, b);
     }
     if k == 111 {
         let class = objects::class_of(contents, n, w);
-        return Done {
-            answer: Computed::Word(class.0),
-            n: n,
-            b: b,
-        };
+        return computed(Computed::Word(class.0), n, b);
     }
-    Done {
-        answer: Computed::Failed,
-        n: n,
-        b: b,
-    }
+    failed(n, b)
 }
 
 // The same with the count that the primitive is called with: another than its own fails.
@@ -427,11 +414,7 @@ pub fn primitive(
 {
     let takes = primitive_count(k);
     if count != takes {
-        return Done {
-            answer: Computed::Failed,
-            n: n,
-            b: b,
-        };
+        return failed(n, b);
     }
     perform(contents, bodies, edition, n, b, k, w, x, y)
 }

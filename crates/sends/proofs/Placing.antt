@@ -1,4 +1,4 @@
--- Words that are copied, the base of a new frame, and its words written into a part of the stack.
+-- Arguments in the stack, the base of a new frame, and its words written into a part of the stack.
 use Prim.Native.Nat.{ℕ, zero, suc, _+_, _-_, _/_, _%_, _≤_, _<_}
 use mathlib.Core.Path.{_≡_, refl, sym, ap, ap₂, _∙_, subst}
 use mathlib.Core.Bool.{Bool, true, false, _&&_}
@@ -7,7 +7,7 @@ use native.Mathlib.Omega.{arith}
 use borrow.Author.Tests.{eq-eqb, ne-eqb, le-leb, lt-leb}
 use lib.Dec.{T, leb, eqb}
 use lib.ListN.{length, getD, take, drop, set, length-drop, drop-of-length-le}
-use lib.Seq.{sets, take-all, take-suc, take-suc-set, getD-take, getD-drop}
+use lib.Seq.{sets, take-all, getD-take, getD-drop}
 use Rattle.bytecode.proofs.Choice.{if-yes, if-no}
 use Rattle.model.specs.Limits.{classKind, mostStackWords}
 use Rattle.model.specs.Word.{isValid, integerClass}
@@ -30,16 +30,6 @@ argument-none l from count i h = go (drop from l) count i h
 
 pub argument-at : (l : List ℕ) (from count i : ℕ) → i < count → getD l (from + i) 0 ≡ getD (part l from count) i 0
 argument-at l from count i h = sym (getD-take count (drop from l) i 0 h ∙ getD-drop from l i 0)
-
-pub copied-more : (words l : List ℕ) (from i : ℕ) → i < length words → from + i < length l → take i words ≡ part l from i
-    → take (i + 1) (set words i (getD l (from + i) 0)) ≡ part l from (i + 1)
-copied-more words l from i h g e =
-    ap (λ (k : ℕ). take k (set words i (getD l (from + i) 0))) (one i) ∙ take-suc-set words i (getD l (from + i) 0) h
-    ∙ ap₂ (λ (xs : List ℕ) (v : ℕ). xs ++ (v ∷ [])) e (sym (getD-drop from l i 0))
-    ∙ sym (take-suc (drop from l) i 0 (let q = length-drop from l in omega arith)) ∙ ap (λ (k : ℕ). part l from k) (sym (one i))
-  where
-    one : (k : ℕ) → k + 1 ≡ suc k
-    one k = omega arith
 
 -- ---- the base of a frame
 
@@ -71,7 +61,7 @@ class-starts {o} r w c v e = subst (λ (k : ℕ). T (isNilOr o classKind k)) (sy
 
 -- ---- words written into the part from a base on
 
-pub part-sets : (ws l : List ℕ) (base : ℕ) → base ≤ length l → take base l ++ sets (drop base l) 0 ws ≡ sets l base ws
+part-sets : (ws l : List ℕ) (base : ℕ) → base ≤ length l → take base l ++ sets (drop base l) 0 ws ≡ sets l base ws
 part-sets ws l base h = go ws l base 0 h ∙ ap (λ (k : ℕ). sets l k ws) (plus-zero base)
   where
     plus-zero : (k : ℕ) → k + 0 ≡ k
@@ -94,9 +84,9 @@ part-sets ws l base h = go ws l base 0 h ∙ ap (λ (k : ℕ). sets l k ws) (plu
         behind l k i w h = sym (lib.Seq.drop-set-add k l i w)
 
 -- A part that is lent up to the end, and given back with words written at its front
-pub lent-sets : (ws xs ys : List ℕ) (base : ℕ) → base ≤ length xs → ys ≡ sets (part xs base (length xs - base)) 0 ws
+pub lent-sets : {ys : List ℕ} (ws xs : List ℕ) (base : ℕ) → base ≤ length xs → ys ≡ sets (part xs base (length xs - base)) 0 ws
     → take base xs ++ (ys ++ drop (length xs - base) (drop base xs)) ≡ sets xs base ws
-lent-sets ws xs ys base h e =
+lent-sets ws xs base h e =
     ap₂ (λ (y z : List ℕ). take base xs ++ (y ++ z)) (e ∙ ap (λ (l : List ℕ). sets l 0 ws) whole) none
     ∙ ap (λ (y : List ℕ). take base xs ++ y) (append-nil (sets (drop base xs) 0 ws)) ∙ part-sets ws xs base h
   where

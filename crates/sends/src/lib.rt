@@ -2,7 +2,7 @@
 ghost use mathlib.Core.Path.{_≡_};
 ghost use mathlib.Core.Bool.{true};
 ghost use Prim.Native.Nat.{_+_, _≤_, _<_};
-ghost use lib.ListN.{length, getD, set, take};
+ghost use lib.ListN.{length, getD, set};
 ghost use lib.Seq.{sets};
 ghost use Rattle.model.specs.Objects.{objectsAt, classOf, part};
 ghost use Rattle.model.specs.Method.{home};
@@ -17,6 +17,9 @@ use model::CodePosition;
 use model::Found;
 use model::Pointer;
 use model::StackPosition;
+
+// The most temporaries and operands of a frame.
+const LARGE_FRAME_WORDS: usize = 32;
 
 // Receiver, first and second argument (0 where there is none) of a send by a running method. The receiver's place is in the stack;
 // `left` operands stay below it.
@@ -160,26 +163,6 @@ fn new_base(
     }
 }
 
-// Words of the stack from a place on, at the front of a buffer. The first two by themselves: the loop is compiled to a call, and few sends have more.
-fn copy(words: &mut [u16], stack: &[u16], from: usize, count: usize)
-    requires { ⌜ (count ≤ length (now words)) × (from + count ≤ length (now stack)) ⌝ }
-    ensures { λ _. ⌜ take count (now (words .exit)) ≡ part (now (stack .entry)) from count ⌝ }
-{
-    if count == 0 {
-        return;
-    }
-    words[0] = stack[from];
-    if count == 1 {
-        return;
-    }
-    words[1] = stack[from + 1];
-    let mut i: usize = 2;
-    while i < count {
-        words[i] = stack[from + i];
-        i += 1;
-    }
-}
-
 // The frame of a method is made at a base, and the top one goes on behind the send, with the operands that are left.
 fn enter(
     stack: &mut [u16],
@@ -196,8 +179,8 @@ fn enter(
     requires { ⌜ Enters (now stack) (top .0) (next .0) left base temporaries from count ⌝ }
     ensures { λ _. ⌜ now (stack .exit) ≡ sets (set (set (now (stack .entry)) (top .0 + 1) (next .0)) (top .0 + 2) left) base (newWords (top .0) (method .0) receiver temporaries (part (now (stack .entry)) from count)) ⌝ }
 {
-    let mut arguments = [0u16; 32];
-    copy(&mut arguments, stack, from, count);
+    let mut arguments = [0u16; LARGE_FRAME_WORDS];
+    words::copy(&mut arguments, 0, stack, from, count);
     frames::move_to(stack, top, next, left);
     frames::write_frame(
         &mut stack[base..],

@@ -4,7 +4,6 @@ use Rattle.machine.proofs.forget.Statement.{statement}
 use Rattle.machine.proofs.forget.Tie as tie
 use Rattle.machine.proofs.forget.Reads as reads
 use Rattle.machine.proofs.forget.Lts as lts
-use Rattle.image.proofs.clear.Reads as clear-reads
 use Rattle.machine.proofs.check.Reads as check-reads
 
 check-requires : tie.Need-check-requires
@@ -16,8 +15,8 @@ enum-known-k c = search needs
 enum-told : tie.Need-enum-told
 enum-told c = search needs
 
-clear-requires : tie.Need-clear-requires
-clear-requires c κs = search needs
+fill-requires : tie.Need-fill-requires
+fill-requires c κs = search needs
 
 same-length : tie.Need-same-length
 same-length c = search needs
@@ -39,7 +38,7 @@ returns-2 c =
     let at-start = at-check .before .before .before .before .before .before in
     let args = at-start .args in
     forgets (args .registers) (args .contents .now) (args .bodies .now) (args .stack .now) (args .cache .now) (at-check .check .result)
-    (at-check .check .ensures) (at-enum-told .enum-told .given .1) _ (c .before .before .clear .ensures)
+    (at-check .check .ensures) (at-enum-told .enum-told .given .1) _ (c .before .before .fill .ensures)
 
 pub forget-spec : {M : Type 1} → statement M
 forget-spec =
@@ -48,7 +47,7 @@ forget-spec =
     check-requires
     enum-known-k
     enum-told
-    clear-requires
+    fill-requires
     same-length
     returns
     same-length-2

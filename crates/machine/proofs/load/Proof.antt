@@ -4,7 +4,6 @@ use Rattle.machine.proofs.load.Statement.{statement}
 use Rattle.machine.proofs.load.Tie as tie
 use Rattle.machine.proofs.load.Reads as reads
 use Rattle.machine.proofs.load.Lts as lts
-use Rattle.image.proofs.clear.Reads as clear-reads
 use Rattle.machine.proofs.Registers.none.Reads as none-reads
 use Rattle.store.proofs.read.Reads as read-reads
 
@@ -14,8 +13,8 @@ read-requires c κs = search needs
 enum-known-n : tie.Need-enum-known-n
 enum-known-n c = search needs
 
-clear-requires : tie.Need-clear-requires
-clear-requires c κs = search needs
+fill-requires : tie.Need-fill-requires
+fill-requires c κs = search needs
 
 enum-known-k : tie.Need-enum-known-k
 enum-known-k c = search needs
@@ -39,7 +38,7 @@ returns c =
     let at-start = at-read .before .before .before .before .before .before .before in
     let a = at-start .args in
     let read = at-read .read .ensures in
-    λ g stack. read-accepted (a .image .now) (a .contents .now) (a .bodies .now) (a .cache .now) _ _ g stack _ _ _ _ _ _ (at-n .n .given .1) (read .0) (read .1) (c .before .before .clear .ensures)
+    λ g stack. read-accepted (a .image .now) (a .contents .now) (a .bodies .now) (a .cache .now) _ _ g stack _ _ _ _ _ _ (at-n .n .given .1) (read .0) (read .1) (c .before .before .fill .ensures)
 
 same-length-4 : tie.Need-same-length-4
 same-length-4 c = search needs
@@ -61,7 +60,7 @@ load-spec =
     (tie.spec
     read-requires
     enum-known-n
-    clear-requires
+    fill-requires
     enum-known-k
     none-requires
     same-length

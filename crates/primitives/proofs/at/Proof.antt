@@ -9,10 +9,10 @@ elements-requires : tie.Need-elements-requires
 elements-requires c κs = search needs
 
 returns : tie.Need-returns
-returns c = at-none _ _ _ (not-taken _ _ _ (c .before .elements .ensures) (c .if1 .taken))
+returns c = at-none _ _ _ (not-taken _ _ (c .before .elements .ensures) (c .if1 .taken))
 
 size-of-requires : tie.Need-size-of-requires
-size-of-requires c κs = receiver-listed (c .before .before .before .before .pre) ((taken _ _ _ (c .before .elements .ensures) (c .if1 .left)) .even)
+size-of-requires c κs = receiver-listed (c .before .before .before .before .pre) ((taken (c .before .elements .ensures) (c .if1 .left)) .even)
 
 index-requires : tie.Need-index-requires
 index-requires c κs = search needs
@@ -22,8 +22,8 @@ returns-2 c =
     let at-elements = c .before .before .before .before in
     let at-start = at-elements .before .before .before in
     let args = at-start .args in
-    at-no-index _ _ _ _ (taken _ _ _ (at-elements .elements .ensures) (c .before .before .before .if1 .left))
-    (not-indexed (objectsAt (args .n) (args .b) (args .contents .now) (args .bodies .now)) (args .w) _ _ _ (c .before .before .size-of .ensures)
+    at-no-index (taken (at-elements .elements .ensures) (c .before .before .before .if1 .left)) _
+    (not-indexed (objectsAt (args .n) (args .b) (args .contents .now) (args .bodies .now)) (args .w) _ (c .before .before .size-of .ensures)
     (c .before .index .ensures) (c .if2 .taken))
 
 sub-byte-of : tie.Need-sub-byte-of
@@ -35,7 +35,7 @@ byte-of-requires c κs =
     let at-if1 = at-size-of .before in
     let at-elements = at-if1 .before in
     let at-start = at-elements .before .before .before in
-    byte-inside (at-start .pre) _ _ _ (taken _ _ _ (at-elements .elements .ensures) (at-if1 .if1 .left)) (indexed-by _ _ _ _ _ (at-size-of .size-of .ensures)
+    byte-inside (at-start .pre) (taken (at-elements .elements .ensures) (at-if1 .if1 .left)) (indexed-by (at-size-of .size-of .ensures)
     (c .before .before .index .ensures) (c .before .if2 .left)) (c .if3 .taken)
 
 cast-t15 : tie.Need-cast-t15
@@ -53,8 +53,8 @@ returns-3 c =
     let at-size-of = at-index .before in
     let at-if1 = at-size-of .before in
     let at-elements = at-if1 .before in
-    at-byte _ _ _ _ (taken _ _ _ (at-elements .elements .ensures) (at-if1 .if1 .left)) _ (indexed-by _ _ _ _ _ (at-size-of .size-of .ensures)
-    (at-index .index .ensures) (c .before .before .if2 .left)) _ (c .before .if3 .taken) (c .byte-of .ensures)
+    at-byte (taken (at-elements .elements .ensures) (at-if1 .if1 .left)) (indexed-by (at-size-of .size-of .ensures)
+    (at-index .index .ensures) (c .before .before .if2 .left)) (c .before .if3 .taken) (c .byte-of .ensures)
 
 sub-word-of : tie.Need-sub-word-of
 sub-word-of c = search needs
@@ -65,7 +65,7 @@ word-of-requires c κs =
     let at-if1 = at-size-of .before in
     let at-elements = at-if1 .before in
     let at-start = at-elements .before .before .before in
-    word-inside (at-start .pre) _ _ _ (taken _ _ _ (at-elements .elements .ensures) (at-if1 .if1 .left)) (indexed-by _ _ _ _ _ (at-size-of .size-of .ensures)
+    word-inside (at-start .pre) (taken (at-elements .elements .ensures) (at-if1 .if1 .left)) (indexed-by (at-size-of .size-of .ensures)
     (c .before .before .index .ensures) (c .before .if2 .left)) (c .if3 .left)
 
 returns-4 : tie.Need-returns-4
@@ -74,8 +74,8 @@ returns-4 c =
     let at-size-of = at-index .before in
     let at-if1 = at-size-of .before in
     let at-elements = at-if1 .before in
-    at-word _ _ _ _ (taken _ _ _ (at-elements .elements .ensures) (at-if1 .if1 .left)) _ (indexed-by _ _ _ _ _ (at-size-of .size-of .ensures)
-    (at-index .index .ensures) (c .before .before .if2 .left)) _ (c .before .if3 .left) (c .word-of .ensures)
+    at-word (taken (at-elements .elements .ensures) (at-if1 .if1 .left)) (indexed-by (at-size-of .size-of .ensures)
+    (at-index .index .ensures) (c .before .before .if2 .left)) (c .before .if3 .left) (c .word-of .ensures)
 
 pub at-spec : {M : Type 1} → statement M
 at-spec =

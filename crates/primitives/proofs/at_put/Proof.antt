@@ -12,10 +12,10 @@ same-length : tie.Need-same-length
 same-length c = search needs
 
 returns : tie.Need-returns
-returns c = puts-none (c .before .before .before .before .before .pre) (put-none _ _ _ _ (not-taken _ _ _ (c .before .elements .ensures) (c .if1 .taken)))
+returns c = puts-none (c .before .before .before .before .before .pre) (put-none _ _ _ _ (not-taken _ _ (c .before .elements .ensures) (c .if1 .taken)))
 
 size-of-requires : tie.Need-size-of-requires
-size-of-requires c κs = receiver-listed (c .before .before .before .before .before .pre) ((taken _ _ _ (c .before .elements .ensures) (c .if1 .left)) .even)
+size-of-requires c κs = receiver-listed (c .before .before .before .before .before .pre) ((taken (c .before .elements .ensures) (c .if1 .left)) .even)
 
 index-requires : tie.Need-index-requires
 index-requires c κs = search needs
@@ -28,8 +28,8 @@ returns-2 c =
     let at-elements = c .before .before .before .before in
     let at-start = at-elements .before .before .before .before in
     let args = at-start .args in
-    puts-none (at-start .pre) (put-no-index _ _ _ _ (taken _ _ _ (at-elements .elements .ensures) (c .before .before .before .if1 .left)) _
-    (not-indexed (objectsAt (args .n) (args .b) (args .contents .now) (args .bodies .now)) (args .w) _ _ _ (c .before .before .size-of .ensures)
+    puts-none (at-start .pre) (put-no-index (taken (at-elements .elements .ensures) (c .before .before .before .if1 .left)) _ _
+    (not-indexed (objectsAt (args .n) (args .b) (args .contents .now) (args .bodies .now)) (args .w) _ (c .before .before .size-of .ensures)
     (c .before .index .ensures) (c .if2 .taken)))
 
 same-length-3 : tie.Need-same-length-3
@@ -42,8 +42,8 @@ returns-3 c =
     let at-if1 = at-size-of .before in
     let at-elements = at-if1 .before in
     let at-start = at-elements .before .before .before .before in
-    puts-none (at-start .pre) (put-even _ _ _ _ (taken _ _ _ (at-elements .elements .ensures) (at-if1 .if1 .left)) _
-    (indexed-by _ _ _ _ _ (at-size-of .size-of .ensures) (at-index .index .ensures) (c .before .before .if2 .left)) _ (c .before .if3 .taken) (c .if4 .taken))
+    puts-none (at-start .pre) (put-even (taken (at-elements .elements .ensures) (at-if1 .if1 .left))
+    (indexed-by (at-size-of .size-of .ensures) (at-index .index .ensures) (c .before .before .if2 .left)) _ (c .before .if3 .taken) (c .if4 .taken))
 
 same-length-4 : tie.Need-same-length-4
 same-length-4 c = search needs
@@ -56,8 +56,8 @@ returns-4 c =
     let at-if1 = at-size-of .before in
     let at-elements = at-if1 .before in
     let at-start = at-elements .before .before .before .before in
-    puts-none (at-start .pre) (put-large _ _ _ _ (taken _ _ _ (at-elements .elements .ensures) (at-if1 .if1 .left)) _
-    (indexed-by _ _ _ _ _ (at-size-of .size-of .ensures) (at-index .index .ensures) (at-if2 .if2 .left)) _ (c .before .before .if3 .taken) (c .before .if4 .left) (c .if5 .taken))
+    puts-none (at-start .pre) (put-large (taken (at-elements .elements .ensures) (at-if1 .if1 .left))
+    (indexed-by (at-size-of .size-of .ensures) (at-index .index .ensures) (at-if2 .if2 .left)) _ (c .before .before .if3 .taken) (c .before .if4 .left) (c .if5 .taken))
 
 sub-store-byte : tie.Need-sub-store-byte
 sub-store-byte c = search needs
@@ -74,7 +74,7 @@ store-byte-requires c κs =
     let at-if1 = at-size-of .before in
     let at-elements = at-if1 .before in
     let at-start = at-elements .before .before .before .before in
-    byte-inside (at-start .pre) _ _ _ (taken _ _ _ (at-elements .elements .ensures) (at-if1 .if1 .left)) (indexed-by _ _ _ _ _ (at-size-of .size-of .ensures)
+    byte-inside (at-start .pre) (taken (at-elements .elements .ensures) (at-if1 .if1 .left)) (indexed-by (at-size-of .size-of .ensures)
     (at-index .index .ensures) (at-if2 .if2 .left)) (at-if3 .if3 .taken)
 
 same-length-5 : tie.Need-same-length-5
@@ -90,8 +90,8 @@ returns-5 c =
     let at-size-of = at-index .before in
     let at-if1 = at-size-of .before in
     let at-elements = at-if1 .before in
-    puts-some (c .before .before .store-byte .ensures) (put-byte _ _ _ _ (taken _ _ _ (at-elements .elements .ensures) (at-if1 .if1 .left)) _
-    (indexed-by _ _ _ _ _ (at-size-of .size-of .ensures) (at-index .index .ensures) (at-if2 .if2 .left)) _ (at-if3 .if3 .taken) (at-if4 .if4 .left) (at-if5 .if5 .left))
+    puts-some (c .before .before .store-byte .ensures) (put-byte (taken (at-elements .elements .ensures) (at-if1 .if1 .left))
+    (indexed-by (at-size-of .size-of .ensures) (at-index .index .ensures) (at-if2 .if2 .left)) (at-if3 .if3 .taken) (at-if4 .if4 .left) (at-if5 .if5 .left))
 
 sub-store-word : tie.Need-sub-store-word
 sub-store-word c = search needs
@@ -103,7 +103,7 @@ store-word-requires c κs =
     let at-if1 = at-size-of .before in
     let at-elements = at-if1 .before in
     let at-start = at-elements .before .before .before .before in
-    word-inside (at-start .pre) _ _ _ (taken _ _ _ (at-elements .elements .ensures) (at-if1 .if1 .left)) (indexed-by _ _ _ _ _ (at-size-of .size-of .ensures)
+    word-inside (at-start .pre) (taken (at-elements .elements .ensures) (at-if1 .if1 .left)) (indexed-by (at-size-of .size-of .ensures)
     (at-index .index .ensures) (c .before .before .if2 .left)) (c .before .if3 .left)
 
 same-length-6 : tie.Need-same-length-6
@@ -117,8 +117,8 @@ returns-6 c =
     let at-size-of = at-index .before in
     let at-if1 = at-size-of .before in
     let at-elements = at-if1 .before in
-    puts-some (c .before .before .store-word .ensures) (put-word _ _ _ _ (taken _ _ _ (at-elements .elements .ensures) (at-if1 .if1 .left)) _
-    (indexed-by _ _ _ _ _ (at-size-of .size-of .ensures) (at-index .index .ensures) (at-if2 .if2 .left)) _ (at-if3 .if3 .left))
+    puts-some (c .before .before .store-word .ensures) (put-word (taken (at-elements .elements .ensures) (at-if1 .if1 .left))
+    (indexed-by (at-size-of .size-of .ensures) (at-index .index .ensures) (at-if2 .if2 .left)) (at-if3 .if3 .left))
 
 pub at-put-spec : {M : Type 1} → statement M
 at-put-spec =

@@ -14,7 +14,7 @@ size-of-requires : tie.Need-size-of-requires
 size-of-requires c κs = receiver-listed (c .before .before .before .pre) (c .if1 .left)
 
 returns-2 : tie.Need-returns-2
-returns-2 c = elements-large _ _ _ (c .before .size-of .ensures) (c .if2 .taken)
+returns-2 c = elements-large _ _ (c .before .size-of .ensures) (c .if2 .taken)
 
 class-of-requires : tie.Need-class-of-requires
 class-of-requires c κs =
@@ -23,7 +23,7 @@ class-of-requires c κs =
     (at-start .pre .valid, contents-room (args .n) (args .b) (args .contents .now) (args .bodies .now) (at-start .pre .right .1))
 
 form-of-requires : tie.Need-form-of-requires
-form-of-requires c κs = receiver-class (c .before .before .before .before .before .before .pre) _ (c .before .before .before .if1 .left) (c .class-of .ensures _ _)
+form-of-requires c κs = receiver-class (c .before .before .before .before .before .before .pre) (c .before .before .before .if1 .left) (c .class-of .ensures _ _)
 
 returns-3 : tie.Need-returns-3
 returns-3 c =
@@ -31,7 +31,7 @@ returns-3 c =
     let at-if1 = at-size-of .before in
     let at-start = at-if1 .before .before .before in
     let args = at-start .args in
-    sym (c .if3 .taken) ∙ elements-form _ _ _ _ (at-if1 .if1 .left) (at-size-of .size-of .ensures) (c .before .before .before .if2 .left)
+    sym (c .if3 .taken) ∙ elements-form _ _ (at-if1 .if1 .left) (at-size-of .size-of .ensures) (c .before .before .before .if2 .left)
     (c .before .form-of .ensures ∙ ap (form (objectsAt (args .n) (args .b) (args .contents .now) (args .bodies .now)))
     (c .before .before .class-of .ensures (args .b) (args .bodies .now))) (inl (c .if3 .taken))
 
@@ -42,7 +42,7 @@ returns-4 c =
     let at-if1 = at-size-of .before in
     let at-start = at-if1 .before .before .before in
     let args = at-start .args in
-    sym (c .if4 .taken) ∙ elements-form _ _ _ _ (at-if1 .if1 .left) (at-size-of .size-of .ensures) (at-if2 .if2 .left) (c .before .before .form-of .ensures
+    sym (c .if4 .taken) ∙ elements-form _ _ (at-if1 .if1 .left) (at-size-of .size-of .ensures) (at-if2 .if2 .left) (c .before .before .form-of .ensures
     ∙ ap (form (objectsAt (args .n) (args .b) (args .contents .now) (args .bodies .now))) (c .before .before .before .class-of .ensures (args .b)
     (args .bodies .now))) (inr (c .if4 .taken))
 
@@ -50,7 +50,7 @@ returns-5 : tie.Need-returns-5
 returns-5 c =
     let at-start = c .before .before .before .before .before .before .before .before .before in
     let args = at-start .args in
-    elements-other _ _ _ (c .before .before .form-of .ensures ∙ ap (form (objectsAt (args .n) (args .b) (args .contents .now) (args .bodies .now)))
+    elements-other _ _ (c .before .before .form-of .ensures ∙ ap (form (objectsAt (args .n) (args .b) (args .contents .now) (args .bodies .now)))
     (c .before .before .before .class-of .ensures (args .b) (args .bodies .now))) (c .before .if3 .left) (c .if4 .left)
 
 pub elements-spec : {M : Type 1} → statement M

@@ -16,20 +16,26 @@ is-kind-requires c κs =
     let args = at-start .args in
     contents-room (args .n) (args .b) (args .contents .now) (args .bodies .now) (at-start .pre .1)
 
+failed-requires : tie.Need-failed-requires
+failed-requires c κs = search needs
+
 same-length : tie.Need-same-length
 same-length c = search needs
 
 returns : tie.Need-returns
 returns c =
-    let at-start = c .before .before .before .before .before in
+    let at-start = c .before .before .before .before .before .before in
     let args = at-start .args in
-    does-none (args .n) (args .b) (args .contents .now) (args .bodies .now) (at-start .pre .1)
-    (new-no-class _ _ _ (sym (c .before .is-kind .ensures (args .b) (args .bodies .now)) ∙ not-true _ (c .if1 .taken)))
+    does-none (at-start .pre .1) (c .failed .ensures)
+    (new-no-class _ _ _ (sym (c .before .before .is-kind .ensures (args .b) (args .bodies .now)) ∙ not-true _ (c .before .if1 .taken)))
 
 form-of-requires : tie.Need-form-of-requires
 form-of-requires c κs =
     let at-start = c .before .before .before .before .before .before .before in
     record { right = at-start .pre; kinds = true→T (sym (c .before .before .before .is-kind .ensures (at-start .args .b) (at-start .args .bodies .now)) ∙ not-false _ (c .before .before .if1 .left)) }
+
+failed-requires-2 : tie.Need-failed-requires-2
+failed-requires-2 c κs = search needs
 
 same-length-2 : tie.Need-same-length-2
 same-length-2 c = search needs
@@ -39,12 +45,12 @@ same-length-3 c = search needs
 
 returns-2 : tie.Need-returns-2
 returns-2 c =
-    let at-if1 = c .before .before .before .before in
+    let at-if1 = c .before .before .before .before .before in
     let at-is-kind = at-if1 .before in
     let at-start = at-is-kind .before .before .before .before in
     let args = at-start .args in
-    does-none (args .n) (args .b) (args .contents .now) (args .bodies .now) (at-start .pre .1)
-    (new-other _ _ _ (sym (at-is-kind .is-kind .ensures (args .b) (args .bodies .now)) ∙ not-false _ (at-if1 .if1 .left)) _ (c .before .form-of .ensures) (c .if2 .taken))
+    does-none (at-start .pre .1) (c .failed2 .ensures)
+    (new-other _ _ _ (sym (at-is-kind .is-kind .ensures (args .b) (args .bodies .now)) ∙ not-false _ (at-if1 .if1 .left)) (c .before .before .form-of .ensures) (c .before .if2 .taken))
 
 field-count-requires : tie.Need-field-count-requires
 field-count-requires c κs =
@@ -86,7 +92,7 @@ returns-3 c =
     let at-if1 = at-form-of .before .before .before in
     let at-is-kind = at-if1 .before in
     let at-start = at-is-kind .before .before .before .before in
-    does-same (new-is _ _ _ (sym (at-is-kind .is-kind .ensures (at-start .args .b) (at-start .args .bodies .now)) ∙ not-false _ (at-if1 .if1 .left)) _ _
+    does-same (new-is _ _ _ (sym (at-is-kind .is-kind .ensures (at-start .args .b) (at-start .args .bodies .now)) ∙ not-false _ (at-if1 .if1 .left))
     (at-form-of .form-of .ensures) (at-if2 .if2 .left) (at-field-count .field-count .ensures)) (at-make .make .ensures)
 
 pub new-object-spec : {M : Type 1} → statement M
@@ -94,9 +100,11 @@ new-object-spec =
     tie.close
     (tie.spec
     is-kind-requires
+    failed-requires
     same-length
     returns
     form-of-requires
+    failed-requires-2
     same-length-2
     same-length-3
     returns-2

@@ -16,36 +16,45 @@ is-kind-requires c κs =
     let args = at-start .args in
     contents-room (args .n) (args .b) (args .contents .now) (args .bodies .now) (at-start .pre .1)
 
+failed-requires : tie.Need-failed-requires
+failed-requires c κs = search needs
+
 same-length : tie.Need-same-length
 same-length c = search needs
 
 returns : tie.Need-returns
 returns c =
-    let at-start = c .before .before .before .before .before in
+    let at-start = c .before .before .before .before .before .before in
     let args = at-start .args in
-    does-none (args .n) (args .b) (args .contents .now) (args .bodies .now) (at-start .pre .1)
-    (with-no-class _ _ _ _ (sym (c .before .is-kind .ensures (args .b) (args .bodies .now)) ∙ not-true _ (c .if1 .taken)))
+    does-none (at-start .pre .1) (c .failed .ensures)
+    (with-no-class _ _ _ _ (sym (c .before .before .is-kind .ensures (args .b) (args .bodies .now)) ∙ not-true _ (c .before .if1 .taken)))
+
+failed-requires-2 : tie.Need-failed-requires-2
+failed-requires-2 c κs = search needs
 
 same-length-2 : tie.Need-same-length-2
 same-length-2 c = search needs
 
 returns-2 : tie.Need-returns-2
 returns-2 c =
-    let at-start = c .before .before .before .before .before .before in
+    let at-start = c .before .before .before .before .before .before .before in
     let args = at-start .args in
-    does-none (args .n) (args .b) (args .contents .now) (args .bodies .now) (at-start .pre .1)
-    (with-even _ _ _ (sym (c .before .before .is-kind .ensures (args .b) (args .bodies .now)) ∙ not-false _ (c .before .if1 .left)) _ (c .if2 .taken))
+    does-none (at-start .pre .1) (c .failed2 .ensures)
+    (with-even _ _ _ (sym (c .before .before .before .is-kind .ensures (args .b) (args .bodies .now)) ∙ not-false _ (c .before .before .if1 .left)) _ (c .before .if2 .taken))
+
+failed-requires-3 : tie.Need-failed-requires-3
+failed-requires-3 c κs = search needs
 
 same-length-3 : tie.Need-same-length-3
 same-length-3 c = search needs
 
 returns-3 : tie.Need-returns-3
 returns-3 c =
-    let at-start = c .before .before .before .before .before .before .before in
+    let at-start = c .before .before .before .before .before .before .before .before in
     let args = at-start .args in
-    does-none (args .n) (args .b) (args .contents .now) (args .bodies .now) (at-start .pre .1)
-    (with-large _ _ _ (sym (c .before .before .before .is-kind .ensures (args .b) (args .bodies .now)) ∙ not-false _ (c .before .before .if1 .left)) _
-    (c .before .if2 .left) (c .if3 .taken))
+    does-none (at-start .pre .1) (c .failed3 .ensures)
+    (with-large _ _ _ (sym (c .before .before .before .before .is-kind .ensures (args .b) (args .bodies .now)) ∙ not-false _ (c .before .before .before .if1 .left)) _
+    (c .before .before .if2 .left) (c .before .if3 .taken))
 
 form-of-requires : tie.Need-form-of-requires
 form-of-requires c κs =
@@ -105,8 +114,8 @@ returns-4 c =
     let at-if1 = at-if2 .before in
     let at-is-kind = at-if1 .before in
     let at-start = at-is-kind .before .before .before .before in
-    does-same (with-words _ _ _ (sym (at-is-kind .is-kind .ensures (at-start .args .b) (at-start .args .bodies .now)) ∙ not-false _ (at-if1 .if1 .left)) _ _
-    (at-if2 .if2 .left) (at-if3 .if3 .left) (at-form-of .form-of .ensures) _ (at-if4 .if4 .taken) (at-field-count .field-count .ensures)) (at-make .make .ensures)
+    does-same (with-words _ _ _ (sym (at-is-kind .is-kind .ensures (at-start .args .b) (at-start .args .bodies .now)) ∙ not-false _ (at-if1 .if1 .left)) _
+    (at-if2 .if2 .left) (at-if3 .if3 .left) (at-form-of .form-of .ensures) (at-if4 .if4 .taken) (at-field-count .field-count .ensures)) (at-make .make .ensures)
 
 cast-make-2 : tie.Need-cast-make-2
 cast-make-2 c = search needs
@@ -133,8 +142,11 @@ returns-5 c =
     let at-if1 = at-if2 .before in
     let at-is-kind = at-if1 .before in
     let at-start = at-is-kind .before .before .before .before in
-    does-same (with-bytes _ _ _ (sym (at-is-kind .is-kind .ensures (at-start .args .b) (at-start .args .bodies .now)) ∙ not-false _ (at-if1 .if1 .left)) _ _
+    does-same (with-bytes _ _ _ (sym (at-is-kind .is-kind .ensures (at-start .args .b) (at-start .args .bodies .now)) ∙ not-false _ (at-if1 .if1 .left)) _
     (at-if2 .if2 .left) (at-if3 .if3 .left) (at-form-of .form-of .ensures) (at-if5 .if5 .taken)) (at-make2 .make2 .ensures)
+
+failed-requires-4 : tie.Need-failed-requires-4
+failed-requires-4 c κs = search needs
 
 same-length-8 : tie.Need-same-length-8
 same-length-8 c = search needs
@@ -144,25 +156,28 @@ same-length-9 c = search needs
 
 returns-6 : tie.Need-returns-6
 returns-6 c =
-    let at-if3 = c .before .before .before .before .before in
+    let at-if3 = c .before .before .before .before .before .before in
     let at-if2 = at-if3 .before in
     let at-if1 = at-if2 .before in
     let at-is-kind = at-if1 .before in
     let at-start = at-is-kind .before .before .before .before in
     let args = at-start .args in
-    does-none (args .n) (args .b) (args .contents .now) (args .bodies .now) (at-start .pre .1)
-    (with-other _ _ _ (sym (at-is-kind .is-kind .ensures (args .b) (args .bodies .now)) ∙ not-false _ (at-if1 .if1 .left)) _ _ (at-if2 .if2 .left)
-    (at-if3 .if3 .left) (c .before .before .form-of .ensures) (c .before .if4 .left) (c .if5 .left))
+    does-none (at-start .pre .1) (c .failed4 .ensures)
+    (with-other _ _ _ (sym (at-is-kind .is-kind .ensures (args .b) (args .bodies .now)) ∙ not-false _ (at-if1 .if1 .left)) _ (at-if2 .if2 .left)
+    (at-if3 .if3 .left) (c .before .before .before .form-of .ensures) (c .before .before .if4 .left) (c .before .if5 .left))
 
 pub new-with-spec : {M : Type 1} → statement M
 new-with-spec =
     tie.close
     (tie.spec
     is-kind-requires
+    failed-requires
     same-length
     returns
+    failed-requires-2
     same-length-2
     returns-2
+    failed-requires-3
     same-length-3
     returns-3
     form-of-requires
@@ -179,6 +194,7 @@ new-with-spec =
     same-length-6
     same-length-7
     returns-5
+    failed-requires-4
     same-length-8
     same-length-9
     returns-6)

@@ -1,6 +1,5 @@
 -- A size at most 16,383 is an integer word.
 use native.Mathlib.Omega.{arith}
-use Rattle.model.specs.Objects.{objectsAt}
 use Rattle.primitives.proofs.Indexing.{taken, not-taken, receiver-listed, size-none, size-some}
 use borrow.Author.Needs.{needs}
 use Rattle.primitives.proofs.size_answer.Statement.{statement}
@@ -10,46 +9,32 @@ elements-requires : tie.Need-elements-requires
 elements-requires c κs = search needs
 
 returns : tie.Need-returns
-returns c = size-none _ _ 0 (not-taken _ _ _ (c .before .elements .ensures) (c .if1 .taken))
+returns c = size-none _ _ (not-taken _ _ (c .before .elements .ensures) (c .if1 .taken))
 
 size-of-requires : tie.Need-size-of-requires
 size-of-requires c κs =
     let at-start = c .before .before .before .before in
-    let args = at-start .args in
-    receiver-listed (at-start .pre) ((taken (objectsAt (args .n) (args .b) (args .contents .now) (args .bodies .now)) (args .w) (c .before .elements .result)
-    (c .before .elements .ensures) (c .if1 .left)) .even)
+    receiver-listed (at-start .pre) ((taken (c .before .elements .ensures) (c .if1 .left)) .even)
 
 mul-t10 : tie.Need-mul-t10
 mul-t10 c =
     let at-elements = c .before .before in
-    let at-start = at-elements .before .before .before in
-    let args = at-start .args in
-    let t = (taken (objectsAt (args .n) (args .b) (args .contents .now) (args .bodies .now)) (args .w) (at-elements .elements .result)
-    (at-elements .elements .ensures) (c .before .if1 .left)) in let s = t .small in let e = c .size-of .ensures in omega arith
+    let t = (taken (at-elements .elements .ensures) (c .before .if1 .left)) in let s = t .small in let e = c .size-of .ensures in omega arith
 
 add-t11 : tie.Need-add-t11
 add-t11 c =
     let at-elements = c .before .before in
-    let at-start = at-elements .before .before .before in
-    let args = at-start .args in
-    let t = (taken (objectsAt (args .n) (args .b) (args .contents .now) (args .bodies .now)) (args .w) (at-elements .elements .result)
-    (at-elements .elements .ensures) (c .before .if1 .left)) in let s = t .small in let e = c .size-of .ensures in omega arith
+    let t = (taken (at-elements .elements .ensures) (c .before .if1 .left)) in let s = t .small in let e = c .size-of .ensures in omega arith
 
 cast-t12 : tie.Need-cast-t12
 cast-t12 c =
     let at-elements = c .before .before in
-    let at-start = at-elements .before .before .before in
-    let args = at-start .args in
-    let t = (taken (objectsAt (args .n) (args .b) (args .contents .now) (args .bodies .now)) (args .w) (at-elements .elements .result)
-    (at-elements .elements .ensures) (c .before .if1 .left)) in let s = t .small in let e = c .size-of .ensures in omega arith
+    let t = (taken (at-elements .elements .ensures) (c .before .if1 .left)) in let s = t .small in let e = c .size-of .ensures in omega arith
 
 returns-2 : tie.Need-returns-2
 returns-2 c =
     let at-elements = c .before .before in
-    let at-start = at-elements .before .before .before in
-    let args = at-start .args in
-    size-some _ _ 0 _ (taken (objectsAt (args .n) (args .b) (args .contents .now) (args .bodies .now)) (args .w) (at-elements .elements .result)
-    (at-elements .elements .ensures) (c .before .if1 .left)) _ (c .size-of .ensures)
+    size-some (taken (at-elements .elements .ensures) (c .before .if1 .left)) (c .size-of .ensures)
 
 pub size-answer-spec : {M : Type 1} → statement M
 size-answer-spec =

@@ -1,10 +1,11 @@
 use Prim.Native.Nat.{ℕ}
-use mathlib.Core.Path.{ap₂, _∙_}
+use mathlib.Core.Path.{ap, ap₂, _∙_}
 use mathlib.Core.List.{List}
 use native.Mathlib.Omega.{arith}
-use lib.ListN.{take}
+use lib.ListN.{take, replicate}
 use lib.Seq.{sets}
 use Rattle.frames.specs.Words.{newWords}
+use Rattle.words.proofs.Runs.{copied-stands}
 use Rattle.sends.proofs.Placing.{lent-sets}
 use borrow.Author.Needs.{needs}
 use Rattle.sends.proofs.enter.Statement.{statement}
@@ -47,11 +48,13 @@ returns c =
     let at-copy = at-move-to .before .before .before in
     let at-start = at-copy .before .before .before .before in
     let args = at-start .args in
+    let none = replicate {A = ℕ} 32 0 in
     lent-sets (newWords (args .top .0) (args .method .0) (args .receiver) (args .temporaries) (take (args .count) (at-copy .copy .last .0)))
-    (at-move-to .move-to .last .0) (at-write-frame .write-frame .last .0) (args .base)
+    (at-move-to .move-to .last .0) (args .base)
     (let f = at-start .pre .fits in let l = at-move-to .move-to .kept .0 in omega arith) (at-write-frame .write-frame .ensures)
     ∙ ap₂ (λ (xs ws : List ℕ). sets xs (args .base) (newWords (args .top .0) (args .method .0) (args .receiver) (args .temporaries) ws))
-    (at-move-to .move-to .ensures) (at-copy .copy .ensures)
+    (at-move-to .move-to .ensures)
+    (ap (take (args .count)) (at-copy .copy .ensures) ∙ copied-stands none (args .stack .now) (args .from) (args .count) (omega arith) (omega arith))
 
 pub enter-spec : {M : Type 1} → statement M
 enter-spec =

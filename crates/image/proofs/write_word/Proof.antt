@@ -2,8 +2,8 @@
 use native.Mathlib.Numerals.{add-one}
 use Rattle.model.specs.Image.{bytesOf}
 use borrow.Author.Needs.{needs}
-use Rattle.image.proofs.put.Statement.{statement}
-use Rattle.image.proofs.put.Tie as tie
+use Rattle.image.proofs.write_word.Statement.{statement}
+use Rattle.image.proofs.write_word.Tie as tie
 
 mul-at : tie.Need-mul-at
 mul-at c = search needs
@@ -30,8 +30,8 @@ returns : tie.Need-returns
 unfolding bytesOf
 returns c = simp add-one
 
-pub put-spec : {M : Type 1} → statement M
-put-spec =
+pub write-word-spec : {M : Type 1} → statement M
+write-word-spec =
     tie.close
     (tie.spec
     mul-at

@@ -1,13 +1,13 @@
 -- The bytes of the first i words are stored.
-use Rattle.image.proofs.Words.{put-more}
+use Rattle.image.proofs.Words.{written-more}
 use Prim.Native.Nat.{_*_, _-_, _≤_}
 use mathlib.Core.Path.{_≡_, refl, _∙_}
 use native.Mathlib.Omega.{arith}
 use lib.ListN.{length, take}
 use lib.Seq.{sets}
 use Rattle.model.specs.Image.{bytesOf}
-use Rattle.image.proofs.put_all.Statement.{statement}
-use Rattle.image.proofs.put_all.Tie as tie
+use Rattle.image.proofs.write_words.Statement.{statement}
+use Rattle.image.proofs.write_words.Tie as tie
 
 abbrev Inv-loop : tie.InvT-loop
 Inv-loop words count at output₀ i₀ output i = (i ≤ count) × (output ≡ sets output₀ (2 * at) (bytesOf (take i words))) × (length output ≡ length output₀)
@@ -19,17 +19,17 @@ loop-holds : tie.Need-loop-holds Inv-loop μ-loop
 unfolding bytesOf
 loop-holds c = (omega arith, refl, refl)
 
-add-put : tie.Need-add-put Inv-loop μ-loop
-add-put c = omega arith
+add-write-word : tie.Need-add-write-word Inv-loop μ-loop
+add-write-word c = omega arith
 
-mul-put : tie.Need-mul-put Inv-loop μ-loop
-mul-put c = omega arith
+mul-write-word : tie.Need-mul-write-word Inv-loop μ-loop
+mul-write-word c = omega arith
 
-shared-slice-read-put : tie.Need-shared-slice-read-put Inv-loop μ-loop
-shared-slice-read-put c = omega arith
+shared-slice-read-write-word : tie.Need-shared-slice-read-write-word Inv-loop μ-loop
+shared-slice-read-write-word c = omega arith
 
-put-requires : tie.Need-put-requires Inv-loop μ-loop
-put-requires c κs = omega arith
+write-word-requires : tie.Need-write-word-requires Inv-loop μ-loop
+write-word-requires c κs = omega arith
 
 add-i : tie.Need-add-i Inv-loop μ-loop
 add-i c = omega arith
@@ -39,14 +39,14 @@ loop-less c = omega arith
 
 loop-again : tie.Need-loop-again Inv-loop μ-loop
 loop-again c =
-    let at-put = c .before .before in
-    let at-loop = at-put .before .before .before .before in
+    let at-write-word = c .before .before in
+    let at-loop = at-write-word .before .before .before .before in
     let at-start = at-loop .before .before .before in
     let args = at-start .args in (
       omega arith,
-      put-more (args .output .now) (at-loop .loop .output) _ (args .at) (at-loop .loop .i) (args .words .now) (omega arith) (at-loop .loop .inv .1)
-          (at-put .put .ensures),
-      at-put .put .kept .0 ∙ at-loop .loop .inv .2,
+      written-more (args .output .now) (args .at) (at-loop .loop .i) (args .words .now) (omega arith) (at-loop .loop .inv .1)
+          (at-write-word .write-word .ensures),
+      at-write-word .write-word .kept .0 ∙ at-loop .loop .inv .2,
     )
 
 same-length : tie.Need-same-length Inv-loop μ-loop
@@ -55,17 +55,17 @@ same-length c = c .before .loop .inv .2
 returns : tie.Need-returns Inv-loop μ-loop
 returns c = let e : c .before .loop .i ≡ c .before .before .before .before .args .count = omega arith in rw e at (c .before .loop .inv .1)
 
-pub put-all-spec : {M : Type 1} → statement M
-put-all-spec =
+pub write-words-spec : {M : Type 1} → statement M
+write-words-spec =
     tie.close
     (tie.spec
     Inv-loop
     μ-loop
     loop-holds
-    add-put
-    mul-put
-    shared-slice-read-put
-    put-requires
+    add-write-word
+    mul-write-word
+    shared-slice-read-write-word
+    write-word-requires
     add-i
     loop-less
     loop-again
