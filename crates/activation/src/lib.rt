@@ -67,7 +67,7 @@ pub fn activate(
     ensures { λ r. ⌜ Activates edition n b (now (contents .entry)) (now (bodies .entry)) (method .0) receiver x y (now (contents .exit)) (now (bodies .exit)) r ⌝ }
 {
     let header = objects::header(contents, bodies, n, b, method);
-    let flag = objects::flag(header);
+    let flag = readers::flag(header);
     if flag == 5 {
         return Activated::Answer {
             word: receiver,
@@ -76,15 +76,15 @@ pub fn activate(
         };
     }
     if flag == 6 {
-        let i = objects::temporary_count(header);
-        if !objects::is_kind(contents, n, 0, receiver) {
+        let i = readers::temporary_count(header);
+        if !readers::is_kind(contents, n, readers::FIELDS, receiver) {
             return Activated::Unfit;
         }
-        let size = objects::size_of(contents, n, Pointer(receiver));
+        let size = readers::size(contents, n, receiver as usize / 2) as usize;
         if size <= i {
             return Activated::Unfit;
         }
-        let field = objects::word_of(contents, bodies, n, b, Pointer(receiver), i);
+        let field = readers::word_of(contents, bodies, n, b, Pointer(receiver), i);
         return Activated::Answer {
             word: field,
             n: n,

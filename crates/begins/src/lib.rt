@@ -24,13 +24,13 @@ fn words_fine(contents: &[u16], n: usize, receiver: u16, selector: u16, argument
     requires { ⌜ entryWords * n ≤ length (now contents) ⌝ }
     ensures { λ r. ⌜ ((b : ℕ) (bodies : List ℕ) → r ≡ rule8 (objectsAt n b (now (contents .entry)) bodies) receiver selector (now (arguments .entry))) ⌝ }
 {
-    if !objects::is_valid(n, receiver) {
+    if !readers::is_valid(n, receiver) {
         return false;
     }
-    if !objects::is_kind(contents, n, 1, selector) {
+    if !readers::is_kind(contents, n, readers::BYTES, selector) {
         return false;
     }
-    rules::valid_words(n, arguments)
+    readers::valid_words(n, arguments)
 }
 
 // Argument i, 0 where there is none.
@@ -81,10 +81,10 @@ pub fn begin(
         },
         Activated::Unfit => Beginning::Refused(9),
         Activated::Frame => {
-            if stack.len() < 6 + objects::frame_words(header) {
+            if stack.len() < 6 + readers::frame_words(header) {
                 return Beginning::Refused(13);
             }
-            let temporaries = objects::temporary_count(header);
+            let temporaries = readers::temporary_count(header);
             frames::write_frame(
                 stack,
                 StackPosition(0),

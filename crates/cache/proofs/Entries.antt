@@ -12,7 +12,7 @@ use Rattle.model.specs.Limits.{classKind, cacheEntries}
 use Rattle.model.specs.Objects.{Objects, isKind}
 use Rattle.model.specs.Lookup.{lookup}
 use Rattle.model.proofs.Unchanged.{no-class}
-use Rattle.rules.proofs.Loops.{Before, before-more, below-all, below-no}
+use Rattle.readers.proofs.Loops.{Before, before-more, below-all, below-no}
 use Rattle.plain.specs.Cache.{finds, emptyOr, cachedRight, cachedRightAt, cacheFine}
 
 module _ (s c m : ℕ) where

@@ -87,7 +87,7 @@ fn cached_right(
     if is_empty(s, class, m) {
         return true;
     }
-    if !objects::is_kind(contents, n, 2, class) {
+    if !readers::is_kind(contents, n, readers::CLASS, class) {
         return false;
     }
     match objects::lookup(contents, bodies, n, b, s, Pointer(class)) {

@@ -25,8 +25,9 @@ use Rattle.model.proofs.ChainLaws.{named}
 use Rattle.model.proofs.DepthLaws.{spot, fine-inside}
 use Rattle.model.proofs.Facts.{inside, method-words, method-facts}
 use Rattle.model.proofs.SendFacts.{class-kind}
-use Rattle.rules.proofs.Loops.{never, failed}
-use Rattle.objects.specs.Lent.{Holds, CodeAt, temporariesOf}
+use Rattle.readers.proofs.Loops.{never, failed}
+use Rattle.readers.specs.Header.{temporariesOf}
+use Rattle.objects.specs.Lent.{Holds, CodeAt}
 use Rattle.objects.specs.declared.Code.{Code}
 use Rattle.plain.specs.State.{Frame, noMark}
 use Rattle.plain.specs.Flat.{frameAt, frameMethod, framePosition, frameDepth, frameReceiver}

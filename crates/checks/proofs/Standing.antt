@@ -12,9 +12,9 @@ use Rattle.bytecode.proofs.Choice.{if-yes, if-no, if-either}
 use Rattle.model.specs.Limits.{methodKind, mostStackWords, largeFrameWords, smallFrameWords}
 use Rattle.model.specs.Objects.{Objects, isKind}
 use Rattle.model.specs.Method.{header, isLarge, frameWords, frameSize}
-use Rattle.rules.proofs.Loops.{never, failed}
-use Rattle.objects.specs.Lent.{frameOf}
-use Rattle.objects.proofs.Methods.{frame-of}
+use Rattle.readers.proofs.Loops.{never, failed}
+use Rattle.readers.specs.Header.{frameOf}
+use Rattle.readers.proofs.HeaderLaws.{frame-of}
 use Rattle.plain.specs.State.{fitsStack}
 use Rattle.plain.specs.Flat.{frameMethod}
 use Rattle.plain.proofs.FrameLaws.{Fits, fits, fitting}

@@ -12,7 +12,7 @@ use Rattle.bytecode.proofs.TestLaws.{T→true, and-left, and-right}
 use Rattle.model.specs.Limits.{methodKind}
 use Rattle.model.specs.Objects.{Objects, isKind}
 use Rattle.model.specs.Method.{frameSize}
-use Rattle.rules.proofs.Loops.{never, failed, pass}
+use Rattle.readers.proofs.Loops.{never, failed, pass}
 use Rattle.plain.specs.State.{Frame, fitsStack}
 use Rattle.plain.specs.Flat.{frameAt, frameMethod, frameSender, framesFrom, unlessBottom}
 use Rattle.plain.specs.Check.{frameRules, framesFine}

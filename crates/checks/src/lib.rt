@@ -37,11 +37,11 @@ fn frame_end(
         return StackPosition(0);
     }
     let m = stack[base + 3];
-    if !objects::is_kind(contents, n, 4, m) {
+    if !readers::is_kind(contents, n, readers::METHOD, m) {
         return StackPosition(0);
     }
     let end = base
-        + (6 + objects::frame_words(objects::header(contents, bodies, n, b, Pointer(m))));
+        + (6 + readers::frame_words(objects::header(contents, bodies, n, b, Pointer(m))));
     if stack.len() < end {
         return StackPosition(0);
     }
@@ -94,7 +94,7 @@ fn six_words_fine(
         return false;
     }
     let receiver = stack[base + 5];
-    if !objects::is_valid(n, receiver) {
+    if !readers::is_valid(n, receiver) {
         return false;
     }
     let m = stack[base + 3];
@@ -144,8 +144,8 @@ fn frame_fine(
     let depth = stack[base + 2] as usize;
     let from = base + 6;
     let end = from
-        + (objects::temporary_count(objects::header(contents, bodies, n, b, Pointer(m))) + depth);
-    rules::valid_words(n, &stack[from..end])
+        + (readers::temporary_count(objects::header(contents, bodies, n, b, Pointer(m))) + depth);
+    readers::valid_words(n, &stack[from..end])
 }
 
 // The frames of a state, from the top one down to the one at 0.

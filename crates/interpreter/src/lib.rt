@@ -51,7 +51,7 @@ fn return_to(
     let sender = stack[base] as usize;
     let method = Pointer(stack[sender + 3]);
     let header = objects::header(contents, bodies, n, b, method);
-    let temporaries = objects::temporary_count(header);
+    let temporaries = readers::temporary_count(header);
     let depth = stack[sender + 2] as usize;
     let place = sender + (6 + (temporaries + depth));
     stack[place] = w;

@@ -35,7 +35,7 @@ entered l at c k s z h =
     rw (one, two, three) (behind l (c ∷ k ∷ s ∷ z ∷ []) at h)
 
 -- What leaves the objects, and one outcome for another
-pub does-computed : {n b : ℕ} {contents bodies : List ℕ} {r : Done} {z : Outcome} (x : Computed) → Right e (objectsAt n b contents bodies) → r ≡ doneWith x n b
+pub does-computed : {e n b : ℕ} {contents bodies : List ℕ} {r : Done} {z : Outcome} (x : Computed) → Right e (objectsAt n b contents bodies) → r ≡ doneWith x n b
     → computed (objectsAt n b contents bodies) x ≡ z → Does (objectsAt n b contents bodies) z r contents bodies contents bodies
 unfolding answerOf objectsAfter
 does-computed {n} {b} {contents} {bodies} {r} {z} x h e p =
@@ -52,7 +52,7 @@ does-computed {n} {b} {contents} {bodies} {r} {z} x h e p =
     go (Word w) = record { answer = refl; count = refl; size = refl; entries = entries; words = words }
     go Failed = record { answer = refl; count = refl; size = refl; entries = entries; words = words }
 
-pub does-none : {n b : ℕ} {contents bodies : List ℕ} {r : Done} {z : Outcome} → Right e (objectsAt n b contents bodies) → r ≡ doneWith Failed n b → fails ≡ z
+pub does-none : {e n b : ℕ} {contents bodies : List ℕ} {r : Done} {z : Outcome} → Right e (objectsAt n b contents bodies) → r ≡ doneWith Failed n b → fails ≡ z
     → Does (objectsAt n b contents bodies) z r contents bodies contents bodies
 does-none = does-computed Failed
 

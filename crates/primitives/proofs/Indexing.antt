@@ -16,10 +16,12 @@ use Rattle.model.specs.Objects.{Objects, objectsAt, classOf, classWord, kind, s
 use Rattle.model.specs.Primitive.{Outcome, answers, fails, storeWord, storeByte, objectByte, isIndexable, holdsBytes, isIndex, at, atPut, sizeAnswer}
 use Rattle.model.proofs.Parts.{or-left, or-right}
 use Rattle.model.proofs.Facts.{in-words, in-bytes, sized-at, Fits, fixed, indexed, bytes, other, entry-class, entry-fits}
-use Rattle.objects.specs.Lent.{Listed, Inside, Holds}
+use Rattle.readers.specs.Places.{Entry, Inside}
+use Rattle.objects.specs.Lent.{Holds}
 use Rattle.primitives.specs.Outcomes.{answerOf, objectsAfter, Receives, Puts, elementsOf, indexOf}
+use Rattle.readers.proofs.InsideLaws.{body-inside, right-laid}
 use Rattle.objects.proofs.Buffers.{contents-room, bodies-room, front-same}
-use Rattle.objects.proofs.Bodies.{valid-listed}
+use Rattle.objects.proofs.Bodies.{valid-entry}
 
 not-test : (t : Bool) → (T t → ⊥) → t ≡ false
 not-test true f = absurd (f tt)
@@ -187,8 +189,8 @@ module _ {o : Objects} {w x i count : ℕ} (s : count ≡ size o (objectNumber w
 
 -- Its place is inside.
 module _ {n b : ℕ} {contents bodies : List ℕ} {w : ℕ} (r : Receives n b contents bodies w) where
-  pub receiver-listed : w % 2 ≢ 1 → Listed n contents w
-  receiver-listed d = valid-listed n contents w (r .valid) d (contents-room n b contents bodies (r .right .1))
+  pub receiver-listed : w % 2 ≢ 1 → Entry n (objectNumber w) contents
+  receiver-listed d = valid-entry n contents w (r .valid) d (contents-room n b contents bodies (r .right .1))
 
   class-is : w % 2 ≢ 1 → classOf (objectsAt n b contents bodies) w ≡ classWord (objectsAt n b contents bodies) (objectNumber w)
   unfolding classOf
@@ -207,7 +209,7 @@ module _ {n b : ℕ} {contents bodies : List ℕ} {w : ℕ} (r : Receives n b co
   pub word-inside : {f x i : ℕ} → Taken (objectsAt n b contents bodies) w f → Indexed (objectsAt n b contents bodies) w x i → f ≢ 2 → Inside n b contents bodies w (i - 1)
   word-inside {f} {x} {i} t k d =
       let l = receiver-listed (t .even) in
-      record { right = r .right; least = l .least; most = l .most; word = go (fitting (t .even)) (t .forms) (t .by) }
+      body-inside (right-laid (r .right .1)) (l .least) (l .most) (go (fitting (t .even)) (t .forms) (t .by))
     where
       words : kind (objectsAt n b contents bodies) (objectNumber w) ≡ fieldsKind → i - 1 < bodyWords (objectsAt n b contents bodies) (objectNumber w)
       words h = let m = k .most in let l = k .least in let q = in-words (objectsAt n b contents bodies) (objectNumber w) (omega arith) (omega arith) in omega arith
@@ -224,7 +226,7 @@ module _ {n b : ℕ} {contents bodies : List ℕ} {w : ℕ} (r : Receives n b co
   pub byte-inside : {f x i : ℕ} → Taken (objectsAt n b contents bodies) w f → Indexed (objectsAt n b contents bodies) w x i → f ≡ 2 → Inside n b contents bodies w ((i - 1) / 2)
   byte-inside {f} {x} {i} t k e =
       let l = receiver-listed (t .even) in
-      record { right = r .right; least = l .least; most = l .most; word = go (fitting (t .even)) (t .forms) }
+      body-inside (right-laid (r .right .1)) (l .least) (l .most) (go (fitting (t .even)) (t .forms))
     where
       go : Fits (objectsAt n b contents bodies) (objectNumber w) (classOf (objectsAt n b contents bodies) w) → form (objectsAt n b contents bodies) (classOf (objectsAt n b contents bodies) w) ≡ f
           → (i - 1) / 2 < bodyWords (objectsAt n b contents bodies) (objectNumber w)

@@ -38,7 +38,7 @@ put-stays o w x v =
     (λ q. record { n = refl; b = refl; contents = refl }))
     (λ p. record { n = refl; b = refl; contents = refl })
 
-pub does-put : {n b : ℕ} {contents bodies after : List ℕ} {y : Computed} {r : Done} {z : Outcome} (w x v : ℕ) → Right e (objectsAt n b contents bodies) → r ≡ doneWith y n b
+pub does-put : {e n b : ℕ} {contents bodies after : List ℕ} {y : Computed} {r : Done} {z : Outcome} (w x v : ℕ) → Right e (objectsAt n b contents bodies) → r ≡ doneWith y n b
     → atPut (objectsAt n b contents bodies) w x v ≡ z → Puts (objectsAt n b contents bodies) (atPut (objectsAt n b contents bodies) w x v) y bodies after
     → Does (objectsAt n b contents bodies) z r contents bodies contents after
 does-put {n} {b} {contents} {bodies} {after} {y} {r} {z} w x v h e p q =

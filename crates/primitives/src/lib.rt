@@ -76,7 +76,7 @@ fn elements(contents: &[u16], bodies: &[u16], n: usize, b: usize, w: u16) -> usi
     if w % 2 == 1 {
         return 0;
     }
-    let size = objects::size_of(contents, n, Pointer(w));
+    let size = readers::size(contents, n, w as usize / 2) as usize;
     if MOST_ELEMENTS < size {
         return 0;
     }
@@ -120,7 +120,7 @@ pub fn at(contents: &[u16], bodies: &[u16], n: usize, b: usize, w: u16, x: u16) 
     if by == 0 {
         return Computed::Failed;
     }
-    let size = objects::size_of(contents, n, Pointer(w));
+    let size = readers::size(contents, n, w as usize / 2) as usize;
     let i = index(size, x);
     if i == 0 {
         return Computed::Failed;
@@ -129,7 +129,7 @@ pub fn at(contents: &[u16], bodies: &[u16], n: usize, b: usize, w: u16, x: u16) 
         let v = objects::byte_of(contents, bodies, n, b, Pointer(w), i - 1);
         return Computed::Word(2 * (v as u16) + 1);
     }
-    Computed::Word(objects::word_of(contents, bodies, n, b, Pointer(w), i - 1))
+    Computed::Word(readers::word_of(contents, bodies, n, b, Pointer(w), i - 1))
 }
 
 // 61
@@ -149,7 +149,7 @@ pub fn at_put(
     if by == 0 {
         return Computed::Failed;
     }
-    let size = objects::size_of(contents, n, Pointer(w));
+    let size = readers::size(contents, n, w as usize / 2) as usize;
     let i = index(size, x);
     if i == 0 {
         return Computed::Failed;
@@ -177,7 +177,7 @@ pub fn size_answer(contents: &[u16], bodies: &[u16], n: usize, b: usize, w: u16)
     if by == 0 {
         return Computed::Failed;
     }
-    let size = objects::size_of(contents, n, Pointer(w));
+    let size = readers::size(contents, n, w as usize / 2) as usize;
     Computed::Word((2 * size + 1) as u16)
 }
 
@@ -250,7 +250,7 @@ pub fn new_object(contents: &mut [u16], bodies: &mut [u16], n: usize, b: usize, 
     requires { ⌜ IsRight (objectsAt n b (now contents) (now bodies)) ⌝ }
     ensures { λ r. ⌜ Does (objectsAt n b (now (contents .entry)) (now (bodies .entry))) (new (roomOf (now (contents .entry)) (now (bodies .entry))) (objectsAt n b (now (contents .entry)) (now (bodies .entry))) w) r (now (contents .entry)) (now (bodies .entry)) (now (contents .exit)) (now (bodies .exit)) ⌝ }
 {
-    if !objects::is_kind(contents, n, CLASS, w) {
+    if !readers::is_kind(contents, n, CLASS, w) {
         return failed(n, b);
     }
     let form = objects::form_of(contents, bodies, n, b, Pointer(w));
@@ -283,7 +283,7 @@ pub fn new_with(
     requires { ⌜ IsRight (objectsAt n b (now contents) (now bodies)) ⌝ }
     ensures { λ r. ⌜ Does (objectsAt n b (now (contents .entry)) (now (bodies .entry))) (newWith (roomOf (now (contents .entry)) (now (bodies .entry))) (objectsAt n b (now (contents .entry)) (now (bodies .entry))) w x) r (now (contents .entry)) (now (bodies .entry)) (now (contents .exit)) (now (bodies .exit)) ⌝ }
 {
-    if !objects::is_kind(contents, n, CLASS, w) {
+    if !readers::is_kind(contents, n, CLASS, w) {
         return failed(n, b);
     }
     if x % 2 != 1 {

@@ -32,7 +32,7 @@ fn frame_end(
 {
     let base = top.0;
     let method = Pointer(stack[base + 3]);
-    let words = objects::frame_words(objects::header(contents, bodies, n, b, method));
+    let words = readers::frame_words(objects::header(contents, bodies, n, b, method));
     base + (6 + words)
 }
 

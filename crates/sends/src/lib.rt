@@ -100,7 +100,7 @@ fn acted(
     requires { ⌜ Activable n b (now contents) (now bodies) (method .0) receiver ⌝ }
     ensures { λ r. ⌜ Activates edition n b (now (contents .entry)) (now (bodies .entry)) (method .0) receiver x y (now (contents .exit)) (now (bodies .exit)) r ⌝ }
 {
-    if objects::flag(objects::header(contents, bodies, n, b, method)) < 5 {
+    if readers::flag(objects::header(contents, bodies, n, b, method)) < 5 {
         return Activated::Frame;
     }
     activation::activate(contents, bodies, edition, n, b, method, receiver, x, y)
@@ -146,17 +146,17 @@ fn new_base(
     if !runs_on(contents, bodies, n, b, method, receiver, sure) {
         return Base::Unfit;
     }
-    let below = objects::frame_words(objects::header(contents, bodies, n, b, running));
+    let below = readers::frame_words(objects::header(contents, bodies, n, b, running));
     let header = objects::header(contents, bodies, n, b, method);
     let base = top.0 + 6 + below;
-    let end = base + 6 + objects::frame_words(header);
+    let end = base + 6 + readers::frame_words(header);
     if room < end {
         return Base::Full;
     }
     if 65536 < end {
         return Base::Full;
     }
-    let temporaries = objects::temporary_count(header);
+    let temporaries = readers::temporary_count(header);
     Base::At {
         base: base,
         temporaries: temporaries,

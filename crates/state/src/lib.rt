@@ -20,7 +20,7 @@ fn registers_fine(n: usize, phase: u16, value: u16) -> bool
         return false;
     }
     if phase == 2 {
-        return objects::is_valid(n, value);
+        return readers::is_valid(n, value);
     }
     value == 0
 }

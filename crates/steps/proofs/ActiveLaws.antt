@@ -18,7 +18,8 @@ use Rattle.model.specs.declared.StackPosition.{StackPosition}
 use Rattle.plain.specs.Flat.{frameDepth, frameMethod, framePosition, frameReceiver, operandsStart}
 use Rattle.plain.specs.Running.{Runs, At, Moved}
 use Rattle.plain.proofs.RunningLaws.{top-bounds}
-use Rattle.objects.specs.Lent.{Holds, CodeAt, temporariesOf}
+use Rattle.readers.specs.Header.{temporariesOf}
+use Rattle.objects.specs.Lent.{Holds, CodeAt}
 use Rattle.objects.specs.declared.Code.{Code}
 use Rattle.steps.specs.declared.Active.{Active}
 use Rattle.steps.specs.declared.Event.{Event}

@@ -33,7 +33,8 @@ use Rattle.plain.specs.Flat.{frameMethod, frameReceiver, operandsStart}
 use Rattle.plain.specs.FlatCalls.{atFront}
 use Rattle.plain.specs.Running.{topFrame}
 use Rattle.plain.proofs.RunningLaws.{is-method}
-use Rattle.objects.specs.Lent.{Inside, Holds}
+use Rattle.readers.specs.Places.{Inside}
+use Rattle.objects.specs.Lent.{Holds}
 use Rattle.objects.proofs.Buffers.{contents-room, bodies-room, stored-objects}
 use Rattle.steps.specs.declared.Active.{Active}
 use Rattle.steps.specs.declared.Event.{Event}

@@ -29,7 +29,8 @@ use Rattle.plain.specs.FlatCalls.{atFront}
 use Rattle.plain.specs.Running.{Runs, Moved, runningAt, topFrame, restFrames}
 use Rattle.plain.proofs.RunningLaws.{top-right, top-bounds, method-is, receiver-is, now-is}
 use Rattle.plain.proofs.WriteLaws.{temporary-here}
-use Rattle.objects.specs.Lent.{Inside, Holds}
+use Rattle.readers.specs.Places.{Inside}
+use Rattle.objects.specs.Lent.{Holds}
 use Rattle.objects.proofs.Bodies.{field-inside}
 use Rattle.steps.specs.Events.{Here, HereAt, storing, leftBy, StoringAt}
 use Rattle.steps.proofs.HereLaws.{element-is, holds-method, operand-is}

@@ -28,7 +28,7 @@ use Rattle.plain.specs.Step.{Stepped, noLookup, _>>=_, operand, without, pushed
 use Rattle.plain.specs.Flat.{frameMethod, framePosition}
 use Rattle.plain.specs.Running.{Moved, runningAt, topFrame, restFrames}
 use Rattle.plain.proofs.RunningLaws.{step-is, now-is}
-use Rattle.objects.specs.Lent.{Inside}
+use Rattle.readers.specs.Places.{Inside}
 use Rattle.objects.proofs.Bodies.{special-inside}
 use Rattle.steps.specs.Events.{Here, HereAt, answered, SendsAt}
 use Rattle.steps.proofs.HereLaws.{operand-is}
@@ -86,7 +86,7 @@ module _ {n b top : ℕ} {contents bodies stack : List ℕ} {h : Here} {k : ℕ}
       subst Small (sym (a .at .decoded)) (small-at (codeWords o (frameMethod stack top)) (codeSize o (frameMethod stack top)) (framePosition stack top))
 
   pub selector-inside : Inside n b contents bodies 10 k
-  selector-inside = special-inside n b contents bodies k (a .at .runs .edition, a .at .runs .right) special-small
+  selector-inside = special-inside k (a .at .runs .edition, a .at .runs .right) special-small
 
   rule-of : T (isSame k || (isClass k || sendFine o (specialSelector o k) (specialCount k)))
   unfolding allowed

@@ -62,7 +62,7 @@ pub fn enter(
     let base = top.0;
     let method = Pointer(stack[base + 3]);
     let code = objects::code_of(contents, bodies, n, b, method);
-    let temporaries = objects::temporary_count(objects::header(contents, bodies, n, b, method));
+    let temporaries = readers::temporary_count(objects::header(contents, bodies, n, b, method));
     let operands = base + 6 + temporaries;
     let position = stack[base + 1] as usize;
     let depth = stack[base + 2] as usize;
@@ -124,7 +124,7 @@ fn read(
     match place {
         Place::Field(i) => {
             let receiver = stack[base + 5];
-            objects::word_of(contents, bodies, n, b, Pointer(receiver), i)
+            readers::word_of(contents, bodies, n, b, Pointer(receiver), i)
         }
         Place::Temporary(i) => stack[base + 6 + i],
         Place::Literal(i) => {
@@ -134,7 +134,7 @@ fn read(
         Place::LiteralVariable(i) => {
             let method = Pointer(stack[base + 3]);
             let v = objects::literal(contents, bodies, n, b, method, i);
-            objects::word_of(contents, bodies, n, b, Pointer(v), 1)
+            readers::word_of(contents, bodies, n, b, Pointer(v), 1)
         }
     }
 }
@@ -389,7 +389,7 @@ fn arithmetic_send(
             }
         }
         Computed::Failed => {
-            let s = objects::word_of(contents, bodies, n, b, Pointer(10), k as usize);
+            let s = readers::word_of(contents, bodies, n, b, Pointer(readers::SELECTORS), k as usize);
             sent(contents, bodies, stack, n, b, active, next, s, 1)
         }
     }
@@ -439,7 +439,7 @@ fn special_send(
             end: StackPosition(end),
         };
     }
-    let s = objects::word_of(contents, bodies, n, b, Pointer(10), k as usize);
+    let s = readers::word_of(contents, bodies, n, b, Pointer(readers::SELECTORS), k as usize);
     let count = special_count(k);
     sent(contents, bodies, stack, n, b, active, next, s, count)
 }

@@ -2,8 +2,8 @@ use mathlib.Core.Path.{refl, sym, ap, _∙_}
 use borrow.Author.Tests.{not-true, not-false}
 use native.Mathlib.Omega.{arith}
 use Rattle.bytecode.proofs.TestLaws.{true→T}
-use Rattle.objects.specs.Lent.{flagOf, temporariesOf}
-use Rattle.objects.proofs.Bodies.{holds-listed, field-inside}
+use Rattle.readers.specs.Header.{flagOf, temporariesOf}
+use Rattle.objects.proofs.Bodies.{holds-entry, field-inside}
 use Rattle.activation.proofs.Activations.{holds-method, entries-room, answers-same, by-receiver, by-code, no-fields, no-field, the-field, performed, primitive-word, primitive-failed}
 use borrow.Author.Needs.{needs}
 use Rattle.activation.proofs.activate.Statement.{statement}
@@ -52,14 +52,17 @@ returns-2 c =
       words = refl;
     }
 
-size-of-requires : tie.Need-size-of-requires
-size-of-requires c κs =
+size-requires : tie.Need-size-requires
+size-requires c κs =
     let at-start = c .before .before .before .before .before .before .before .before .before .before .before .before .before in
-    holds-listed (record {
-      right = (at-start .pre .right);
+    holds-entry (record {
+      right = (_, at-start .pre .right);
       kinds = true→T
           (sym (c .before .before .is-kind .ensures (at-start .args .b) (at-start .args .bodies .now)) ∙ not-false _ (c .before .if3 .left));
     })
+
+cast-size : tie.Need-cast-size
+cast-size c = search needs
 
 same-length-5 : tie.Need-same-length-5
 same-length-5 c = search needs
@@ -79,7 +82,7 @@ returns-3 c =
       leads = no-field (at-start .pre) _ room arguments _ (at-flag .flag .ensures ∙ ap flagOf (at-header .header .ensures))
           (at-if2 .if2 .taken) (sym (at-is-kind .is-kind .ensures (at-start .args .b) (at-start .args .bodies .now))
           ∙ not-false _ (c .before .before .before .if3 .left)) (let i = at-temporary-count .temporary-count .ensures
-          ∙ ap temporariesOf (at-header .header .ensures) in let z = c .before .size-of .ensures in let l = c .if4 .taken in omega arith);
+          ∙ ap temporariesOf (at-header .header .ensures) in let z = c .before .size .ensures in let l = c .if4 .taken in omega arith);
       entries = refl;
       words = refl;
     }
@@ -89,9 +92,9 @@ word-of-requires c κs =
     let at-if3 = c .before .before .before .before .before in
     let at-is-kind = at-if3 .before in
     let at-start = at-is-kind .before .before .before .before .before .before .before .before .before .before .before in
-    field-inside _ (let z = c .before .before .before .size-of .ensures in let l = c .before .before .if4 .left in omega arith)
+    field-inside _ (let z = c .before .before .before .size .ensures in let l = c .before .before .if4 .left in omega arith)
     (record {
-      right = (at-start .pre .right);
+      right = (_, at-start .pre .right);
       kinds = true→T (sym (at-is-kind .is-kind .ensures (at-start .args .b) (at-start .args .bodies .now))
           ∙ not-false _ (at-if3 .if3 .left));
     })
@@ -104,8 +107,8 @@ same-length-8 c = search needs
 
 returns-4 : tie.Need-returns-4
 returns-4 c =
-    let at-size-of = c .before .before .before .before in
-    let at-if3 = at-size-of .before .before in
+    let at-size = c .before .before .before .before in
+    let at-if3 = at-size .before .before in
     let at-is-kind = at-if3 .before in
     let at-temporary-count = at-is-kind .before .before in
     let at-if2 = at-temporary-count .before in
@@ -115,7 +118,7 @@ returns-4 c =
     λ arguments p q room s t. answers-same (at-start .pre) _ _ (the-field (at-start .pre) _ room arguments _ (at-flag .flag .ensures
     ∙ ap flagOf (at-header .header .ensures)) (at-if2 .if2 .taken) (sym (at-is-kind .is-kind .ensures (at-start .args .b) (at-start .args .bodies .now))
     ∙ not-false _ (at-if3 .if3 .left)) _ (at-temporary-count .temporary-count .ensures ∙ ap temporariesOf (at-header .header .ensures)) _ (c .word-of .ensures)
-    (let i = at-temporary-count .temporary-count .ensures ∙ ap temporariesOf (at-header .header .ensures) in let z = at-size-of .size-of .ensures in let l =
+    (let i = at-temporary-count .temporary-count .ensures ∙ ap temporariesOf (at-header .header .ensures) in let z = at-size .size .ensures in let l =
     c .before .before .before .if4 .left in omega arith))
 
 same-length-9 : tie.Need-same-length-9
@@ -213,7 +216,8 @@ activate-spec =
     same-length-3
     same-length-4
     returns-2
-    size-of-requires
+    size-requires
+    cast-size
     same-length-5
     same-length-6
     returns-3

@@ -8,7 +8,7 @@ use Rattle.model.specs.Objects.{objectsAt, isKind, classOf}
 use Rattle.model.specs.Lookup.{lookup}
 use Rattle.model.proofs.SendFacts.{lookup-facts}
 use Rattle.model.proofs.Lent.{contents-room}
-use Rattle.objects.proofs.Methods.{frame-is, small-frame}
+use Rattle.readers.proofs.HeaderLaws.{frame-is, small-frame}
 use Rattle.begins.proofs.Beginnings.{refused-8, refused-9, refused-10, receiver-valid, class-starts, begun-answer, begun-unfit, begun-full, begun-room, begun-enters}
 use lib.Seq.{take-all}
 use lib.ListN.{length, take}
@@ -24,10 +24,10 @@ use Rattle.begins.proofs.words_fine.Reads as words-fine-reads
 use Rattle.frames.proofs.write_frame.Reads as write-frame-reads
 use Rattle.objects.proofs.argument_count.Reads as argument-count-reads
 use Rattle.objects.proofs.class_of.Reads as class-of-reads
-use Rattle.objects.proofs.frame_words.Reads as frame-words-reads
+use Rattle.readers.proofs.frame_words.Reads as frame-words-reads
 use Rattle.objects.proofs.header.Reads as header-reads
 use Rattle.objects.proofs.lookup.Reads as lookup-reads
-use Rattle.objects.proofs.temporary_count.Reads as temporary-count-reads
+use Rattle.readers.proofs.temporary_count.Reads as temporary-count-reads
 
 words-fine-requires : tie.Need-words-fine-requires
 words-fine-requires c κs =
@@ -207,7 +207,7 @@ returns-4 c =
           (sym (at-argument-count .argument-count .ensures) ∙ at-if2 .if2 .left);
     }) _ _ _ _ _ (at-activate .activate .ensures) (at-argument .argument .ensures)
     (at-argument2 .argument2 .ensures) (c .before .before .enum-told3 .given .1)
-    (let k = frame-is (objectsAt (args .n) (args .b) (args .contents .now) (args .bodies .now)) (at-found .found .given .0 .0 .0) _ _
+    (let k = frame-is (objectsAt (args .n) (args .b) (args .contents .now) (args .bodies .now)) (at-found .found .given .0 .0 .0)
     (at-header .header .ensures) (c .before .frame-words .ensures) in let t = c .if3 .taken in omega arith)
 
 temporary-count-requires : tie.Need-temporary-count-requires
@@ -340,7 +340,7 @@ returns-7 c =
           (sym (at-argument-count .argument-count .ensures) ∙ at-if2 .if2 .left);
     }) _ _ _ _ _ (at-activate .activate .ensures) (at-argument .argument .ensures)
     (at-argument2 .argument2 .ensures) (at-enum-told3 .enum-told3 .given .1)
-    (let k = frame-is (objectsAt (args .n) (args .b) (args .contents .now) (args .bodies .now)) (at-found .found .given .0 .0 .0) _ _
+    (let k = frame-is (objectsAt (args .n) (args .b) (args .contents .now) (args .bodies .now)) (at-found .found .given .0 .0 .0)
     (at-header .header .ensures) (at-frame-words .frame-words .ensures) in let t = at-if3 .if3 .left in omega arith) _ (c .before .before .write-frame .ensures
     ∙ first-words (args .stack .now) (at-found .found .given .0 .0 .0) (args .receiver) _ _ _ (args .arguments .now)
     (at-temporary-count .temporary-count .ensures ∙ ap (λ (h : ℕ). h / 256 % 32) (at-header .header .ensures)) (at-if2 .if2 .left))

@@ -4,7 +4,7 @@ use native.Mathlib.Omega.{arith}
 use Rattle.model.specs.Limits.{cacheEntries}
 use Rattle.model.specs.Objects.{objectsAt}
 use Rattle.plain.specs.Cache.{cachedRightAt}
-use Rattle.rules.proofs.Loops.{Before, before-none}
+use Rattle.readers.proofs.Loops.{Before, before-none}
 use Rattle.cache.proofs.Entries.{cache-no, cache-more, cache-all}
 use Rattle.cache.proofs.cache_fine.Statement.{statement}
 use Rattle.cache.proofs.cache_fine.Tie as tie

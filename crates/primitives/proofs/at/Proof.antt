@@ -11,8 +11,11 @@ elements-requires c κs = search needs
 returns : tie.Need-returns
 returns c = at-none _ _ _ (not-taken _ _ (c .before .elements .ensures) (c .if1 .taken))
 
-size-of-requires : tie.Need-size-of-requires
-size-of-requires c κs = receiver-listed (c .before .before .before .before .pre) ((taken (c .before .elements .ensures) (c .if1 .left)) .even)
+size-requires : tie.Need-size-requires
+size-requires c κs = receiver-listed (c .before .before .before .before .pre) ((taken (c .before .elements .ensures) (c .if1 .left)) .even)
+
+cast-size : tie.Need-cast-size
+cast-size c = search needs
 
 index-requires : tie.Need-index-requires
 index-requires c κs = search needs
@@ -23,7 +26,7 @@ returns-2 c =
     let at-start = at-elements .before .before .before in
     let args = at-start .args in
     at-no-index (taken (at-elements .elements .ensures) (c .before .before .before .if1 .left)) _
-    (not-indexed (objectsAt (args .n) (args .b) (args .contents .now) (args .bodies .now)) (args .w) _ (c .before .before .size-of .ensures)
+    (not-indexed (objectsAt (args .n) (args .b) (args .contents .now) (args .bodies .now)) (args .w) _ (c .before .before .size .ensures)
     (c .before .index .ensures) (c .if2 .taken))
 
 sub-byte-of : tie.Need-sub-byte-of
@@ -31,29 +34,29 @@ sub-byte-of c = search needs
 
 byte-of-requires : tie.Need-byte-of-requires
 byte-of-requires c κs =
-    let at-size-of = c .before .before .before in
-    let at-if1 = at-size-of .before in
+    let at-size = c .before .before .before in
+    let at-if1 = at-size .before in
     let at-elements = at-if1 .before in
     let at-start = at-elements .before .before .before in
-    byte-inside (at-start .pre) (taken (at-elements .elements .ensures) (at-if1 .if1 .left)) (indexed-by (at-size-of .size-of .ensures)
+    byte-inside (at-start .pre) (taken (at-elements .elements .ensures) (at-if1 .if1 .left)) (indexed-by (at-size .size .ensures)
     (c .before .before .index .ensures) (c .before .if2 .left)) (c .if3 .taken)
 
-cast-t15 : tie.Need-cast-t15
-cast-t15 c = search needs
+cast-t17 : tie.Need-cast-t17
+cast-t17 c = search needs
 
-mul-t16 : tie.Need-mul-t16
-mul-t16 c = search needs
+mul-t18 : tie.Need-mul-t18
+mul-t18 c = search needs
 
-add-t17 : tie.Need-add-t17
-add-t17 c = search needs
+add-t19 : tie.Need-add-t19
+add-t19 c = search needs
 
 returns-3 : tie.Need-returns-3
 returns-3 c =
     let at-index = c .before .before .before in
-    let at-size-of = at-index .before in
-    let at-if1 = at-size-of .before in
+    let at-size = at-index .before in
+    let at-if1 = at-size .before in
     let at-elements = at-if1 .before in
-    at-byte (taken (at-elements .elements .ensures) (at-if1 .if1 .left)) (indexed-by (at-size-of .size-of .ensures)
+    at-byte (taken (at-elements .elements .ensures) (at-if1 .if1 .left)) (indexed-by (at-size .size .ensures)
     (at-index .index .ensures) (c .before .before .if2 .left)) (c .before .if3 .taken) (c .byte-of .ensures)
 
 sub-word-of : tie.Need-sub-word-of
@@ -61,20 +64,20 @@ sub-word-of c = search needs
 
 word-of-requires : tie.Need-word-of-requires
 word-of-requires c κs =
-    let at-size-of = c .before .before .before in
-    let at-if1 = at-size-of .before in
+    let at-size = c .before .before .before in
+    let at-if1 = at-size .before in
     let at-elements = at-if1 .before in
     let at-start = at-elements .before .before .before in
-    word-inside (at-start .pre) (taken (at-elements .elements .ensures) (at-if1 .if1 .left)) (indexed-by (at-size-of .size-of .ensures)
+    word-inside (at-start .pre) (taken (at-elements .elements .ensures) (at-if1 .if1 .left)) (indexed-by (at-size .size .ensures)
     (c .before .before .index .ensures) (c .before .if2 .left)) (c .if3 .left)
 
 returns-4 : tie.Need-returns-4
 returns-4 c =
     let at-index = c .before .before .before in
-    let at-size-of = at-index .before in
-    let at-if1 = at-size-of .before in
+    let at-size = at-index .before in
+    let at-if1 = at-size .before in
     let at-elements = at-if1 .before in
-    at-word (taken (at-elements .elements .ensures) (at-if1 .if1 .left)) (indexed-by (at-size-of .size-of .ensures)
+    at-word (taken (at-elements .elements .ensures) (at-if1 .if1 .left)) (indexed-by (at-size .size .ensures)
     (at-index .index .ensures) (c .before .before .if2 .left)) (c .before .if3 .left) (c .word-of .ensures)
 
 pub at-spec : {M : Type 1} → statement M
@@ -83,14 +86,15 @@ at-spec =
     (tie.spec
     elements-requires
     returns
-    size-of-requires
+    size-requires
+    cast-size
     index-requires
     returns-2
     sub-byte-of
     byte-of-requires
-    cast-t15
-    mul-t16
-    add-t17
+    cast-t17
+    mul-t18
+    add-t19
     returns-3
     sub-word-of
     word-of-requires

@@ -14,8 +14,11 @@ same-length c = search needs
 returns : tie.Need-returns
 returns c = puts-none (c .before .before .before .before .before .pre) (put-none _ _ _ _ (not-taken _ _ (c .before .elements .ensures) (c .if1 .taken)))
 
-size-of-requires : tie.Need-size-of-requires
-size-of-requires c κs = receiver-listed (c .before .before .before .before .before .pre) ((taken (c .before .elements .ensures) (c .if1 .left)) .even)
+size-requires : tie.Need-size-requires
+size-requires c κs = receiver-listed (c .before .before .before .before .before .pre) ((taken (c .before .elements .ensures) (c .if1 .left)) .even)
+
+cast-size : tie.Need-cast-size
+cast-size c = search needs
 
 index-requires : tie.Need-index-requires
 index-requires c κs = search needs
@@ -29,7 +32,7 @@ returns-2 c =
     let at-start = at-elements .before .before .before .before in
     let args = at-start .args in
     puts-none (at-start .pre) (put-no-index (taken (at-elements .elements .ensures) (c .before .before .before .if1 .left)) _ _
-    (not-indexed (objectsAt (args .n) (args .b) (args .contents .now) (args .bodies .now)) (args .w) _ (c .before .before .size-of .ensures)
+    (not-indexed (objectsAt (args .n) (args .b) (args .contents .now) (args .bodies .now)) (args .w) _ (c .before .before .size .ensures)
     (c .before .index .ensures) (c .if2 .taken)))
 
 same-length-3 : tie.Need-same-length-3
@@ -38,12 +41,12 @@ same-length-3 c = search needs
 returns-3 : tie.Need-returns-3
 returns-3 c =
     let at-index = c .before .before .before in
-    let at-size-of = at-index .before in
-    let at-if1 = at-size-of .before in
+    let at-size = at-index .before in
+    let at-if1 = at-size .before in
     let at-elements = at-if1 .before in
     let at-start = at-elements .before .before .before .before in
     puts-none (at-start .pre) (put-even (taken (at-elements .elements .ensures) (at-if1 .if1 .left))
-    (indexed-by (at-size-of .size-of .ensures) (at-index .index .ensures) (c .before .before .if2 .left)) _ (c .before .if3 .taken) (c .if4 .taken))
+    (indexed-by (at-size .size .ensures) (at-index .index .ensures) (c .before .before .if2 .left)) _ (c .before .if3 .taken) (c .if4 .taken))
 
 same-length-4 : tie.Need-same-length-4
 same-length-4 c = search needs
@@ -52,12 +55,12 @@ returns-4 : tie.Need-returns-4
 returns-4 c =
     let at-if2 = c .before .before .before in
     let at-index = at-if2 .before in
-    let at-size-of = at-index .before in
-    let at-if1 = at-size-of .before in
+    let at-size = at-index .before in
+    let at-if1 = at-size .before in
     let at-elements = at-if1 .before in
     let at-start = at-elements .before .before .before .before in
     puts-none (at-start .pre) (put-large (taken (at-elements .elements .ensures) (at-if1 .if1 .left))
-    (indexed-by (at-size-of .size-of .ensures) (at-index .index .ensures) (at-if2 .if2 .left)) _ (c .before .before .if3 .taken) (c .before .if4 .left) (c .if5 .taken))
+    (indexed-by (at-size .size .ensures) (at-index .index .ensures) (at-if2 .if2 .left)) _ (c .before .before .if3 .taken) (c .before .if4 .left) (c .if5 .taken))
 
 sub-store-byte : tie.Need-sub-store-byte
 sub-store-byte c = search needs
@@ -70,11 +73,11 @@ store-byte-requires c κs =
     let at-if3 = c .before .before .before in
     let at-if2 = at-if3 .before in
     let at-index = at-if2 .before in
-    let at-size-of = at-index .before in
-    let at-if1 = at-size-of .before in
+    let at-size = at-index .before in
+    let at-if1 = at-size .before in
     let at-elements = at-if1 .before in
     let at-start = at-elements .before .before .before .before in
-    byte-inside (at-start .pre) (taken (at-elements .elements .ensures) (at-if1 .if1 .left)) (indexed-by (at-size-of .size-of .ensures)
+    byte-inside (at-start .pre) (taken (at-elements .elements .ensures) (at-if1 .if1 .left)) (indexed-by (at-size .size .ensures)
     (at-index .index .ensures) (at-if2 .if2 .left)) (at-if3 .if3 .taken)
 
 same-length-5 : tie.Need-same-length-5
@@ -87,11 +90,11 @@ returns-5 c =
     let at-if3 = at-if4 .before in
     let at-if2 = at-if3 .before in
     let at-index = at-if2 .before in
-    let at-size-of = at-index .before in
-    let at-if1 = at-size-of .before in
+    let at-size = at-index .before in
+    let at-if1 = at-size .before in
     let at-elements = at-if1 .before in
     puts-some (c .before .before .store-byte .ensures) (put-byte (taken (at-elements .elements .ensures) (at-if1 .if1 .left))
-    (indexed-by (at-size-of .size-of .ensures) (at-index .index .ensures) (at-if2 .if2 .left)) (at-if3 .if3 .taken) (at-if4 .if4 .left) (at-if5 .if5 .left))
+    (indexed-by (at-size .size .ensures) (at-index .index .ensures) (at-if2 .if2 .left)) (at-if3 .if3 .taken) (at-if4 .if4 .left) (at-if5 .if5 .left))
 
 sub-store-word : tie.Need-sub-store-word
 sub-store-word c = search needs
@@ -99,11 +102,11 @@ sub-store-word c = search needs
 store-word-requires : tie.Need-store-word-requires
 store-word-requires c κs =
     let at-index = c .before .before .before in
-    let at-size-of = at-index .before in
-    let at-if1 = at-size-of .before in
+    let at-size = at-index .before in
+    let at-if1 = at-size .before in
     let at-elements = at-if1 .before in
     let at-start = at-elements .before .before .before .before in
-    word-inside (at-start .pre) (taken (at-elements .elements .ensures) (at-if1 .if1 .left)) (indexed-by (at-size-of .size-of .ensures)
+    word-inside (at-start .pre) (taken (at-elements .elements .ensures) (at-if1 .if1 .left)) (indexed-by (at-size .size .ensures)
     (at-index .index .ensures) (c .before .before .if2 .left)) (c .before .if3 .left)
 
 same-length-6 : tie.Need-same-length-6
@@ -114,11 +117,11 @@ returns-6 c =
     let at-if3 = c .before .before .before .before in
     let at-if2 = at-if3 .before in
     let at-index = at-if2 .before in
-    let at-size-of = at-index .before in
-    let at-if1 = at-size-of .before in
+    let at-size = at-index .before in
+    let at-if1 = at-size .before in
     let at-elements = at-if1 .before in
     puts-some (c .before .before .store-word .ensures) (put-word (taken (at-elements .elements .ensures) (at-if1 .if1 .left))
-    (indexed-by (at-size-of .size-of .ensures) (at-index .index .ensures) (at-if2 .if2 .left)) (at-if3 .if3 .left))
+    (indexed-by (at-size .size .ensures) (at-index .index .ensures) (at-if2 .if2 .left)) (at-if3 .if3 .left))
 
 pub at-put-spec : {M : Type 1} → statement M
 at-put-spec =
@@ -127,7 +130,8 @@ at-put-spec =
     elements-requires
     same-length
     returns
-    size-of-requires
+    size-requires
+    cast-size
     index-requires
     same-length-2
     returns-2

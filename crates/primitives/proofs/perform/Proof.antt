@@ -27,7 +27,7 @@ returns : tie.Need-returns
 returns c =
     let at-start = c .before .before .before .before .before .before .before in
     does-computed _ (at-start .pre .0 .right .1) (c .computed .ensures)
-    (c .before .at .ensures ∙ is-60 (args .edition) _ _ _ _ _ _ (c .before .before .before .before .if1 .taken))
+    (c .before .at .ensures ∙ is-60 _ _ _ _ _ _ _ (c .before .before .before .before .if1 .taken))
 
 at-put-requires : tie.Need-at-put-requires
 at-put-requires c κs = search needs
@@ -46,7 +46,7 @@ returns-2 c =
     let at-if2 = c .before .before .before .before .before .before in
     let at-start = at-if2 .before .before .before .before in
     does-put _ _ _ (at-start .pre .0 .right .1) (c .computed2 .ensures)
-    (is-61 (args .edition) _ _ _ _ _ _ (at-if2 .if2 .taken)) (c .before .before .before .at-put .ensures)
+    (is-61 _ _ _ _ _ _ _ (at-if2 .if2 .taken)) (c .before .before .before .at-put .ensures)
 
 size-answer-requires : tie.Need-size-answer-requires
 size-answer-requires c κs = search needs
@@ -64,7 +64,7 @@ returns-3 : tie.Need-returns-3
 returns-3 c =
     let at-start = c .before .before .before .before .before .before .before .before .before in
     does-computed _ (at-start .pre .0 .right .1) (c .computed3 .ensures) (c .before .size-answer .ensures
-    ∙ is-62 (args .edition) _ _ _ _ _ _ (c .before .before .before .before .if3 .taken))
+    ∙ is-62 _ _ _ _ _ _ _ (c .before .before .before .before .if3 .taken))
 
 new-object-requires : tie.Need-new-object-requires
 new-object-requires c κs = search needs
@@ -79,7 +79,7 @@ returns-4 : tie.Need-returns-4
 returns-4 c =
     let at-new-object = c .before .before .before .before in
     let at-if4 = at-new-object .before .before .before in
-    does-same (is-70 (args .edition) _ _ _ _ _ _ (at-if4 .if4 .taken)) (at-new-object .new-object .ensures)
+    does-same (is-70 _ _ _ _ _ _ _ (at-if4 .if4 .taken)) (at-new-object .new-object .ensures)
 
 new-with-requires : tie.Need-new-with-requires
 new-with-requires c κs = search needs
@@ -94,7 +94,7 @@ returns-5 : tie.Need-returns-5
 returns-5 c =
     let at-new-with = c .before .before .before .before in
     let at-if5 = at-new-with .before .before .before in
-    does-same (is-71 (args .edition) _ _ _ _ _ _ (at-if5 .if5 .taken)) (at-new-with .new-with .ensures)
+    does-same (is-71 _ _ _ _ _ _ _ (at-if5 .if5 .taken)) (at-new-with .new-with .ensures)
 
 same-requires : tie.Need-same-requires
 same-requires c κs = search needs
@@ -108,7 +108,7 @@ returns-6 c =
     let args = at-start .args in
     does-computed (Word (c .before .same .result)) (at-start .pre .0 .right .1) (c .computed4 .ensures)
     (ap (λ (v : ℕ). answers v (objectsAt (args .n) (args .b) (args .contents .now) (args .bodies .now))) (c .before .same .ensures)
-    ∙ is-110 (args .edition) _ _ _ _ _ _ (c .before .before .if6 .taken))
+    ∙ is-110 _ _ _ _ _ _ _ (c .before .before .if6 .taken))
 
 class-of-requires : tie.Need-class-of-requires
 class-of-requires c κs =
@@ -128,7 +128,7 @@ returns-7 c =
     let args = at-start .args in
     does-computed (Word (c .before .class-of .result .0)) (at-start .pre .0 .right .1) (c .computed5 .ensures)
     (ap (λ (v : ℕ). answers v (objectsAt (args .n) (args .b) (args .contents .now) (args .bodies .now))) (c .before .class-of .ensures (args .b) (args .bodies .now))
-    ∙ is-111 (args .edition) _ _ _ _ _ _ (c .before .before .before .if7 .taken))
+    ∙ is-111 _ _ _ _ _ _ _ (c .before .before .before .if7 .taken))
 
 failed-requires : tie.Need-failed-requires
 failed-requires c κs = search needs
@@ -140,7 +140,7 @@ returns-8 c =
     let at-if1 = at-if2 .before in
     let at-start = at-if1 .before .before .before in
     does-none (at-start .pre .0 .right .1) (c .failed .ensures)
-    (is-none (args .edition) _ _ _ _ _ _ (at-start .pre .1) (at-if1 .if1 .left) (at-if2 .if2 .left) (at-if3 .if3 .left) (c .before .before .before .before .if4 .left)
+    (is-none _ _ _ _ _ _ _ (at-start .pre .1) (at-if1 .if1 .left) (at-if2 .if2 .left) (at-if3 .if3 .left) (c .before .before .before .before .if4 .left)
     (c .before .before .before .if5 .left) (c .before .before .if6 .left) (c .before .if7 .left))
 
 pub perform-spec : {M : Type 1} → statement M

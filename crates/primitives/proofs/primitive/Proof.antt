@@ -16,7 +16,7 @@ returns : tie.Need-returns
 returns c =
     let at-start = c .before .before .before .before .before in
     does-none (at-start .pre .0 .right .1) (c .failed .ensures)
-    (other-count (args .edition) _ _ _ _ _ _ _ (λ q. (c .before .if1 .taken) (q ∙ sym (c .before .before .primitive-count .ensures))))
+    (other-count _ _ _ _ _ _ _ _ (λ q. (c .before .if1 .taken) (q ∙ sym (c .before .before .primitive-count .ensures))))
 
 perform-requires : tie.Need-perform-requires
 perform-requires c κs = search needs
@@ -32,7 +32,7 @@ returns-2 c =
     let at-perform = c .before .before .before .before in
     let at-if1 = at-perform .before .before .before in
     let at-primitive-count = at-if1 .before in
-    does-same (own-count (args .edition) _ _ _ _ _ _ _ (at-if1 .if1 .left ∙ at-primitive-count .primitive-count .ensures)) (at-perform .perform .ensures)
+    does-same (own-count _ _ _ _ _ _ _ _ (at-if1 .if1 .left ∙ at-primitive-count .primitive-count .ensures)) (at-perform .perform .ensures)
 
 pub primitive-spec : {M : Type 1} → statement M
 primitive-spec =

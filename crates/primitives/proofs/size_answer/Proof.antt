@@ -11,32 +11,35 @@ elements-requires c κs = search needs
 returns : tie.Need-returns
 returns c = size-none _ _ (not-taken _ _ (c .before .elements .ensures) (c .if1 .taken))
 
-size-of-requires : tie.Need-size-of-requires
-size-of-requires c κs =
+size-requires : tie.Need-size-requires
+size-requires c κs =
     let at-start = c .before .before .before .before in
     receiver-listed (at-start .pre) ((taken (c .before .elements .ensures) (c .if1 .left)) .even)
+
+cast-size : tie.Need-cast-size
+cast-size c = search needs
 
 mul-t10 : tie.Need-mul-t10
 mul-t10 c =
     let at-elements = c .before .before in
-    let t = (taken (at-elements .elements .ensures) (c .before .if1 .left)) in let s = t .small in let e = c .size-of .ensures in omega arith
+    let t = (taken (at-elements .elements .ensures) (c .before .if1 .left)) in let s = t .small in let e = c .size .ensures in omega arith
 
 add-t11 : tie.Need-add-t11
 add-t11 c =
     let at-elements = c .before .before in
-    let t = (taken (at-elements .elements .ensures) (c .before .if1 .left)) in let s = t .small in let e = c .size-of .ensures in omega arith
+    let t = (taken (at-elements .elements .ensures) (c .before .if1 .left)) in let s = t .small in let e = c .size .ensures in omega arith
 
-cast-t12 : tie.Need-cast-t12
-cast-t12 c =
+cast-t9 : tie.Need-cast-t9
+cast-t9 c =
     let at-elements = c .before .before in
-    let t = (taken (at-elements .elements .ensures) (c .before .if1 .left)) in let s = t .small in let e = c .size-of .ensures in omega arith
+    let t = (taken (at-elements .elements .ensures) (c .before .if1 .left)) in let s = t .small in let e = c .size .ensures in omega arith
 
 returns-2 : tie.Need-returns-2
 returns-2 c =
     let at-elements = c .before .before in
-    size-some (taken (at-elements .elements .ensures) (c .before .if1 .left)) (c .size-of .ensures)
+    size-some (taken (at-elements .elements .ensures) (c .before .if1 .left)) (c .size .ensures)
 
 pub size-answer-spec : {M : Type 1} → statement M
 size-answer-spec =
     tie.close
-    (tie.spec elements-requires returns size-of-requires mul-t10 add-t11 cast-t12 returns-2)
+    (tie.spec elements-requires returns size-requires cast-size mul-t10 add-t11 cast-t9 returns-2)

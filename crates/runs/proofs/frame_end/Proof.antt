@@ -3,13 +3,13 @@ use mathlib.Core.Path.{ap, _∙_, sym}
 use Prim.Native.Nat.{ℕ, _+_}
 use Rattle.model.specs.Objects.{objectsAt}
 use Rattle.plain.proofs.RunningLaws.{top-bounds, is-method}
-use Rattle.objects.proofs.Methods.{frame-is, small-frame}
+use Rattle.readers.proofs.HeaderLaws.{frame-is, small-frame}
 use borrow.Author.Needs.{needs}
 use Rattle.runs.proofs.frame_end.Statement.{statement}
 use Rattle.runs.proofs.frame_end.Tie as tie
 use Rattle.runs.proofs.frame_end.Reads as reads
 use Rattle.runs.proofs.frame_end.Lts as lts
-use Rattle.objects.proofs.frame_words.Reads as frame-words-reads
+use Rattle.readers.proofs.frame_words.Reads as frame-words-reads
 use Rattle.objects.proofs.header.Reads as header-reads
 
 add-t10 : tie.Need-add-t10
@@ -37,7 +37,7 @@ returns : tie.Need-returns
 returns c =
     let at-start = c .before .before .before .before .before .before in
     let args = at-start .args in
-    let e = frame-is (objectsAt (args .n) (args .b) (args .contents .now) (args .bodies .now)) _ _ _ (c .before .header .ensures)
+    let e = frame-is (objectsAt (args .n) (args .b) (args .contents .now) (args .bodies .now)) _ (c .before .header .ensures)
     (c .frame-words .ensures) in let t = top-bounds (at-start .pre) in (ap (λ (k : ℕ). args .top .0 + (6 + k)) e, omega arith)
 
 pub frame-end-spec : {M : Type 1} → statement M

@@ -1,7 +1,7 @@
 -- `sends::acted` meets its contract.
 use mathlib.Core.Path.{ap, _∙_}
 use borrow.Author.Needs.{needs}
-use Rattle.objects.specs.Lent.{flagOf}
+use Rattle.readers.specs.Header.{flagOf}
 use Rattle.activation.proofs.Activations.{holds-method, below-flags}
 use Rattle.sends.proofs.acted.Statement.{statement}
 use Rattle.sends.proofs.acted.Tie as tie
