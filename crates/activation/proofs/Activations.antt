@@ -68,7 +68,7 @@ module _ {n b : ℕ} {contents bodies : List ℕ} {m receiver : ℕ} (a : Activa
   o = objectsAt n b contents bodies
 
   pub holds-method : Holds methodKind n b contents bodies m
-  holds-method = record { right = (_, a .right); kinds = a .method }
+  holds-method = record { right = a .right; kinds = a .method }
 
   pub entries-room : entryWords * n ≤ length contents
   entries-room = contents-room n b contents bodies (a .right .1)

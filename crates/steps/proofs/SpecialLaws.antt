@@ -86,7 +86,7 @@ module _ {n b top : ℕ} {contents bodies stack : List ℕ} {h : Here} {k : ℕ}
       subst Small (sym (a .at .decoded)) (small-at (codeWords o (frameMethod stack top)) (codeSize o (frameMethod stack top)) (framePosition stack top))
 
   pub selector-inside : Inside n b contents bodies 10 k
-  selector-inside = special-inside k (a .at .runs .edition, a .at .runs .right) special-small
+  selector-inside = special-inside k (a .at .runs .right) special-small
 
   rule-of : T (isSame k || (isClass k || sendFine o (specialSelector o k) (specialCount k)))
   unfolding allowed

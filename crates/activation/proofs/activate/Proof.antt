@@ -56,7 +56,7 @@ size-requires : tie.Need-size-requires
 size-requires c κs =
     let at-start = c .before .before .before .before .before .before .before .before .before .before .before .before .before in
     holds-entry (record {
-      right = (_, at-start .pre .right);
+      right = at-start .pre .right;
       kinds = true→T
           (sym (c .before .before .is-kind .ensures (at-start .args .b) (at-start .args .bodies .now)) ∙ not-false _ (c .before .if3 .left));
     })
@@ -94,7 +94,7 @@ word-of-requires c κs =
     let at-start = at-is-kind .before .before .before .before .before .before .before .before .before .before .before in
     field-inside _ (let z = c .before .before .before .size .ensures in let l = c .before .before .if4 .left in omega arith)
     (record {
-      right = (_, at-start .pre .right);
+      right = at-start .pre .right;
       kinds = true→T (sym (at-is-kind .is-kind .ensures (at-start .args .b) (at-start .args .bodies .now))
           ∙ not-false _ (at-if3 .if3 .left));
     })

@@ -46,7 +46,7 @@ header-requires : tie.Need-header-requires
 header-requires c κs =
     let at-start = c .before .before .before .before .before .before .before .before in
     let a = at-start .args in
-    record { right = (_, at-start .pre); kinds = true→T (sym (c .before .is-kind .ensures (a .b) (a .bodies .now)) ∙ not-false _ (c .if3 .left)) }
+    record { right = at-start .pre; kinds = true→T (sym (c .before .is-kind .ensures (a .b) (a .bodies .now)) ∙ not-false _ (c .if3 .left)) }
 
 frame-words-requires : tie.Need-frame-words-requires
 frame-words-requires c κs = search needs
