@@ -1,7 +1,9 @@
 -- `expand` examines the instruction at a position.
+use mathlib.Core.Path.{_≡_}
 use native.Mathlib.Omega.{arith}
 use borrow.Author.Tests.{le-leb, lt-leb}
 use borrow.Author.Needs.{needs}
+use Rattle.bytecode.specs.Table.{groupPart}
 use Rattle.flow.proofs.StepLaws.{step-no, step-none}
 use Rattle.flow.proofs.HereLaws.{expand-plain, expand-return, expand-unused}
 use Rattle.flow.proofs.expand.Statement.{statement}
@@ -22,9 +24,10 @@ same-length-2 c = search needs
 returns : tie.Need-returns
 returns c =
     let at-plain = c .before .before .before .before in
-    let at-if1 = at-plain .before .before .before in
-    let at-start = at-if1 .before .before .before .before .before in
-    let group = rw (at-if1 .before .entry-group .ensures) at (at-if1 .if1 .taken) in
+    let at-if2 = at-plain .before .before .before in
+    let at-group = at-if2 .before .before in
+    let at-start = at-group .before .before .before .before in
+    let group = rw (at-group .entry-group .ensures) at (at-if2 .if2 .taken) in
     expand-plain (omega arith) (at-start .pre .1) group (at-plain .plain .ensures)
 
 entry-need-requires : tie.Need-entry-need-requires
@@ -33,21 +36,21 @@ entry-need-requires c κs = search needs
 returns-2 : tie.Need-returns-2
 returns-2 c =
     let at-start = c .before .before .before .before .before .before .before .before in
-    let group = rw (c .before .before .before .before .entry-group .ensures) at (c .before .before .if2 .taken) in
+    let group : groupPart (at-start .args .e) ≡ 1 = omega (arith, c .before .before .before .before .entry-group .ensures, c .before .before .before .if1 .taken, c .before .before .if2 .left) in
     expand-return (omega arith) (at-start .pre .1) group
     (step-no (rw (c .before .entry-need .ensures) at (lt-leb _ _ (c .if3 .taken))))
 
 returns-3 : tie.Need-returns-3
 returns-3 c =
     let at-start = c .before .before .before .before .before .before .before .before in
-    let group = rw (c .before .before .before .before .entry-group .ensures) at (c .before .before .if2 .taken) in
+    let group : groupPart (at-start .args .e) ≡ 1 = omega (arith, c .before .before .before .before .entry-group .ensures, c .before .before .before .if1 .taken, c .before .before .if2 .left) in
     expand-return (omega arith) (at-start .pre .1) group
     (step-none (rw (c .before .entry-need .ensures) at (le-leb _ _ (c .if3 .left))))
 
 returns-4 : tie.Need-returns-4
 returns-4 c =
-    let group = rw (c .before .before .before .entry-group .ensures) at (c .if4 .taken) in
-    expand-unused (omega arith) (c .before .before .before .before .before .before .before .pre .1) group
+    let group = rw (c .before .before .entry-group .ensures) at (c .if4 .taken) in
+    expand-unused (omega arith) (c .before .before .before .before .before .before .pre .1) group
 
 far-requires : tie.Need-far-requires
 far-requires c κs = search needs
