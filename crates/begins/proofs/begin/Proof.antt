@@ -239,7 +239,7 @@ write-frame-requires c κs =
           (sym (at-argument-count .argument-count .ensures) ∙ at-if2 .if2 .left);
     }) _ _ _ _ _ (at-activate .activate .ensures) (at-argument .argument .ensures)
     (at-argument2 .argument2 .ensures) (at-enum-told3 .enum-told3 .given .1) in let k = frame-is (objectsAt (args .n) (args .b) (args .contents .now)
-    (args .bodies .now)) (at-found .found .given .0 .0 .0) _ _ (at-header .header .ensures) (c .before .before .before .frame-words .ensures) in let t =
+    (args .bodies .now)) (at-found .found .given .0 .0 .0) (at-header .header .ensures) (c .before .before .before .frame-words .ensures) in let t =
     c .before .before .if3 .left in let e = (c .before .temporary-count .ensures ∙ ap (λ (h : ℕ). h / 256 % 32) (at-header .header .ensures)) in let c =
     at-if2 .if2 .left in (omega arith, omega arith, omega arith, omega arith)
 

@@ -19,7 +19,7 @@ returns : tie.Need-returns
 returns c = sym (c .before .runs-on .ensures) ∙ not-true _ (c .if1 .taken)
 
 header-requires : tie.Need-header-requires
-header-requires c κs = record { right = (_, c .before .before .before .before .pre .guarded .right); kinds = c .before .before .before .before .pre .below }
+header-requires c κs = record { right = c .before .before .before .before .pre .guarded .right; kinds = c .before .before .before .before .pre .below }
 
 frame-words-requires : tie.Need-frame-words-requires
 frame-words-requires c κs = search needs
@@ -27,7 +27,7 @@ frame-words-requires c κs = search needs
 header-requires-2 : tie.Need-header-requires-2
 header-requires-2 c κs =
     let at-start = c .before .before .before .before .before .before in
-    record { right = (_, at-start .pre .guarded .right); kinds = at-start .pre .guarded .method }
+    record { right = at-start .pre .guarded .right; kinds = at-start .pre .guarded .method }
 
 add-base : tie.Need-add-base
 add-base c = search needs
