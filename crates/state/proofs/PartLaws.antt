@@ -23,14 +23,14 @@ use Rattle.store.specs.Answer.{numberOf, roomFor}
 use Rattle.store.specs.Judged.{Judged}
 use Rattle.store.proofs.Settled.{lent-by}
 use Rattle.checks.specs.Frame.{Noted}
-use Rattle.plain.specs.Registers.{finished, idle, lastPhase, hasFrames}
+use Rattle.plain.specs.Registers.{Registers, finished, idle, lastPhase, hasFrames}
 use Rattle.plain.specs.Cache.{cacheFine}
-use Rattle.plain.specs.Flat.{Flat, framesFrom}
+use Rattle.plain.specs.Flat.{Flat, flat, framesFrom}
 use Rattle.plain.specs.Check.{imageRules, framesFine, stateFine}
 use Rattle.plain.specs.Running.{roomAt}
 use Rattle.plain.proofs.StateLaws.{image-right, right-image}
 use Rattle.plain.proofs.CheckParts.{imagePart, phasePart, valuePart, framesPart, cachePart, state-parts}
-use Rattle.state.specs.Parts.{stateAt, registersFine, standingFine}
+use Rattle.state.specs.Parts.{registersFine, standingFine}
 
 -- ---- phase and value
 pub late-phase : (n phase value : ℕ) → 5 < phase → false ≡ registersFine n phase value
@@ -50,23 +50,26 @@ no-frames : (phase : ℕ) → (phase ≡ 0) ⊎ (phase ≡ 2) → hasFrames phas
 no-frames phase (inl e) = ap hasFrames e
 no-frames phase (inr e) = ap hasFrames e
 
-pub none-standing : (o : Objects) (stack : List ℕ) (phase top : ℕ) → (phase ≡ 0) ⊎ (phase ≡ 2) → eqb top 0 ≡ standingFine o stack phase top
+pub none-standing : (e : ℕ) (o : Objects) (stack : List ℕ) (phase top : ℕ) → (phase ≡ 0) ⊎ (phase ≡ 2) → eqb top 0 ≡ standingFine e o stack phase top
 unfolding standingFine
-none-standing o stack phase top e = sym (if-no _ _ (no-frames phase e))
+none-standing e o stack phase top p = sym (if-no _ _ (no-frames phase p))
 
-pub all-standing : (o : Objects) (stack : List ℕ) (phase top : ℕ) (r : Bool) → (phase ≡ 0 → ⊥) → (phase ≡ 2 → ⊥) → r ≡ framesFine o (length stack) true top (framesFrom (suc top) o stack top)
-    → r ≡ standingFine o stack phase top
+pub all-standing : (e : ℕ) (o : Objects) (stack : List ℕ) (phase top : ℕ) (r : Bool) → (phase ≡ 0 → ⊥) → (phase ≡ 2 → ⊥) → r ≡ framesFine e o (length stack) true top (framesFrom (suc top) o stack top)
+    → r ≡ standingFine e o stack phase top
 unfolding standingFine
-all-standing o stack phase top r a b q =
+all-standing e o stack phase top r a b q =
     q ∙ sym (if-yes _ _ (ap₂ (λ (x y : Bool). not (x || y)) (ne-eqb phase idle a) (ne-eqb phase finished b)))
 
 -- ---- the whole
-module _ (n b receiver selector phase top value : ℕ) (contents bodies stack cache : List ℕ) where
+module _ (r : Registers) (contents bodies stack cache : List ℕ) where
   abbrev s : Flat
-  s = stateAt n b receiver selector phase top value contents bodies stack cache
+  s = flat r contents bodies stack cache
 
   abbrev o : Objects
-  o = objectsAt n b contents bodies
+  o = objectsAt (r .n) (r .b) contents bodies
+
+  abbrev edition : ℕ
+  edition = r .edition
 
   parts : stateFine s ≡ (imagePart s && (phasePart s && (valuePart s && (framesPart s && cachePart s))))
   parts = state-parts s
@@ -79,7 +82,7 @@ module _ (n b receiver selector phase top value : ℕ) (contents bodies stack ca
   and-no true = refl
   and-no false = refl
 
-  pub registers-no : registersFine n phase value ≡ false → false ≡ stateFine s
+  pub registers-no : registersFine (r .n) (r .phase) (r .value) ≡ false → false ≡ stateFine s
   unfolding registersFine
   registers-no e = sym (parts ∙ regroup (imagePart s) (phasePart s) (valuePart s) (framesPart s && cachePart s) e)
     where
@@ -90,13 +93,13 @@ module _ (n b receiver selector phase top value : ℕ) (contents bodies stack ca
       regroup false b c d q = refl
 
   -- the image's part is rule 2 and the verdict on the objects
-  sizes-no : sizesFine 1 n b ≡ false → imagePart s ≡ false
+  edition-no : headerFine edition (r .n) (r .b) ≡ false → imagePart s ≡ false
   unfolding imageRules
-  sizes-no e = ap (λ (x : Bool). allOf (x ∷ rule4 1 o ∷ rule5 1 o ∷ rule6 1 o ∷ rule7 1 o ∷ rule8 o receiver selector [] ∷ [])) e
+  edition-no e = ap (λ (x : Bool). allOf (x ∷ rule4 edition o ∷ rule5 edition o ∷ rule6 edition o ∷ rule7 edition o ∷ rule8 o (r .startReceiver) (r .startSelector) [] ∷ [])) e
 
-  verdict-no : numberOf (objectsVerdict 1 o receiver selector) ≢ 0 → imagePart s ≡ false
+  verdict-no : numberOf (objectsVerdict edition o (r .startReceiver) (r .startSelector)) ≢ 0 → imagePart s ≡ false
   unfolding imageRules objectsVerdict numberOf
-  verdict-no h = go (sizesFine 1 n b) (rule4 1 o) (rule5 1 o) (rule6 1 o) (rule7 1 o) (rule8 o receiver selector []) h
+  verdict-no h = go (headerFine edition (r .n) (r .b)) (rule4 edition o) (rule5 edition o) (rule6 edition o) (rule7 edition o) (rule8 o (r .startReceiver) (r .startSelector) []) h
     where
       go : (z a b c d e : Bool) → numberOf (unless a 4 then (unless b 5 then (unless c 6 then (unless d 7 then unless e 8)))) ≢ 0 → allOf (z ∷ a ∷ b ∷ c ∷ d ∷ e ∷ []) ≡ false
       go false a b c d e h = refl
@@ -107,9 +110,9 @@ module _ (n b receiver selector phase top value : ℕ) (contents bodies stack ca
       go true true true true true false h = refl
       go true true true true true true h = absurd (h refl)
 
-  verdict-yes : sizesFine 1 n b ≡ true → numberOf (objectsVerdict 1 o receiver selector) ≡ 0 → imagePart s ≡ true
+  verdict-yes : headerFine edition (r .n) (r .b) ≡ true → numberOf (objectsVerdict edition o (r .startReceiver) (r .startSelector)) ≡ 0 → imagePart s ≡ true
   unfolding imageRules objectsVerdict numberOf
-  verdict-yes z h = go (sizesFine 1 n b) (rule4 1 o) (rule5 1 o) (rule6 1 o) (rule7 1 o) (rule8 o receiver selector []) z h
+  verdict-yes z h = go (headerFine edition (r .n) (r .b)) (rule4 edition o) (rule5 edition o) (rule6 edition o) (rule7 edition o) (rule8 o (r .startReceiver) (r .startSelector) []) z h
     where
       go : (z a b c d e : Bool) → z ≡ true → numberOf (unless a 4 then (unless b 5 then (unless c 6 then (unless d 7 then unless e 8)))) ≡ 0 → allOf (z ∷ a ∷ b ∷ c ∷ d ∷ e ∷ []) ≡ true
       go false a b c d e z h = z
@@ -120,36 +123,36 @@ module _ (n b receiver selector phase top value : ℕ) (contents bodies stack ca
       go true true true true true false z h = absurd (omega arith)
       go true true true true true true z h = refl
 
-  pub header-no : headerFine 1 n b ≡ false → false ≡ stateFine s
-  header-no e = image-no (sizes-no e)
+  pub header-no : headerFine edition (r .n) (r .b) ≡ false → false ≡ stateFine s
+  header-no e = image-no (edition-no e)
 
-  pub judged-no : (notes : List ℕ) (k : ℕ) → Judged o receiver selector notes k → (k ≡ 0 → ⊥) → false ≡ stateFine s
+  pub judged-no : (notes : List ℕ) (k : ℕ) → Judged edition o (r .startReceiver) (r .startSelector) notes k → (k ≡ 0 → ⊥) → false ≡ stateFine s
   judged-no notes k j h = image-no (verdict-no (λ e. h (j .answer ∙ e)))
 
-  module _ (two : headerFine 1 n b ≡ true) (three : T (buffersFine (roomAt contents bodies stack cache) n b)) where
-    pub lent : Lent n b contents bodies
+  module _ (two : headerFine edition (r .n) (r .b) ≡ true) (three : T (buffersFine (roomAt contents bodies stack cache) (r .n) (r .b))) where
+    pub lent : Lent edition (r .n) (r .b) contents bodies
     unfolding buffersFine
-    lent = lent-by 1 n b (length cache) contents bodies two (T→true (buffersFine (roomFor (length contents) (length bodies) (length cache)) n b) three)
+    lent = lent-by edition (r .n) (r .b) (length cache) contents bodies two (T→true (buffersFine (roomFor (length contents) (length bodies) (length cache)) (r .n) (r .b)) three)
 
     pub cache-long : length cache ≡ cacheWords
     unfolding buffersFine
-    cache-long = eqb→eq (length cache) cacheWords (and-right (leb b (length bodies)) (eqb (length cache) cacheWords)
-        (and-right (leb (entryWords * n) (length contents)) (leb b (length bodies) && eqb (length cache) cacheWords) three))
+    cache-long = eqb→eq (length cache) cacheWords (and-right (leb (r .b) (length bodies)) (eqb (length cache) cacheWords)
+        (and-right (leb (entryWords * r .n) (length contents)) (leb (r .b) (length bodies) && eqb (length cache) cacheWords) three))
 
-    pub notes-room : 2 * b ≤ 48000
+    pub notes-room : 2 * r .b ≤ 48000
     notes-room = let h = lent .most-words in omega arith
 
-    module _ (notes : List ℕ) (k : ℕ) (j : Judged o receiver selector notes k) (zero : k ≡ 0) where
+    module _ (notes : List ℕ) (k : ℕ) (j : Judged edition o (r .startReceiver) (r .startSelector) notes k) (zero : k ≡ 0) where
       yes : imagePart s ≡ true
       yes = verdict-yes two (sym (j .answer) ∙ zero)
 
-      pub rights : Right 1 o
-      rights = image-right 1 o receiver selector (length-take-le (entryWords * n) contents (lent .entries)) (length-take-le b bodies (lent .words)) (true→T yes) .0
+      pub rights : Right edition o
+      rights = image-right edition o (r .startReceiver) (r .startSelector) (length-take-le (entryWords * r .n) contents (lent .entries)) (length-take-le (r .b) bodies (lent .words)) (true→T yes) .0
 
-      pub all-noted : 48000 ≤ length notes → Noted n b contents bodies notes
+      pub all-noted : 48000 ≤ length notes → Noted edition (r .n) (r .b) contents bodies notes
       all-noted h = record { right = rights; noted = j .noted zero; room = let l = notes-room in omega arith }
 
-      module _ (regs : registersFine n phase value ≡ true) where
+      module _ (regs : registersFine (r .n) (r .phase) (r .value) ≡ true) where
         unpack : (a b c d : Bool) → a ≡ true → (b && c) ≡ true → (a && (b && (c && d))) ≡ d
         unpack true true true d p q = refl
         unpack true true false d p q = absurd (subst T (sym q) tt)
@@ -160,10 +163,10 @@ module _ (n b receiver selector phase top value : ℕ) (contents bodies stack ca
         unfolding registersFine
         left = parts ∙ unpack (imagePart s) (phasePart s) (valuePart s) (framesPart s && cachePart s) yes regs
 
-        pub standing-no : standingFine o stack phase top ≡ false → false ≡ stateFine s
+        pub standing-no : standingFine edition o stack (r .phase) (r .top) ≡ false → false ≡ stateFine s
         unfolding standingFine
-        standing-no e = sym (left ∙ ap (λ (x : Bool). x && cachePart s) e)
+        standing-no e = sym (left ∙ ap (λ (y : Bool). y && cachePart s) e)
 
-        pub cache-left : (r : Bool) → standingFine o stack phase top ≡ true → r ≡ cacheFine o cache → r ≡ stateFine s
+        pub cache-left : (x : Bool) → standingFine edition o stack (r .phase) (r .top) ≡ true → x ≡ cacheFine o cache → x ≡ stateFine s
         unfolding standingFine
-        cache-left r e q = q ∙ sym (left ∙ ap (λ (x : Bool). x && cachePart s) e)
+        cache-left x e q = q ∙ sym (left ∙ ap (λ (y : Bool). y && cachePart s) e)

@@ -12,13 +12,13 @@ returns : tie.Need-returns
 returns c =
     let at-start = c .before .before .before .before .before in
     let args = at-start .args in
-    none-standing (objectsAt (args .n) (args .b) (args .contents .now) (args .bodies .now)) (args .stack .now) (args .phase) (args .top) (inl (c .if1 .taken))
+    none-standing (args .edition) (objectsAt (args .n) (args .b) (args .contents .now) (args .bodies .now)) (args .stack .now) (args .phase) (args .top) (inl (c .if1 .taken))
 
 returns-2 : tie.Need-returns-2
 returns-2 c =
     let at-start = c .before .before .before .before .before .before in
     let args = at-start .args in
-    none-standing (objectsAt (args .n) (args .b) (args .contents .now) (args .bodies .now)) (args .stack .now) (args .phase) (args .top) (inr (c .if2 .taken))
+    none-standing (args .edition) (objectsAt (args .n) (args .b) (args .contents .now) (args .bodies .now)) (args .stack .now) (args .phase) (args .top) (inr (c .if2 .taken))
 
 frames-fine-requires : tie.Need-frames-fine-requires
 frames-fine-requires c κs = search needs
@@ -27,7 +27,7 @@ returns-3 : tie.Need-returns-3
 returns-3 c =
     let at-start = c .before .before .before .before .before .before .before in
     let args = at-start .args in
-    all-standing (objectsAt (args .n) (args .b) (args .contents .now) (args .bodies .now)) (args .stack .now) (args .phase) (args .top) _
+    all-standing (args .edition) (objectsAt (args .n) (args .b) (args .contents .now) (args .bodies .now)) (args .stack .now) (args .phase) (args .top) _
     (c .before .before .if1 .left) (c .before .if2 .left) (c .frames-fine .ensures)
 
 pub standing-fine-spec : {M : Type 1} → statement M
