@@ -86,7 +86,7 @@ module _ (r : Registers) (contents bodies stack cache : List ℕ) where
       saves-room q = save-room (registersOf r) contents bodies stack cache output long (was-right q)
 
       pub saves : x ≡ C.Right → (k : ℕ) (output′ : List ℕ) → k ≡ imageBytes (r .n) (r .b)
-          → output′ ≡ imageOf (record { edition = 1; n = r .n; b = r .b; receiver = r .receiver; selector = r .selector })
+          → output′ ≡ imageOf (record { edition = r .edition; n = r .n; b = r .b; receiver = r .receiver; selector = r .selector })
           (objectsAt (r .n) (r .b) contents bodies) ++ drop (imageBytes (r .n) (r .b)) output
           → saveGives (S.Wrote k) output′ ≡ flatSave (state r contents bodies stack cache) output
       unfolding saveGives

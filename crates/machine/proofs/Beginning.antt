@@ -25,7 +25,7 @@ use Rattle.plain.proofs.FlatLaws.{FlatRight, check-right}
 use Rattle.plain.proofs.BeginLaws.{BegunRight, BeginGoes, begins}
 use Rattle.plain.proofs.Worlds.{worlds}
 use Rattle.model.proofs.Lent.{front-same}
-use Rattle.begins.specs.Begins.{stateOver, Answers, Enters, Refuses, BeginIs, Begins}
+use Rattle.begins.specs.Begins.{Starts, stateOver, Answers, Enters, Refuses, BeginIs, Begins}
 use Rattle.begins.specs.declared.Beginning.{Beginning}
 use Rattle.machine.specs.declared.Registers.{Registers}
 use Rattle.machine.specs.declared.Checked.{Checked}
@@ -53,9 +53,9 @@ module _ (r : Registers) (contents bodies stack cache : List ℕ) (w selector : 
       right : FlatRight s
       right = check-right s (sym yes)
 
-      pub begins-right : Right 1 (objectsAt (r .n) (r .b) contents bodies)
+      pub begins-right : Starts (r .edition) (r .n) (r .b) contents bodies stack w selector arguments
       unfolding plainOf
-      begins-right = right .plain .image
+      begins-right = record { right = right .plain .image }
 
       begun-is : (y : P.Begun) → P.begin (roomOf s) (plainOf s) w selector arguments ≡ y → flatAfterBegin s y ≡ flatBegin s w selector arguments
       unfolding flatBegin
@@ -68,7 +68,7 @@ module _ (r : Registers) (contents bodies stack cache : List ℕ) (w selector : 
           busy : P.begin (roomOf s) (plainOf s) w selector arguments ≡ P.declined 12
           busy = unfold P.begin plainOf in if-yes _ _ (eq-eqb (r .phase) running p)
 
-      module _ (idle : (r .phase ≡ 1 → ⊥)) (contents′ bodies′ stack′ : List ℕ) (y : Beginning) (z : Begins (r .n) (r .b) contents bodies stack w selector arguments contents′ bodies′ stack′ y) where
+      module _ (idle : (r .phase ≡ 1 → ⊥)) (contents′ bodies′ stack′ : List ℕ) (y : Beginning) (z : Begins (r .edition) (r .n) (r .b) contents bodies stack w selector arguments contents′ bodies′ stack′ y) where
         -- the plain state is one over these objects
         own : (y′ : Beginning) → y ≡ y′ → BeginIs (P.begin (roomOf s) (plainOf s) w selector arguments) (plainOf s) contents bodies stack contents′ bodies′ stack′ y′
         unfolding plainOf

@@ -102,13 +102,13 @@ module _ (r : Registers) (contents bodies stack cache output : List ℕ) where
     save-refused k e = ap (afterSave s output) (e ∙ sym same)
 
     pub save-done : (k : ℕ) (output′ : List ℕ) → accepted ≡ check s → k ≡ imageBytes (r .n) (r .b)
-        → output′ ≡ imageOf (record { edition = 1; n = r .n; b = r .b; receiver = r .startReceiver; selector = r .startSelector })
+        → output′ ≡ imageOf (record { edition = r .edition; n = r .n; b = r .b; receiver = r .startReceiver; selector = r .startSelector })
         (objectsAt (r .n) (r .b) contents bodies) ++ drop (imageBytes (r .n) (r .b)) output
         → saved (wrote k) output′ ≡ flatSave s output
     unfolding flatSave savedImage
     save-done k output′ e q w =
         let f = check-right s (sym e) in
-        let h : Header = record { edition = 1; n = r .n; b = r .b; receiver = r .startReceiver; selector = r .startSelector } in
+        let h : Header = record { edition = r .edition; n = r .n; b = r .b; receiver = r .startReceiver; selector = r .startSelector } in
         let fit : Fitting h (objectsAt (r .n) (r .b) contents bodies) = record {
           objects = refl;
           words = refl;

@@ -30,11 +30,11 @@ use Rattle.machine.proofs.Calling.{emptied}
 
 -- parts of a reading
 abbrev hOf : Reading → Header
-hOf (Accepted n b receiver selector) = record { edition = 1; n = n; b = b; receiver = receiver; selector = selector }
+hOf (Accepted edition n b receiver selector) = record { edition = edition; n = n; b = b; receiver = receiver; selector = selector }
 hOf (Refused k) = record { edition = 0; n = k; b = 0; receiver = 0; selector = 0 }
 
 abbrev is-accepted : Reading → Type 0
-is-accepted (Accepted n b receiver selector) = Unit {0}
+is-accepted (Accepted edition n b receiver selector) = Unit {0}
 is-accepted (Refused k) = ⊥
 
 given-eq : {k k′ : Rattle.plain.specs.Calls.Answer} {r r′ : R.Registers} {c c′ b b′ s s′ x x′ : List ℕ} → k ≡ k′ → r ≡ r′ → c ≡ c′ → b ≡ b′ → s ≡ s′ → x ≡ x′
@@ -69,19 +69,19 @@ module _ (image contents bodies cache contents′ bodies′ : List ℕ) where
     unfolding flatLoad
     load-is v e = ap (afterLoad s image) (same-verdict ∙ e)
 
-    load-accepted : (n b receiver selector : ℕ) (cache′ : List ℕ) → Accepted n b receiver selector ≡ readingOf verdict h → stored 0 contents′ bodies′ ≡ storedBy verdict image contents bodies
+    load-accepted : (edition n b receiver selector : ℕ) (cache′ : List ℕ) → Accepted edition n b receiver selector ≡ readingOf verdict h → stored 0 contents′ bodies′ ≡ storedBy verdict image contents bodies
         → cache′ ≡ sets cache 0 (replicate (length cache) 0)
-        → loadGives (L.Accepted (record { n = n; b = b; receiver = receiver; selector = selector; phase = 0; top = 0; value = 0 })) contents′ bodies′ stack cache′ ≡ flatLoad s image
-    load-accepted n b receiver selector cache′ e q c = go verdict refl e q
+        → loadGives (L.Accepted (record { n = n; b = b; receiver = receiver; selector = selector; phase = 0; top = 0; value = 0; edition = edition })) contents′ bodies′ stack cache′ ≡ flatLoad s image
+    load-accepted edition n b receiver selector cache′ e q c = go verdict refl e q
       where
-        go : (v : Verdict) → verdict ≡ v → Accepted n b receiver selector ≡ readingOf v h → stored 0 contents′ bodies′ ≡ storedBy v image contents bodies
-            → loadGives (L.Accepted (record { n = n; b = b; receiver = receiver; selector = selector; phase = 0; top = 0; value = 0 })) contents′ bodies′ stack cache′ ≡ flatLoad s image
+        go : (v : Verdict) → verdict ≡ v → Accepted edition n b receiver selector ≡ readingOf v h → stored 0 contents′ bodies′ ≡ storedBy v image contents bodies
+            → loadGives (L.Accepted (record { n = n; b = b; receiver = receiver; selector = selector; phase = 0; top = 0; value = 0; edition = edition })) contents′ bodies′ stack cache′ ≡ flatLoad s image
         go (refused k) p e q = absurd (unfold readingOf in subst is-accepted e tt)
         go accepted p e q = unfold loadGives readingOf storedBy loaded in (
-            let x : hOf (Accepted n b receiver selector) ≡ hOf (Accepted (h .n) (h .b) (h .receiver) (h .selector)) = ap hOf e in
+            let x : hOf (Accepted edition n b receiver selector) ≡ hOf (Accepted (h .edition) (h .n) (h .b) (h .receiver) (h .selector)) = ap hOf e in
             let a = accepts (roomOf s) image (same-verdict ∙ p) in
             let f = objects-fit image (long (roomOf s) image a) in
-            given-eq refl (λ i. record { n = x i .n; b = x i .b; startReceiver = x i .receiver; startSelector = x i .selector; phase = 0; top = 0; value = 0 })
+            given-eq refl (λ i. record { n = x i .n; b = x i .b; startReceiver = x i .receiver; startSelector = x i .selector; phase = 0; top = 0; value = 0; edition = x i .edition })
             (ap (λ (z : Stored). z .contents) q ∙ ap (λ (k : ℕ). imageObjects image .contents ++ drop k contents) (sym (f .contents)))
             (ap (λ (z : Stored). z .bodies) q ∙ ap (λ (k : ℕ). imageObjects image .bodies ++ drop k bodies) (sym (f .bodies)))
             refl (c ∙ emptied cache (a .cache))
@@ -106,12 +106,12 @@ module _ (image contents bodies cache contents′ bodies′ : List ℕ) where
         go (refused j) p e q = unfold loadGives storedBy in ((λ i. gives (refusedBy k) (flat (z i) contents′ bodies′ stack cache)) ∙ by-number j (leb j 3) q ∙ sym (load-is (refused j) p))
 
     -- as the reading gives it
-    pub read-accepted : (r : Reading) (n b receiver selector : ℕ) (cache′ : List ℕ) → r ≡ Accepted n b receiver selector → r ≡ readingOf verdict h
+    pub read-accepted : (r : Reading) (edition n b receiver selector : ℕ) (cache′ : List ℕ) → r ≡ Accepted edition n b receiver selector → r ≡ readingOf verdict h
         → stored (readingNumber r) contents′ bodies′ ≡ storedBy verdict image contents bodies → cache′ ≡ sets cache 0 (replicate (length cache) 0)
-        → loadGives (L.Accepted (record { n = n; b = b; receiver = receiver; selector = selector; phase = 0; top = 0; value = 0 })) contents′ bodies′ stack cache′ ≡ flatLoad s image
+        → loadGives (L.Accepted (record { n = n; b = b; receiver = receiver; selector = selector; phase = 0; top = 0; value = 0; edition = edition })) contents′ bodies′ stack cache′ ≡ flatLoad s image
     unfolding readingNumber
-    read-accepted r n b receiver selector cache′ x e q c =
-        load-accepted n b receiver selector cache′ (sym x ∙ e) (ap (λ (y : Reading). stored (readingNumber y) contents′ bodies′) (sym x) ∙ q) c
+    read-accepted r edition n b receiver selector cache′ x e q c =
+        load-accepted edition n b receiver selector cache′ (sym x ∙ e) (ap (λ (y : Reading). stored (readingNumber y) contents′ bodies′) (sym x) ∙ q) c
 
     pub read-refused : (y : Reading) (k : ℕ) (r : Registers) → registersOf r ≡ R.noRegisters → y ≡ Refused k → y ≡ readingOf verdict h
         → stored (readingNumber y) contents′ bodies′ ≡ storedBy verdict image contents bodies

@@ -60,19 +60,19 @@ module _ (r : Registers) (contents bodies stack cache : List ℕ) (n : ℕ) (x :
 
     module _ (p : r .phase ≡ 1) where
       -- in phase 1 value is 0
-      start-is : s ≡ startOf (r .receiver) (r .selector) (r .n) (r .b) (r .top) contents bodies stack cache
+      start-is : s ≡ startOf (r .edition) (r .receiver) (r .selector) (r .n) (r .b) (r .top) contents bodies stack cache
       start-is =
           let v = value-none s (check-right s (sym yes)) p in
-          λ i. flat (record { n = r .n; b = r .b; startReceiver = r .receiver; startSelector = r .selector; phase = p i; top = r .top; value = v i }) contents bodies stack cache
+          λ i. flat (record { n = r .n; b = r .b; startReceiver = r .receiver; startSelector = r .selector; phase = p i; top = r .top; value = v i; edition = r .edition }) contents bodies stack cache
 
-      goes-checked : check (startOf (r .receiver) (r .selector) (r .n) (r .b) (r .top) contents bodies stack cache) ≡ accepted
+      goes-checked : check (startOf (r .edition) (r .receiver) (r .selector) (r .n) (r .b) (r .top) contents bodies stack cache) ≡ accepted
       goes-checked = sym (ap check start-is) ∙ sym yes
 
-      pub runs-goes : Goes (r .n) (r .b) (r .top) contents bodies stack cache
+      pub runs-goes : Goes (r .edition) (r .n) (r .b) (r .top) contents bodies stack cache
       runs-goes = record { receiver = r .receiver; selector = r .selector; checks = goes-checked }
 
-      module _ (contents′ bodies′ stack′ cache′ : List ℕ) (z : Ended) (on : RunsOn (r .n) (r .b) (r .top) contents bodies stack cache n contents′ bodies′ stack′ cache′ z) where
-        ran : RunsTo (startOf (r .receiver) (r .selector) (r .n) (r .b) (r .top) contents bodies stack cache) n (r .receiver) (r .selector) contents′ bodies′ stack′ cache′ z
+      module _ (contents′ bodies′ stack′ cache′ : List ℕ) (z : Ended) (on : RunsOn (r .edition) (r .n) (r .b) (r .top) contents bodies stack cache n contents′ bodies′ stack′ cache′ z) where
+        ran : RunsTo (startOf (r .edition) (r .receiver) (r .selector) (r .n) (r .b) (r .top) contents bodies stack cache) n (r .edition) (r .receiver) (r .selector) contents′ bodies′ stack′ cache′ z
         ran = on (r .receiver) (r .selector) goes-checked
 
         pub runs-small : z .reach ≤ 65536
@@ -82,7 +82,7 @@ module _ (r : Registers) (contents bodies stack cache : List ℕ) (n : ℕ) (x :
             → (runGives (N.Done r₂ (z .count) (z .reach)) contents′ bodies′ stack′ cache′ ≡ flatRun s n) × ReachIs s n (N.Done r₂ (z .count) (z .reach))
         unfolding runGives
         runs-done r₁ r₂ d f =
-            let e : registersOf r₂ ≡ endedWith (r .receiver) (r .selector) z = f ∙ ap (λ (x : R.Registers). withPhase x (z .phase) (z .top) (z .value)) d in (
+            let e : registersOf r₂ ≡ endedWith (r .edition) (r .receiver) (r .selector) z = f ∙ ap (λ (x : R.Registers). withPhase x (z .phase) (z .top) (z .value)) d in (
               (λ i. gives (result (e i .phase) (z .count) (e i .value)) (flat (e i) contents′ bodies′ stack′ cache′))
                   ∙ ran .gave ∙ ap (runsFrom n 0) (sym start-is) ∙ whole-run n s ∙ passes true (eq-eqb (r .phase) running p),
               reach-fine s n (z .reach) (sym yes) (ran .ends ∙ ap (endsFrom n 0) (sym start-is)),

@@ -6,8 +6,8 @@ use mathlib.Core.List.{List, [], _++_}
 use lib.Dec.{T}
 use lib.ListN.{length, take, drop}
 use lib.Seq.{length-take-le}
-use Rattle.bytecode.proofs.TestLaws.{T→true}
-use Rattle.model.specs.Limits.{entryWords}
+use Rattle.bytecode.proofs.TestLaws.{T→true, and-both}
+use Rattle.model.specs.Limits.{isEdition, entryWords}
 use Rattle.model.specs.Objects.{objectsAt}
 use Rattle.model.specs.Rules.{sizesFine, headerFine, rule4, rule5, rule6, rule7, rule8}
 use Rattle.model.specs.Image.{Header, Verdict, accepted, refused, unless, _then_, buffersFine, imageHeader, imageObjects, objectsIn, imageOf, objectsVerdict, loadVerdict}
@@ -67,7 +67,7 @@ module _ (t : Flat) (image : List ℕ) (e : loadVerdict (roomOf t) image ≡ acc
 
 module _ (s : Flat) (e : check s ≡ accepted) where
   abbrev h : Header
-  h = record { edition = 1; n = s .registers .n; b = s .registers .b; receiver = s .registers .startReceiver; selector = s .registers .startSelector }
+  h = record { edition = s .registers .edition; n = s .registers .n; b = s .registers .b; receiver = s .registers .startReceiver; selector = s .registers .startSelector }
 
   fits : Fitting h (flatObjects s)
   fits =
@@ -76,13 +76,15 @@ module _ (s : Flat) (e : check s ≡ accepted) where
 
   header-passes : headerFine (h .edition) (h .n) (h .b) ≡ true
   unfolding plainOf
-  header-passes = T→true (sizesFine 1 (h .n) (h .b)) (check-right s e .plain .image .sizes)
+  header-passes =
+      let i = check-right s e .plain .image in
+      T→true (headerFine (h .edition) (h .n) (h .b)) (and-both (isEdition (h .edition)) (sizesFine (h .edition) (h .n) (h .b)) (i .edition) (i .sizes))
 
   objects-pass : objectsVerdict (h .edition) (flatObjects s) (h .receiver) (h .selector) ≡ accepted
   unfolding objectsVerdict plainOf
   objects-pass =
       let r = check-right s e .plain in
-      five (rule4 1 (flatObjects s)) (rule5 1 (flatObjects s)) (rule6 1 (flatObjects s)) (rule7 1 (flatObjects s)) (rule8 (flatObjects s) (h .receiver) (h .selector) [])
+      five (rule4 (h .edition) (flatObjects s)) (rule5 (h .edition) (flatObjects s)) (rule6 (h .edition) (flatObjects s)) (rule7 (h .edition) (flatObjects s)) (rule8 (flatObjects s) (h .receiver) (h .selector) [])
       (r .image .rule-4) (r .image .rule-5) (r .image .rule-6) (r .image .rule-7) (r .starts)
     where
       five : (p q r s t : Bool) → T p → T q → T r → T s → T t → (unless p 4 then (unless q 5 then (unless r 6 then (unless s 7 then unless t 8)))) ≡ accepted
@@ -129,7 +131,7 @@ save-then-load s t output e long room = (
 
     registers′ : t′ .registers ≡ R.withPhase (s .registers) R.idle 0 0
     registers′ = unfold loaded in
-        ap (λ (x : Header). record { n = x .n; b = x .b; startReceiver = x .receiver; startSelector = x .selector; phase = R.idle; top = 0; value = 0 }) (back .header)
+        ap (λ (x : Header). record { n = x .n; b = x .b; startReceiver = x .receiver; startSelector = x .selector; phase = R.idle; top = 0; value = 0; edition = x .edition }) (back .header)
 
     objects′ : flatObjects t′ ≡ flatObjects s
     objects′ = after-objects t image (back .taken) ∙ back .objects
@@ -179,20 +181,10 @@ load-then-save t s image output bytes g long =
     room : savedBytes s₀ ≤ length output
     room = subst (λ (k : ℕ). k ≤ length output) (a .long) long
 
-    same-header : _≡_ {A = Header} (imageHeader image) (record {
-      edition = 1;
-      n = imageHeader image .n;
-      b = imageHeader image .b;
-      receiver = imageHeader
-          image .receiver;
-      selector = imageHeader image .selector;
-    })
-    same-header = λ i. record { edition = a .edition i; n = imageHeader image .n; b = imageHeader image .b; receiver = imageHeader image .receiver; selector = imageHeader image .selector }
-
     written : image ++ drop (length image) output ≡ imageOf (h s₀ (after-checks t image e)) (flatObjects s₀) ++ drop (savedBytes s₀) output
     written =
         ap₂ (λ (l : List ℕ) (k : ℕ). l ++ drop k output)
-        (sym (read-written (roomOf t) image bytes e) ∙ ap₂ imageOf same-header (sym (after-objects t image e))) (a .long)
+        (sym (read-written (roomOf t) image bytes e) ∙ ap (imageOf (imageHeader image)) (sym (after-objects t image e))) (a .long)
 
 -- ---- the answers of the functions
 
@@ -270,7 +262,7 @@ saved-loaded r contents bodies stack cache output a output′ contents₁ bodies
         x = loads-as l contents′ bodies′ stack₁ cache′ t′ (q R.noRegisters stack₁ ∙ ap (λ (y : List ℕ). flatLoad (t stack₁) (take (savedBytes s) y)) (writes stack₁ .1) ∙ b .loads)
 
         again : R.Registers → Registers
-        again y = record { n = y .n; b = y .b; receiver = y .startReceiver; selector = y .startSelector; phase = y .phase; top = y .top; value = y .value }
+        again y = record { n = y .n; b = y .b; receiver = y .startReceiver; selector = y .startSelector; phase = y .phase; top = y .top; value = y .value; edition = y .edition }
 
         same : x .0 ≡ idleAgain r
         same = ap (λ (y : Flat). again (y .registers)) (x .2) ∙ ap again (b .registers)

@@ -62,7 +62,7 @@ PromisedSave r contents bodies stack cache output a output′ = saveGives a outp
 
 -- The registers of a state that was saved, as load gives them
 abbrev pub idleAgain : Registers → Registers
-idleAgain r = record { n = r .n; b = r .b; receiver = r .receiver; selector = r .selector; phase = 0; top = 0; value = 0 }
+idleAgain r = record { n = r .n; b = r .b; receiver = r .receiver; selector = r .selector; phase = 0; top = 0; value = 0; edition = r .edition }
 
 -- Save answers with the length, load of so many bytes with the registers.
 pub record LoadedAgain (r : Registers) (contents bodies : List ℕ) (a : Saved) (l : Loaded) (contents′ bodies′ cache′ : List ℕ) : Type 0 where

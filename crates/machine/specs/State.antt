@@ -27,7 +27,7 @@ use Rattle.machine.specs.declared.Saved.the-variants as S
 
 abbrev pub registersOf : Registers → R.Registers
 registersOf r =
-    record { n = r .n; b = r .b; startReceiver = r .receiver; startSelector = r .selector; phase = r .phase; top = r .top; value = r .value }
+    record { n = r .n; b = r .b; startReceiver = r .receiver; startSelector = r .selector; phase = r .phase; top = r .top; value = r .value; edition = r .edition }
 
 -- The flat state that registers and lent words are
 abbrev pub state : Registers → List ℕ → List ℕ → List ℕ → List ℕ → Flat

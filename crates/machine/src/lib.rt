@@ -1,5 +1,8 @@
 // The calls. Each promise is an equation with the flat calls of plain's specs/FlatCalls.antt, through the definitions of specs/State.antt.
 ghost use mathlib.Core.Path.{_≡_};
+ghost use lib.Dec.{T};
+ghost use Rattle.model.specs.Image.{buffersFine};
+ghost use Rattle.plain.specs.Running.{roomAt};
 ghost use Rattle.plain.specs.Registers as R;
 ghost use Rattle.plain.specs.Check as K;
 ghost use Rattle.plain.specs.FlatCalls.{flatBegin, flatDrop, flatForget, flatSave};
@@ -8,7 +11,7 @@ use begins::Beginning;
 use image::Header;
 use store::Reading;
 
-// `receiver` and `selector` are the start words.
+// `receiver` and `selector` are the start words, `edition` is the image's.
 pub struct Registers {
     pub n: u16,
     pub b: u16,
@@ -17,6 +20,7 @@ pub struct Registers {
     pub phase: u16,
     pub top: u16,
     pub value: u16,
+    pub edition: u16,
 }
 
 // The answer of load. Refused, the registers are all zero.
@@ -31,6 +35,7 @@ pub fn load(image: &[u8], contents: &mut [u16], bodies: &mut [u16], cache: &mut 
 {
     match store::read(image, contents, bodies, cache.len()) {
         Reading::Accepted {
+            edition,
             n,
             b,
             receiver,
@@ -45,6 +50,7 @@ pub fn load(image: &[u8], contents: &mut [u16], bodies: &mut [u16], cache: &mut 
                 phase: 0,
                 top: 0,
                 value: 0,
+                edition: edition,
             })
         }
         Reading::Refused(k) => Loaded::Refused(k, Registers::none()),
@@ -87,6 +93,57 @@ pub enum Saved {
     Refused(u32),
 }
 
+// The image's rules, the registers, the frames and the cache of a state whose buffers are long enough.
+fn state_fine(
+    registers: Registers,
+    contents: &[u16],
+    bodies: &[u16],
+    stack: &[u16],
+    cache: &[u16],
+) -> bool
+    requires { ⌜ T (buffersFine (roomAt (now contents) (now bodies) (now stack) (now cache)) (registers .n) (registers .b)) ⌝ }
+    ensures { λ r. ⌜ r ≡ K.stateFine (state registers (now (contents .entry)) (now (bodies .entry)) (now (stack .entry)) (now (cache .entry))) ⌝ }
+{
+    let edition = registers.edition;
+    if !store::header_fine(edition, registers.n, registers.b) {
+        return false;
+    }
+    let n = registers.n as usize;
+    let b = registers.b as usize;
+    if !state::registers_fine(n, registers.phase, registers.value) {
+        return false;
+    }
+    let mut notes = [0u8; readers::MOST_BODY_BYTES];
+    if store::judge(
+        edition,
+        contents,
+        bodies,
+        n,
+        b,
+        registers.receiver,
+        registers.selector,
+        &mut notes,
+    )
+        != 0
+    {
+        return false;
+    }
+    if !state::standing_fine(
+        contents,
+        bodies,
+        stack,
+        &notes,
+        edition,
+        n,
+        b,
+        registers.phase,
+        registers.top,
+    ) {
+        return false;
+    }
+    cache::cache_fine(contents, bodies, cache, n, b)
+}
+
 // 3, then 11.
 pub fn check(
     registers: Registers,
@@ -106,19 +163,7 @@ pub fn check(
     ) {
         return Checked::Refused(3);
     }
-    if !state::state_fine(
-        contents,
-        bodies,
-        stack,
-        cache,
-        registers.n,
-        registers.b,
-        registers.receiver,
-        registers.selector,
-        registers.phase,
-        registers.top,
-        registers.value,
-    ) {
+    if !state_fine(registers, contents, bodies, stack, cache) {
         return Checked::Refused(11);
     }
     Checked::Right
@@ -163,7 +208,7 @@ pub fn save(
         Checked::Refused(k) => Saved::Refused(k),
         Checked::Right => {
             let header = Header {
-                edition: 1,
+                edition: registers.edition,
                 n: n,
                 b: b,
                 receiver: registers.receiver,
@@ -188,6 +233,7 @@ impl Registers {
             phase: 0,
             top: 0,
             value: 0,
+            edition: 0,
         }
     }
 
@@ -203,6 +249,7 @@ impl Registers {
             phase: phase,
             top: top,
             value: value,
+            edition: self.edition,
         }
     }
 
@@ -218,6 +265,7 @@ impl Registers {
             phase: self.phase,
             top: self.top,
             value: self.value,
+            edition: self.edition,
         }
     }
 
@@ -244,6 +292,7 @@ impl Registers {
                     contents,
                     bodies,
                     stack,
+                    self.edition,
                     self.n as usize,
                     self.b as usize,
                     receiver,
@@ -261,16 +310,16 @@ impl Registers {
         }
     }
 
-    // At most n bytecodes; 12 outside phase 1.
+    // At most `grant` bytecodes; 12 outside phase 1.
     pub fn run(
         self,
         contents: &mut [u16],
         bodies: &mut [u16],
         stack: &mut [u16],
         cache: &mut [u16],
-        n: u32,
+        grant: u32,
     ) -> Ran
-        ensures { λ r. ⌜ PromisedRun (state self (now (contents .entry)) (now (bodies .entry)) (now (stack .entry)) (now (cache .entry))) n r (now (contents .exit)) (now (bodies .exit)) (now (stack .exit)) (now (cache .exit)) ⌝ }
+        ensures { λ r. ⌜ PromisedRun (state self (now (contents .entry)) (now (bodies .entry)) (now (stack .entry)) (now (cache .entry))) grant r (now (contents .exit)) (now (bodies .exit)) (now (stack .exit)) (now (cache .exit)) ⌝ }
     {
         match check(self, contents, bodies, stack, cache) {
             Checked::Refused(k) => Ran::Refused(k, self),
@@ -283,10 +332,11 @@ impl Registers {
                     bodies,
                     stack,
                     cache,
+                    self.edition,
                     self.n as usize,
                     self.b as usize,
                     self.top as usize,
-                    n,
+                    grant,
                 );
                 let grown = self.with_sizes(ended.n, ended.b);
                 let registers = grown.with_phase(ended.phase, ended.top, ended.value);

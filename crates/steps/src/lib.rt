@@ -389,7 +389,14 @@ fn arithmetic_send(
             }
         }
         Computed::Failed => {
-            let s = readers::word_of(contents, bodies, n, b, Pointer(readers::SELECTORS), k as usize);
+            let s = readers::word_of(
+                contents,
+                bodies,
+                n,
+                b,
+                Pointer(readers::SELECTORS),
+                k as usize,
+            );
             sent(contents, bodies, stack, n, b, active, next, s, 1)
         }
     }
@@ -439,7 +446,14 @@ fn special_send(
             end: StackPosition(end),
         };
     }
-    let s = readers::word_of(contents, bodies, n, b, Pointer(readers::SELECTORS), k as usize);
+    let s = readers::word_of(
+        contents,
+        bodies,
+        n,
+        b,
+        Pointer(readers::SELECTORS),
+        k as usize,
+    );
     let count = special_count(k);
     sent(contents, bodies, stack, n, b, active, next, s, count)
 }

@@ -10,8 +10,8 @@ use Rattle.store.proofs.read.Reads as read-reads
 read-requires : tie.Need-read-requires
 read-requires c κs = search needs
 
-enum-known-n : tie.Need-enum-known-n
-enum-known-n c = search needs
+enum-known-edition : tie.Need-enum-known-edition
+enum-known-edition c = search needs
 
 fill-requires : tie.Need-fill-requires
 fill-requires c κs = search needs
@@ -33,12 +33,12 @@ same-length-3 c = search needs
 
 returns : tie.Need-returns
 returns c =
-    let at-n = c .before .before .before .before .before in
-    let at-read = at-n .before .before .before .before .before .before in
+    let at-edition = c .before .before .before .before .before in
+    let at-read = at-edition .before .before .before .before .before .before in
     let at-start = at-read .before .before .before .before .before .before .before in
     let a = at-start .args in
     let read = at-read .read .ensures in
-    λ g stack. read-accepted (a .image .now) (a .contents .now) (a .bodies .now) (a .cache .now) _ _ g stack _ _ _ _ _ _ (at-n .n .given .1) (read .0) (read .1) (c .before .before .fill .ensures)
+    λ g stack. read-accepted (a .image .now) (a .contents .now) (a .bodies .now) (a .cache .now) _ _ g stack _ _ _ _ _ _ _ (at-edition .edition .given .1) (read .0) (read .1) (c .before .before .fill .ensures)
 
 same-length-4 : tie.Need-same-length-4
 same-length-4 c = search needs
@@ -59,7 +59,7 @@ load-spec =
     tie.close
     (tie.spec
     read-requires
-    enum-known-n
+    enum-known-edition
     fill-requires
     enum-known-k
     none-requires

@@ -37,7 +37,7 @@ returns c =
     let at-start = at-check .before .before .before .before .before .before .before .before .before in
     let a = at-start .args in
     let check = at-check .check in
-    runs-12 (a .self) (a .contents .now) (a .bodies .now) (a .stack .now) (a .cache .now) (a .n) (check .result) (check .ensures) (c .before .before .enum-told .given .1) (c .if1 .taken)
+    runs-12 (a .self) (a .contents .now) (a .bodies .now) (a .stack .now) (a .cache .now) (a .grant) (check .result) (check .ensures) (c .before .before .enum-told .given .1) (c .if1 .taken)
 
 cast-run : tie.Need-cast-run
 cast-run c = search needs
@@ -56,7 +56,7 @@ run-requires c κs =
     let at-start = at-check .before .before .before .before .before .before .before .before .before in
     let a = at-start .args in
     let check = at-check .check in
-    runs-goes (a .self) (a .contents .now) (a .bodies .now) (a .stack .now) (a .cache .now) (a .n) (check .result) (check .ensures) (at-enum-told .enum-told .given .1) (at-if1 .if1 .left)
+    runs-goes (a .self) (a .contents .now) (a .bodies .now) (a .stack .now) (a .cache .now) (a .grant) (check .result) (check .ensures) (at-enum-told .enum-told .given .1) (at-if1 .if1 .left)
 
 with-sizes-requires : tie.Need-with-sizes-requires
 with-sizes-requires c κs = search needs
@@ -74,7 +74,7 @@ cast-t33 c =
     let a = at-start .args in
     let check = at-check .check in
     let run = at-run .run in
-    let k = runs-small (a .self) (a .contents .now) (a .bodies .now) (a .stack .now) (a .cache .now) (a .n) (check .result) (check .ensures)
+    let k = runs-small (a .self) (a .contents .now) (a .bodies .now) (a .stack .now) (a .cache .now) (a .grant) (check .result) (check .ensures)
     (at-enum-told .enum-told .given .1) (at-if1 .if1 .left) _ _ _ _ (run .result) (run .ensures) in
     omega arith
 
@@ -96,7 +96,7 @@ returns-2 c =
     let at-start = at-check .before .before .before .before .before .before .before .before .before in
     let a = at-start .args in
     let check = at-check .check in
-    runs-not (a .self) (a .contents .now) (a .bodies .now) (a .stack .now) (a .cache .now) (a .n) (check .result) (check .ensures) _ (c .before .k .given .1)
+    runs-not (a .self) (a .contents .now) (a .bodies .now) (a .stack .now) (a .cache .now) (a .grant) (check .result) (check .ensures) _ (c .before .k .given .1)
 
 same-length-9 : tie.Need-same-length-9
 same-length-9 c = search needs
@@ -120,7 +120,7 @@ returns-3 c =
     let a = at-start .args in
     let check = at-check .check in
     let run = at-run .run in
-    runs-done (a .self) (a .contents .now) (a .bodies .now) (a .stack .now) (a .cache .now) (a .n) (check .result) (check .ensures)
+    runs-done (a .self) (a .contents .now) (a .bodies .now) (a .stack .now) (a .cache .now) (a .grant) (check .result) (check .ensures)
     (at-enum-told .enum-told .given .1) (at-if1 .if1 .left) _ _ _ _ (run .result) (run .ensures) _ _ (c .before .before .with-sizes .ensures) (c .before .with-phase .ensures)
 
 pub run-spec : {M : Type 1} → statement M
