@@ -20,7 +20,7 @@ use Rattle.machine.specs.declared.Forgotten.{Forgotten}
 use Rattle.machine.specs.declared.Checked.{Checked}
 use Rattle.machine.specs.declared.Saved.{Saved}
 use Rattle.machine.specs.State.{registersOf, state, loadGives, beginGives, runGives, ReachIs, dropGives, forgetGives, checkGives, saveGives}
-use Rattle.sofaduck.specs.Border.{sevenWords, stateOf, answerOf, verdictOf, runAnswer, RunWrites, saveAnswer, SaveWrites}
+use Rattle.sofaduck.specs.Border.{seven, sevenWords, stateOf, Seen, sees, seen, answerOf, verdictOf, runAnswer, RunWrites, saveAnswer, SaveWrites}
 use Rattle.plain.specs.Registers as R
 use Rattle.machine.specs.declared.Loaded.the-variants as L
 use Rattle.machine.specs.declared.Begun.the-variants as B
@@ -30,13 +30,8 @@ use Rattle.machine.specs.declared.Forgotten.the-variants as F
 use Rattle.machine.specs.declared.Checked.the-variants as C
 use Rattle.machine.specs.declared.Saved.the-variants as S
 
--- registers written into seven words, and read from them
-pub put-seven : (r : Registers) → sevenWords (r .n ∷ r .b ∷ r .receiver ∷ r .selector ∷ r .phase ∷ r .top ∷ r .value ∷ []) ≡ registersOf r
-unfolding sevenWords
-put-seven r = refl
-
 pub take-seven : (l : List ℕ)
-    → registersOf (record { n = getD l 0 0; b = getD l 1 0; receiver = getD l 2 0; selector = getD l 3 0; phase = getD l 4 0; top = getD l 5 0; value = getD l 6 0 }) ≡ sevenWords l
+    → registersOf (record { n = getD l 0 0; b = getD l 1 0; receiver = getD l 2 0; selector = getD l 3 0; phase = getD l 4 0; top = getD l 5 0; value = getD l 6 0; edition = 1 }) ≡ sevenWords l
 unfolding sevenWords
 take-seven l = refl
 
@@ -45,25 +40,30 @@ numbered : (k : ℕ) (s : Flat) (g : Given) → gives (refusedBy k) s ≡ g → 
 numbered zero s g e n = absurd (let h : 1 ≤ 0 = subst NumberedIn (sym e) n in omega arith)
 numbered (suc k) s g e n = e
 
--- registers that were written, in a state
+-- registers that were given back in a state, as C sees them
+shown : {a : Answer} {words : List ℕ} (r : Registers) (contents bodies stack cache : List ℕ) {g : Given} → words ≡ seven (registersOf r) → gives a (state r contents bodies stack cache) ≡ g
+    → sees a words contents bodies stack cache ≡ seen g
+shown {a} r contents bodies stack cache p e = (λ i. sees a (p i) contents bodies stack cache) ∙ ap seen e
+
+-- registers that were read from words, in a state
 placed : {a : Answer} {q q′ : R.Registers} (contents bodies stack cache : List ℕ) → q ≡ q′ → gives a (flat q contents bodies stack cache) ≡ gives a (flat q′ contents bodies stack cache)
 placed {a} contents bodies stack cache e = λ i. gives a (flat (e i) contents bodies stack cache)
 
 -- ---- load
 module _ (image contents bodies cache contents′ bodies′ cache′ : List ℕ) (x : Loaded)
     (e : (g : R.Registers) (stack : List ℕ) → loadGives x contents′ bodies′ stack cache′ ≡ flatLoad (flat g contents bodies stack cache) image) (words′ : List ℕ) where
-  pub load-done : (r : Registers) → x ≡ L.Accepted r → sevenWords words′ ≡ registersOf r
-      → (g : R.Registers) (stack : List ℕ) → gives (answerOf 0) (stateOf words′ contents′ bodies′ stack cache′) ≡ flatLoad (flat g contents bodies stack cache) image
+  pub load-done : (r : Registers) → x ≡ L.Accepted r → words′ ≡ seven (registersOf r)
+      → (g : R.Registers) (stack : List ℕ) → sees (answerOf 0) words′ contents′ bodies′ stack cache′ ≡ seen (flatLoad (flat g contents bodies stack cache) image)
   unfolding loadGives
-  load-done r q p g stack = placed contents′ bodies′ stack cache′ p ∙ ap (λ (y : Loaded). loadGives y contents′ bodies′ stack cache′) (sym q) ∙ e g stack
+  load-done r q p g stack = shown r contents′ bodies′ stack cache′ p (ap (λ (y : Loaded). loadGives y contents′ bodies′ stack cache′) (sym q) ∙ e g stack)
 
-  pub load-refused : (k : ℕ) (r : Registers) → x ≡ L.Refused k r → sevenWords words′ ≡ registersOf r
-      → (g : R.Registers) (stack : List ℕ) → gives (answerOf k) (stateOf words′ contents′ bodies′ stack cache′) ≡ flatLoad (flat g contents bodies stack cache) image
+  pub load-refused : (k : ℕ) (r : Registers) → x ≡ L.Refused k r → words′ ≡ seven (registersOf r)
+      → (g : R.Registers) (stack : List ℕ) → sees (answerOf k) words′ contents′ bodies′ stack cache′ ≡ seen (flatLoad (flat g contents bodies stack cache) image)
   unfolding loadGives
   load-refused k r q p g stack =
-      numbered k (stateOf words′ contents′ bodies′ stack cache′) (flatLoad (flat g contents bodies stack cache) image)
-      (placed contents′ bodies′ stack cache′ p ∙ ap (λ (y : Loaded). loadGives y contents′ bodies′ stack cache′) (sym q) ∙ e g stack)
-      (load-number (flat g contents bodies stack cache) image)
+      shown r contents′ bodies′ stack cache′ p
+      (numbered k (state r contents′ bodies′ stack cache′) _ (ap (λ (y : Loaded). loadGives y contents′ bodies′ stack cache′) (sym q) ∙ e g stack)
+      (load-number (flat g contents bodies stack cache) image))
 
 -- ---- the other calls, from registers in seven words
 module _ (words contents bodies stack cache : List ℕ) (b : Registers) (t : registersOf b ≡ sevenWords words) where
@@ -74,30 +74,32 @@ module _ (words contents bodies stack cache : List ℕ) (b : Registers) (t : reg
     e′ : beginGives x contents′ bodies′ stack′ cache ≡ flatBegin (stateOf words contents bodies stack cache) w selector arguments
     e′ = e ∙ ap (λ (s : Flat). flatBegin s w selector arguments) same
 
-    pub begin-done : (r : Registers) → x ≡ B.Started r → sevenWords words′ ≡ registersOf r
-        → gives (answerOf 0) (stateOf words′ contents′ bodies′ stack′ cache) ≡ flatBegin (stateOf words contents bodies stack cache) w selector arguments
+    pub begin-done : (r : Registers) → x ≡ B.Started r → words′ ≡ seven (registersOf r)
+        → sees (answerOf 0) words′ contents′ bodies′ stack′ cache ≡ seen (flatBegin (stateOf words contents bodies stack cache) w selector arguments)
     unfolding beginGives
-    begin-done r q p = placed contents′ bodies′ stack′ cache p ∙ ap (λ (y : Begun). beginGives y contents′ bodies′ stack′ cache) (sym q) ∙ e′
+    begin-done r q p = shown r contents′ bodies′ stack′ cache p (ap (λ (y : Begun). beginGives y contents′ bodies′ stack′ cache) (sym q) ∙ e′)
 
-    pub begin-refused : (k : ℕ) (r : Registers) → x ≡ B.Refused k r → sevenWords words′ ≡ registersOf r
-        → gives (answerOf k) (stateOf words′ contents′ bodies′ stack′ cache) ≡ flatBegin (stateOf words contents bodies stack cache) w selector arguments
+    pub begin-refused : (k : ℕ) (r : Registers) → x ≡ B.Refused k r → words′ ≡ seven (registersOf r)
+        → sees (answerOf k) words′ contents′ bodies′ stack′ cache ≡ seen (flatBegin (stateOf words contents bodies stack cache) w selector arguments)
     unfolding beginGives
     begin-refused k r q p =
-        numbered k (stateOf words′ contents′ bodies′ stack′ cache) _ (placed contents′ bodies′ stack′ cache p ∙ ap (λ (y : Begun). beginGives y contents′ bodies′ stack′ cache) (sym q) ∙ e′)
-        (begin-number (stateOf words contents bodies stack cache) w selector arguments)
+        shown r contents′ bodies′ stack′ cache p
+        (numbered k (state r contents′ bodies′ stack′ cache) _ (ap (λ (y : Begun). beginGives y contents′ bodies′ stack′ cache) (sym q) ∙ e′)
+        (begin-number (stateOf words contents bodies stack cache) w selector arguments))
 
   module _ (words′ : List ℕ) (x : Dropped) (e : dropGives x contents bodies stack cache ≡ flatDrop (state b contents bodies stack cache)) where
-    pub drop-done : (r : Registers) → x ≡ D.Dropped r → sevenWords words′ ≡ registersOf r → gives (answerOf 0) (stateOf words′ contents bodies stack cache) ≡
-        flatDrop (stateOf words contents bodies stack cache)
+    pub drop-done : (r : Registers) → x ≡ D.Dropped r → words′ ≡ seven (registersOf r) → sees (answerOf 0) words′ contents bodies stack cache ≡
+        seen (flatDrop (stateOf words contents bodies stack cache))
     unfolding dropGives
-    drop-done r q p = placed contents bodies stack cache p ∙ ap (λ (y : Dropped). dropGives y contents bodies stack cache) (sym q) ∙ e ∙ ap flatDrop same
+    drop-done r q p = shown r contents bodies stack cache p (ap (λ (y : Dropped). dropGives y contents bodies stack cache) (sym q) ∙ e ∙ ap flatDrop same)
 
-    pub drop-refused : (k : ℕ) (r : Registers) → x ≡ D.Refused k r → sevenWords words′ ≡ registersOf r → gives (answerOf k)
-        (stateOf words′ contents bodies stack cache) ≡ flatDrop (stateOf words contents bodies stack cache)
+    pub drop-refused : (k : ℕ) (r : Registers) → x ≡ D.Refused k r → words′ ≡ seven (registersOf r) → sees (answerOf k) words′ contents bodies stack cache
+        ≡ seen (flatDrop (stateOf words contents bodies stack cache))
     unfolding dropGives
     drop-refused k r q p =
-        numbered k (stateOf words′ contents bodies stack cache) _ (placed contents bodies stack cache p
-        ∙ ap (λ (y : Dropped). dropGives y contents bodies stack cache) (sym q) ∙ e ∙ ap flatDrop same) (drop-number (stateOf words contents bodies stack cache))
+        shown r contents bodies stack cache p
+        (numbered k (state r contents bodies stack cache) _ (ap (λ (y : Dropped). dropGives y contents bodies stack cache) (sym q) ∙ e ∙ ap flatDrop same)
+        (drop-number (stateOf words contents bodies stack cache)))
 
   module _ (cache′ : List ℕ) (x : Forgotten) (e : forgetGives x b contents bodies stack cache′ ≡ flatForget (state b contents bodies stack cache)) where
     pub forget-done : x ≡ F.Emptied → gives (answerOf 0) (stateOf words contents bodies stack cache′) ≡ flatForget (stateOf words contents bodies stack cache)
@@ -142,23 +144,24 @@ module _ (words contents bodies stack cache : List ℕ) (b : Registers) (t : reg
     e₀ : runGives x contents′ bodies′ stack′ cache′ ≡ flatRun (stateOf words contents bodies stack cache) n
     e₀ = e .0 ∙ ap (λ (s : Flat). flatRun s n) same
 
-    pub run-done : (r : Registers) (made highest : ℕ) → x ≡ N.Done r made highest → sevenWords words′ ≡ registersOf r
-        → (gives (runAnswer 0 (sevenWords words′) made) (stateOf words′ contents′ bodies′ stack′ cache′) ≡ flatRun (stateOf words contents bodies stack cache)
-        n) × RunWrites 0 (stateOf words contents bodies stack cache) n count reach made highest
-    unfolding runGives
+    pub run-done : (r : Registers) (made highest : ℕ) → x ≡ N.Done r made highest → words′ ≡ seven (registersOf r)
+        → (sees (runAnswer 0 (sevenWords words′) made) words′ contents′ bodies′ stack′ cache′ ≡ seen (flatRun (stateOf words contents bodies stack cache) n))
+        × RunWrites 0 (stateOf words contents bodies stack cache) n count reach made highest
+    unfolding runGives sevenWords
     run-done r made highest q p = (
-      (λ i. gives (result (p i .phase) made (p i .value)) (flat (p i) contents′ bodies′ stack′ cache′)) ∙ ap (λ (y : Ran). runGives y contents′ bodies′ stack′ cache′) (sym q) ∙ e₀,
+      (λ i. sees (result (sevenWords (p i) .phase) made (sevenWords (p i) .value)) (p i) contents′ bodies′ stack′ cache′)
+          ∙ ap seen (ap (λ (y : Ran). runGives y contents′ bodies′ stack′ cache′) (sym q) ∙ e₀),
       subst (λ (s : Flat). ReachIs s n (N.Done r made highest)) same (subst (ReachIs (state b contents bodies stack cache) n) q (e .1)),
     )
 
-    pub run-refused : (k : ℕ) (r : Registers) → x ≡ N.Refused k r → sevenWords words′ ≡ registersOf r
-        → (gives (runAnswer k (sevenWords words′) count) (stateOf words′ contents′ bodies′ stack′ cache′) ≡ flatRun (stateOf words contents bodies stack cache)
-        n) × RunWrites k (stateOf words contents bodies stack cache) n count reach count reach
+    pub run-refused : (k : ℕ) (r : Registers) → x ≡ N.Refused k r → words′ ≡ seven (registersOf r)
+        → (sees (runAnswer k (sevenWords words′) count) words′ contents′ bodies′ stack′ cache′ ≡ seen (flatRun (stateOf words contents bodies stack cache) n))
+        × RunWrites k (stateOf words contents bodies stack cache) n count reach count reach
     unfolding runGives
-    run-refused k r q p = go k (placed contents′ bodies′ stack′ cache′ p ∙ ap (λ (y : Ran). runGives y contents′ bodies′ stack′ cache′) (sym q) ∙ e₀)
+    run-refused k r q p = go k (ap (λ (y : Ran). runGives y contents′ bodies′ stack′ cache′) (sym q) ∙ e₀)
       where
-        go : (k : ℕ) → gives (refusedBy k) (stateOf words′ contents′ bodies′ stack′ cache′) ≡ flatRun (stateOf words contents bodies stack cache) n
-            → (gives (runAnswer k (sevenWords words′) count) (stateOf words′ contents′ bodies′ stack′ cache′) ≡ flatRun
-            (stateOf words contents bodies stack cache) n) × RunWrites k (stateOf words contents bodies stack cache) n count reach count reach
+        go : (k : ℕ) → gives (refusedBy k) (state r contents′ bodies′ stack′ cache′) ≡ flatRun (stateOf words contents bodies stack cache) n
+            → (sees (runAnswer k (sevenWords words′) count) words′ contents′ bodies′ stack′ cache′ ≡ seen (flatRun (stateOf words contents bodies stack cache) n))
+            × RunWrites k (stateOf words contents bodies stack cache) n count reach count reach
         go zero g = absurd (let h : 1 ≤ 0 = subst NumberedIn (sym g) (run-number (stateOf words contents bodies stack cache) n) in omega arith)
-        go (suc k) g = (g, (refl, refl))
+        go (suc k) g = (shown r contents′ bodies′ stack′ cache′ p g, (refl, refl))

@@ -2,21 +2,33 @@
 use Prim.Native.Nat.{ℕ, zero, suc}
 use mathlib.Core.Path.{_≡_}
 use mathlib.Core.Bool.{true}
-use mathlib.Core.List.{List}
+use mathlib.Core.List.{List, [], _∷_}
 use lib.ListN.{getD}
 use Rattle.model.specs.Image.{Verdict, accepted, refused}
 use Rattle.plain.specs.Registers.{Registers}
 use Rattle.plain.specs.Flat.{Flat, flat}
 use Rattle.plain.specs.Calls.{Answer, done, refusedBy, result, wrote}
-use Rattle.plain.specs.FlatCalls.{Given, gives, Saved, saved, reachFine}
+use Rattle.plain.specs.FlatCalls.{Given, gives, noAnswer, reachFine}
 
--- N, B, start receiver, start selector, phase, top, value
+-- N, B, start receiver, start selector, phase, top, value. The edition is not among them while there is but one.
+abbrev pub seven : Registers → List ℕ
+seven r = r .n ∷ r .b ∷ r .startReceiver ∷ r .startSelector ∷ r .phase ∷ r .top ∷ r .value ∷ []
+
 unfoldable pub sevenWords : List ℕ → Registers
 sevenWords words =
-    record { n = getD words 0 0; b = getD words 1 0; startReceiver = getD words 2 0; startSelector = getD words 3 0; phase = getD words 4 0; top = getD words 5 0; value = getD words 6 0 }
+    record { n = getD words 0 0; b = getD words 1 0; startReceiver = getD words 2 0; startSelector = getD words 3 0; phase = getD words 4 0; top = getD words 5 0; value = getD words 6 0; edition = 1 }
 
 abbrev pub stateOf : List ℕ → List ℕ → List ℕ → List ℕ → List ℕ → Flat
 stateOf words contents bodies stack cache = flat (sevenWords words) contents bodies stack cache
+
+-- What C sees of a call: its answer, the seven words, the lent words
+pub data Seen : Type 0 where
+  sees : Answer → (words contents bodies stack cache : List ℕ) → Seen
+  unseen : Seen
+
+abbrev pub seen : Given → Seen
+seen (gives a s) = sees a (seven (s .registers)) (s .contents) (s .bodies) (s .stack) (s .cache)
+seen noAnswer = unseen
 
 -- 0, or the number of the refusal
 abbrev pub answerOf : ℕ → Answer

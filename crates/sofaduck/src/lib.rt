@@ -8,7 +8,7 @@ ghost use Rattle.plain.specs.Flat.{flat};
 ghost use Rattle.plain.specs.Check as K;
 ghost use Rattle.plain.specs.FlatCalls.{gives, saved, flatLoad, flatBegin, flatRun, flatDrop, flatForget, flatSave};
 ghost use Rattle.machine.specs.State.{registersOf};
-ghost use Rattle.sofaduck.specs.Border.{sevenWords, stateOf, answerOf, verdictOf, runAnswer, RunWrites, saveAnswer, SaveWrites};
+ghost use Rattle.sofaduck.specs.Border.{seven, sevenWords, stateOf, sees, seen, answerOf, verdictOf, runAnswer, RunWrites, saveAnswer, SaveWrites};
 use machine::Begun;
 use machine::Checked;
 use machine::Dropped;
@@ -18,13 +18,14 @@ use machine::Ran;
 use machine::Registers;
 use machine::Saved;
 
-fn put(registers: &mut [u16; 7], r: Registers)
-    ensures { λ _. ⌜ sevenWords (now (registers .exit)) ≡ registersOf r ⌝ }
+// C's seven registers, written and read. While there is one edition C does not hold it.
+fn write_registers(registers: &mut [u16; 7], r: Registers)
+    ensures { λ _. ⌜ now (registers .exit) ≡ seven (registersOf r) ⌝ }
 {
     *registers = [r.n, r.b, r.receiver, r.selector, r.phase, r.top, r.value];
 }
 
-fn taken(registers: &[u16; 7]) -> Registers
+fn read_registers(registers: &[u16; 7]) -> Registers
     ensures { λ r. ⌜ registersOf r ≡ sevenWords (now (registers .entry)) ⌝ }
 {
     Registers {
@@ -35,6 +36,7 @@ fn taken(registers: &[u16; 7]) -> Registers
         phase: registers[4],
         top: registers[5],
         value: registers[6],
+        edition: 1,
     }
 }
 
@@ -46,15 +48,15 @@ pub extern "C" fn sofaduck_load(
     cache: &mut [u16],
     registers: &mut [u16; 7],
 ) -> u32
-    ensures { λ r. ⌜ ((g : R.Registers) (stack : List ℕ) → gives (answerOf r) (stateOf (now (registers .exit)) (now (contents .exit)) (now (bodies .exit)) stack (now (cache .exit))) ≡ flatLoad (flat g (now (contents .entry)) (now (bodies .entry)) stack (now (cache .entry))) (now (image .entry))) ⌝ }
+    ensures { λ r. ⌜ ((g : R.Registers) (stack : List ℕ) → sees (answerOf r) (now (registers .exit)) (now (contents .exit)) (now (bodies .exit)) stack (now (cache .exit)) ≡ seen (flatLoad (flat g (now (contents .entry)) (now (bodies .entry)) stack (now (cache .entry))) (now (image .entry)))) ⌝ }
 {
     match machine::load(image, contents, bodies, cache) {
         Loaded::Accepted(r) => {
-            put(registers, r);
+            write_registers(registers, r);
             0
         }
         Loaded::Refused(k, r) => {
-            put(registers, r);
+            write_registers(registers, r);
             k
         }
     }
@@ -71,9 +73,9 @@ pub extern "C" fn sofaduck_begin(
     selector: u16,
     arguments: &[u16],
 ) -> u32
-    ensures { λ r. ⌜ gives (answerOf r) (stateOf (now (registers .exit)) (now (contents .exit)) (now (bodies .exit)) (now (stack .exit)) (now (cache .entry))) ≡ flatBegin (stateOf (now (registers .entry)) (now (contents .entry)) (now (bodies .entry)) (now (stack .entry)) (now (cache .entry))) receiver selector (now (arguments .entry)) ⌝ }
+    ensures { λ r. ⌜ sees (answerOf r) (now (registers .exit)) (now (contents .exit)) (now (bodies .exit)) (now (stack .exit)) (now (cache .entry)) ≡ seen (flatBegin (stateOf (now (registers .entry)) (now (contents .entry)) (now (bodies .entry)) (now (stack .entry)) (now (cache .entry))) receiver selector (now (arguments .entry))) ⌝ }
 {
-    let before = taken(registers);
+    let before = read_registers(registers);
     match before.begin(
         contents,
         bodies,
@@ -84,11 +86,11 @@ pub extern "C" fn sofaduck_begin(
         arguments,
     ) {
         Begun::Started(r) => {
-            put(registers, r);
+            write_registers(registers, r);
             0
         }
         Begun::Refused(k, r) => {
-            put(registers, r);
+            write_registers(registers, r);
             k
         }
     }
@@ -105,22 +107,22 @@ pub extern "C" fn sofaduck_run(
     count: &mut u32,
     reach: &mut u32,
 ) -> u32
-    ensures { λ r. ⌜ (gives (runAnswer r (sevenWords (now (registers .exit))) (now (count .exit))) (stateOf (now (registers .exit)) (now (contents .exit)) (now (bodies .exit)) (now (stack .exit)) (now (cache .exit))) ≡ flatRun (stateOf (now (registers .entry)) (now (contents .entry)) (now (bodies .entry)) (now (stack .entry)) (now (cache .entry))) n) × RunWrites r (stateOf (now (registers .entry)) (now (contents .entry)) (now (bodies .entry)) (now (stack .entry)) (now (cache .entry))) n (now (count .entry)) (now (reach .entry)) (now (count .exit)) (now (reach .exit)) ⌝ }
+    ensures { λ r. ⌜ (sees (runAnswer r (sevenWords (now (registers .exit))) (now (count .exit))) (now (registers .exit)) (now (contents .exit)) (now (bodies .exit)) (now (stack .exit)) (now (cache .exit)) ≡ seen (flatRun (stateOf (now (registers .entry)) (now (contents .entry)) (now (bodies .entry)) (now (stack .entry)) (now (cache .entry))) n)) × RunWrites r (stateOf (now (registers .entry)) (now (contents .entry)) (now (bodies .entry)) (now (stack .entry)) (now (cache .entry))) n (now (count .entry)) (now (reach .entry)) (now (count .exit)) (now (reach .exit)) ⌝ }
 {
-    let before = taken(registers);
+    let before = read_registers(registers);
     match before.run(contents, bodies, stack, cache, n) {
         Ran::Done {
             registers: r,
             count: made,
             reach: highest,
         } => {
-            put(registers, r);
+            write_registers(registers, r);
             *count = made;
             *reach = highest;
             0
         }
         Ran::Refused(k, r) => {
-            put(registers, r);
+            write_registers(registers, r);
             k
         }
     }
@@ -134,16 +136,16 @@ pub extern "C" fn sofaduck_drop(
     cache: &[u16],
     registers: &mut [u16; 7],
 ) -> u32
-    ensures { λ r. ⌜ gives (answerOf r) (stateOf (now (registers .exit)) (now (contents .entry)) (now (bodies .entry)) (now (stack .entry)) (now (cache .entry))) ≡ flatDrop (stateOf (now (registers .entry)) (now (contents .entry)) (now (bodies .entry)) (now (stack .entry)) (now (cache .entry))) ⌝ }
+    ensures { λ r. ⌜ sees (answerOf r) (now (registers .exit)) (now (contents .entry)) (now (bodies .entry)) (now (stack .entry)) (now (cache .entry)) ≡ seen (flatDrop (stateOf (now (registers .entry)) (now (contents .entry)) (now (bodies .entry)) (now (stack .entry)) (now (cache .entry)))) ⌝ }
 {
-    let before = taken(registers);
+    let before = read_registers(registers);
     match before.drop(contents, bodies, stack, cache) {
         Dropped::Dropped(r) => {
-            put(registers, r);
+            write_registers(registers, r);
             0
         }
         Dropped::Refused(k, r) => {
-            put(registers, r);
+            write_registers(registers, r);
             k
         }
     }
@@ -159,7 +161,7 @@ pub extern "C" fn sofaduck_forget(
 ) -> u32
     ensures { λ r. ⌜ gives (answerOf r) (stateOf (now (registers .entry)) (now (contents .entry)) (now (bodies .entry)) (now (stack .entry)) (now (cache .exit))) ≡ flatForget (stateOf (now (registers .entry)) (now (contents .entry)) (now (bodies .entry)) (now (stack .entry)) (now (cache .entry))) ⌝ }
 {
-    match machine::forget(taken(registers), contents, bodies, stack, cache) {
+    match machine::forget(read_registers(registers), contents, bodies, stack, cache) {
         Forgotten::Emptied => 0,
         Forgotten::Refused(k) => k,
     }
@@ -175,7 +177,7 @@ pub extern "C" fn sofaduck_check(
 ) -> u32
     ensures { λ r. ⌜ verdictOf r ≡ K.check (stateOf (now (registers .entry)) (now (contents .entry)) (now (bodies .entry)) (now (stack .entry)) (now (cache .entry))) ⌝ }
 {
-    match machine::check(taken(registers), contents, bodies, stack, cache) {
+    match machine::check(read_registers(registers), contents, bodies, stack, cache) {
         Checked::Right => 0,
         Checked::Refused(k) => k,
     }
@@ -193,7 +195,14 @@ pub extern "C" fn sofaduck_save(
 ) -> u32
     ensures { λ r. ⌜ (saved (saveAnswer r (now (length .exit))) (now (output .exit)) ≡ flatSave (stateOf (now (registers .entry)) (now (contents .entry)) (now (bodies .entry)) (now (stack .entry)) (now (cache .entry))) (now (output .entry))) × SaveWrites r (now (length .entry)) (now (length .exit)) ⌝ }
 {
-    match machine::save(taken(registers), contents, bodies, stack, cache, output) {
+    match machine::save(
+        read_registers(registers),
+        contents,
+        bodies,
+        stack,
+        cache,
+        output,
+    ) {
         Saved::Wrote(bytes) => {
             *length = bytes;
             0

@@ -5,10 +5,10 @@ use Rattle.sofaduck.proofs.sofaduck_check.Tie as tie
 use Rattle.sofaduck.proofs.sofaduck_check.Reads as reads
 use Rattle.sofaduck.proofs.sofaduck_check.Lts as lts
 use Rattle.machine.proofs.check.Reads as check-reads
-use Rattle.sofaduck.proofs.taken.Reads as taken-reads
+use Rattle.sofaduck.proofs.read_registers.Reads as read-registers-reads
 
-taken-requires : tie.Need-taken-requires
-taken-requires c κs = search needs
+read-registers-requires : tie.Need-read-registers-requires
+read-registers-requires c κs = search needs
 
 check-requires : tie.Need-check-requires
 check-requires c κs = search needs
@@ -22,21 +22,21 @@ enum-known-k c = search needs
 returns : tie.Need-returns
 returns c =
     let at-check = c .before .before in
-    let at-taken = at-check .before in
-    let at-start = at-taken .before .before .before .before .before in
+    let at-read-registers = at-check .before in
+    let at-start = at-read-registers .before .before .before .before .before in
     let args = at-start .args in
-    check-done (args .registers .now) (args .contents .now) (args .bodies .now) (args .stack .now) (args .cache .now) (at-taken .taken .result)
-    (at-taken .taken .ensures) (at-check .check .result) (at-check .check .ensures) (c .enum-told .given .1)
+    check-done (args .registers .now) (args .contents .now) (args .bodies .now) (args .stack .now) (args .cache .now) (at-read-registers .read-registers .result)
+    (at-read-registers .read-registers .ensures) (at-check .check .result) (at-check .check .ensures) (c .enum-told .given .1)
 
 returns-2 : tie.Need-returns-2
 returns-2 c =
     let at-check = c .before .before .before in
-    let at-taken = at-check .before in
-    let at-start = at-taken .before .before .before .before .before in
+    let at-read-registers = at-check .before in
+    let at-start = at-read-registers .before .before .before .before .before in
     let args = at-start .args in
-    check-refused (args .registers .now) (args .contents .now) (args .bodies .now) (args .stack .now) (args .cache .now) (at-taken .taken .result)
-    (at-taken .taken .ensures) (at-check .check .result) (at-check .check .ensures) _ (c .before .k .given .1)
+    check-refused (args .registers .now) (args .contents .now) (args .bodies .now) (args .stack .now) (args .cache .now) (at-read-registers .read-registers .result)
+    (at-read-registers .read-registers .ensures) (at-check .check .result) (at-check .check .ensures) _ (c .before .k .given .1)
 
 pub sofaduck-check-spec : {M : Type 1} → statement M
 sofaduck-check-spec =
-    tie.close (tie.spec taken-requires check-requires enum-told enum-known-k returns returns-2)
+    tie.close (tie.spec read-registers-requires check-requires enum-told enum-known-k returns returns-2)

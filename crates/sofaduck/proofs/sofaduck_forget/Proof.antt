@@ -5,10 +5,10 @@ use Rattle.sofaduck.proofs.sofaduck_forget.Tie as tie
 use Rattle.sofaduck.proofs.sofaduck_forget.Reads as reads
 use Rattle.sofaduck.proofs.sofaduck_forget.Lts as lts
 use Rattle.machine.proofs.forget.Reads as forget-reads
-use Rattle.sofaduck.proofs.taken.Reads as taken-reads
+use Rattle.sofaduck.proofs.read_registers.Reads as read-registers-reads
 
-taken-requires : tie.Need-taken-requires
-taken-requires c κs = search needs
+read-registers-requires : tie.Need-read-registers-requires
+read-registers-requires c κs = search needs
 
 forget-requires : tie.Need-forget-requires
 forget-requires c κs = search needs
@@ -25,11 +25,11 @@ same-length c = search needs
 returns : tie.Need-returns
 returns c =
     let at-forget = c .before .before .before .before in
-    let at-taken = at-forget .before .before in
-    let at-start = at-taken .before .before .before .before .before in
+    let at-read-registers = at-forget .before .before in
+    let at-start = at-read-registers .before .before .before .before .before in
     let args = at-start .args in
-    forget-done (args .registers .now) (args .contents .now) (args .bodies .now) (args .stack .now) (args .cache .now) (at-taken .taken .result)
-    (at-taken .taken .ensures) _ (at-forget .forget .result) (at-forget .forget .ensures) (c .enum-told .given .1)
+    forget-done (args .registers .now) (args .contents .now) (args .bodies .now) (args .stack .now) (args .cache .now) (at-read-registers .read-registers .result)
+    (at-read-registers .read-registers .ensures) _ (at-forget .forget .result) (at-forget .forget .ensures) (c .enum-told .given .1)
 
 same-length-2 : tie.Need-same-length-2
 same-length-2 c = search needs
@@ -37,17 +37,17 @@ same-length-2 c = search needs
 returns-2 : tie.Need-returns-2
 returns-2 c =
     let at-forget = c .before .before .before .before .before in
-    let at-taken = at-forget .before .before in
-    let at-start = at-taken .before .before .before .before .before in
+    let at-read-registers = at-forget .before .before in
+    let at-start = at-read-registers .before .before .before .before .before in
     let args = at-start .args in
-    forget-refused (args .registers .now) (args .contents .now) (args .bodies .now) (args .stack .now) (args .cache .now) (at-taken .taken .result)
-    (at-taken .taken .ensures) _ (at-forget .forget .result) (at-forget .forget .ensures) _ (c .before .k .given .1)
+    forget-refused (args .registers .now) (args .contents .now) (args .bodies .now) (args .stack .now) (args .cache .now) (at-read-registers .read-registers .result)
+    (at-read-registers .read-registers .ensures) _ (at-forget .forget .result) (at-forget .forget .ensures) _ (c .before .k .given .1)
 
 pub sofaduck-forget-spec : {M : Type 1} → statement M
 sofaduck-forget-spec =
     tie.close
     (tie.spec
-    taken-requires
+    read-registers-requires
     forget-requires
     enum-told
     enum-known-k

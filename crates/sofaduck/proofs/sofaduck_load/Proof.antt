@@ -5,7 +5,7 @@ use Rattle.sofaduck.proofs.sofaduck_load.Tie as tie
 use Rattle.sofaduck.proofs.sofaduck_load.Reads as reads
 use Rattle.sofaduck.proofs.sofaduck_load.Lts as lts
 use Rattle.machine.proofs.load.Reads as load-reads
-use Rattle.sofaduck.proofs.put.Reads as put-reads
+use Rattle.sofaduck.proofs.write_registers.Reads as write-registers-reads
 
 load-requires : tie.Need-load-requires
 load-requires c κs = search needs
@@ -13,14 +13,14 @@ load-requires c κs = search needs
 enum-known-r : tie.Need-enum-known-r
 enum-known-r c = search needs
 
-put-requires : tie.Need-put-requires
-put-requires c κs = search needs
+write-registers-requires : tie.Need-write-registers-requires
+write-registers-requires c κs = search needs
 
 enum-known-k : tie.Need-enum-known-k
 enum-known-k c = search needs
 
-put-requires-2 : tie.Need-put-requires-2
-put-requires-2 c κs = search needs
+write-registers-requires-2 : tie.Need-write-registers-requires-2
+write-registers-requires-2 c κs = search needs
 
 same-length : tie.Need-same-length
 same-length c = search needs
@@ -38,7 +38,7 @@ returns c =
     let at-start = at-load .before .before .before .before .before .before .before .before in
     let a = at-start .args in
     let load = at-load .load in
-    load-done (a .image .now) (a .contents .now) (a .bodies .now) (a .cache .now) _ _ _ (load .result) (load .ensures) _ _ (at-r .r .given .1) (c .put .ensures)
+    load-done (a .image .now) (a .contents .now) (a .bodies .now) (a .cache .now) _ _ _ (load .result) (load .ensures) _ _ (at-r .r .given .1) (c .write-registers .ensures)
 
 same-length-4 : tie.Need-same-length-4
 same-length-4 c = search needs
@@ -56,7 +56,7 @@ returns-2 c =
     let at-start = at-load .before .before .before .before .before .before .before .before in
     let a = at-start .args in
     let load = at-load .load in
-    load-refused (a .image .now) (a .contents .now) (a .bodies .now) (a .cache .now) _ _ _ (load .result) (load .ensures) _ _ _ (at-k .k .given .1) (c .put2 .ensures)
+    load-refused (a .image .now) (a .contents .now) (a .bodies .now) (a .cache .now) _ _ _ (load .result) (load .ensures) _ _ _ (at-k .k .given .1) (c .write-registers2 .ensures)
 
 pub sofaduck-load-spec : {M : Type 1} → statement M
 sofaduck-load-spec =
@@ -64,9 +64,9 @@ sofaduck-load-spec =
     (tie.spec
     load-requires
     enum-known-r
-    put-requires
+    write-registers-requires
     enum-known-k
-    put-requires-2
+    write-registers-requires-2
     same-length
     same-length-2
     same-length-3

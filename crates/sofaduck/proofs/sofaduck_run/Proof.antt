@@ -5,11 +5,11 @@ use Rattle.sofaduck.proofs.sofaduck_run.Tie as tie
 use Rattle.sofaduck.proofs.sofaduck_run.Reads as reads
 use Rattle.sofaduck.proofs.sofaduck_run.Lts as lts
 use Rattle.machine.proofs.Registers.run.Reads as run-reads
-use Rattle.sofaduck.proofs.put.Reads as put-reads
-use Rattle.sofaduck.proofs.taken.Reads as taken-reads
+use Rattle.sofaduck.proofs.write_registers.Reads as write-registers-reads
+use Rattle.sofaduck.proofs.read_registers.Reads as read-registers-reads
 
-taken-requires : tie.Need-taken-requires
-taken-requires c κs = search needs
+read-registers-requires : tie.Need-read-registers-requires
+read-registers-requires c κs = search needs
 
 run-requires : tie.Need-run-requires
 run-requires c κs = search needs
@@ -17,14 +17,14 @@ run-requires c κs = search needs
 enum-known-r : tie.Need-enum-known-r
 enum-known-r c = search needs
 
-put-requires : tie.Need-put-requires
-put-requires c κs = search needs
+write-registers-requires : tie.Need-write-registers-requires
+write-registers-requires c κs = search needs
 
 enum-known-k : tie.Need-enum-known-k
 enum-known-k c = search needs
 
-put-requires-2 : tie.Need-put-requires-2
-put-requires-2 c κs = search needs
+write-registers-requires-2 : tie.Need-write-registers-requires-2
+write-registers-requires-2 c κs = search needs
 
 same-length : tie.Need-same-length
 same-length c = search needs
@@ -41,12 +41,12 @@ same-length-4 c = search needs
 returns : tie.Need-returns
 returns c =
     let at-run = c .before .before .before .before .before .before .before .before .before .before .before .before .before in
-    let at-taken = at-run .before .before .before .before .before in
-    let at-start = at-taken .before .before .before .before .before .before in
+    let at-read-registers = at-run .before .before .before .before .before in
+    let at-start = at-read-registers .before .before .before .before .before .before in
     let args = at-start .args in
-    run-done (args .registers .now) (args .contents .now) (args .bodies .now) (args .stack .now) (args .cache .now) (at-taken .taken .result)
-    (at-taken .taken .ensures) (args .n) _ _ _ _ _ (at-run .run .result) (at-run .run .ensures) (args .count .now) (args .reach .now) _ _ _
-    (c .before .before .before .r .given .1) (c .put .ensures)
+    run-done (args .registers .now) (args .contents .now) (args .bodies .now) (args .stack .now) (args .cache .now) (at-read-registers .read-registers .result)
+    (at-read-registers .read-registers .ensures) (args .n) _ _ _ _ _ (at-run .run .result) (at-run .run .ensures) (args .count .now) (args .reach .now) _ _ _
+    (c .before .before .before .r .given .1) (c .write-registers .ensures)
 
 same-length-5 : tie.Need-same-length-5
 same-length-5 c = search needs
@@ -63,23 +63,23 @@ same-length-8 c = search needs
 returns-2 : tie.Need-returns-2
 returns-2 c =
     let at-run = c .before .before .before .before .before .before .before .before .before .before .before .before .before in
-    let at-taken = at-run .before .before .before .before .before in
-    let at-start = at-taken .before .before .before .before .before .before in
+    let at-read-registers = at-run .before .before .before .before .before in
+    let at-start = at-read-registers .before .before .before .before .before .before in
     let args = at-start .args in
-    run-refused (args .registers .now) (args .contents .now) (args .bodies .now) (args .stack .now) (args .cache .now) (at-taken .taken .result)
-    (at-taken .taken .ensures) (args .n) _ _ _ _ _ (at-run .run .result) (at-run .run .ensures) (args .count .now) (args .reach .now) _ _
-    (c .before .before .before .k .given .1) (c .put2 .ensures)
+    run-refused (args .registers .now) (args .contents .now) (args .bodies .now) (args .stack .now) (args .cache .now) (at-read-registers .read-registers .result)
+    (at-read-registers .read-registers .ensures) (args .n) _ _ _ _ _ (at-run .run .result) (at-run .run .ensures) (args .count .now) (args .reach .now) _ _
+    (c .before .before .before .k .given .1) (c .write-registers2 .ensures)
 
 pub sofaduck-run-spec : {M : Type 1} → statement M
 sofaduck-run-spec =
     tie.close
     (tie.spec
-    taken-requires
+    read-registers-requires
     run-requires
     enum-known-r
-    put-requires
+    write-registers-requires
     enum-known-k
-    put-requires-2
+    write-registers-requires-2
     same-length
     same-length-2
     same-length-3

@@ -5,10 +5,10 @@ use Rattle.sofaduck.proofs.sofaduck_save.Tie as tie
 use Rattle.sofaduck.proofs.sofaduck_save.Reads as reads
 use Rattle.sofaduck.proofs.sofaduck_save.Lts as lts
 use Rattle.machine.proofs.save.Reads as save-reads
-use Rattle.sofaduck.proofs.taken.Reads as taken-reads
+use Rattle.sofaduck.proofs.read_registers.Reads as read-registers-reads
 
-taken-requires : tie.Need-taken-requires
-taken-requires c κs = search needs
+read-registers-requires : tie.Need-read-registers-requires
+read-registers-requires c κs = search needs
 
 save-requires : tie.Need-save-requires
 save-requires c κs = search needs
@@ -25,11 +25,11 @@ same-length c = search needs
 returns : tie.Need-returns
 returns c =
     let at-save = c .before .before .before .before .before in
-    let at-taken = at-save .before .before in
-    let at-start = at-taken .before .before .before .before .before .before in
+    let at-read-registers = at-save .before .before in
+    let at-start = at-read-registers .before .before .before .before .before .before in
     let args = at-start .args in
-    save-done (args .registers .now) (args .contents .now) (args .bodies .now) (args .stack .now) (args .cache .now) (at-taken .taken .result)
-    (at-taken .taken .ensures) (args .output .now) _ (at-save .save .result) (at-save .save .ensures) (args .length .now) _ (c .before .bytes .given .1)
+    save-done (args .registers .now) (args .contents .now) (args .bodies .now) (args .stack .now) (args .cache .now) (at-read-registers .read-registers .result)
+    (at-read-registers .read-registers .ensures) (args .output .now) _ (at-save .save .result) (at-save .save .ensures) (args .length .now) _ (c .before .bytes .given .1)
 
 same-length-2 : tie.Need-same-length-2
 same-length-2 c = search needs
@@ -37,17 +37,17 @@ same-length-2 c = search needs
 returns-2 : tie.Need-returns-2
 returns-2 c =
     let at-save = c .before .before .before .before .before in
-    let at-taken = at-save .before .before in
-    let at-start = at-taken .before .before .before .before .before .before in
+    let at-read-registers = at-save .before .before in
+    let at-start = at-read-registers .before .before .before .before .before .before in
     let args = at-start .args in
-    save-refused (args .registers .now) (args .contents .now) (args .bodies .now) (args .stack .now) (args .cache .now) (at-taken .taken .result)
-    (at-taken .taken .ensures) (args .output .now) _ (at-save .save .result) (at-save .save .ensures) (args .length .now) _ (c .before .k .given .1)
+    save-refused (args .registers .now) (args .contents .now) (args .bodies .now) (args .stack .now) (args .cache .now) (at-read-registers .read-registers .result)
+    (at-read-registers .read-registers .ensures) (args .output .now) _ (at-save .save .result) (at-save .save .ensures) (args .length .now) _ (c .before .k .given .1)
 
 pub sofaduck-save-spec : {M : Type 1} → statement M
 sofaduck-save-spec =
     tie.close
     (tie.spec
-    taken-requires
+    read-registers-requires
     save-requires
     enum-known-bytes
     enum-known-k

@@ -1,9 +1,9 @@
 use Rattle.sofaduck.proofs.Crossing.{take-seven}
 use borrow.Author.Needs.{needs}
-use Rattle.sofaduck.proofs.taken.Statement.{statement}
-use Rattle.sofaduck.proofs.taken.Tie as tie
-use Rattle.sofaduck.proofs.taken.Reads as reads
-use Rattle.sofaduck.proofs.taken.Lts as lts
+use Rattle.sofaduck.proofs.read_registers.Statement.{statement}
+use Rattle.sofaduck.proofs.read_registers.Tie as tie
+use Rattle.sofaduck.proofs.read_registers.Reads as reads
+use Rattle.sofaduck.proofs.read_registers.Lts as lts
 
 element-copy-out-t4 : tie.Need-element-copy-out-t4
 element-copy-out-t4 c = search needs
@@ -29,8 +29,8 @@ element-copy-out-t22 c = search needs
 returns : tie.Need-returns
 returns c = take-seven (c .before .before .before .before .before .before .before .args .registers .now)
 
-pub taken-spec : {M : Type 1} → statement M
-taken-spec =
+pub read-registers-spec : {M : Type 1} → statement M
+read-registers-spec =
     tie.close
     (tie.spec
     element-copy-out-t4
