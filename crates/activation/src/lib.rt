@@ -10,6 +10,7 @@ ghost use Rattle.primitives.specs.Outcomes.{roomOf, Receives, Does};
 ghost use Rattle.activation.specs.Activating.{Activable, Activates};
 use model::Computed;
 use model::Pointer;
+use model::limits;
 use primitives::Done;
 
 // An answer, and how many objects and body words there are then; or a frame is needed; or the receiver has no such field.
@@ -77,7 +78,7 @@ pub fn activate(
     }
     if flag == 6 {
         let i = readers::temporary_count(header);
-        if !readers::is_kind(contents, n, readers::FIELDS, receiver) {
+        if !readers::is_kind(contents, n, limits::FIELDS, receiver) {
             return Activated::Unfit;
         }
         let size = readers::size(contents, n, receiver as usize / 2) as usize;

@@ -11,6 +11,7 @@ ghost use Rattle.begins.specs.Begins.{Starts, Begins};
 use activation::Activated;
 use model::Found;
 use model::StackPosition;
+use model::limits;
 
 // What a begin leads to: an answer without a frame, with N and B after it; the first frame; or the number of a refusal.
 pub enum Beginning {
@@ -27,7 +28,7 @@ fn words_fine(contents: &[u16], n: usize, receiver: u16, selector: u16, argument
     if !readers::is_valid(n, receiver) {
         return false;
     }
-    if !readers::is_kind(contents, n, readers::BYTES, selector) {
+    if !readers::is_kind(contents, n, limits::BYTES, selector) {
         return false;
     }
     readers::valid_words(n, arguments)

@@ -13,6 +13,7 @@ ghost use Rattle.plain.specs.Cache.{cacheEntryOf, filled, cachedRight, cacheFin
 ghost use Rattle.cache.specs.Caches.{Asks};
 use model::Found;
 use model::Pointer;
+use model::limits;
 
 const CACHE_ENTRIES: usize = 64;
 // selector, class, method
@@ -87,7 +88,7 @@ fn cached_right(
     if is_empty(s, class, m) {
         return true;
     }
-    if !readers::is_kind(contents, n, readers::CLASS, class) {
+    if !readers::is_kind(contents, n, limits::CLASS, class) {
         return false;
     }
     match objects::lookup(contents, bodies, n, b, s, Pointer(class)) {

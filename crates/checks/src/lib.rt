@@ -15,6 +15,7 @@ ghost use Rattle.checks.specs.Frame.{frameEnd, sixWordsFine, Noted, Stan
 use model::CodePosition;
 use model::Pointer;
 use model::StackPosition;
+use model::limits;
 
 // Where the frame at a base ends; 0 where none of a method fits there.
 fn frame_end(
@@ -37,7 +38,7 @@ fn frame_end(
         return StackPosition(0);
     }
     let m = stack[base + 3];
-    if !readers::is_kind(contents, n, readers::METHOD, m) {
+    if !readers::is_kind(contents, n, limits::METHOD, m) {
         return StackPosition(0);
     }
     let end = base

@@ -16,6 +16,7 @@ ghost use Rattle.readers.specs.Places.{Entry};
 use bytecode::Instruction;
 use bytecode::Place;
 use model::Pointer;
+use model::limits;
 
 // The argument count of a special send, from the table's need.
 fn special_count(table: &[u16; 256], k: u8) -> u8
@@ -51,7 +52,7 @@ fn special_fine(
         bodies,
         n,
         b,
-        Pointer(readers::SELECTORS),
+        Pointer(limits::SELECTORS),
         k as usize,
     );
     methods::send_fine(contents, bodies, n, b, counts, s, special_count(table, k))
@@ -63,7 +64,7 @@ fn literal_word(contents: &[u16], bodies: &[u16], n: usize, b: usize, m: u16, i:
     ensures { λ r. ⌜ r ≡ literalOf (objectsAt n b (now (contents .entry)) (now (bodies .entry))) m i ⌝ }
 {
     let k = (m / 2) as usize;
-    let at = readers::start(contents, n, k) as usize + (readers::LITERALS + i);
+    let at = readers::start(contents, n, k) as usize + (limits::LITERALS + i);
     readers::word_at(bodies, b, at)
 }
 
@@ -234,9 +235,9 @@ fn code_notes(
     requires { ⌜ Asked (now table) n b (now contents) (now bodies) (now counts) m × CodeLent (objectsAt n b (now contents) (now bodies)) m (now words) (length (now notes)) × (length (now notes) ≤ length (now pending)) ⌝ }
     ensures { λ r. ⌜ Walked (methodTable edition (objectsAt n b (now (contents .entry)) (now (bodies .entry))) m) (length (now (notes .entry))) (now (notes .exit)) r ⌝ }
 {
-    let header = readers::word_of(contents, bodies, n, b, Pointer(m), readers::HEADER) as usize;
-    let home = readers::word_of(contents, bodies, n, b, Pointer(m), readers::HOME);
-    let fields = (readers::word_of(contents, bodies, n, b, Pointer(home), readers::FIELDS_WORD)
+    let header = readers::word_of(contents, bodies, n, b, Pointer(m), limits::HEADER) as usize;
+    let home = readers::word_of(contents, bodies, n, b, Pointer(m), limits::HOME);
+    let fields = (readers::word_of(contents, bodies, n, b, Pointer(home), limits::FIELDS_WORD)
         / 2) as u8;
     let temporaries = readers::temporary_count(header) as u8;
     let literals = readers::literal_count(header) as u8;
@@ -277,8 +278,8 @@ fn method_notes(
     ensures { λ r. ⌜ MethodWalked edition (objectsAt n b (now (contents .entry)) (now (bodies .entry))) m (now (notes .entry)) (now (notes .exit)) r ⌝ }
 {
     let k = (m / 2) as usize;
-    let header = readers::word_of(contents, bodies, n, b, Pointer(m), readers::HEADER) as usize;
-    let skip = readers::LITERALS + readers::literal_count(header);
+    let header = readers::word_of(contents, bodies, n, b, Pointer(m), limits::HEADER) as usize;
+    let skip = limits::LITERALS + readers::literal_count(header);
     let from = readers::start(contents, n, k) as usize + skip;
     let end = readers::body_end(contents, n, k);
     let first = 2 * from;
@@ -314,7 +315,7 @@ fn code_object(
     requires { ⌜ PassLent (now table) n b (now contents) (now bodies) (now counts) (length (now notes)) (length (now pending)) × (1 ≤ k) × (k ≤ n) ⌝ }
     ensures { λ r. ⌜ ObjectNoted edition (objectsAt n b (now (contents .entry)) (now (bodies .entry))) k (now (notes .entry)) (now (notes .exit)) r ⌝ }
 {
-    if readers::kind(contents, n, k) != readers::METHOD {
+    if readers::kind(contents, n, k) != limits::METHOD {
         return true;
     }
     let m = (2 * k) as u16;
@@ -332,7 +333,7 @@ fn code_object(
     ) {
         return true;
     }
-    let header = readers::word_of(contents, bodies, n, b, Pointer(m), readers::HEADER) as usize;
+    let header = readers::word_of(contents, bodies, n, b, Pointer(m), limits::HEADER) as usize;
     !readers::runs_code(header)
 }
 
@@ -407,7 +408,7 @@ pub fn methods_fine(
             &mut few,
         );
     }
-    let mut pending = [0; readers::MOST_BODY_BYTES];
+    let mut pending = [0; limits::MOST_BODY_BYTES];
     codes_fine(
         edition,
         &table,

@@ -8,11 +8,7 @@ ghost use Rattle.frames.specs.Words.{newWords};
 use model::CodePosition;
 use model::Pointer;
 use model::StackPosition;
-
-// The words of a frame before its temporaries.
-const FRAME_HEADER_WORDS: usize = 6;
-
-const NIL: u16 = 2;
+use model::limits;
 
 // The words of a new frame, lent as the part of the stack from its base: six words, the arguments, nil in the other temporaries.
 pub fn write_frame(
@@ -35,8 +31,13 @@ pub fn write_frame(
     words[3] = pointer;
     words[4] = 0;
     words[5] = receiver;
-    words::copy(words, FRAME_HEADER_WORDS, arguments, 0, count);
-    words::fill(words, FRAME_HEADER_WORDS + count, temporaries - count, NIL);
+    words::copy(words, limits::FRAME_HEADER, arguments, 0, count);
+    words::fill(
+        words,
+        limits::FRAME_HEADER + count,
+        temporaries - count,
+        limits::NIL,
+    );
 }
 
 // The frame at a base goes on at another position, with so many operands.

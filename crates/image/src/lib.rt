@@ -9,12 +9,7 @@ ghost use Rattle.model.specs.Limits.{headerWords, entryWords};
 ghost use Rattle.model.specs.Objects.{objectsAt, part};
 ghost use Rattle.model.specs.Image.{wordsOf, bytesOf, imageHeader, imageObjects, imageOf, imageBytes, lengthFine};
 ghost use Rattle.image.specs.Heads.{asHeader, headWords};
-
-const HEADER_WORDS: usize = 5;
-
-const HEADER_BYTES: usize = 10;
-
-const ENTRY_WORDS: usize = 4;
+use model::limits;
 
 // The five words at the front of an image.
 pub struct Header {
@@ -68,14 +63,14 @@ pub fn header_of(image: &[u8]) -> Header
 pub fn length_of(n: u16, b: u16) -> usize
     ensures { λ r. ⌜ r ≡ imageBytes n b ⌝ }
 {
-    HEADER_BYTES + 2 * ENTRY_WORDS * (n as usize) + 2 * (b as usize)
+    limits::HEADER_BYTES + 2 * limits::ENTRY_WORDS * (n as usize) + 2 * (b as usize)
 }
 
 // Whether an image has the length that its own header asks for.
 pub fn length_fine(image: &[u8]) -> bool
     ensures { λ r. ⌜ r ≡ lengthFine (now (image .entry)) ⌝ }
 {
-    if image.len() < HEADER_BYTES {
+    if image.len() < limits::HEADER_BYTES {
         return false;
     }
     let n = header_word(image, 1);
@@ -102,8 +97,18 @@ pub fn place(image: &[u8], n: usize, b: usize, contents: &mut [u16], bodies: &mu
     requires { ⌜ T (lengthFine (now image)) × (imageHeader (now image) .n ≡ n) × (imageHeader (now image) .b ≡ b) × (entryWords * n ≤ length (now contents)) × (b ≤ length (now bodies)) ⌝ }
     ensures { λ _. ⌜ (now (contents .exit) ≡ imageObjects (now (image .entry)) .contents ++ drop (entryWords * n) (now (contents .entry))) × (now (bodies .exit) ≡ imageObjects (now (image .entry)) .bodies ++ drop b (now (bodies .entry))) ⌝ }
 {
-    read_words(image, HEADER_WORDS, ENTRY_WORDS * n, contents);
-    read_words(image, HEADER_WORDS + ENTRY_WORDS * n, b, bodies);
+    read_words(
+        image,
+        limits::HEADER_WORDS,
+        limits::ENTRY_WORDS * n,
+        contents,
+    );
+    read_words(
+        image,
+        limits::HEADER_WORDS + limits::ENTRY_WORDS * n,
+        b,
+        bodies,
+    );
 }
 
 // Zeros in place of n objects and b body words; what lies behind them stays.
@@ -111,7 +116,7 @@ pub fn zero(n: usize, b: usize, contents: &mut [u16], bodies: &mut [u16])
     requires { ⌜ (entryWords * n ≤ length (now contents)) × (b ≤ length (now bodies)) ⌝ }
     ensures { λ _. ⌜ (now (contents .exit) ≡ replicate (entryWords * n) 0 ++ drop (entryWords * n) (now (contents .entry))) × (now (bodies .exit) ≡ replicate b 0 ++ drop b (now (bodies .entry))) ⌝ }
 {
-    words::fill(contents, 0, ENTRY_WORDS * n, 0);
+    words::fill(contents, 0, limits::ENTRY_WORDS * n, 0);
     words::fill(bodies, 0, b, 0);
 }
 
@@ -158,7 +163,17 @@ pub fn write(header: Header, contents: &[u16], bodies: &[u16], output: &mut [u8]
     let n = header.n as usize;
     let b = header.b as usize;
     write_header(header, output);
-    write_words(contents, ENTRY_WORDS * n, HEADER_WORDS, output);
-    write_words(bodies, b, HEADER_WORDS + ENTRY_WORDS * n, output);
+    write_words(
+        contents,
+        limits::ENTRY_WORDS * n,
+        limits::HEADER_WORDS,
+        output,
+    );
+    write_words(
+        bodies,
+        b,
+        limits::HEADER_WORDS + limits::ENTRY_WORDS * n,
+        output,
+    );
     bytes
 }

@@ -9,6 +9,7 @@ ghost use Rattle.plain.specs.FlatCalls.{flatBegin, flatDrop, flatForget, flatSa
 ghost use Rattle.machine.specs.State.{registersOf, state, PromisedLoad, checkGives, beginGives, PromisedRun, dropGives, forgetGives, saveGives};
 use begins::Beginning;
 use image::Header;
+use model::limits;
 use store::Reading;
 
 // `receiver` and `selector` are the start words, `edition` is the image's.
@@ -113,7 +114,7 @@ fn state_fine(
     if !state::registers_fine(n, registers.phase, registers.value) {
         return false;
     }
-    let mut notes = [0u8; readers::MOST_BODY_BYTES];
+    let mut notes = [0u8; limits::MOST_BODY_BYTES];
     if store::judge(
         edition,
         contents,

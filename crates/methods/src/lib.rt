@@ -15,6 +15,7 @@ ghost use Rattle.methods.specs.Asked.{Ready, Literals, ClassAsked, PairA
 ghost use Rattle.methods.specs.Counts.{Noted, Turned, Held};
 ghost use Rattle.methods.specs.Passes.{shapeRules, fieldRule, primitiveRule, flagRules, shapeFine, shapes};
 use model::Pointer;
+use model::limits;
 
 // The count under a selector: noted where there is none, else compared.
 fn note_count(counts: &mut [u8], j: usize, note: u8) -> bool
@@ -46,10 +47,10 @@ fn count_pair(
     requires { ⌜ PairAsked n b (now contents) (now bodies) class i (now counts) ⌝ }
     ensures { λ r. ⌜ Turned (objectsAt n b (now (contents .entry)) (now (bodies .entry))) (class / 2) (i + 1) (now (counts .exit)) r ⌝ }
 {
-    let d = readers::word_of(contents, bodies, n, b, Pointer(class), readers::DICTIONARY);
+    let d = readers::word_of(contents, bodies, n, b, Pointer(class), limits::DICTIONARY);
     let s = readers::word_of(contents, bodies, n, b, Pointer(d), 2 * i);
     let m = readers::word_of(contents, bodies, n, b, Pointer(d), 2 * i + 1);
-    let home = readers::word_of(contents, bodies, n, b, Pointer(m), readers::HOME);
+    let home = readers::word_of(contents, bodies, n, b, Pointer(m), limits::HOME);
     if home != class {
         return false;
     }
@@ -69,7 +70,7 @@ fn count_class(
     requires { ⌜ ClassAsked n b (now contents) (now bodies) class (now counts) ⌝ }
     ensures { λ r. ⌜ Turned (objectsAt n b (now (contents .entry)) (now (bodies .entry))) (class / 2 + 1) 0 (now (counts .exit)) r ⌝ }
 {
-    let d = readers::word_of(contents, bodies, n, b, Pointer(class), readers::DICTIONARY);
+    let d = readers::word_of(contents, bodies, n, b, Pointer(class), limits::DICTIONARY);
     let pairs = (readers::size(contents, n, (d / 2) as usize) / 2) as usize;
     let mut i = 0;
     while i < pairs {
@@ -93,7 +94,7 @@ fn count_object(
     requires { ⌜ ObjectAsked n b (now contents) (now bodies) k (now counts) ⌝ }
     ensures { λ r. ⌜ Turned (objectsAt n b (now (contents .entry)) (now (bodies .entry))) (k + 1) 0 (now (counts .exit)) r ⌝ }
 {
-    if readers::kind(contents, n, k) != readers::CLASS {
+    if readers::kind(contents, n, k) != limits::CLASS {
         return true;
     }
     count_class(contents, bodies, n, b, (2 * k) as u16, counts)
@@ -135,7 +136,7 @@ fn literals_valid(
 {
     let mut i = 0;
     while i < literals {
-        let w = readers::word_of(contents, bodies, n, b, Pointer(m), readers::LITERALS + i);
+        let w = readers::word_of(contents, bodies, n, b, Pointer(m), limits::LITERALS + i);
         if !readers::is_valid(n, w) {
             return false;
         }
@@ -179,10 +180,10 @@ fn field_fine(
     requires { ⌜ FlagAsked n b (now contents) (now bodies) m header home ⌝ }
     ensures { λ r. ⌜ r ≡ fieldRule (objectsAt n b (now (contents .entry)) (now (bodies .entry))) m ⌝ }
 {
-    if readers::flag(header) != readers::ANSWER_FIELD {
+    if readers::flag(header) != limits::ANSWER_FIELD {
         return true;
     }
-    let fields = readers::word_of(contents, bodies, n, b, Pointer(home), readers::FIELDS_WORD) / 2;
+    let fields = readers::word_of(contents, bodies, n, b, Pointer(home), limits::FIELDS_WORD) / 2;
     readers::temporary_count(header) < fields as usize
 }
 
@@ -199,7 +200,7 @@ fn primitive_fine(
     requires { ⌜ FlagAsked n b (now contents) (now bodies) m header home ⌝ }
     ensures { λ r. ⌜ r ≡ primitiveRule (objectsAt n b (now (contents .entry)) (now (bodies .entry))) m ⌝ }
 {
-    if readers::flag(header) != readers::PRIMITIVE {
+    if readers::flag(header) != limits::PRIMITIVE {
         return true;
     }
     extension_fine(contents, bodies, n, b, m, readers::literal_count(header))
@@ -236,7 +237,7 @@ fn shape(contents: &[u16], bodies: &[u16], n: usize, b: usize, m: u16) -> bool
     if size < 4 {
         return false;
     }
-    let header = readers::word_of(contents, bodies, n, b, Pointer(m), readers::HEADER) as usize;
+    let header = readers::word_of(contents, bodies, n, b, Pointer(m), limits::HEADER) as usize;
     if header % 2 != 1 {
         return false;
     }
@@ -244,8 +245,8 @@ fn shape(contents: &[u16], bodies: &[u16], n: usize, b: usize, m: u16) -> bool
     if size < 4 + 2 * literals {
         return false;
     }
-    let home = readers::word_of(contents, bodies, n, b, Pointer(m), readers::HOME);
-    if !readers::is_kind(contents, n, readers::CLASS, home) {
+    let home = readers::word_of(contents, bodies, n, b, Pointer(m), limits::HOME);
+    if !readers::is_kind(contents, n, limits::CLASS, home) {
         return false;
     }
     if !literals_valid(contents, bodies, n, b, m, literals) {
@@ -259,7 +260,7 @@ fn shape_object(contents: &[u16], bodies: &[u16], n: usize, b: usize, k: usize) 
     requires { ⌜ Laid n b (now contents) (now bodies) × (1 ≤ k) × (k ≤ n) ⌝ }
     ensures { λ r. ⌜ r ≡ shapeFine (objectsAt n b (now (contents .entry)) (now (bodies .entry))) k ⌝ }
 {
-    if readers::kind(contents, n, k) != readers::METHOD {
+    if readers::kind(contents, n, k) != limits::METHOD {
         return true;
     }
     shape(contents, bodies, n, b, (2 * k) as u16)
@@ -285,7 +286,7 @@ pub fn variable_fine(contents: &[u16], n: usize, w: u16) -> bool
     requires { ⌜ entryWords * n ≤ length (now contents) ⌝ }
     ensures { λ r. ⌜ ((b : ℕ) (bodies : List ℕ) → r ≡ variableFine (objectsAt n b (now (contents .entry)) bodies) w) ⌝ }
 {
-    if !readers::is_kind(contents, n, readers::FIELDS, w) {
+    if !readers::is_kind(contents, n, limits::FIELDS, w) {
         return false;
     }
     2 <= readers::size(contents, n, (w / 2) as usize)
@@ -304,7 +305,7 @@ pub fn send_fine(
     requires { ⌜ SendAsked n b (now contents) (now bodies) (now counts) ⌝ }
     ensures { λ r. ⌜ r ≡ sendFine (objectsAt n b (now (contents .entry)) (now (bodies .entry))) selector arguments ⌝ }
 {
-    if !readers::is_nil_or(contents, n, readers::BYTES, selector) {
+    if !readers::is_nil_or(contents, n, limits::BYTES, selector) {
         return false;
     }
     let j = (selector / 2) as usize;

@@ -1,4 +1,5 @@
-// The types that the definitions of specs/ speak of.
+// The types that the definitions of specs/ speak of, and the numbers of 01.
+pub mod limits;
 
 // An even word: twice an object number.
 pub struct Pointer(pub u16);

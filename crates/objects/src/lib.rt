@@ -17,6 +17,7 @@ ghost use Rattle.readers.specs.Places.{Inside};
 ghost use Rattle.objects.specs.Lent.{Holds, CodeAt};
 use model::Found;
 use model::Pointer;
+use model::limits;
 
 // A method's code in bodies: its words stand from `from` up to `end`, `size` counts its bytes.
 pub struct Code {
@@ -31,7 +32,7 @@ pub fn class_of(contents: &[u16], n: usize, w: u16) -> Pointer
     ensures { λ r. ⌜ ((b : ℕ) (bodies : List ℕ) → r .0 ≡ classOf (objectsAt n b (now (contents .entry)) bodies) w) ⌝ }
 {
     if w % 2 == 1 {
-        return Pointer(readers::INTEGER_CLASS);
+        return Pointer(limits::INTEGER_CLASS);
     }
     let k = w as usize / 2;
     Pointer(readers::class_word(contents, n, k))
@@ -92,28 +93,28 @@ pub fn superclass(contents: &[u16], bodies: &[u16], n: usize, b: usize, c: Point
     requires { ⌜ Holds classKind n b (now contents) (now bodies) (c .0) ⌝ }
     ensures { λ r. ⌜ r .0 ≡ superclassWord (objectsAt n b (now (contents .entry)) (now (bodies .entry))) (c .0) ⌝ }
 {
-    Pointer(readers::word_of(contents, bodies, n, b, c, readers::SUPERCLASS))
+    Pointer(readers::word_of(contents, bodies, n, b, c, limits::SUPERCLASS))
 }
 
 pub fn dictionary(contents: &[u16], bodies: &[u16], n: usize, b: usize, c: Pointer) -> Pointer
     requires { ⌜ Holds classKind n b (now contents) (now bodies) (c .0) ⌝ }
     ensures { λ r. ⌜ r .0 ≡ dictionaryWord (objectsAt n b (now (contents .entry)) (now (bodies .entry))) (c .0) ⌝ }
 {
-    Pointer(readers::word_of(contents, bodies, n, b, c, readers::DICTIONARY))
+    Pointer(readers::word_of(contents, bodies, n, b, c, limits::DICTIONARY))
 }
 
 pub fn field_count(contents: &[u16], bodies: &[u16], n: usize, b: usize, c: Pointer) -> usize
     requires { ⌜ Holds classKind n b (now contents) (now bodies) (c .0) ⌝ }
     ensures { λ r. ⌜ r ≡ fieldCount (objectsAt n b (now (contents .entry)) (now (bodies .entry))) (c .0) ⌝ }
 {
-    readers::word_of(contents, bodies, n, b, c, readers::FIELDS_WORD) as usize / 2
+    readers::word_of(contents, bodies, n, b, c, limits::FIELDS_WORD) as usize / 2
 }
 
 pub fn form_of(contents: &[u16], bodies: &[u16], n: usize, b: usize, c: Pointer) -> usize
     requires { ⌜ Holds classKind n b (now contents) (now bodies) (c .0) ⌝ }
     ensures { λ r. ⌜ r ≡ form (objectsAt n b (now (contents .entry)) (now (bodies .entry))) (c .0) ⌝ }
 {
-    readers::word_of(contents, bodies, n, b, c, readers::FORM_WORD) as usize / 2
+    readers::word_of(contents, bodies, n, b, c, limits::FORM_WORD) as usize / 2
 }
 
 // The words of a method.
@@ -121,21 +122,21 @@ pub fn header(contents: &[u16], bodies: &[u16], n: usize, b: usize, m: Pointer) 
     requires { ⌜ Holds methodKind n b (now contents) (now bodies) (m .0) ⌝ }
     ensures { λ r. ⌜ r ≡ header (objectsAt n b (now (contents .entry)) (now (bodies .entry))) (m .0) ⌝ }
 {
-    readers::word_of(contents, bodies, n, b, m, readers::HEADER) as usize
+    readers::word_of(contents, bodies, n, b, m, limits::HEADER) as usize
 }
 
 pub fn home(contents: &[u16], bodies: &[u16], n: usize, b: usize, m: Pointer) -> Pointer
     requires { ⌜ Holds methodKind n b (now contents) (now bodies) (m .0) ⌝ }
     ensures { λ r. ⌜ r .0 ≡ home (objectsAt n b (now (contents .entry)) (now (bodies .entry))) (m .0) ⌝ }
 {
-    Pointer(readers::word_of(contents, bodies, n, b, m, readers::HOME))
+    Pointer(readers::word_of(contents, bodies, n, b, m, limits::HOME))
 }
 
 pub fn literal(contents: &[u16], bodies: &[u16], n: usize, b: usize, m: Pointer, i: usize) -> u16
     requires { ⌜ Holds methodKind n b (now contents) (now bodies) (m .0) × (i < literalCount (objectsAt n b (now contents) (now bodies)) (m .0)) ⌝ }
     ensures { λ r. ⌜ r ≡ literal (objectsAt n b (now (contents .entry)) (now (bodies .entry))) (m .0) i ⌝ }
 {
-    readers::word_of(contents, bodies, n, b, m, readers::LITERALS + i)
+    readers::word_of(contents, bodies, n, b, m, limits::LITERALS + i)
 }
 
 // The extension of a method with flag 7.
@@ -211,7 +212,7 @@ pub fn lookup(contents: &[u16], bodies: &[u16], n: usize, b: usize, s: u16, clas
     let mut c = class;
     let mut left = n;
     while 0 < left {
-        if c.0 == readers::NIL {
+        if c.0 == limits::NIL {
             return Found::Nothing;
         }
         let d = dictionary(contents, bodies, n, b, c);
@@ -242,7 +243,7 @@ pub fn in_chain(
     let mut c = class;
     let mut left = n;
     while 0 < left {
-        if c.0 == readers::NIL {
+        if c.0 == limits::NIL {
             return false;
         }
         if a.0 == c.0 {

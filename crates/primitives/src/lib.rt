@@ -12,8 +12,7 @@ ghost use lib.Dec.{eqb};
 ghost use Rattle.primitives.specs.Outcomes.{roomFor, roomOf, doneWith, Receives, Puts, Does, elementsOf, indexOf};
 use model::Computed;
 use model::Pointer;
-
-const ENTRY_WORDS: usize = 4;
+use model::limits;
 
 const MOST_OBJECTS: usize = 2047;
 
@@ -24,25 +23,12 @@ const LARGEST_INTEGER: usize = 16383;
 // Objects that are larger are none for 60 to 62.
 const MOST_ELEMENTS: usize = 16383;
 
-// Kinds
-const FIELDS: u16 = 0;
-
-const BYTES: u16 = 1;
-
-const CLASS: u16 = 2;
-
 // Forms
 const FIXED: usize = 0;
 
 const INDEXED: usize = 1;
 
 const OF_BYTES: usize = 2;
-
-const NIL: u16 = 2;
-
-const FALSE: u16 = 4;
-
-const TRUE: u16 = 6;
 
 // What a primitive gives: a word or failure, and how many objects and body words there are then.
 pub struct Done {
@@ -192,7 +178,7 @@ pub fn has_room(contents: usize, bodies: usize, n: usize, b: usize, count: usize
     if MOST_BODY_WORDS < b + count {
         return false;
     }
-    if contents < ENTRY_WORDS * (n + 1) {
+    if contents < limits::ENTRY_WORDS * (n + 1) {
         return false;
     }
     b + count <= bodies
@@ -211,7 +197,7 @@ pub fn append(
     requires { ⌜ (n < mostObjects) × (b + count ≤ mostBodyWords) × (entryWords * (n + 1) ≤ length (now contents)) ⌝ }
     ensures { λ r. ⌜ ((bodies : List ℕ) → b + count ≤ length bodies → Does (objectsAt n b (now (contents .entry)) bodies) (answers (pointer (n + 1)) (appended (objectsAt n b (now (contents .entry)) bodies) (class .0) kind size (part bodies b count))) r (now (contents .entry)) bodies (now (contents .exit)) bodies) ⌝ }
 {
-    let at = ENTRY_WORDS * n;
+    let at = limits::ENTRY_WORDS * n;
     contents[at] = class.0;
     contents[at + 1] = kind;
     contents[at + 2] = b as u16;
@@ -250,7 +236,7 @@ pub fn new_object(contents: &mut [u16], bodies: &mut [u16], n: usize, b: usize, 
     requires { ⌜ IsRight (objectsAt n b (now contents) (now bodies)) ⌝ }
     ensures { λ r. ⌜ Does (objectsAt n b (now (contents .entry)) (now (bodies .entry))) (new (roomOf (now (contents .entry)) (now (bodies .entry))) (objectsAt n b (now (contents .entry)) (now (bodies .entry))) w) r (now (contents .entry)) (now (bodies .entry)) (now (contents .exit)) (now (bodies .exit)) ⌝ }
 {
-    if !readers::is_kind(contents, n, CLASS, w) {
+    if !readers::is_kind(contents, n, limits::CLASS, w) {
         return failed(n, b);
     }
     let form = objects::form_of(contents, bodies, n, b, Pointer(w));
@@ -264,10 +250,10 @@ pub fn new_object(contents: &mut [u16], bodies: &mut [u16], n: usize, b: usize, 
         n,
         b,
         Pointer(w),
-        FIELDS,
+        limits::FIELDS,
         count as u16,
         count,
-        NIL,
+        limits::NIL,
     )
 }
 
@@ -283,7 +269,7 @@ pub fn new_with(
     requires { ⌜ IsRight (objectsAt n b (now contents) (now bodies)) ⌝ }
     ensures { λ r. ⌜ Does (objectsAt n b (now (contents .entry)) (now (bodies .entry))) (newWith (roomOf (now (contents .entry)) (now (bodies .entry))) (objectsAt n b (now (contents .entry)) (now (bodies .entry))) w x) r (now (contents .entry)) (now (bodies .entry)) (now (contents .exit)) (now (bodies .exit)) ⌝ }
 {
-    if !readers::is_kind(contents, n, CLASS, w) {
+    if !readers::is_kind(contents, n, limits::CLASS, w) {
         return failed(n, b);
     }
     if x % 2 != 1 {
@@ -302,10 +288,10 @@ pub fn new_with(
             n,
             b,
             Pointer(w),
-            FIELDS,
+            limits::FIELDS,
             count as u16,
             count,
-            NIL,
+            limits::NIL,
         );
     }
     if form == OF_BYTES {
@@ -315,7 +301,7 @@ pub fn new_with(
             n,
             b,
             Pointer(w),
-            BYTES,
+            limits::BYTES,
             more as u16,
             (more + 1) / 2,
             0,
@@ -348,9 +334,9 @@ fn same(w: u16, x: u16) -> u16
     ensures { λ r. ⌜ r ≡ booleanWord (eqb w x) ⌝ }
 {
     if w == x {
-        return TRUE;
+        return limits::TRUE;
     }
-    FALSE
+    limits::FALSE
 }
 
 // A primitive that is none of 1 to 17, on a receiver and two arguments, those that it takes.

@@ -12,91 +12,9 @@ ghost use Rattle.model.specs.Method.{argumentCount};
 ghost use Rattle.readers.specs.Places.{Entry, Inside, CountInside};
 ghost use Rattle.readers.specs.Header.{flagOf, temporariesOf, literalsOf, frameOf, runsOf};
 use model::Pointer;
+use model::limits;
 
 pub mod edition;
-
-// Most objects, body words and body bytes of an image.
-pub const MOST_OBJECTS: u16 = 2047;
-
-pub const MOST_BODY_WORDS: u16 = 24000;
-
-pub const MOST_BODY_BYTES: usize = 48000;
-
-// An entry: class, kind, start, size.
-pub const ENTRY_WORDS: usize = 4;
-
-// Kinds of objects.
-pub const FIELDS: u16 = 0;
-
-pub const BYTES: u16 = 1;
-
-pub const CLASS: u16 = 2;
-
-pub const LIST: u16 = 3;
-
-pub const METHOD: u16 = 4;
-
-// Forms of a class's objects: F fields, at least F, bytes, and last the other kinds and integers.
-pub const FIXED: u16 = 0;
-
-pub const INDEXED: u16 = 1;
-
-pub const OF_BYTES: u16 = 2;
-
-pub const OTHER: u16 = 3;
-
-// A class body: its words by their places, how many, and the most fields that it can ask for.
-pub const SUPERCLASS: usize = 0;
-
-pub const DICTIONARY: usize = 1;
-
-pub const FIELDS_WORD: usize = 2;
-
-pub const FORM_WORD: usize = 3;
-
-pub const CLASS_WORDS: u16 = 4;
-
-pub const MOST_FIELDS: u16 = 255;
-
-// A method body: the places of its header, its home and its first literal.
-pub const HEADER: usize = 0;
-
-pub const HOME: usize = 1;
-
-pub const LITERALS: usize = 2;
-
-// Flags of a header: up to the first they are the argument count.
-pub const LAST_COUNT: usize = 4;
-
-pub const ANSWER_SELF: usize = 5;
-
-pub const ANSWER_FIELD: usize = 6;
-
-pub const PRIMITIVE: usize = 7;
-
-// Words of a frame for temporaries and operands.
-pub const SMALL_FRAME: usize = 12;
-
-pub const LARGE_FRAME: usize = 32;
-
-// Objects with a fixed number, and the words of some.
-pub const NIL_OBJECT: usize = 1;
-
-pub const FALSE_OBJECT: usize = 2;
-
-pub const TRUE_OBJECT: usize = 3;
-
-pub const INTEGER_CLASS_OBJECT: usize = 4;
-
-pub const SELECTORS_OBJECT: usize = 5;
-
-pub const NIL: u16 = 2;
-
-pub const INTEGER_CLASS: u16 = 8;
-
-pub const SELECTORS: u16 = 10;
-
-pub const SPECIAL_SELECTORS: u16 = 32;
 
 // An even word that names one of the objects 1 to n.
 pub fn is_pointer(n: usize, w: u16) -> bool
@@ -141,7 +59,7 @@ fn entry_word(contents: &[u16], n: usize, k: usize, i: usize) -> u16
     requires { ⌜ Entry n k (now contents) × (i < entryWords) ⌝ }
     ensures { λ r. ⌜ r ≡ entryWord (entriesAt n (now (contents .entry))) k i ⌝ }
 {
-    let at = ENTRY_WORDS * (k - 1) + i;
+    let at = limits::ENTRY_WORDS * (k - 1) + i;
     contents[at]
 }
 
@@ -190,7 +108,7 @@ pub fn is_nil_or(contents: &[u16], n: usize, of: u16, w: u16) -> bool
     requires { ⌜ entryWords * n ≤ length (now contents) ⌝ }
     ensures { λ r. ⌜ ((b : ℕ) (bodies : List ℕ) → r ≡ isNilOr (objectsAt n b (now (contents .entry)) bodies) of w) ⌝ }
 {
-    if w == NIL {
+    if w == limits::NIL {
         return true;
     }
     is_kind(contents, n, of, w)
@@ -200,10 +118,10 @@ pub fn is_nil_or(contents: &[u16], n: usize, of: u16, w: u16) -> bool
 pub fn in_bytes(of: u16) -> bool
     ensures { λ r. ⌜ r ≡ sizedInBytes of ⌝ }
 {
-    if of == BYTES {
+    if of == limits::BYTES {
         return true;
     }
-    of == METHOD
+    of == limits::METHOD
 }
 
 // How many words the body of object k has. (Half of size + 1, which might not fit.)
@@ -270,9 +188,9 @@ pub fn frame_words(header: usize) -> usize
     ensures { λ r. ⌜ r ≡ frameOf header ⌝ }
 {
     if header / 128 % 2 == 1 {
-        return LARGE_FRAME;
+        return limits::LARGE_FRAME;
     }
-    SMALL_FRAME
+    limits::SMALL_FRAME
 }
 
 // Whether the method's code can run.
@@ -280,10 +198,10 @@ pub fn runs_code(header: usize) -> bool
     ensures { λ r. ⌜ r ≡ runsOf header ⌝ }
 {
     let of = flag(header);
-    if of <= LAST_COUNT {
+    if of <= limits::LAST_COUNT {
         return true;
     }
-    of == PRIMITIVE
+    of == limits::PRIMITIVE
 }
 
 // How many arguments a method takes: its flag, or what its extension says, or none.
@@ -291,12 +209,12 @@ pub fn argument_count(contents: &[u16], bodies: &[u16], n: usize, b: usize, m: P
     requires { ⌜ CountInside n b (now contents) (now bodies) (m .0) ⌝ }
     ensures { λ r. ⌜ (r ≡ argumentCount (objectsAt n b (now (contents .entry)) (now (bodies .entry))) (m .0)) × (r < 32) ⌝ }
 {
-    let header = word_of(contents, bodies, n, b, m, HEADER) as usize;
+    let header = word_of(contents, bodies, n, b, m, limits::HEADER) as usize;
     let of = flag(header);
-    if of <= LAST_COUNT {
+    if of <= limits::LAST_COUNT {
         return of;
     }
-    if of == PRIMITIVE {
+    if of == limits::PRIMITIVE {
         let literals = literal_count(header);
         let extension = word_of(contents, bodies, n, b, m, literals) as usize;
         return extension / 512 % 32;

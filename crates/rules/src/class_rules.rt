@@ -13,31 +13,32 @@ ghost use Rattle.model.specs.Rules.{entryFine, pairFine, dictionaryFine, knownO
 ghost use Rattle.readers.specs.Places.{Laid};
 ghost use Rattle.rules.specs.Shape.{fitsForm, numbersFine, kindsFine, selectorsFine, risesFine, shapeRules, shapeFine, chainFine, Closed};
 use model::Pointer;
+use model::limits;
 
 // Whether an object of this kind and size fits a class of this form and F.
 fn fits_form(form: u16, fields: u16, of: u16, words: u16) -> bool
     ensures { λ r. ⌜ r ≡ fitsForm form fields of words ⌝ }
 {
-    if form == readers::FIXED {
-        if of != readers::FIELDS {
+    if form == limits::FIXED {
+        if of != limits::FIELDS {
             return false;
         }
         return words == fields;
     }
-    if form == readers::INDEXED {
-        if of != readers::FIELDS {
+    if form == limits::INDEXED {
+        if of != limits::FIELDS {
             return false;
         }
         return fields <= words;
     }
-    if form == readers::OF_BYTES {
-        return of == readers::BYTES;
+    if form == limits::OF_BYTES {
+        return of == limits::BYTES;
     }
-    if form == readers::OTHER {
-        if of < readers::CLASS {
+    if form == limits::OTHER {
+        if of < limits::CLASS {
             return false;
         }
-        return of <= readers::METHOD;
+        return of <= limits::METHOD;
     }
     false
 }
@@ -48,11 +49,11 @@ fn entry_fine(edition: u16, contents: &[u16], bodies: &[u16], n: usize, b: usize
     ensures { λ r. ⌜ r ≡ entryFine edition (objectsAt n b (now (contents .entry)) (now (bodies .entry))) k ⌝ }
 {
     let c = readers::class_word(contents, n, k);
-    if !readers::is_kind(contents, n, readers::CLASS, c) {
+    if !readers::is_kind(contents, n, limits::CLASS, c) {
         return false;
     }
-    let form = readers::word_of(contents, bodies, n, b, Pointer(c), readers::FORM_WORD) / 2;
-    let fields = readers::word_of(contents, bodies, n, b, Pointer(c), readers::FIELDS_WORD) / 2;
+    let form = readers::word_of(contents, bodies, n, b, Pointer(c), limits::FORM_WORD) / 2;
+    let fields = readers::word_of(contents, bodies, n, b, Pointer(c), limits::FIELDS_WORD) / 2;
     fits_form(
         form,
         fields,
@@ -75,13 +76,13 @@ fn is_natural(most: u16, w: u16) -> bool
 fn numbers_fine(edition: u16, fields: u16, form: u16) -> bool
     ensures { λ r. ⌜ r ≡ numbersFine edition fields form ⌝ }
 {
-    if !is_natural(readers::MOST_FIELDS, fields) {
+    if !is_natural(limits::MOST_FIELDS, fields) {
         return false;
     }
     if !is_natural(readers::edition::last_form(edition), form) {
         return false;
     }
-    if form / 2 < readers::OF_BYTES {
+    if form / 2 < limits::OF_BYTES {
         return true;
     }
     fields / 2 == 0
@@ -92,11 +93,11 @@ fn rises_fine(contents: &[u16], bodies: &[u16], n: usize, b: usize, c: u16, s: u
     requires { ⌜ Laid n b (now contents) (now bodies) × ((isKind (objectsAt n b (now contents) (now bodies)) classKind c ≡ true) × ((s ≡ superclassWord (objectsAt n b (now contents) (now bodies)) c) × (isNilOr (objectsAt n b (now contents) (now bodies)) classKind s ≡ true))) ⌝ }
     ensures { λ r. ⌜ r ≡ risesFine (objectsAt n b (now (contents .entry)) (now (bodies .entry))) c ⌝ }
 {
-    if s == readers::NIL {
+    if s == limits::NIL {
         return true;
     }
-    let least = readers::word_of(contents, bodies, n, b, Pointer(s), readers::FIELDS_WORD) / 2;
-    least <= readers::word_of(contents, bodies, n, b, Pointer(c), readers::FIELDS_WORD) / 2
+    let least = readers::word_of(contents, bodies, n, b, Pointer(s), limits::FIELDS_WORD) / 2;
+    least <= readers::word_of(contents, bodies, n, b, Pointer(c), limits::FIELDS_WORD) / 2
 }
 
 // The selector of pair i is above the one before it.
@@ -117,11 +118,11 @@ fn pair_fine(contents: &[u16], bodies: &[u16], n: usize, b: usize, d: u16, i: us
     ensures { λ r. ⌜ r ≡ pairFine (objectsAt n b (now (contents .entry)) (now (bodies .entry))) d i ⌝ }
 {
     let s = readers::word_of(contents, bodies, n, b, Pointer(d), 2 * i);
-    if !readers::is_kind(contents, n, readers::BYTES, s) {
+    if !readers::is_kind(contents, n, limits::BYTES, s) {
         return false;
     }
     let m = readers::word_of(contents, bodies, n, b, Pointer(d), 2 * i + 1);
-    if !readers::is_kind(contents, n, readers::METHOD, m) {
+    if !readers::is_kind(contents, n, limits::METHOD, m) {
         return false;
     }
     selector_rises(contents, bodies, n, b, d, i)
@@ -158,16 +159,16 @@ fn class_fine(edition: u16, contents: &[u16], bodies: &[u16], n: usize, b: usize
     requires { ⌜ Laid n b (now contents) (now bodies) × (isKind (objectsAt n b (now contents) (now bodies)) classKind c ≡ true) ⌝ }
     ensures { λ r. ⌜ r ≡ allOf (shapeRules edition (objectsAt n b (now (contents .entry)) (now (bodies .entry))) c) ⌝ }
 {
-    let s = readers::word_of(contents, bodies, n, b, Pointer(c), readers::SUPERCLASS);
-    if !readers::is_nil_or(contents, n, readers::CLASS, s) {
+    let s = readers::word_of(contents, bodies, n, b, Pointer(c), limits::SUPERCLASS);
+    if !readers::is_nil_or(contents, n, limits::CLASS, s) {
         return false;
     }
-    let d = readers::word_of(contents, bodies, n, b, Pointer(c), readers::DICTIONARY);
-    if !readers::is_kind(contents, n, readers::LIST, d) {
+    let d = readers::word_of(contents, bodies, n, b, Pointer(c), limits::DICTIONARY);
+    if !readers::is_kind(contents, n, limits::LIST, d) {
         return false;
     }
-    let fields = readers::word_of(contents, bodies, n, b, Pointer(c), readers::FIELDS_WORD);
-    let form = readers::word_of(contents, bodies, n, b, Pointer(c), readers::FORM_WORD);
+    let fields = readers::word_of(contents, bodies, n, b, Pointer(c), limits::FIELDS_WORD);
+    let form = readers::word_of(contents, bodies, n, b, Pointer(c), limits::FORM_WORD);
     if !numbers_fine(edition, fields, form) {
         return false;
     }
@@ -184,7 +185,7 @@ fn shape_fine(edition: u16, contents: &[u16], bodies: &[u16], n: usize, b: usize
     if !entry_fine(edition, contents, bodies, n, b, k) {
         return false;
     }
-    if readers::kind(contents, n, k) != readers::CLASS {
+    if readers::kind(contents, n, k) != limits::CLASS {
         return true;
     }
     class_fine(edition, contents, bodies, n, b, (2 * k) as u16)
@@ -213,20 +214,20 @@ fn ends(contents: &[u16], bodies: &[u16], n: usize, b: usize, c: u16) -> bool
     let mut at = c;
     let mut left = n;
     while 0 < left {
-        if at == readers::NIL {
+        if at == limits::NIL {
             return true;
         }
-        at = readers::word_of(contents, bodies, n, b, Pointer(at), readers::SUPERCLASS);
+        at = readers::word_of(contents, bodies, n, b, Pointer(at), limits::SUPERCLASS);
         left -= 1;
     }
-    at == readers::NIL
+    at == limits::NIL
 }
 
 fn chain_fine(contents: &[u16], bodies: &[u16], n: usize, b: usize, k: usize) -> bool
     requires { ⌜ Laid n b (now contents) (now bodies) × ((Closed (objectsAt n b (now contents) (now bodies))) × ((1 ≤ k) × (k ≤ n))) ⌝ }
     ensures { λ r. ⌜ r ≡ chainFine (objectsAt n b (now (contents .entry)) (now (bodies .entry))) k ⌝ }
 {
-    if readers::kind(contents, n, k) != readers::CLASS {
+    if readers::kind(contents, n, k) != limits::CLASS {
         return true;
     }
     ends(contents, bodies, n, b, (2 * k) as u16)
@@ -252,16 +253,16 @@ fn known_kinds(contents: &[u16], n: usize) -> bool
     requires { ⌜ (entryWords * n ≤ length (now contents)) × (5 ≤ n) ⌝ }
     ensures { λ r. ⌜ r ≡ kindsFine (entriesAt n (now (contents .entry))) ⌝ }
 {
-    if readers::kind(contents, n, readers::NIL_OBJECT) != readers::FIELDS {
+    if readers::kind(contents, n, limits::NIL_OBJECT) != limits::FIELDS {
         return false;
     }
-    if readers::kind(contents, n, readers::FALSE_OBJECT) != readers::FIELDS {
+    if readers::kind(contents, n, limits::FALSE_OBJECT) != limits::FIELDS {
         return false;
     }
-    if readers::kind(contents, n, readers::TRUE_OBJECT) != readers::FIELDS {
+    if readers::kind(contents, n, limits::TRUE_OBJECT) != limits::FIELDS {
         return false;
     }
-    readers::kind(contents, n, readers::INTEGER_CLASS_OBJECT) == readers::CLASS
+    readers::kind(contents, n, limits::INTEGER_CLASS_OBJECT) == limits::CLASS
 }
 
 // Every word is nil or names an object of this kind.
@@ -284,15 +285,15 @@ fn selectors_fine(contents: &[u16], bodies: &[u16], n: usize, b: usize) -> bool
     requires { ⌜ Laid n b (now contents) (now bodies) ⌝ }
     ensures { λ r. ⌜ r ≡ selectorsFine (objectsAt n b (now (contents .entry)) (now (bodies .entry))) ⌝ }
 {
-    if readers::kind(contents, n, readers::SELECTORS_OBJECT) != readers::LIST {
+    if readers::kind(contents, n, limits::SELECTORS_OBJECT) != limits::LIST {
         return false;
     }
-    if readers::size(contents, n, readers::SELECTORS_OBJECT) != readers::SPECIAL_SELECTORS {
+    if readers::size(contents, n, limits::SELECTORS_OBJECT) != limits::SPECIAL_SELECTORS {
         return false;
     }
-    let from = readers::start(contents, n, readers::SELECTORS_OBJECT) as usize;
-    let end = from + readers::SPECIAL_SELECTORS as usize;
-    nil_or_words(contents, n, readers::BYTES, &bodies[from..end])
+    let from = readers::start(contents, n, limits::SELECTORS_OBJECT) as usize;
+    let end = from + limits::SPECIAL_SELECTORS as usize;
+    nil_or_words(contents, n, limits::BYTES, &bodies[from..end])
 }
 
 // The objects 1 to 5.
@@ -308,11 +309,11 @@ pub fn known_fine(edition: u16, contents: &[u16], bodies: &[u16], n: usize, b: u
         bodies,
         n,
         b,
-        Pointer(readers::INTEGER_CLASS),
-        readers::FORM_WORD,
+        Pointer(limits::INTEGER_CLASS),
+        limits::FORM_WORD,
     )
         / 2
-        != readers::OTHER
+        != limits::OTHER
     {
         return false;
     }

@@ -9,6 +9,7 @@ ghost use Rattle.model.specs.Objects.{objectsAt};
 ghost use Rattle.model.specs.Rules.{paddingFine, layoutRules, wordsFine, rule4, rule5, rule6};
 ghost use Rattle.readers.specs.Places.{Entry, Laid};
 ghost use Rattle.rules.specs.Lent.{Lent, startOf};
+use model::limits;
 
 mod class_rules;
 
@@ -32,10 +33,10 @@ fn padding(contents: &[u16], bodies: &[u16], n: usize, b: usize, k: usize) -> bo
 fn class_size(of: u16, words: u16) -> bool
     ensures { λ r. ⌜ r ≡ implies (eqb of classKind) (eqb words classWords) ⌝ }
 {
-    if of != readers::CLASS {
+    if of != limits::CLASS {
         return true;
     }
-    words == readers::CLASS_WORDS
+    words == limits::CLASS_WORDS
 }
 
 // The layout of one object: `from` is where the body before it ends.

@@ -17,9 +17,7 @@ use model::CodePosition;
 use model::Found;
 use model::Pointer;
 use model::StackPosition;
-
-// The most temporaries and operands of a frame.
-const LARGE_FRAME_WORDS: usize = 32;
+use model::limits;
 
 // Receiver, first and second argument (0 where there is none) of a send by a running method. The receiver's place is in the stack;
 // `left` operands stay below it.
@@ -179,7 +177,7 @@ fn enter(
     requires { ⌜ Enters (now stack) (top .0) (next .0) left base temporaries from count ⌝ }
     ensures { λ _. ⌜ now (stack .exit) ≡ sets (set (set (now (stack .entry)) (top .0 + 1) (next .0)) (top .0 + 2) left) base (newWords (top .0) (method .0) receiver temporaries (part (now (stack .entry)) from count)) ⌝ }
 {
-    let mut arguments = [0u16; LARGE_FRAME_WORDS];
+    let mut arguments = [0u16; limits::LARGE_FRAME];
     words::copy(&mut arguments, 0, stack, from, count);
     frames::move_to(stack, top, next, left);
     frames::write_frame(

@@ -19,6 +19,7 @@ use model::CodePosition;
 use model::Computed;
 use model::Pointer;
 use model::StackPosition;
+use model::limits;
 
 // The running frame as the run loop holds it: its base, where its method's code starts in bodies, its first operand, the position of its
 // next bytecode and the place behind its last operand. Its own words for position and depth are written when the loop leaves it.
@@ -394,7 +395,7 @@ fn arithmetic_send(
                 bodies,
                 n,
                 b,
-                Pointer(readers::SELECTORS),
+                Pointer(limits::SELECTORS),
                 k as usize,
             );
             sent(contents, bodies, stack, n, b, active, next, s, 1)
@@ -451,7 +452,7 @@ fn special_send(
         bodies,
         n,
         b,
-        Pointer(readers::SELECTORS),
+        Pointer(limits::SELECTORS),
         k as usize,
     );
     let count = special_count(k);

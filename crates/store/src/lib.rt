@@ -11,6 +11,7 @@ ghost use Rattle.rules.specs.Lent.{Lent};
 ghost use Rattle.store.specs.Judged.{Judged};
 ghost use Rattle.store.specs.Answer.{roomFor, stored, storedBy, Passed};
 ghost use Rattle.store.specs.Readings.{readingNumber, readingOf};
+use model::limits;
 
 // What reading an image gives: its edition, counts and start words, or the number of the refusal.
 pub enum Reading {
@@ -35,7 +36,7 @@ pub fn starts_fine(contents: &[u16], n: usize, receiver: u16, selector: u16) -> 
     if !readers::is_valid(n, receiver) {
         return false;
     }
-    readers::is_kind(contents, n, readers::BYTES, selector)
+    readers::is_kind(contents, n, limits::BYTES, selector)
 }
 
 // Rule 2: edition, N and B in range.
@@ -48,17 +49,17 @@ pub fn header_fine(edition: u16, n: u16, b: u16) -> bool
     if n < readers::edition::least_objects(edition) {
         return false;
     }
-    if readers::MOST_OBJECTS < n {
+    if limits::MOST_OBJECTS < n {
         return false;
     }
-    b <= readers::MOST_BODY_WORDS
+    b <= limits::MOST_BODY_WORDS
 }
 
 // Rule 3: buffers of these lengths hold n objects and b body words, and the cache has its length.
 pub fn buffers_fine(contents: usize, bodies: usize, cache: usize, n: u16, b: u16) -> bool
     ensures { λ r. ⌜ r ≡ buffersFine (roomFor contents bodies cache) n b ⌝ }
 {
-    if contents < readers::ENTRY_WORDS * (n as usize) {
+    if contents < limits::ENTRY_WORDS * (n as usize) {
         return false;
     }
     if bodies < b as usize {
@@ -115,7 +116,7 @@ fn settle(
     ensures { λ r. ⌜ stored r (now (contents .exit)) (now (bodies .exit)) ≡ storedBy (objectsVerdict edition (imageObjects (now (image .entry))) receiver selector) (now (image .entry)) (now (contents .entry)) (now (bodies .entry)) ⌝ }
 {
     image::place(image, n, b, contents, bodies);
-    let mut notes = [0u8; readers::MOST_BODY_BYTES];
+    let mut notes = [0u8; limits::MOST_BODY_BYTES];
     let number = judge(
         edition,
         contents,
