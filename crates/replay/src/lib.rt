@@ -158,7 +158,7 @@ fn forget_call(
 }
 
 // The call at i, which stands there whole.
-fn perform(
+fn make_call(
     registers: Registers,
     contents: &mut [u16],
     bodies: &mut [u16],
@@ -184,7 +184,7 @@ fn perform(
 }
 
 // The four words of an answer.
-fn put(answers: &mut [u32], at: usize, number: u32, phase: u32, count: u32, value: u32)
+fn write_answer(answers: &mut [u32], at: usize, number: u32, phase: u32, count: u32, value: u32)
     requires { ⌜ at + 4 ≤ length (now answers) ⌝ }
     ensures { λ r. ⌜ now (answers .exit) ≡ sets (now (answers .entry)) at (number ∷ phase ∷ count ∷ value ∷ []) ⌝ }
 {
@@ -201,15 +201,15 @@ fn note(performed: Performed, answers: &mut [u32], at: usize) -> Registers
 {
     match performed {
         Performed::Done(registers) => {
-            put(answers, at, 0, 0, 0, 0);
+            write_answer(answers, at, 0, 0, 0, 0);
             registers
         }
         Performed::Refused(k, registers) => {
-            put(answers, at, k, 0, 0, 0);
+            write_answer(answers, at, k, 0, 0, 0);
             registers
         }
         Performed::Ran(count, registers) => {
-            put(
+            write_answer(
                 answers,
                 at,
                 0,
@@ -246,7 +246,7 @@ fn play(
                 calls: made,
             };
         }
-        let performed = perform(registers, contents, bodies, stack, cache, calls, i);
+        let performed = make_call(registers, contents, bodies, stack, cache, calls, i);
         registers = note(performed, answers, 4 * made);
         i += size;
         made += 1;

@@ -80,7 +80,7 @@ pub fn run(
     let start = StackPosition(top);
     let mut count: u32 = 0;
     let mut reach = frame_end(contents, bodies, stack, objects, words, start);
-    let mut active = steps::enter(contents, bodies, stack, objects, words, start);
+    let mut active = steps::hold(contents, bodies, stack, objects, words, start);
     while count < grant {
         match interpreter::advance(
             contents,
@@ -114,11 +114,11 @@ pub fn run(
                     next.0,
                     reach,
                 );
-                active = steps::enter(contents, bodies, stack, objects, words, next);
+                active = steps::hold(contents, bodies, stack, objects, words, next);
                 count += 1;
             }
             Advanced::Below(below) => {
-                active = steps::enter(contents, bodies, stack, objects, words, below);
+                active = steps::hold(contents, bodies, stack, objects, words, below);
                 count += 1;
             }
             Advanced::Finished(w) => {

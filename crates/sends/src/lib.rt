@@ -162,7 +162,7 @@ fn new_base(
 }
 
 // The frame of a method is made at a base, and the top one goes on behind the send, with the operands that are left.
-fn enter(
+fn make_frame(
     stack: &mut [u16],
     top: StackPosition,
     next: CodePosition,
@@ -266,7 +266,7 @@ pub fn send(
                     base: base,
                     temporaries: temporaries,
                 } => {
-                    enter(
+                    make_frame(
                         stack,
                         top,
                         next,

@@ -49,7 +49,7 @@ pub enum Event {
 }
 
 // The top frame, taken from its words.
-pub fn enter(
+pub fn hold(
     contents: &[u16],
     bodies: &[u16],
     stack: &[u16],

@@ -10,7 +10,7 @@ use Rattle.replay.proofs.play.Tie as tie
 use Rattle.replay.proofs.play.Reads as reads
 use Rattle.replay.proofs.play.Lts as lts
 use Rattle.replay.proofs.note.Reads as note-reads
-use Rattle.replay.proofs.perform.Reads as perform-reads
+use Rattle.replay.proofs.make_call.Reads as make-call-reads
 use Rattle.replay.proofs.size_at.Reads as size-at-reads
 
 abbrev Inv-loop : tie.InvT-loop
@@ -50,8 +50,8 @@ returns c =
     let at-start = c .before .before .before .before .before .before .before .before .before .before in
     ends-none (at-start .args .calls .now) (at-start .args .answers .now) _ _ _ _ _ (c .before .before .before .loop .inv .1) (c .before .size-at .result) (c .before .size-at .ensures) (c .if1 .taken)
 
-perform-requires : tie.Need-perform-requires Inv-loop μ-loop
-perform-requires c κs =
+make-call-requires : tie.Need-make-call-requires Inv-loop μ-loop
+make-call-requires c κs =
     let at-if1 = c .before .before .before .before in
     let at-size-at = at-if1 .before in
     let at-loop-test = at-size-at .before in
@@ -104,17 +104,17 @@ loop-less c = omega (arith, c .before .before .before .before .before .before .b
 loop-again : tie.Need-loop-again Inv-loop μ-loop
 loop-again c =
     let at-note = c .before .before in
-    let at-perform = at-note .before .before .before .before .before .before .before .before .before .before in
-    let at-if1 = at-perform .before .before .before .before .before in
+    let at-make-call = at-note .before .before .before .before .before .before .before .before .before .before in
+    let at-if1 = at-make-call .before .before .before .before .before in
     let at-size-at = at-if1 .before in
     let at-loop-test = at-size-at .before in
     let at-loop = at-loop-test .before in
     let at-start = at-loop .before .before .before .before .before .before .before in (
       at-loop .loop .inv .0,
       goes-on (at-start .args .calls .now) (at-start .args .answers .now) _ _ _ _ _ (at-loop .loop .inv .1)
-          (at-loop-test .loop-test .taken) (at-size-at .size-at .result) (at-size-at .size-at .ensures) (at-if1 .if1 .left) (at-perform .perform .result) _ _ _ _ _
-          (at-perform .perform .ensures) (at-note .note .ensures .1) (at-perform .perform .kept .1 .0) (at-perform .perform .kept .1 .1 .0)
-          (at-perform .perform .kept .1 .1 .1 .0) (at-perform .perform .kept .1 .1 .1 .1 .0) _ (at-note .note .ensures .0),
+          (at-loop-test .loop-test .taken) (at-size-at .size-at .result) (at-size-at .size-at .ensures) (at-if1 .if1 .left) (at-make-call .make-call .result) _ _ _ _ _
+          (at-make-call .make-call .ensures) (at-note .note .ensures .1) (at-make-call .make-call .kept .1 .0) (at-make-call .make-call .kept .1 .1 .0)
+          (at-make-call .make-call .kept .1 .1 .1 .0) (at-make-call .make-call .kept .1 .1 .1 .1 .0) _ (at-note .note .ensures .0),
     )
 
 same-length-6 : tie.Need-same-length-6 Inv-loop μ-loop
@@ -151,7 +151,7 @@ play-spec =
     same-length-4
     same-length-5
     returns
-    perform-requires
+    make-call-requires
     mul-note
     note-requires
     add-i

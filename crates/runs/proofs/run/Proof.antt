@@ -13,7 +13,7 @@ use Rattle.runs.proofs.run.Lts as lts
 use Rattle.interpreter.proofs.advance.Reads as advance-reads
 use Rattle.runs.proofs.frame_end.Reads as frame-end-reads
 use Rattle.runs.proofs.raised.Reads as raised-reads
-use Rattle.steps.proofs.enter.Reads as enter-reads
+use Rattle.steps.proofs.hold.Reads as hold-reads
 use Rattle.steps.proofs.leave.Reads as leave-reads
 
 abbrev Inv-loop : tie.InvT-loop
@@ -31,8 +31,8 @@ frame-end-requires c κs =
     let w = at-start .pre in
     start-runs (a .edition) (w .receiver) (w .selector) (a .n) (a .b) (a .top) (a .contents .now) (a .bodies .now) (a .stack .now) (a .cache .now) (w .checks)
 
-enter-requires : tie.Need-enter-requires Inv-loop μ-loop
-enter-requires c κs =
+hold-requires : tie.Need-hold-requires Inv-loop μ-loop
+hold-requires c κs =
     let at-start = c .before .before .before .before .before .before .before .before .before .before .before in
     let a = at-start .args in
     let w = at-start .pre in
@@ -45,7 +45,7 @@ loop-holds c =
     let a = at-start .args in
     let end = at-frame-end .frame-end .ensures in
     λ receiver selector e. loop-holds-it (loop-start (a .edition) receiver selector (a .n) (a .b) (a .top) (a .contents .now) (a .bodies .now) (a .stack .now)
-    (a .cache .now) e (a .grant) _ (end .0) (end .1)) (c .enter .result) (c .enter .ensures)
+    (a .cache .now) e (a .grant) _ (end .0) (end .1)) (c .hold .result) (c .hold .ensures)
 
 advance-requires : tie.Need-advance-requires Inv-loop μ-loop
 advance-requires c κs =
@@ -89,8 +89,8 @@ raised-requires c κs =
     let l = at-loop .loop .inv (w .receiver) (w .selector) (w .checks) in
     (went-runs l (at-loop-test .loop-test .taken) _ _ _ _ (at-advance .advance .result) (at-advance .advance .ensures (w .receiver) (w .selector)) _ _ _ (at-grown .grown .given .1), l .at .low)
 
-enter-requires-2 : tie.Need-enter-requires-2 Inv-loop μ-loop
-enter-requires-2 c κs =
+hold-requires-2 : tie.Need-hold-requires-2 Inv-loop μ-loop
+hold-requires-2 c κs =
     let at-grown = c .before .before .before .before .before .before .before .before in
     let at-advance = at-grown .before .before .before .before .before .before .before .before .before .before in
     let at-loop-test = at-advance .before .before .before .before .before in
@@ -118,13 +118,13 @@ loop-again-2 c =
     let at-loop = at-loop-test .before in
     let end = at-raised .raised .ensures in
     λ receiver selector e. loop-holds-it (loop-went (at-loop .loop .inv receiver selector e) (at-loop-test .loop-test .taken) _ _ _ _
-    (at-advance .advance .result) (at-advance .advance .ensures receiver selector) _ _ _ (at-grown .grown .given .1) _ (end .0) (end .1)) (c .enter2 .result) (c .enter2 .ensures)
+    (at-advance .advance .result) (at-advance .advance .ensures receiver selector) _ _ _ (at-grown .grown .given .1) _ (end .0) (end .1)) (c .hold2 .result) (c .hold2 .ensures)
 
 enum-known-below : tie.Need-enum-known-below Inv-loop μ-loop
 enum-known-below c = search needs
 
-enter-requires-3 : tie.Need-enter-requires-3 Inv-loop μ-loop
-enter-requires-3 c κs =
+hold-requires-3 : tie.Need-hold-requires-3 Inv-loop μ-loop
+hold-requires-3 c κs =
     let at-below = c .before .before .before .before in
     let at-advance = at-below .before .before .before .before .before .before .before .before .before .before in
     let at-loop-test = at-advance .before .before .before .before .before in
@@ -150,7 +150,7 @@ loop-again-3 c =
     let at-loop-test = at-advance .before .before .before .before .before in
     let at-loop = at-loop-test .before in
     λ receiver selector e. loop-holds-it (loop-back (at-loop .loop .inv receiver selector e) (at-loop-test .loop-test .taken) _ _ _ _
-    (at-advance .advance .result) (at-advance .advance .ensures receiver selector) _ (at-below .below .given .1)) (c .enter3 .result) (c .enter3 .ensures)
+    (at-advance .advance .result) (at-advance .advance .ensures receiver selector) _ (at-below .below .given .1)) (c .hold3 .result) (c .hold3 .ensures)
 
 enum-known-w : tie.Need-enum-known-w Inv-loop μ-loop
 enum-known-w c = search needs
@@ -378,7 +378,7 @@ run-spec =
     Inv-loop
     μ-loop
     frame-end-requires
-    enter-requires
+    hold-requires
     loop-holds
     advance-requires
     enum-known-position
@@ -387,12 +387,12 @@ run-spec =
     loop-again
     enum-known-grown
     raised-requires
-    enter-requires-2
+    hold-requires-2
     add-count-2
     loop-less-2
     loop-again-2
     enum-known-below
-    enter-requires-3
+    hold-requires-3
     add-count-3
     loop-less-3
     loop-again-3

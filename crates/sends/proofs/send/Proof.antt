@@ -92,15 +92,15 @@ new-base-requires c κs =
 enum-known-fit : tie.Need-enum-known-fit
 enum-known-fit c = search needs
 
-add-enter : tie.Need-add-enter
-add-enter c =
+add-make-frame : tie.Need-add-make-frame
+add-make-frame c =
     let at-received = c .before .before .before .before .before .before .before .before .before .before .before .before .before .before .before .before in
     let at-start = at-received .before .before .before .before .before .before .before .before .before .before .before .before .before in
     let t = top-bounds (at-start .pre .0 .runs) in let h = at-start .pre .0 .needs in let g = message (at-start .pre .0) (at-start .pre .3)
     (at-received .received .ensures) in let p = g .place in omega arith
 
-enter-requires : tie.Need-enter-requires
-enter-requires c κs =
+make-frame-requires : tie.Need-make-frame-requires
+make-frame-requires c κs =
     let at-new-base = c .before .before .before .before in
     let at-enum-told3 = at-new-base .before .before .before in
     let at-acted = at-enum-told3 .before .before .before .before .before .before in
@@ -193,8 +193,8 @@ same-length-15 c = search needs
 
 returns-4 : tie.Need-returns-4
 returns-4 c =
-    let at-enter = c .before .before .before .before .before .before in
-    let at-fit = at-enter .before .before .before in
+    let at-make-frame = c .before .before .before .before .before .before in
+    let at-fit = at-make-frame .before .before .before in
     let at-new-base = at-fit .before .before in
     let at-enum-told3 = at-new-base .before .before .before in
     let at-acted = at-enum-told3 .before .before .before .before .before .before in
@@ -205,7 +205,7 @@ returns-4 c =
     made-frame (at-start .pre .0) (message (at-start .pre .0) (at-start .pre .3) (at-received .received .ensures)) _ (sym (at-cached .cached .ensures)
     ∙ at-found .found .given .1) (at-start .args .edition) (at-start .args .cache .now) (at-acted .acted .last .0) (at-acted .acted .last .1 .0) (at-acted .acted .result)
     (at-acted .acted .ensures) (at-enum-told3 .enum-told3 .given .1) (at-new-base .new-base .result) (at-new-base .new-base .ensures) _ _
-    (at-fit .fit .given .1) _ _ (at-enter .enter .ensures) (c .before .before .fill2 .ensures)
+    (at-fit .fit .given .1) _ _ (at-make-frame .make-frame .ensures) (c .before .before .fill2 .ensures)
 
 same-length-16 : tie.Need-same-length-16
 same-length-16 c = search needs
@@ -278,8 +278,8 @@ send-spec =
     enum-told-3
     new-base-requires
     enum-known-fit
-    add-enter
-    enter-requires
+    add-make-frame
+    make-frame-requires
     fill-requires-2
     enum-told-4
     enum-told-5

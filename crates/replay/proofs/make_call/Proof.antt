@@ -2,10 +2,10 @@ use native.Mathlib.Omega.{arith}
 use mathlib.Core.Path.{_∙_}
 use Rattle.replay.proofs.Lists.{within, begin-fits, run-fits, calls-begin, calls-run, calls-drop, calls-forget}
 use borrow.Author.Needs.{needs}
-use Rattle.replay.proofs.perform.Statement.{statement}
-use Rattle.replay.proofs.perform.Tie as tie
-use Rattle.replay.proofs.perform.Reads as reads
-use Rattle.replay.proofs.perform.Lts as lts
+use Rattle.replay.proofs.make_call.Statement.{statement}
+use Rattle.replay.proofs.make_call.Tie as tie
+use Rattle.replay.proofs.make_call.Reads as reads
+use Rattle.replay.proofs.make_call.Lts as lts
 use Rattle.replay.proofs.begin_call.Reads as begin-call-reads
 use Rattle.replay.proofs.drop_call.Reads as drop-call-reads
 use Rattle.replay.proofs.forget_call.Reads as forget-call-reads
@@ -120,8 +120,8 @@ returns-4 c =
     let at-start = at-if1 .before .before .before .before .before .before .before in
     c .before .before .forget-call .ensures ∙ calls-forget (at-start .args .calls .now) (at-start .args .i) _ (at-if1 .if1 .left) (at-if2 .if2 .left) (at-if3 .if3 .left)
 
-pub perform-spec : {M : Type 1} → statement M
-perform-spec =
+pub make-call-spec : {M : Type 1} → statement M
+make-call-spec =
     tie.close
     (tie.spec
     mul-kind

@@ -8,8 +8,8 @@ use Rattle.frames.specs.Words.{newWords}
 use Rattle.words.proofs.Runs.{copied-stands}
 use Rattle.sends.proofs.Placing.{lent-sets}
 use borrow.Author.Needs.{needs}
-use Rattle.sends.proofs.enter.Statement.{statement}
-use Rattle.sends.proofs.enter.Tie as tie
+use Rattle.sends.proofs.make_frame.Statement.{statement}
+use Rattle.sends.proofs.make_frame.Tie as tie
 
 slice-aggregate-copy : tie.Need-slice-aggregate-copy
 slice-aggregate-copy c = search needs
@@ -56,8 +56,8 @@ returns c =
     (at-move-to .move-to .ensures)
     (ap (take (args .count)) (at-copy .copy .ensures) ∙ copied-stands none (args .stack .now) (args .from) (args .count) (omega arith) (omega arith))
 
-pub enter-spec : {M : Type 1} → statement M
-enter-spec =
+pub make-frame-spec : {M : Type 1} → statement M
+make-frame-spec =
     tie.close
     (tie.spec
     slice-aggregate-copy

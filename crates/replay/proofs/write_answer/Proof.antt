@@ -2,10 +2,10 @@ use native.Mathlib.Omega.{arith}
 use lib.ListN.{length-set}
 use Rattle.replay.proofs.Lists.{puts}
 use borrow.Author.Needs.{needs}
-use Rattle.replay.proofs.put.Statement.{statement}
-use Rattle.replay.proofs.put.Tie as tie
-use Rattle.replay.proofs.put.Reads as reads
-use Rattle.replay.proofs.put.Lts as lts
+use Rattle.replay.proofs.write_answer.Statement.{statement}
+use Rattle.replay.proofs.write_answer.Tie as tie
+use Rattle.replay.proofs.write_answer.Reads as reads
+use Rattle.replay.proofs.write_answer.Lts as lts
 
 mul-answers : tie.Need-mul-answers
 mul-answers c = search needs
@@ -46,8 +46,8 @@ same-length c = search needs
 returns : tie.Need-returns
 returns c = puts (c .args .answers .now) (c .args .at) (c .args .number) (c .args .phase) (c .args .count) (c .args .value)
 
-pub put-spec : {M : Type 1} → statement M
-put-spec =
+pub write-answer-spec : {M : Type 1} → statement M
+write-answer-spec =
     tie.close
     (tie.spec
     mul-answers

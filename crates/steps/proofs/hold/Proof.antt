@@ -4,8 +4,8 @@ use Rattle.steps.proofs.HereLaws.{holds-method}
 use Rattle.steps.proofs.ActiveLaws.{enter-bounds, enter-position, entered}
 use mathlib.Core.Path.{refl}
 use borrow.Author.Needs.{needs}
-use Rattle.steps.proofs.enter.Statement.{statement}
-use Rattle.steps.proofs.enter.Tie as tie
+use Rattle.steps.proofs.hold.Statement.{statement}
+use Rattle.steps.proofs.hold.Tie as tie
 
 add-position : tie.Need-add-position
 add-position c = let k = enter-bounds _ (c .before .before .before .pre) in omega arith
@@ -67,8 +67,8 @@ returns c =
     let at-start = at-code-of .before .before .before .before .before in
     entered _ (at-start .pre) (at-code-of .code-of .result) _ _ (at-code-of .code-of .ensures) (c .before .before .before .header .ensures) (c .before .before .temporary-count .ensures)
 
-pub enter-spec : {M : Type 1} → statement M
-enter-spec =
+pub hold-spec : {M : Type 1} → statement M
+hold-spec =
     tie.close
     (tie.spec
     add-position
