@@ -82,7 +82,7 @@ pub fn begin(
         },
         Activated::Unfit => Beginning::Refused(9),
         Activated::Frame => {
-            if stack.len() < 6 + readers::frame_words(header) {
+            if stack.len() < limits::FRAME_HEADER + readers::frame_words(header) {
                 return Beginning::Refused(13);
             }
             let temporaries = readers::temporary_count(header);

@@ -42,11 +42,12 @@ fn frame_end(
         return StackPosition(0);
     }
     let end = base
-        + (6 + readers::frame_words(objects::header(contents, bodies, n, b, Pointer(m))));
+        + (limits::FRAME_HEADER
+            + readers::frame_words(objects::header(contents, bodies, n, b, Pointer(m))));
     if stack.len() < end {
         return StackPosition(0);
     }
-    if 65536 < end {
+    if limits::MOST_STACK_WORDS < end {
         return StackPosition(0);
     }
     StackPosition(end)
@@ -143,7 +144,7 @@ fn frame_fine(
     let base = at.0;
     let m = stack[base + 3];
     let depth = stack[base + 2] as usize;
-    let from = base + 6;
+    let from = base + limits::FRAME_HEADER;
     let end = from
         + (readers::temporary_count(objects::header(contents, bodies, n, b, Pointer(m))) + depth);
     readers::valid_words(n, &stack[from..end])

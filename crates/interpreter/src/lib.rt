@@ -12,6 +12,7 @@ ghost use Rattle.interpreter.specs.Advances.{AdvancedIs};
 use model::CodePosition;
 use model::Pointer;
 use model::StackPosition;
+use model::limits;
 use sends::Sent;
 use steps::Active;
 use steps::Event;
@@ -53,7 +54,7 @@ fn return_to(
     let header = objects::header(contents, bodies, n, b, method);
     let temporaries = readers::temporary_count(header);
     let depth = stack[sender + 2] as usize;
-    let place = sender + (6 + (temporaries + depth));
+    let place = sender + (limits::FRAME_HEADER + (temporaries + depth));
     stack[place] = w;
     stack[sender + 2] = (depth + 1) as u16;
     StackPosition(sender)

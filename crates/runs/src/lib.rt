@@ -6,6 +6,7 @@ ghost use Rattle.runs.specs.Ends.{frameEnd, raisedTo, Goes, RunsOn};
 use interpreter::Advanced;
 use model::Pointer;
 use model::StackPosition;
+use model::limits;
 
 // How a run ended: the registers but for the start words, the bytecodes made, the highest end of a frame that stood in it.
 pub struct Ended {
@@ -33,7 +34,7 @@ fn frame_end(
     let base = top.0;
     let method = Pointer(stack[base + 3]);
     let words = readers::frame_words(objects::header(contents, bodies, n, b, method));
-    base + (6 + words)
+    base + (limits::FRAME_HEADER + words)
 }
 
 // The highest end once the top frame is another one: where it is the same, no frame ends higher.

@@ -146,12 +146,12 @@ fn new_base(
     }
     let below = readers::frame_words(objects::header(contents, bodies, n, b, running));
     let header = objects::header(contents, bodies, n, b, method);
-    let base = top.0 + 6 + below;
-    let end = base + 6 + readers::frame_words(header);
+    let base = top.0 + limits::FRAME_HEADER + below;
+    let end = base + limits::FRAME_HEADER + readers::frame_words(header);
     if room < end {
         return Base::Full;
     }
-    if 65536 < end {
+    if limits::MOST_STACK_WORDS < end {
         return Base::Full;
     }
     let temporaries = readers::temporary_count(header);

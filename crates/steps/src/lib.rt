@@ -64,7 +64,7 @@ pub fn hold(
     let method = Pointer(stack[base + 3]);
     let code = objects::code_of(contents, bodies, n, b, method);
     let temporaries = readers::temporary_count(objects::header(contents, bodies, n, b, method));
-    let operands = base + 6 + temporaries;
+    let operands = base + limits::FRAME_HEADER + temporaries;
     let position = stack[base + 1] as usize;
     let depth = stack[base + 2] as usize;
     Active {
@@ -127,7 +127,7 @@ fn read(
             let receiver = stack[base + 5];
             readers::word_of(contents, bodies, n, b, Pointer(receiver), i)
         }
-        Place::Temporary(i) => stack[base + 6 + i],
+        Place::Temporary(i) => stack[base + limits::FRAME_HEADER + i],
         Place::Literal(i) => {
             let method = Pointer(stack[base + 3]);
             objects::literal(contents, bodies, n, b, method, i)
@@ -194,7 +194,7 @@ fn store(
             objects::store_word(contents, bodies, n, b, Pointer(receiver), i, w);
         }
         Place::Temporary(i) => {
-            stack[base + 6 + i] = w;
+            stack[base + limits::FRAME_HEADER + i] = w;
         }
         // no reached store goes to a literal
         Place::Literal(_) => {}
