@@ -1,5 +1,5 @@
 -- The cases of a begin.
-use Prim.Native.Nat.{ℕ, _+_, _*_, _-_, _/_, _%_, _≤_, _<_}
+use Prim.Native.Nat.{ℕ, _+_, _-_, _≤_, _<_}
 use mathlib.Core.Path.{_≡_, refl, sym, ap, ap₂, _∙_, subst}
 use mathlib.Core.Logic.{_≢_}
 use mathlib.Core.Bool.{Bool, true, false, _&&_}
@@ -7,20 +7,20 @@ use mathlib.Core.List.{List, [], _∷_, _++_, append-nil}
 use native.Mathlib.Omega.{arith}
 use borrow.Author.Tests.{eq-eqb, ne-eqb, le-leb, lt-leb}
 use lib.Dec.{T, eqb, leb}
-use lib.ListN.{length, getD, take, drop, replicate}
+use lib.ListN.{length, getD, take, replicate}
 use lib.Seq.{sets, take-all}
-use Rattle.bytecode.specs.Test.{if_then_else_, every}
+use Rattle.bytecode.specs.Test.{every}
 use Rattle.bytecode.specs.Constant.{nilWord}
-use Rattle.bytecode.proofs.Choice.{if-yes, if-no, if-cases}
-use Rattle.bytecode.proofs.TestLaws.{and-left, and-right, true→T, T→true}
+use Rattle.bytecode.proofs.Choice.{if-yes, if-no}
+use Rattle.bytecode.proofs.TestLaws.{and-left, true→T, T→true}
 use Rattle.model.specs.declared.Found.{Found}
-use Rattle.model.specs.declared.Found.the-variants.{Method, Nothing}
-use Rattle.model.specs.Limits.{entryWords, bytesKind, classKind, methodKind}
+use Rattle.model.specs.declared.Found.the-variants.{Nothing}
+use Rattle.model.specs.Limits.{bytesKind, classKind}
 use Rattle.model.specs.Word.{isValid}
 use Rattle.model.specs.Objects.{Objects, objectsAt, classOf, isKind, isNilOr}
-use Rattle.model.specs.Method.{header, home, temporaryCount, frameWords, frameSize, argumentCount}
+use Rattle.model.specs.Method.{home, temporaryCount, frameWords, frameSize, argumentCount}
 use Rattle.model.specs.Lookup.{found, lookup, inChain}
-use Rattle.model.specs.Rules.{Right, rule8}
+use Rattle.model.specs.Rules.{rule8}
 use Rattle.model.specs.Image.{Room}
 use Rattle.model.proofs.SendFacts.{lookup-facts, class-kind}
 use Rattle.model.proofs.Facts.{method-facts}
@@ -29,8 +29,8 @@ use Rattle.model.proofs.DepthLaws.{spot-start}
 use Rattle.plain.specs.Registers.{running, finished}
 use Rattle.plain.specs.State.{Frame, Plain, withObjects, withFrames, newFrame, fitsStack}
 use Rattle.plain.specs.Step.{Activation, answered, entered, unfit, entering, activate}
-use Rattle.plain.specs.Calls.{Begun, begun, declined, beginActivated, beginFound, begin}
-use Rattle.plain.specs.FlatCalls.{atFront, laid}
+use Rattle.plain.specs.Calls.{begun, declined, beginActivated, beginFound, begin}
+use Rattle.plain.specs.FlatCalls.{laid}
 use Rattle.plain.proofs.Preserve.{entered-runs}
 use Rattle.plain.proofs.FramedLaws.{temporaries-fit}
 use Rattle.plain.proofs.RunningLaws.{words-cases}

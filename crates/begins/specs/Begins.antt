@@ -8,9 +8,8 @@ use lib.ListN.{length, take}
 use Rattle.model.specs.Limits.{entryWords}
 use Rattle.model.specs.Objects.{Objects, objectsAt}
 use Rattle.model.specs.Rules.{Right}
-use Rattle.model.specs.Image.{Room}
 use Rattle.plain.specs.Registers.{running, finished}
-use Rattle.plain.specs.State.{Frame, Plain, withObjects, withFrames, newFrame}
+use Rattle.plain.specs.State.{Frame, Plain, withObjects, withFrames}
 use Rattle.plain.specs.Calls.{Begun, begun, declined, begin}
 use Rattle.plain.specs.FlatCalls.{atFront, laid}
 use Rattle.begins.specs.declared.Beginning.{Beginning}

@@ -1,6 +1,6 @@
 -- The words that bytecodes name (01, "Words", "Image" and "Code").
 use Prim.Native.Nat.{ℕ}
-use mathlib.Core.List.{List, [], _∷_}
+use mathlib.Core.List.{[], _∷_}
 use lib.ListN.{getD}
 
 -- the words of objects 1, 2 and 3

@@ -1,7 +1,7 @@
 -- The constant table: one number for each byte, which says what the depth walk asks of the instruction that begins with it.
 use Prim.Native.Nat.{ℕ, _/_, _%_, _<_}
 use mathlib.Core.Path.{_≡_}
-use mathlib.Core.List.{List, [], _∷_}
+use mathlib.Core.List.{List}
 use lib.ListN.{getD}
 use lib.Dec.{eqb}
 use Rattle.bytecode.specs.Test.{if_then_else_}

@@ -1,28 +1,28 @@
 -- What an instruction asks of the objects, as code tests it
-use Prim.Native.Nat.{ℕ, zero, suc, _+_, _-_, _*_, _/_, _≤_, _<_}
+use Prim.Native.Nat.{ℕ, zero, suc, _+_, _-_, _/_, _≤_, _<_}
 use mathlib.Core.Path.{_≡_, refl, sym, ap, ap₂, _∙_, subst}
 use mathlib.Core.Bool.{Bool, true, false, _||_}
 use mathlib.Core.List.{List}
 use native.Mathlib.Omega.{arith}
 use borrow.Author.Tests.{lt-ltb, ne-eqb}
-use lib.Dec.{T, eqb, ltb}
+use lib.Dec.{ltb}
 use lib.ListN.{length, getD}
 use Rattle.bytecode.specs.Test.{implies}
-use Rattle.bytecode.specs.Code.{sendOf, instructionOf, decodeAt}
+use Rattle.bytecode.specs.Code.{sendOf, decodeAt}
 use Rattle.bytecode.specs.Effect.{specialCount, need}
 use Rattle.bytecode.specs.Table.{placeIndex, needPart, Entry as TableEntry}
 use Rattle.bytecode.specs.declared.Instruction.{Instruction}
 use Rattle.bytecode.specs.declared.Place.{Place}
-use Rattle.bytecode.specs.declared.Place.the-variants.{Field, Temporary, Literal, LiteralVariable}
-use Rattle.bytecode.specs.declared.Instruction.the-variants.{Push, Store, PopStore, PushSelf, PushConstant, ReturnSelf, ReturnConstant, ReturnTop, Pop, Duplicate, Jump, JumpOn, Send, SuperSend, SpecialSend, Unused}
+use Rattle.bytecode.specs.declared.Place.the-variants.{LiteralVariable}
+use Rattle.bytecode.specs.declared.Instruction.the-variants.{SpecialSend}
 use Rattle.bytecode.proofs.Choice.{if-lt}
 use Rattle.bytecode.proofs.CodeLaws.{is-send}
 use Rattle.model.specs.Limits.{methodKind, selectorsObject, specialSelectors}
 use Rattle.model.specs.Word.{pointer}
-use Rattle.model.specs.Objects.{Objects, objectsAt, bodyWord, isKind}
+use Rattle.model.specs.Objects.{Objects, bodyWord}
 use Rattle.model.specs.Method.{literal, codeWords, codeSize}
 use Rattle.model.proofs.Unchanged.{Small, small-at}
-use Rattle.model.specs.Rules.{variableFine, sendFine, isSame, isClass, specialSelector}
+use Rattle.model.specs.Rules.{variableFine, sendFine, specialSelector}
 use Rattle.flow.specs.Linked.{placeLinked, linked, linkedAt, allLinked}
 use Rattle.readers.specs.Places.{Entry, Inside}
 use Rattle.readers.proofs.Loops.{Before, below-no, below-all}

@@ -1,20 +1,20 @@
 -- The pass over all objects: what one turn needs, and what it leaves of the others' notes
-use Prim.Native.Nat.{ℕ, zero, suc, _+_, _-_, _/_, _%_, _≤_, _<_}
+use Prim.Native.Nat.{ℕ, zero, suc, _+_, _-_, _/_, _≤_, _<_}
 use mathlib.Core.Path.{_≡_, refl, sym, ap, ap₂, _∙_, subst}
 use mathlib.Core.Logic.{inl}
-use mathlib.Core.Bool.{Bool, true, false, not, _&&_, _||_}
+use mathlib.Core.Bool.{Bool, true, false, not, _&&_}
 use mathlib.Core.List.{List}
 use native.Mathlib.Decide.{ℕ-discrete}
 use native.Mathlib.Omega.{arith}
-use borrow.Author.Tests.{eq-eqb, ne-eqb, le-leb, lt-leb}
-use lib.Dec.{T, eqb, leb}
+use borrow.Author.Tests.{eq-eqb, ne-eqb}
+use lib.Dec.{T, eqb}
 use lib.ListN.{getD, replicate}
 use Rattle.bytecode.specs.Test.{implies, allOf}
 use Rattle.bytecode.proofs.TestLaws.{true→T, T→true, implied, upTo-at}
 use Rattle.model.specs.Limits.{methodKind}
 use Rattle.model.specs.Word.{pointer}
 use Rattle.model.specs.Objects.{Objects, objectsAt, kind, start, bodyWords, bodyEnd}
-use Rattle.model.specs.Method.{header, codeSize, runsCode}
+use Rattle.model.specs.Method.{codeSize, runsCode}
 use Rattle.model.specs.Depth.{isSome}
 use Rattle.model.specs.Rules.{methodTable, rule4}
 use Rattle.model.specs.Notes.{notesFrom, MethodNoted, NotedBefore}

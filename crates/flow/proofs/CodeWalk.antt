@@ -12,12 +12,10 @@ use Rattle.bytecode.specs.Table.{Entry}
 use Rattle.bytecode.specs.declared.Instruction.{Instruction}
 use Rattle.bytecode.proofs.TestLaws.{rule}
 use Rattle.model.specs.Depth.{first, successorsAt, depthAfterAt, rulesAt, fineAt, depthTable}
-use Rattle.model.proofs.Marks.{zeros}
 use Rattle.model.proofs.DepthLaws.{fine-inside}
 use Rattle.flow.specs.Index.{indexed, indexedBy}
-use Rattle.flow.specs.Walk.{Noted, Asks, Turn, fineIn, tableBy, Here, Expand, WalkingAt, TurnAt, Static, Answer, Lent, Walked, mostCode, mostDepth}
+use Rattle.flow.specs.Walk.{Noted, Asks, fineIn, tableBy, Here, Expand, WalkingAt, TurnAt, Static, Answer, Lent, Walked, mostCode, mostDepth}
 use Rattle.flow.specs.declared.Went.{Went}
-use Rattle.flow.specs.declared.Went.the-variants.{On, Stuck}
 use Rattle.flow.proofs.InvariantLaws.{turn-law, ended, begun}
 use Rattle.flow.proofs.UniqueLaws.{table-is, table-none}
 

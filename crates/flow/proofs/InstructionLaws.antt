@@ -11,7 +11,6 @@ use lib.ListN.{getD}
 use Rattle.bytecode.specs.Test.{if_then_else_, implies}
 use Rattle.bytecode.specs.Code.{placeOf, shortOf, constantOf, extendedOf, jumpOf, sendOf, instructionOf, lengthOf}
 use Rattle.bytecode.specs.Table.{placeBound, placeIndex, bound, index, group, alone, groupOf, extraOf}
-use Rattle.bytecode.specs.declared.Place.{Place}
 use Rattle.bytecode.specs.declared.Place.the-variants.{Field, Temporary, Literal, LiteralVariable}
 use Rattle.bytecode.specs.declared.Instruction.{Instruction}
 use Rattle.bytecode.specs.declared.Instruction.the-variants.{Push, Store, PopStore, PushSelf, PushConstant, ReturnSelf, ReturnConstant, ReturnTop, Pop, Duplicate, Jump, JumpOn, Send, SuperSend, SpecialSend, Unused}

@@ -1,6 +1,6 @@
 -- The calls' answers, after a check.
 use Prim.Native.Nat.{ℕ, _*_, _≤_, _<_}
-use mathlib.Core.Path.{_≡_, refl, sym, ap, ap₂, _∙_, subst}
+use mathlib.Core.Path.{_≡_, refl, sym, ap, _∙_}
 use mathlib.Core.Bool.{Bool, true, false}
 use mathlib.Core.List.{List, _++_}
 use lib.Dec.{T}
@@ -9,7 +9,7 @@ use lib.Seq.{sets}
 use Rattle.bytecode.proofs.TestLaws.{true→T}
 use Rattle.model.specs.Limits.{entryWords}
 use Rattle.model.specs.Objects.{objectsAt}
-use Rattle.model.specs.Image.{Verdict, accepted, refused, buffersFine, imageBytes, imageOf}
+use Rattle.model.specs.Image.{accepted, refused, buffersFine, imageBytes, imageOf}
 use Rattle.store.specs.Answer.{roomFor}
 use Rattle.plain.specs.Registers.{withPhase}
 use Rattle.plain.specs.Flat.{flat, roomOf}

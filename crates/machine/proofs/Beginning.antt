@@ -1,31 +1,27 @@
 -- Begin, after a check.
 use Prim.Native.Nat.{ℕ, suc, _*_, _≤_}
-use mathlib.Core.Path.{_≡_, refl, sym, ap, ap₂, _∙_, subst}
-use mathlib.Core.Bool.{Bool, true, false}
+use mathlib.Core.Path.{_≡_, sym, ap, ap₂, _∙_, subst}
 use mathlib.Core.List.{List, [], _∷_}
 use native.Mathlib.Omega.{arith}
 use borrow.Author.Tests.{eq-eqb, ne-eqb}
-use lib.Dec.{T, eqb}
 use lib.ListN.{length}
 use Rattle.bytecode.proofs.Choice.{if-yes}
 use Rattle.model.specs.Limits.{entryWords}
-use Rattle.model.specs.Objects.{Objects, objectsAt}
 use Rattle.model.specs.Rules.{Right}
-use Rattle.model.specs.Image.{Room, Verdict, accepted, refused}
+use Rattle.model.specs.Image.{Verdict, accepted}
 use Rattle.model.proofs.Facts.{most, most-words}
 use Rattle.plain.specs.Registers as R
 use Rattle.plain.specs.Registers.{running, finished, hasFrames, withPhase, withSizes}
-use Rattle.plain.specs.State.{Frame, Plain, withObjects, withFrames}
+use Rattle.plain.specs.State.{withObjects, withFrames}
 use Rattle.plain.specs.Flat.{Flat, flat, roomOf, flatObjects, framesFrom, ifFrames, plainOf}
 use Rattle.plain.specs.Check.{check}
 use Rattle.plain.specs.Calls as P
-use Rattle.plain.specs.FlatCalls.{Given, gives, checked, atFront, withPlain, laid, flatAfterBegin, flatBegin}
-use Rattle.plain.proofs.StateLaws.{PlainRight}
+use Rattle.plain.specs.FlatCalls.{Given, gives, checked, laid, flatAfterBegin, flatBegin}
 use Rattle.plain.proofs.FlatLaws.{FlatRight, check-right}
 use Rattle.plain.proofs.BeginLaws.{BegunRight, BeginGoes, begins}
 use Rattle.plain.proofs.Worlds.{worlds}
 use Rattle.model.proofs.Lent.{front-same}
-use Rattle.begins.specs.Begins.{Starts, stateOver, Answers, Enters, Refuses, BeginIs, Begins}
+use Rattle.begins.specs.Begins.{Starts, Answers, BeginIs, Begins}
 use Rattle.begins.specs.declared.Beginning.{Beginning}
 use Rattle.machine.specs.declared.Registers.{Registers}
 use Rattle.machine.specs.declared.Checked.{Checked}

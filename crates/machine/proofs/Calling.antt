@@ -1,26 +1,24 @@
 -- The calls that check first and then do little.
 use Prim.Native.Nat.{ℕ, _*_, _≤_, _<_}
-use mathlib.Core.Path.{_≡_, refl, sym, ap, ap₂, _∙_, subst}
+use mathlib.Core.Path.{_≡_, refl, sym, ap, ap₂, _∙_}
 use mathlib.Core.Bool.{Bool, true, false, _&&_}
-use mathlib.Core.List.{List, [], _∷_, _++_, append-nil}
+use mathlib.Core.List.{List, _++_, append-nil}
 use native.Mathlib.Omega.{arith}
 use borrow.Author.Tests.{le-leb, lt-leb}
-use lib.Dec.{T, leb}
-use lib.ListN.{length, drop, take, replicate}
+use lib.ListN.{length, drop, replicate}
 use lib.Seq.{sets, drop-length, length-take-le}
-use Rattle.bytecode.proofs.TestLaws.{true→T, T→true}
 use Rattle.model.specs.Limits.{entryWords, cacheWords}
-use Rattle.model.specs.Objects.{Objects, objectsAt}
+use Rattle.model.specs.Objects.{objectsAt}
 use Rattle.model.specs.Image.{Header, Verdict, accepted, refused, unless, _then_, buffersFine, imageBytes, imageOf}
 use Rattle.words.proofs.Runs.{filled-front}
 use Rattle.image.proofs.RoundTrip.{Fitting, length-image}
 use Rattle.plain.specs.Registers.{Registers, withPhase}
-use Rattle.plain.specs.Flat.{Flat, flat, roomOf, flatObjects, plainOf}
+use Rattle.plain.specs.Flat.{Flat, flat, roomOf, plainOf}
 use Rattle.plain.specs.Cache.{emptyCache}
 use Rattle.plain.specs.Check.{check, stateFine}
-use Rattle.plain.specs.Calls.{dropped, Answer, done, refusedBy, wrote}
-use Rattle.plain.specs.FlatCalls.{Given, gives, checked, atFront, withPlain, flatDrop, flatForget, savedImage, saveVerdict, afterSave, flatSave, saved}
-use Rattle.plain.proofs.FlatLaws.{FlatRight, check-right}
+use Rattle.plain.specs.Calls.{dropped, done, refusedBy, wrote}
+use Rattle.plain.specs.FlatCalls.{Given, gives, checked, flatDrop, flatForget, savedImage, saveVerdict, afterSave, flatSave, saved}
+use Rattle.plain.proofs.FlatLaws.{check-right}
 use Rattle.model.proofs.Lent.{front-same}
 
 -- A cache of its length, cleared

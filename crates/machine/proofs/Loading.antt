@@ -1,8 +1,8 @@
 -- What reading an image leaves is what load leaves.
 use Prim.Native.Nat.{ℕ, _*_}
-use mathlib.Core.Path.{_≡_, refl, sym, ap, ap₂, _∙_, subst}
+use mathlib.Core.Path.{_≡_, refl, sym, ap, _∙_, subst}
 use mathlib.Core.Bool.{Bool, true, false}
-use mathlib.Core.List.{List, [], _∷_, _++_}
+use mathlib.Core.List.{List, _++_}
 use lib.Dec.{T, leb, eqb, le→leb}
 use lib.ListN.{length, drop, replicate, length-replicate}
 use native.Mathlib.Omega.{arith}
@@ -10,9 +10,9 @@ use borrow.Author.Tests.{eq-eqb}
 use lib.Seq.{sets}
 use Rattle.bytecode.proofs.TestLaws.{and-both, true→T}
 use Rattle.bytecode.specs.Test.{if_then_else_}
-use Rattle.model.specs.Limits.{entryWords, cacheWords, headerWords}
+use Rattle.model.specs.Limits.{entryWords, headerWords}
 use Rattle.model.specs.Image.{Room, Header, Verdict, accepted, refused, imageHeader, imageObjects, imageBytes, lengthFine, buffersFine, loadVerdict}
-use Rattle.image.proofs.RoundTrip.{Fitting, objects-fit}
+use Rattle.image.proofs.RoundTrip.{objects-fit}
 use Rattle.store.specs.declared.Reading.{Reading}
 use Rattle.store.specs.declared.Reading.the-variants.{Accepted, Refused}
 use Rattle.store.specs.Answer.{roomFor, Stored, stored, inFront, storedBy}
@@ -20,8 +20,7 @@ use Rattle.store.specs.Readings.{readingNumber, readingOf}
 use Rattle.plain.specs.Registers as R
 use Rattle.plain.specs.Flat.{Flat, flat, roomOf}
 use Rattle.plain.specs.Calls.{loaded, done, refusedBy, result, wrote}
-use Rattle.plain.specs.FlatCalls.{Given, gives, noAnswer, atFront, withPlain, withRegisters, zeroed, afterLoad, flatLoad}
-use Rattle.plain.specs.Cache.{emptyCache}
+use Rattle.plain.specs.FlatCalls.{Given, gives, noAnswer, withRegisters, zeroed, afterLoad, flatLoad}
 use Rattle.plain.proofs.LoadLaws.{accepts}
 use Rattle.machine.specs.declared.Registers.{Registers}
 use Rattle.machine.specs.declared.Loaded.the-variants as L

@@ -1,19 +1,19 @@
 -- Run, after a check.
 use Prim.Native.Nat.{ℕ, _≤_}
-use mathlib.Core.Path.{_≡_, refl, sym, ap, ap₂, _∙_, subst}
+use mathlib.Core.Path.{_≡_, sym, ap, _∙_}
 use mathlib.Core.Bool.{Bool, true, false}
 use mathlib.Core.List.{List}
 use borrow.Author.Tests.{eq-eqb, ne-eqb}
 use native.Mathlib.Omega.{arith}
 use lib.Dec.{eqb}
 use lib.ListN.{length}
-use Rattle.model.specs.Image.{Verdict, accepted, refused}
+use Rattle.model.specs.Image.{Verdict, accepted}
 use Rattle.plain.specs.Registers as R
 use Rattle.plain.specs.Registers.{running, withPhase, withSizes}
 use Rattle.plain.specs.Flat.{Flat, flat, plainOf}
 use Rattle.plain.specs.Calls.{result}
 use Rattle.plain.specs.Check.{check}
-use Rattle.plain.specs.FlatCalls.{Given, gives, checked, flatRunIf, flatRun, reachFine, runsFrom, endsFrom}
+use Rattle.plain.specs.FlatCalls.{gives, checked, flatRunIf, flatRun, runsFrom, endsFrom}
 use Rattle.plain.proofs.Preserve.{runs, ends}
 use Rattle.plain.proofs.StateLaws.{Stands, goes, rests, waits}
 use Rattle.plain.proofs.FlatLaws.{FlatRight, check-right}

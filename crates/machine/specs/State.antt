@@ -4,7 +4,7 @@ use mathlib.Core.Path.{_≡_}
 use mathlib.Core.Bool.{true}
 use mathlib.Core.List.{List}
 use Rattle.plain.specs.Flat.{Flat, flat}
-use Rattle.plain.specs.Calls.{Answer, done, refusedBy, result, wrote}
+use Rattle.plain.specs.Calls.{done, refusedBy, result, wrote}
 use Rattle.plain.specs.FlatCalls.{Given, gives, reachFine, flatLoad, flatRun}
 use Rattle.machine.specs.declared.Registers.{Registers}
 use Rattle.machine.specs.declared.Loaded.{Loaded}

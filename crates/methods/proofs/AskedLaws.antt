@@ -1,5 +1,5 @@
 -- The objects that counting reads are there.
-use Prim.Native.Nat.{ℕ, _+_, _*_, _/_, _%_, _≤_, _<_}
+use Prim.Native.Nat.{ℕ, _+_, _*_, _/_, _≤_, _<_}
 use mathlib.Core.Path.{_≡_, refl, sym, ap, _∙_, subst}
 use mathlib.Core.Bool.{Bool, true, false}
 use mathlib.Core.List.{List}
@@ -7,7 +7,6 @@ use native.Mathlib.Omega.{arith}
 use lib.Dec.{T}
 use lib.ListN.{length}
 use Rattle.model.specs.Limits.{bytesKind, classKind, listKind, methodKind}
-use Rattle.model.specs.Word.{objectNumber}
 use Rattle.model.specs.Objects.{Objects, objectsAt, bodyWord, kind, size, isKind, dictionaryWord, pairCount, pairSelector, pairMethod}
 use Rattle.model.specs.Method.{home, literalCount, argumentCount}
 use Rattle.model.proofs.ChainLaws as C

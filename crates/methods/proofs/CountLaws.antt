@@ -1,14 +1,14 @@
 -- Counts answer whether all methods under a selector take so many arguments.
-use Prim.Native.Nat.{ℕ, zero, suc, _+_, _*_, _/_, _%_, _≤_, _<_}
+use Prim.Native.Nat.{ℕ, zero, suc, _/_, _%_, _≤_, _<_}
 use mathlib.Core.Path.{_≡_, refl, sym, ap, _∙_, subst}
 use mathlib.Core.Logic.{_⊎_, inl, inr}
-use mathlib.Core.Bool.{Bool, true, false, _&&_, _||_}
+use mathlib.Core.Bool.{Bool, _||_}
 use mathlib.Core.List.{List}
 use native.Mathlib.Omega.{arith}
 use borrow.Author.Tests.{eq-eqb}
-use lib.Dec.{T, eqb, eqb→eq, eqb-refl}
+use lib.Dec.{T, eqb, eqb→eq}
 use lib.ListN.{getD}
-use Rattle.bytecode.specs.Test.{upTo, below, implies}
+use Rattle.bytecode.specs.Test.{below, implies}
 use Rattle.bytecode.proofs.TestLaws.{true→T, or-cases, implied, upTo-at, at-upTo, below-at, at-below}
 use Rattle.model.specs.Limits.{classKind}
 use Rattle.model.specs.Word.{pointer, objectNumber}
@@ -18,7 +18,7 @@ use Rattle.model.specs.Rules.{takesCount}
 use Rattle.model.proofs.ChainLaws.{named}
 use Rattle.model.proofs.Parts.{same-test, implying, or-left, or-right}
 use Rattle.model.proofs.Facts.{naming, named-pointer, pointer-of}
-use Rattle.methods.specs.Counts.{Counted, Counts}
+use Rattle.methods.specs.Counts.{Counts}
 
 module _ (o : Objects) where
   abbrev inPair : ℕ → ℕ → ℕ → ℕ → Bool

@@ -1,5 +1,5 @@
 -- Counting the arguments under each selector, pair by pair.
-use Prim.Native.Nat.{ℕ, zero, suc, _+_, _*_, _/_, _%_, _≤_, _<_}
+use Prim.Native.Nat.{ℕ, zero, suc, _+_, _/_, _≤_, _<_}
 use mathlib.Core.Path.{_≡_, refl, sym, ap, _∙_, subst}
 use mathlib.Core.Logic.{_⊎_, inl, inr, _≢_}
 use mathlib.Core.Bool.{Bool, true, false, _&&_}
@@ -11,7 +11,7 @@ use borrow.Author.Tests.{eq-eqb}
 use lib.Dec.{T, eqb, eqb→eq}
 use lib.ListN.{length, getD}
 use lib.Seq.{getD-set-same, getD-set-other}
-use Rattle.bytecode.specs.Test.{upTo, below, implies, allOf}
+use Rattle.bytecode.specs.Test.{below}
 use Rattle.bytecode.proofs.TestLaws.{true→T, and-left, and-right, and-both, implied, upTo-at, at-upTo, below-at, at-below}
 use Rattle.model.specs.Limits.{bytesKind, classKind}
 use Rattle.model.specs.Word.{pointer, objectNumber}

@@ -1,8 +1,7 @@
 -- Rule 7 is its three passes.
-use Prim.Native.Nat.{ℕ, suc, _≤_}
-use mathlib.Core.Path.{_≡_, refl}
-use mathlib.Core.Bool.{Bool, true, false, _&&_}
-use mathlib.Core.List.{List, [], _∷_}
+use Prim.Native.Nat.{ℕ, _≤_}
+use mathlib.Core.Path.{_≡_}
+use mathlib.Core.Bool.{Bool, _&&_}
 use lib.Dec.{T, eqb}
 use Rattle.bytecode.specs.Test.{upTo, implies, allOf}
 use Rattle.bytecode.proofs.TestLaws.{and-left, and-right, and-both, implied, rule, rules, upTo-at, at-upTo}

@@ -1,6 +1,6 @@
 -- Rule 7 in three passes over the objects: the words of methods, the dictionaries that hold them, their code.
 use Prim.Native.Nat.{ℕ, _+_, _*_}
-use mathlib.Core.Bool.{Bool, true, false, _&&_}
+use mathlib.Core.Bool.{Bool, _&&_}
 use mathlib.Core.List.{List, [], _∷_}
 use lib.Dec.{leb, ltb, eqb}
 use Rattle.bytecode.specs.Test.{upTo, below, implies, allOf}

@@ -8,7 +8,7 @@ use native.Mathlib.Decide.{decLe}
 use lib.Dec.{T}
 use lib.ListN.{length, getD, set, drop, length-drop}
 use lib.Seq.{sets, length-take-le, getD-take, getD-drop, ext-getD}
-use Rattle.bytecode.specs.Test.{if_then_else_, upTo, below, every, implies}
+use Rattle.bytecode.specs.Test.{upTo, below, every, implies}
 use Rattle.bytecode.proofs.TestLaws.{and-left, and-right, and-both, upTo-at, at-upTo}
 use Rattle.model.specs.Objects.{part}
 

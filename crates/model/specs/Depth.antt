@@ -1,6 +1,6 @@
 -- Reached positions and the depth table (01, "Code", third paragraph): what they are, and how they are computed.
 -- The proof that the computation decides the statement is `decides` in proofs/DepthLaws.antt.
-use Prim.Native.Nat.{ℕ, zero, suc, pred, _+_, _*_}
+use Prim.Native.Nat.{ℕ, zero, suc, _+_, _*_}
 use mathlib.Core.Path.{_≡_}
 use mathlib.Core.Bool.{Bool, true, false}
 use mathlib.Core.List.{List, [], _∷_, _++_, map, List·Memᴰ}

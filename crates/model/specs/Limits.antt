@@ -1,6 +1,6 @@
 -- The numbers that 01 fixes, named once. Those that an edition may change take it as their argument; there is one edition today.
 use Prim.Native.Nat.{ℕ, _*_}
-use mathlib.Core.Bool.{Bool, true, false}
+use mathlib.Core.Bool.{Bool}
 use lib.Dec.{eqb}
 
 abbrev pub isEdition : ℕ → Bool

@@ -1,6 +1,6 @@
 -- Lookup and the class chain (01, "Plain machine": lookup; "Image": chains end). Classes are given by their words.
 use Prim.Native.Nat.{ℕ, zero, suc}
-use mathlib.Core.Bool.{Bool, true, false, _&&_, _||_}
+use mathlib.Core.Bool.{Bool, true, false, _||_}
 use lib.Dec.{eqb}
 use Rattle.bytecode.specs.Constant.{nilWord}
 use Rattle.model.specs.declared.Found.{Found}

@@ -1,6 +1,6 @@
 -- Methods: header, home, literals, code (01, "Image", last paragraph). A method is given by its word.
 use Prim.Native.Nat.{ℕ, _+_, _-_, _*_, _/_, _%_}
-use mathlib.Core.Bool.{Bool, true, false, _||_}
+use mathlib.Core.Bool.{Bool, _||_}
 use mathlib.Core.List.{List}
 use lib.Dec.{leb, eqb}
 use Rattle.bytecode.specs.Test.{if_then_else_}

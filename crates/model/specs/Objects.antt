@@ -1,8 +1,8 @@
 -- Objects: the table of contents and the bodies, read by object number (01, "Image").
 -- A read outside the two lists gives 0; the image rules see to it that none is made.
-use Prim.Native.Nat.{ℕ, _+_, _-_, _*_, _/_, _%_}
+use Prim.Native.Nat.{ℕ, _+_, _-_, _*_, _/_}
 use mathlib.Core.Bool.{Bool, _&&_, _||_}
-use mathlib.Core.List.{List, [], _∷_, _++_}
+use mathlib.Core.List.{List, [], _++_}
 use lib.Dec.{eqb}
 use lib.ListN.{length, getD, take, drop}
 use Rattle.bytecode.specs.Test.{if_then_else_}

@@ -7,7 +7,7 @@ use lib.ListN.{length, take, drop, length-take}
 use lib.Seq.{ext-getD, getD-take}
 use Rattle.model.specs.Limits.{methodKind, primitiveFlag}
 use Rattle.model.specs.Word.{objectNumber}
-use Rattle.model.specs.Objects.{Objects, objectsAt, start, size, bodyWords, part}
+use Rattle.model.specs.Objects.{objectsAt, start, size, bodyWords, part}
 use Rattle.model.specs.Method.{flag, literalCount, codeWords, codeSize}
 use Rattle.model.proofs.ChainLaws.{named}
 use Rattle.model.proofs.Parts.{length-part, part-at}

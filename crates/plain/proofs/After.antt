@@ -1,7 +1,7 @@
 -- What a step, a begin or a run does to the objects, and what a step needs of them.
-use Prim.Native.Nat.{ℕ, _+_, _*_, _≤_, _<_}
-use mathlib.Core.Path.{_≡_, sym, _∙_, subst}
-use mathlib.Core.List.{[], _∷_}
+use Prim.Native.Nat.{ℕ, _*_, _≤_}
+use mathlib.Core.Path.{sym, subst}
+use mathlib.Core.List.{[]}
 use lib.Dec.{T}
 use Rattle.model.specs.Limits.{entryWords}
 use Rattle.model.specs.Objects.{Objects}

@@ -1,13 +1,13 @@
 -- Begin and drop from a right state lead to right states; begin is refused by the numbers of its own rules only.
-use Prim.Native.Nat.{ℕ, zero, suc, _+_, _*_, _≤_, _<_}
-use mathlib.Core.Path.{_≡_, refl, sym, ap, _∙_, subst}
-use mathlib.Core.Bool.{Bool, true, false, _&&_}
+use Prim.Native.Nat.{ℕ}
+use mathlib.Core.Path.{_≡_, refl}
+use mathlib.Core.Bool.{true, _&&_}
 use mathlib.Core.List.{List, [], _∷_}
 use native.Mathlib.Omega.{arith}
 use borrow.Author.Tests.{eqb-true}
 use lib.Dec.{T, eqb}
 use lib.ListN.{length}
-use Rattle.bytecode.specs.Test.{if_then_else_, every}
+use Rattle.bytecode.specs.Test.{every}
 use Rattle.bytecode.proofs.Choice.{if-cases}
 use Rattle.bytecode.proofs.TestLaws.{true→T, and-left, and-right}
 use Rattle.model.specs.declared.Found.{Found}
@@ -16,19 +16,19 @@ use Rattle.model.specs.Limits.{bytesKind}
 use Rattle.model.specs.Word.{isValid}
 use Rattle.model.specs.Objects.{Objects, classOf, isKind}
 use Rattle.model.specs.Method.{argumentCount, frameSize}
-use Rattle.model.specs.Lookup.{found, lookup}
+use Rattle.model.specs.Lookup.{lookup}
 use Rattle.model.specs.Rules.{rule8}
 use Rattle.model.specs.Image.{Room}
 use Rattle.model.proofs.Extends.{Extends, extends-refl}
 use Rattle.model.proofs.Unchanged.{start-same}
 use Rattle.plain.specs.Registers.{running, finished}
-use Rattle.plain.specs.State.{Frame, Plain, objects, withObjects, withFrames, newFrame, fitsStack}
+use Rattle.plain.specs.State.{Plain, objects, withObjects, withFrames, newFrame, fitsStack}
 use Rattle.plain.specs.Step.{Activation, answered, entered, unfit, activate}
 use Rattle.plain.specs.Calls.{Begun, begun, declined, beginActivated, beginFound, begin, dropped}
 use Rattle.plain.proofs.FrameLaws.{FramesRight, fits}
 use Rattle.plain.proofs.StepLaws.{Valid}
 use Rattle.plain.proofs.Preserve.{World, Shape, runs, ends, Activates, activates, new-right}
-use Rattle.plain.proofs.StateLaws.{PlainRight, Stands, goes, rests, waits}
+use Rattle.plain.proofs.StateLaws.{PlainRight, goes, rests}
 use Rattle.plain.proofs.After.{After}
 use Rattle.plain.proofs.RunLaws.{Worlds}
 

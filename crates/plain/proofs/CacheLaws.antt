@@ -1,5 +1,5 @@
 -- The cache stays right where lookups stay what they were, and where a lookup that found is filled in.
-use Prim.Native.Nat.{ℕ, zero, suc, _+_, _*_, _≤_, _<_}
+use Prim.Native.Nat.{ℕ, suc, _+_, _≤_, _<_}
 use mathlib.Core.Path.{_≡_, refl, sym, ap, _∙_, subst}
 use mathlib.Core.Bool.{Bool, true, false, _&&_}
 use mathlib.Core.Logic.{_⊎_, inl, inr}
@@ -9,11 +9,8 @@ use native.Mathlib.Decide.{ℕ-discrete}
 use lib.Dec.{T, eqb, eqb-refl}
 use lib.ListN.{length, getD, set, getD-replicate}
 use lib.Seq.{sets, length-sets, getD-set-same, getD-set-other}
-use lib.Bits.{bitAnd}
-use Rattle.bytecode.specs.Test.{below}
 use Rattle.bytecode.proofs.TestLaws.{below-at, at-below}
 use Rattle.model.specs.declared.Found.{Found}
-use Rattle.model.specs.declared.Found.the-variants.{Method, Nothing}
 use Rattle.model.specs.Limits.{cacheEntries, cacheEntryWords, cacheWords}
 use Rattle.model.specs.Objects.{Objects}
 use Rattle.model.specs.Lookup.{found, lookup}

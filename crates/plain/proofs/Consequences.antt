@@ -6,18 +6,18 @@ use mathlib.Core.List.{List, [], _∷_}
 use native.Mathlib.Omega.{arith}
 use lib.Dec.{eqb}
 use Rattle.bytecode.specs.Test.{if_then_else_}
-use Rattle.model.specs.Limits.{entryWords, classKind}
-use Rattle.model.specs.Objects.{Objects, kind, bodyWords, sizedInBytes}
+use Rattle.model.specs.Limits.{classKind}
+use Rattle.model.specs.Objects.{Objects, bodyWords, sizedInBytes}
 use Rattle.model.specs.Image.{Room, Verdict, accepted, refused, loadVerdict}
 use Rattle.plain.specs.Registers.{running}
 use Rattle.plain.specs.State.{Plain, objects}
-use Rattle.plain.specs.Calls.{loaded, Begun, begun, declined, begin, Ran, ran, stuck, steps, dropped, Call, beginCall, runCall, dropCall, forgetCall, Answer, done, refusedBy, result, wrote, Called, called, impossible, call}
+use Rattle.plain.specs.Calls.{loaded, Begun, begun, declined, begin, Ran, ran, stuck, steps, dropped, Call, beginCall, runCall, dropCall, forgetCall, done, Called, called, impossible, call}
 use Rattle.plain.specs.Cache.{emptyCache}
 use Rattle.plain.specs.Flat.{Flat, roomOf, flatObjects, plainOf}
 use Rattle.plain.specs.Check.{check}
 use Rattle.plain.specs.FlatCalls as F
 use Rattle.plain.specs.FlatCalls.{Given, gives, noAnswer, checked, flatBegin, flatRun, flatDrop, flatForget, flatCall}
-use Rattle.plain.specs.CallLists.{Keeps, Agreed, Together, Agrees, Alike, Same, Consoles, nextState, lastState, KeepsAll, IsRefused, CacheKept}
+use Rattle.plain.specs.CallLists.{Keeps, Together, Agrees, Alike, Same, Consoles, nextState, lastState, KeepsAll, IsRefused, CacheKept}
 use Rattle.plain.proofs.Theorem.{from-checked, from-load}
 
 -- two flat machines that agree with one plain machine are alike

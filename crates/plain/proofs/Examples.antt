@@ -1,13 +1,13 @@
 -- Three more computed examples, each for a slip that it shuts out.
-use Prim.Native.Nat.{ℕ, _+_, _*_}
+use Prim.Native.Nat.{_+_, _*_}
 use mathlib.Core.Path.{_≡_, refl}
-use mathlib.Core.Bool.{Bool, true}
-use mathlib.Core.List.{List, [], _∷_, _++_}
-use mathlib.Core.Option.{Option, none}
+use mathlib.Core.Bool.{true}
+use mathlib.Core.List.{[], _∷_, _++_}
+use mathlib.Core.Option.{none}
 use lib.ListN.{replicate, take}
 use Rattle.model.specs.Depth.{depthTable}
 use Rattle.plain.specs.Calls.{wrote}
-use Rattle.plain.specs.FlatCalls.{Saved, saved, flatLoad, flatBegin, flatRun, flatSave}
+use Rattle.plain.specs.FlatCalls.{saved, flatLoad, flatBegin, flatRun, flatSave}
 use Rattle.plain.proofs.Computing.{computing}
 use Rattle.plain.proofs.Images.{method, addTwo, buffers, stateOf}
 use Rattle.plain.proofs.SuperSends.{superImage}

@@ -1,24 +1,24 @@
 -- A right plain state laid into the buffers: the flat state stands for it, and check accepts it.
-use Prim.Native.Nat.{ℕ, zero, suc, _+_, _*_, _≤_, _<_}
+use Prim.Native.Nat.{ℕ, zero, suc, _+_, _*_, _≤_}
 use mathlib.Core.Path.{_≡_, refl, sym, ap, _∙_, subst}
 use mathlib.Core.Bool.{Bool, true, false, _&&_}
-use mathlib.Core.List.{List, [], _∷_, _++_}
+use mathlib.Core.List.{List, []}
 use native.Mathlib.Omega.{arith}
 use borrow.Author.Tests.{eq-eqb}
 use lib.Dec.{T, leb, eqb, leb→le, le→leb, eqb→eq}
 use lib.ListN.{length, take, drop, length-append, length-drop}
 use lib.Seq.{take-at, length-take-le}
-use Rattle.bytecode.proofs.TestLaws.{true→T, T→true, and-left, and-right, and-both}
+use Rattle.bytecode.proofs.TestLaws.{true→T, and-left, and-right, and-both}
 use Rattle.model.specs.Limits.{entryWords, cacheWords}
 use Rattle.model.specs.Objects.{Objects}
 use Rattle.model.specs.Image.{Room, Verdict, accepted, refused, unless, _then_, buffersFine}
 use Rattle.plain.specs.Registers.{hasFrames}
-use Rattle.plain.specs.State.{Frame, Plain, objects}
+use Rattle.plain.specs.State.{Plain, objects}
 use Rattle.plain.specs.Cache.{cacheFine}
 use Rattle.plain.specs.Flat.{Flat, roomOf, flatObjects, framesFrom, ifFrames, plainOf}
 use Rattle.plain.specs.Check.{plainFine, stateFine, check}
 use Rattle.plain.specs.FlatCalls.{atFront, withPlain}
-use Rattle.plain.proofs.Preserve.{Shape, runs, ends}
+use Rattle.plain.proofs.Preserve.{runs, ends}
 use Rattle.plain.proofs.StateLaws.{PlainRight, Stands, goes, rests, waits, image-right, right-image, plain-stands, plain-image, stands-plain}
 use Rattle.plain.proofs.RunLaws.{Stood}
 

@@ -5,7 +5,7 @@ use mathlib.Core.Bool.{Bool, true, false}
 use mathlib.Core.List.{List, [], _∷_, _++_, append-nil}
 use native.Mathlib.Omega.{arith}
 use lib.Dec.{T, ltb→lt}
-use lib.ListN.{length, getD, take, drop, set, replicate, length-take, length-drop, take-append-drop}
+use lib.ListN.{length, getD, take, drop, set, replicate, length-drop}
 use lib.Seq.{sets, ext-getD, getD-take, getD-drop, length-take-le}
 use Rattle.bytecode.specs.Test.{every}
 use Rattle.bytecode.specs.Constant.{nilWord}
@@ -31,8 +31,7 @@ use Rattle.plain.specs.Flat.{frameDepth, frameMethod, operandsStart, fra
 use Rattle.plain.specs.FlatCalls.{atFront, laid}
 use Rattle.plain.specs.Cache.{filled}
 use Rattle.plain.specs.Running.{runningWith, runningAt, topFrame, restFrames, Made, Sending, sentReceiver, sendStep}
-use Rattle.plain.proofs.FrameLaws.{fits}
-use Rattle.plain.proofs.StepLaws.{Valid, has-word, without-length, arguments-length, arguments-valid}
+use Rattle.plain.proofs.StepLaws.{Valid, has-word, without-length, arguments-length}
 use Rattle.plain.proofs.Preserve.{entered-runs}
 use Rattle.plain.proofs.RunningLaws.{stood, all-right, top-right, top-bounds}
 use Rattle.plain.proofs.WriteLaws.{operand-here, moved-writes, pushed-writes}

@@ -1,18 +1,16 @@
 -- A step halts only for a cause that stands at the top frame's position (specs/Causes.antt).
-use Prim.Native.Nat.{ℕ, suc, _+_, _-_, _<_, _≤_}
-use mathlib.Core.Path.{_≡_, refl, sym, ap, _∙_, subst}
-use mathlib.Core.Logic.{_⊎_, inl, inr, _≢_}
+use Prim.Native.Nat.{ℕ, suc, _+_, _-_, _≤_}
+use mathlib.Core.Path.{_≡_, refl, sym, subst}
+use mathlib.Core.Logic.{inl, inr}
 use mathlib.Core.Bool.{Bool, true, false, _||_}
-use mathlib.Core.List.{List, [], _∷_, _++_}
+use mathlib.Core.List.{List, [], _∷_}
 use mathlib.Core.Option.{Option, none, some}
 use native.Mathlib.Omega.{arith}
-use borrow.Author.Tests.{eqb-true, eqb-false, ltb-true, ne-eqb, eq-eqb}
+use borrow.Author.Tests.{eqb-false, ltb-true, ne-eqb}
 use lib.Dec.{T, leb, ltb, eqb}
-use lib.ListN.{length, getElem?, drop}
-use Rattle.bytecode.specs.Test.{if_then_else_}
+use lib.ListN.{length, getElem?}
 use Rattle.bytecode.proofs.Choice.{if-yes, if-cases}
 use Rattle.bytecode.specs.Constant.{falseWord, trueWord}
-use Rattle.bytecode.specs.Code.{nextAt, decodeAt}
 use Rattle.bytecode.specs.Effect.{specialCount}
 use Rattle.bytecode.specs.declared.Place.{Place}
 use Rattle.bytecode.specs.declared.Place.the-variants.{Field, Temporary, Literal, LiteralVariable}
@@ -23,18 +21,17 @@ use Rattle.model.specs.declared.Found.{Found}
 use Rattle.model.specs.declared.Found.the-variants.{Method, Nothing}
 use Rattle.model.specs.declared.Computed.{Computed}
 use Rattle.model.specs.declared.Computed.the-variants.{Word, Failed}
-use Rattle.model.specs.Word.{booleanWord, objectNumber}
-use Rattle.model.specs.Objects.{Objects, classOf, superclassWord}
-use Rattle.model.specs.Method.{home, codeWords, codeSize, frameSize}
+use Rattle.model.specs.Word.{booleanWord}
+use Rattle.model.specs.Objects.{Objects, classOf}
 use Rattle.model.specs.Lookup.{lookup}
 use Rattle.model.specs.Rules.{specialSelector, isSame, isClass}
 use Rattle.model.specs.Arithmetic.{arithmetic}
 use Rattle.model.specs.Image.{Room}
 use Rattle.plain.specs.Registers.{Cause, notUnderstood, noBoolean, noStackRoom}
-use Rattle.plain.specs.State.{Frame, Plain, objects, fitsStack, movedTo}
+use Rattle.plain.specs.State.{Frame, Plain, objects, movedTo}
 use Rattle.plain.specs.Step.{Looked, noLookup, looked, Stepped, leadsTo, halts, missing, _>>=_, provided, operand, without, literalOf, fieldOf, hasWord, pushed, read, storedField, stored, returned, Activation, answered, entered, unfit, activate, framed, changed, activated, afterLookup, popped, sends, aboveHome, triedPrimitive, orSends, arithmeticSends, specialSends, jumps, execute, stepFrame, step}
 use Rattle.plain.specs.Calls.{halted}
-use Rattle.plain.specs.Causes.{SendsOf, Sent, argumentsOf, IsJump, Because, HaltsFor}
+use Rattle.plain.specs.Causes.{SendsOf, Sent, argumentsOf, Because, HaltsFor}
 
 -- Where a step halts, something holds of its cause.
 abbrev Caused : (Cause → Type 0) → Stepped → Type 0

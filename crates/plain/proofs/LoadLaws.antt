@@ -1,5 +1,5 @@
 -- An accepted load leaves a right state.
-use Prim.Native.Nat.{ℕ, zero, suc, _+_, _*_, _/_, _≤_, _<_}
+use Prim.Native.Nat.{ℕ, suc, _+_, _*_, _/_, _≤_}
 use mathlib.Core.Path.{_≡_, refl, sym, ap, _∙_, subst}
 use mathlib.Core.Bool.{Bool, true, false, _&&_}
 use mathlib.Core.List.{List, [], _∷_}
@@ -8,13 +8,9 @@ use lib.Dec.{T, leb, eqb, leb→le, eqb→eq}
 use lib.ListN.{length}
 use Rattle.bytecode.proofs.TestLaws.{and-left, and-right}
 use Rattle.model.specs.Limits.{isEdition, headerWords, entryWords, cacheWords}
-use Rattle.model.specs.Objects.{Objects}
 use Rattle.model.specs.Rules.{sizesFine, headerFine, rule4, rule5, rule6, rule7, rule8}
 use Rattle.model.specs.Image.{Room, wordsOf, imageHeader, imageObjects, objectsIn, imageBytes, Verdict, accepted, refused, unless, _then_, lengthFine, buffersFine, objectsVerdict, loadVerdict}
 use Rattle.model.proofs.Parts.{length-part}
-use Rattle.model.proofs.Facts.{Right}
-use Rattle.plain.specs.Registers.{hasFrames}
-use Rattle.plain.specs.State.{Plain, objects}
 use Rattle.plain.specs.Calls.{loaded}
 use Rattle.plain.proofs.StateLaws.{PlainRight, rests}
 use Rattle.plain.proofs.RunLaws.{Stood}

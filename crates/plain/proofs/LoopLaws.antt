@@ -1,24 +1,21 @@
 -- The turns of the run loop, and its ways out.
-use Prim.Native.Nat.{ℕ, zero, suc, _+_, _-_, _≤_, _<_, max}
-use mathlib.Core.Path.{_≡_, refl, sym, ap, ap₂, _∙_, subst}
-use mathlib.Core.Bool.{Bool, true, false}
-use mathlib.Core.List.{List, [], _∷_}
+use Prim.Native.Nat.{ℕ, suc, _+_, _-_, _≤_, _<_, max}
+use mathlib.Core.Path.{_≡_, refl, sym, ap, _∙_, subst}
+use mathlib.Core.Bool.{false}
+use mathlib.Core.List.{List}
 use native.Mathlib.Omega.{arith}
-use borrow.Author.Tests.{eq-eqb, ne-eqb}
 use lib.Dec.{eqb}
-use lib.ListN.{length}
-use Rattle.model.specs.Image.{Room, accepted}
+use Rattle.model.specs.Image.{accepted}
 use Rattle.model.specs.Method.{frameSize}
 use Rattle.model.specs.Objects.{objectsAt}
-use Rattle.plain.specs.Registers.{Registers, running, finished, Cause, phaseOf, withPhase}
-use Rattle.plain.specs.State.{Plain}
-use Rattle.plain.specs.Step.{Stepped, halts, step}
+use Rattle.plain.specs.Registers.{Registers, running, Cause, phaseOf, withPhase}
+use Rattle.plain.specs.Step.{halts, step}
 use Rattle.plain.specs.Cache.{filled}
 use Rattle.plain.specs.Calls.{Ran, ran, stuck, steps, result}
 use Rattle.plain.specs.Flat.{Flat, flat, roomOf, plainOf, frameMethod, frameAt, framesFrom}
 use Rattle.plain.specs.Check.{check}
-use Rattle.plain.specs.FlatCalls.{Given, gives, laid, withPlain, topEnd, highestEnd, highestOf, runsFrom, endsFrom}
-use Rattle.plain.specs.Running.{runningWith, finishedWith, Made}
+use Rattle.plain.specs.FlatCalls.{gives, laid, withPlain, topEnd, highestOf, runsFrom, endsFrom}
+use Rattle.plain.specs.Running.{runningWith, Made}
 use Rattle.plain.specs.RunLoop.{Turn}
 use Rattle.plain.proofs.FlatLaws.{FlatRight, check-right, right-check}
 use Rattle.plain.proofs.RunLaws.{RunGoes, runs-right}

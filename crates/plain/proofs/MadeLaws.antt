@@ -1,22 +1,21 @@
 -- Bytecodes that were made, as turns of the flat state.
-use Prim.Native.Nat.{ℕ, suc, _+_, _*_, _≤_}
-use mathlib.Core.Path.{_≡_, refl, sym, ap, ap₂, _∙_, subst}
-use mathlib.Core.Bool.{Bool, true}
+use Prim.Native.Nat.{ℕ, suc, _*_}
+use mathlib.Core.Path.{_≡_, refl, sym, ap, _∙_}
+use mathlib.Core.Bool.{true}
 use mathlib.Core.List.{List}
 use lib.Dec.{T}
-use lib.ListN.{length, take}
-use Rattle.model.specs.Limits.{entryWords, cacheWords}
+use lib.ListN.{length}
+use Rattle.model.specs.Limits.{entryWords}
 use Rattle.model.specs.Objects.{objectsAt}
 use Rattle.model.specs.Image.{Room}
-use Rattle.plain.specs.Registers.{Registers, running}
-use Rattle.plain.specs.State.{Plain}
-use Rattle.plain.specs.Step.{Stepped, Looked, noLookup, step}
-use Rattle.plain.specs.Cache.{filled, cacheFine}
-use Rattle.plain.specs.Flat.{Flat, flat, roomOf, plainOf}
+use Rattle.plain.specs.Registers.{Registers}
+use Rattle.plain.specs.Step.{Stepped, noLookup, step}
+use Rattle.plain.specs.Cache.{filled}
+use Rattle.plain.specs.Flat.{Flat, flat, plainOf}
 use Rattle.plain.specs.FlatCalls.{atFront, laid, withPlain}
-use Rattle.plain.specs.Running.{Runs, runningWith, runningAt, roomAt, Moves, Moved, Made}
+use Rattle.plain.specs.Running.{Runs, runningWith, runningAt, Moved, Made}
 use Rattle.plain.proofs.FrameLaws.{right-frames}
-use Rattle.plain.proofs.Preserve.{Shape, runs, ends}
+use Rattle.plain.proofs.Preserve.{runs, ends}
 use Rattle.plain.proofs.StateLaws.{Stands, goes, rests, waits}
 use Rattle.plain.proofs.FlatLaws.{FlatRight}
 use Rattle.model.proofs.Lent.{front-same, contents-room}

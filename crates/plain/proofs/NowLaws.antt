@@ -1,12 +1,12 @@
 -- What holds of the instruction at the position of a right frame on top.
-use Prim.Native.Nat.{ℕ, zero, suc, _+_, _-_, _%_, _≤_, _<_}
-use mathlib.Core.Path.{_≡_, refl, sym, ap, _∙_, subst}
-use mathlib.Core.Bool.{Bool, true, false}
+use Prim.Native.Nat.{ℕ, suc, _-_, _%_, _≤_, _<_}
+use mathlib.Core.Path.{_≡_}
+use mathlib.Core.Bool.{Bool, true}
 use mathlib.Core.List.{List, List·Memᴰ}
 use native.Mathlib.Omega.{arith}
-use borrow.Author.Tests.{ltb-true, ltb-false, eqb-false, lt-ltb}
+use borrow.Author.Tests.{ltb-true, ltb-false, eqb-false}
 use lib.Dec.{T, leb, ltb, eqb, leb→le, lt→ltb}
-use Rattle.bytecode.specs.Test.{below, implies}
+use Rattle.bytecode.specs.Test.{implies}
 use Rattle.bytecode.specs.Constant.{constantWord}
 use Rattle.bytecode.specs.Code.{byteAt, bytesAfter, shortOf, constantOf, extendedOf, jumpOf, sendOf, instructionOf, nextAt, decodeAt}
 use Rattle.bytecode.specs.Effect.{need, depthAfter, usable, successors}
@@ -19,7 +19,6 @@ use Rattle.model.specs.Objects.{Objects}
 use Rattle.model.specs.Method.{codeWords, codeSize, temporaryCount, frameWords}
 use Rattle.model.specs.Depth.{noteAt, rulesAt, successorsAt, depthAfterAt}
 use Rattle.model.specs.Rules.{allowed, methodTable}
-use Rattle.model.proofs.DepthLaws.{Spot}
 use Rattle.plain.specs.State.{Frame}
 use Rattle.plain.proofs.FrameLaws.{FrameRight, frame-spot}
 

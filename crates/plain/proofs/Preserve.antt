@@ -2,13 +2,12 @@
 use Prim.Native.Nat.{ℕ, zero, suc, _+_, _-_, _/_, _%_, _≤_, _<_}
 use mathlib.Core.Path.{_≡_, refl, sym, ap, _∙_, subst}
 use mathlib.Core.Bool.{Bool, true, false, _&&_, _||_}
-use mathlib.Core.Logic.{_⊎_, inl, inr}
 use mathlib.Core.List.{List, [], _∷_, _++_, List·Memᴰ, List·Memᴰ·head, List·Memᴰ·tail}
 use mathlib.Core.Option.{Option, none, some}
 use native.Mathlib.Omega.{arith}
-use borrow.Author.Tests.{lt-ltb, le-ltb, ltb-true, ltb-false, eqb-true}
-use lib.Dec.{T, leb, ltb, eqb, ltb→lt, lt→ltb, eqb→eq}
-use lib.ListN.{length, getD, getElem?, take, drop, set, replicate, length-append, length-replicate}
+use borrow.Author.Tests.{ltb-true, eqb-true}
+use lib.Dec.{T, leb, ltb, eqb, ltb→lt, lt→ltb}
+use lib.ListN.{length, getElem?, drop, set, replicate, length-append, length-replicate}
 use Rattle.bytecode.specs.Test.{if_then_else_, every}
 use Rattle.bytecode.specs.Constant.{nilWord}
 use Rattle.bytecode.specs.Effect.{specialCount, need, leaves, usable, successors}
@@ -16,8 +15,8 @@ use Rattle.bytecode.specs.declared.Place.{Place}
 use Rattle.bytecode.specs.declared.Place.the-variants.{Field, Temporary, Literal, LiteralVariable}
 use Rattle.bytecode.specs.declared.Instruction.{Instruction}
 use Rattle.bytecode.specs.declared.Instruction.the-variants.{Push, Store, PopStore, PushSelf, PushConstant, ReturnSelf, ReturnConstant, ReturnTop, Pop, Duplicate, Jump, JumpOn, Send, SuperSend, SpecialSend, Unused}
-use Rattle.bytecode.proofs.Choice.{if-yes, if-no, if-lt, if-cases}
-use Rattle.bytecode.proofs.TestLaws.{true→T, T→true, and-left, and-right, and-both, or-cases}
+use Rattle.bytecode.proofs.Choice.{if-yes, if-lt, if-cases}
+use Rattle.bytecode.proofs.TestLaws.{true→T, T→true, and-left, and-right, and-both}
 use Rattle.model.specs.declared.Found.{Found}
 use Rattle.model.specs.declared.Found.the-variants.{Method, Nothing}
 use Rattle.model.specs.declared.Computed.{Computed}
@@ -35,9 +34,9 @@ use Rattle.model.specs.Primitive.{Outcome, answers, fails, primitive, storeWord
 use Rattle.model.proofs.DepthLaws.{spot-start}
 use Rattle.plain.specs.Registers.{running, finished}
 use Rattle.plain.specs.FlatCalls.{topEnd}
-use Rattle.plain.specs.State.{Frame, Plain, objects, withObjects, withFrames, movedTo, withTemporaries, newFrame, fitsStack, noMark}
+use Rattle.plain.specs.State.{Frame, Plain, objects, withObjects, movedTo, withTemporaries, newFrame, fitsStack}
 use Rattle.plain.specs.Step.{Looked, noLookup, looked, Stepped, leadsTo, halts, missing, _>>=_, provided, operand, without, fieldOf, literalOf, onTop, hasWord, pushed, read, storedField, stored, returned, Activation, answered, entered, unfit, entering, fieldAnswered, primitiveAnswered, activate, framed, changed, activated, afterLookup, popped, sends, aboveHome, triedPrimitive, orSends, arithmeticSends, specialSends, jumps, execute}
-use Rattle.plain.proofs.FrameLaws.{FrameRight, Fits, fits, FramesRight, tableDepth, note-is, within}
+use Rattle.plain.proofs.FrameLaws.{FrameRight, Fits, fits, FramesRight, note-is, within}
 use Rattle.plain.proofs.NowLaws.{Now}
 use Rattle.plain.proofs.StepLaws.{Valid, valid-append, valid-one, valid-replicate, Finds, element, moved-right, stored-temporary, has-word, new-top, operand-finds, without-length, without-valid, arguments-length, arguments-valid}
 

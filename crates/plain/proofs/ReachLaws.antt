@@ -1,13 +1,11 @@
 -- The highest end of a frame is what 01 asks of reach.
 use Prim.Native.Nat.{ℕ, max}
-use mathlib.Core.Path.{_≡_, refl, sym, ap, ap₂, _∙_}
-use mathlib.Core.Bool.{Bool, true, _&&_}
+use mathlib.Core.Path.{_≡_, refl, ap₂}
+use mathlib.Core.Bool.{true, _&&_}
 use native.Mathlib.Omega.{arith}
 use borrow.Author.Tests.{le-leb}
-use lib.Dec.{leb}
 use lib.ListN.{length}
 use Rattle.model.specs.Image.{accepted}
-use Rattle.plain.specs.Registers.{running}
 use Rattle.plain.specs.Calls.{Ran, ran, stuck, steps}
 use Rattle.plain.specs.Flat.{Flat, roomOf, plainOf}
 use Rattle.plain.specs.Check.{check}

@@ -1,23 +1,22 @@
 -- A return, as the two words that it writes in the sender's frame.
 use Prim.Native.Nat.{ℕ, zero, suc, _+_, _*_, _-_, _≤_, _<_}
-use mathlib.Core.Path.{_≡_, refl, sym, ap, ap₂, _∙_, subst}
+use mathlib.Core.Path.{_≡_, refl, sym, ap, _∙_, subst}
 use mathlib.Core.Bool.{Bool, true, false}
 use mathlib.Core.List.{List, [], _∷_, _++_}
 use native.Mathlib.Omega.{arith}
 use borrow.Author.Tests.{lt-ltb}
 use lib.Dec.{T, ltb}
-use lib.ListN.{length, getD, take, set}
+use lib.ListN.{length, take, set}
 use lib.Seq.{set-getD, getD-set-other}
 use Rattle.model.specs.Limits.{entryWords, methodKind}
 use Rattle.model.specs.Objects.{Objects, objectsAt, isKind}
 use Rattle.model.specs.Method.{temporaryCount, frameWords, frameSize}
-use Rattle.model.specs.Rules.{Right}
 use Rattle.model.proofs.Lent.{contents-room, bodies-room, front-same}
 use Rattle.plain.specs.Registers.{Registers, finished}
-use Rattle.plain.specs.State.{Frame, Plain, movedTo, withFrames}
-use Rattle.plain.specs.Step.{Stepped, leadsTo, noLookup, provided, returned}
+use Rattle.plain.specs.State.{Frame, movedTo, withFrames}
+use Rattle.plain.specs.Step.{Stepped, noLookup, provided, returned}
 use Rattle.plain.specs.Flat.{frameSender, framePosition, frameDepth, frameMethod, frameAt, framesFrom, unlessBottom}
-use Rattle.plain.specs.FlatCalls.{atFront, laid}
+use Rattle.plain.specs.FlatCalls.{laid}
 use Rattle.plain.specs.Cache.{filled}
 use Rattle.plain.specs.Running.{Runs, runningWith, runningAt, finishedWith, topFrame, restFrames, Made}
 use Rattle.plain.proofs.FrameLaws.{FrameRight, FramesRight, Fits, within}

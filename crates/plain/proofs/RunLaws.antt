@@ -1,10 +1,10 @@
 -- A run from a right state: every step exists, and the state after it is right; its frames stand in the stack, and the cache is right.
-use Prim.Native.Nat.{ℕ, zero, suc, _+_, _*_, _≤_, _<_, max}
+use Prim.Native.Nat.{ℕ, zero, suc, _+_, _*_, _≤_, _<_}
 use mathlib.Core.Path.{_≡_, refl, sym, ap, _∙_, subst}
 use mathlib.Core.Bool.{Bool, true, false}
 use mathlib.Core.List.{List, [], _∷_}
 use native.Mathlib.Omega.{arith}
-use borrow.Author.Tests.{eq-eqb, ne-eqb, eqb-true, eqb-false}
+use borrow.Author.Tests.{eqb-true, eqb-false}
 use lib.Dec.{T, eqb}
 use lib.ListN.{length}
 use Rattle.bytecode.specs.Code.{nextAt, decodeAt}
@@ -25,7 +25,7 @@ use Rattle.plain.specs.FlatCalls.{laid, stackAfter, cacheAfter, topEnd, 
 use Rattle.plain.proofs.FrameLaws.{FrameRight, FramesRight}
 use Rattle.plain.proofs.LaidLaws.{laid-back, length-laid}
 use Rattle.plain.proofs.NowLaws.{now}
-use Rattle.plain.proofs.Preserve.{World, Shape, runs, ends, LookedRight, Kept, Goes, executes}
+use Rattle.plain.proofs.Preserve.{World, Shape, runs, ends, Goes, executes}
 use Rattle.plain.proofs.StateLaws.{PlainRight, Stands, goes, rests, waits}
 use Rattle.plain.proofs.CacheLaws.{cache-filled, cache-kept, length-filled}
 use Rattle.plain.specs.CallLists.{Halted}

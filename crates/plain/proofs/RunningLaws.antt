@@ -1,12 +1,11 @@
 -- A running handler's top frame, and the step that it is about to make.
-use Prim.Native.Nat.{ℕ, suc, _+_, _≤_, _<_}
-use mathlib.Core.Path.{_≡_, refl, sym, _∙_, subst}
+use Prim.Native.Nat.{ℕ, suc, _+_, _≤_}
+use mathlib.Core.Path.{_≡_, refl, sym, subst}
 use mathlib.Core.Bool.{true}
 use mathlib.Core.List.{List, [], _∷_}
 use native.Mathlib.Omega.{arith}
 use lib.Dec.{T}
 use lib.ListN.{length}
-use Rattle.bytecode.specs.Test.{if_then_else_}
 use Rattle.bytecode.specs.Code.{decodeAt}
 use Rattle.bytecode.specs.declared.Instruction.{Instruction}
 use Rattle.bytecode.proofs.Choice.{if-cases}

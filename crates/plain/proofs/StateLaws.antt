@@ -1,22 +1,22 @@
 -- What check says of a plain state, as a statement, both ways.
-use Prim.Native.Nat.{ℕ, zero, suc, _*_, _≤_, _<_}
+use Prim.Native.Nat.{ℕ, zero, suc, _*_, _≤_}
 use mathlib.Core.Path.{_≡_, refl, sym, ap, _∙_, subst}
-use mathlib.Core.Bool.{Bool, true, false, _&&_, _||_, not}
+use mathlib.Core.Bool.{Bool, true, _&&_, _||_, not}
 use mathlib.Core.List.{List, [], _∷_}
 use native.Mathlib.Omega.{arith}
 use borrow.Author.Tests.{eq-eqb, ne-eqb}
-use lib.Dec.{T, leb, eqb, leb→le, le→leb, eqb→eq, eqb-refl}
+use lib.Dec.{T, leb, eqb, leb→le, le→leb, eqb→eq}
 use lib.ListN.{length}
 use Rattle.bytecode.specs.Test.{if_then_else_, allOf}
 use Rattle.bytecode.proofs.Choice.{if-yes, if-no}
-use Rattle.bytecode.proofs.TestLaws.{and-left, and-right, and-both, rule, rules, T→true, true→T}
+use Rattle.bytecode.proofs.TestLaws.{and-left, and-right, and-both, rule, rules, true→T}
 use Rattle.model.specs.Limits.{isEdition, entryWords}
 use Rattle.model.specs.Word.{isValid}
 use Rattle.model.specs.Objects.{Objects}
-use Rattle.model.specs.Rules.{sizesFine, rule4, rule5, rule6, rule7, rule8}
+use Rattle.model.specs.Rules.{sizesFine, rule8}
 use Rattle.model.specs.Image.{Room}
 use Rattle.model.proofs.Facts.{Right}
-use Rattle.plain.specs.Registers.{Registers, idle, running, finished, lastPhase, hasFrames}
+use Rattle.plain.specs.Registers.{idle, finished, lastPhase, hasFrames}
 use Rattle.plain.specs.State.{Frame, Plain, objects}
 use Rattle.plain.specs.Check.{imageRules, framesFine, isEmpty, plainRules, plainFine}
 use Rattle.plain.proofs.FrameLaws.{FramesRight, frames-right, right-frames}

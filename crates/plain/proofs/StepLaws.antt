@@ -2,28 +2,26 @@
 -- What is needed of the objects is taken as a record here; the model's laws give it.
 use Prim.Native.Nat.{ℕ, zero, suc, _+_, _-_, _≤_, _<_}
 use mathlib.Core.Path.{_≡_, refl, sym, ap, _∙_, subst}
-use mathlib.Core.Bool.{Bool, true, false, _&&_, _||_}
-use mathlib.Core.Logic.{_⊎_, inl, inr}
-use mathlib.Core.List.{List, [], _∷_, _++_, List·Memᴰ, List·Memᴰ·head, List·Memᴰ·tail}
+use mathlib.Core.Bool.{Bool, true, false}
+use mathlib.Core.List.{List, [], _∷_, _++_}
 use mathlib.Core.Option.{Option, none, some}
 use native.Mathlib.Omega.{arith}
-use borrow.Author.Tests.{lt-ltb, le-ltb, ltb-true, ltb-false, eqb-true}
-use lib.Dec.{T, leb, ltb, eqb, ltb→lt, lt→ltb, le→leb, eqb→eq}
-use lib.ListN.{length, getD, getElem?, take, drop, set, replicate, length-append, length-set, length-replicate, length-take, length-drop}
+use borrow.Author.Tests.{lt-ltb}
+use lib.Dec.{T, ltb, lt→ltb}
+use lib.ListN.{length, getElem?, take, drop, set, replicate, length-set, length-drop}
 use lib.Seq.{length-take-le}
-use Rattle.bytecode.specs.Test.{if_then_else_, every}
-use Rattle.bytecode.proofs.Choice.{if-yes, if-no}
-use Rattle.bytecode.proofs.TestLaws.{true→T, T→true, and-left, and-right, and-both, rule}
-use Rattle.model.specs.Limits.{fieldsKind, methodKind}
-use Rattle.model.specs.Word.{isValid, objectNumber}
-use Rattle.model.specs.Objects.{Objects, isKind, size, bodyWord}
-use Rattle.model.specs.Method.{temporaryCount, frameWords, frameSize, literalCount, literal, codeWords, codeSize}
+use Rattle.bytecode.specs.Test.{every}
+use Rattle.bytecode.proofs.Choice.{if-yes}
+use Rattle.bytecode.proofs.TestLaws.{and-left, and-right, and-both, rule}
+use Rattle.model.specs.Word.{isValid}
+use Rattle.model.specs.Objects.{Objects}
+use Rattle.model.specs.Method.{temporaryCount, frameWords, frameSize, codeWords, codeSize}
 use Rattle.model.specs.Depth.{noteAt, rulesAt}
 use Rattle.model.specs.Rules.{methodTable, allowed}
 use Rattle.model.proofs.DepthLaws.{spot}
 use Rattle.plain.specs.State.{Frame, movedTo, withTemporaries}
-use Rattle.plain.specs.Step.{operand, without, fieldOf, literalOf, hasWord}
-use Rattle.plain.proofs.FrameLaws.{FrameRight, Fits, FramesRight, tableDepth, note-is, within}
+use Rattle.plain.specs.Step.{operand, without}
+use Rattle.plain.proofs.FrameLaws.{FrameRight, Fits, FramesRight, tableDepth, note-is}
 
 -- ---- lists of valid words
 

@@ -5,14 +5,14 @@ use Prim.Native.Nat.{ℕ, _+_, _*_}
 use mathlib.Core.Path.{_≡_, refl}
 use mathlib.Core.List.{List, [], _∷_}
 use Rattle.bytecode.specs.Constant.{nilWord}
-use Rattle.model.specs.Image.{Verdict, accepted, refused}
+use Rattle.model.specs.Image.{accepted, refused}
 use Rattle.plain.specs.Registers.{notUnderstood}
-use Rattle.plain.specs.State.{Plain, Frame}
-use Rattle.plain.specs.Step.{Stepped, leadsTo, halts, missing, Activation, entered, activated, looked, popped, step}
+use Rattle.plain.specs.State.{Frame}
+use Rattle.plain.specs.Step.{Stepped, leadsTo, halts, missing, entered, activated, looked, popped, step}
 use Rattle.plain.specs.Flat.{Flat, roomOf, plainOf}
 use Rattle.plain.specs.Check.{check}
 use Rattle.plain.specs.FlatCalls.{laid, withPlain, flatLoad, flatBegin, flatRun}
-use Rattle.plain.specs.Program.{Line, line, step80}
+use Rattle.plain.specs.Program.{line, step80}
 use Rattle.plain.proofs.Computing.{computing}
 use Rattle.plain.proofs.Images.{Object, object, class, list, method, noSelectors, imageWith, buffers, stateOf}
 

@@ -1,7 +1,7 @@
 -- The two machines agree on every list of calls: the statements are in specs/CallLists.antt.
-use Prim.Native.Nat.{ℕ, zero, suc, _*_, _≤_, _<_}
+use Prim.Native.Nat.{ℕ, suc, _≤_}
 use mathlib.Core.Path.{_≡_, refl, sym, ap, _∙_, subst}
-use mathlib.Core.Logic.{_⊎_, inl, inr, _≢_}
+use mathlib.Core.Logic.{inl, inr, _≢_}
 use mathlib.Core.Bool.{Bool, true, false}
 use mathlib.Core.List.{List, [], _∷_}
 use native.Mathlib.Omega.{arith}
@@ -10,24 +10,24 @@ use lib.Dec.{T, eqb}
 use lib.ListN.{length, length-replicate}
 use Rattle.model.specs.Limits.{cacheWords}
 use Rattle.model.specs.Objects.{Objects}
-use Rattle.model.specs.Image.{Room, Verdict, accepted, refused, loadVerdict}
+use Rattle.model.specs.Image.{Room, Verdict}
 use Rattle.model.proofs.Facts.{Right}
-use Rattle.model.proofs.Extends.{Extends, extends-refl, extends-trans}
+use Rattle.model.proofs.Extends.{Extends, extends-refl}
 use Rattle.model.proofs.Unchanged.{lookup-same}
-use Rattle.plain.specs.Registers.{idle, running, finished, hasFrames}
-use Rattle.plain.specs.State.{Frame, Plain, objects}
+use Rattle.plain.specs.Registers.{idle, running, hasFrames}
+use Rattle.plain.specs.State.{Plain, objects}
 use Rattle.plain.specs.Calls.{loaded, Begun, begun, declined, begin, Taken, Ran, ran, stuck, steps, dropped, Call, beginCall, runCall, dropCall, forgetCall, Answer, done, refusedBy, result, wrote, Called, called, impossible, call, afterBegin, afterRun, runIf}
 use Rattle.plain.specs.Cache.{emptyCache, cacheFine}
 use Rattle.plain.specs.Flat.{Flat, roomOf, flatObjects, plainOf, framesFrom}
 use Rattle.plain.specs.Check.{check}
 use Rattle.plain.specs.FlatCalls as F
 use Rattle.plain.specs.FlatCalls.{Given, gives, noAnswer, checked, withPlain, laid, stackAfter, cacheAfter, highestEnd, flatLoad, afterLoad, flatBegin, flatRun, flatDrop, flatForget, flatCall}
-use Rattle.plain.specs.CallLists.{Halted, RunEnds, Ends, Keeps, Agreed, Together, Agrees, FromChecked, Loads, FromLoad}
+use Rattle.plain.specs.CallLists.{Halted, RunEnds, Ends, Keeps, Together, Agrees, FromChecked, FromLoad}
 use Rattle.plain.proofs.LaidLaws.{laid-back, length-laid}
 use Rattle.plain.proofs.Preserve.{Shape, runs, ends}
 use Rattle.plain.proofs.StateLaws.{PlainRight, Stands, goes, rests, waits}
 use Rattle.plain.proofs.CacheLaws.{cache-kept, cache-empty}
-use Rattle.plain.proofs.RunLaws.{Stood, RanRight, RunGoes, runs-right, top-end}
+use Rattle.plain.proofs.RunLaws.{Stood, RunGoes, runs-right, top-end}
 use Rattle.plain.proofs.BeginLaws.{dropped-right, OwnNumber, BegunRight, BeginGoes, begins}
 use Rattle.plain.proofs.FlatLaws.{FlatRight, check-right, right-check, plain-back, room-back, flat-back}
 use Rattle.plain.proofs.LoadLaws.{Accepted, accepts, loaded-right, loaded-stood}

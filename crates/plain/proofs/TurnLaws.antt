@@ -1,27 +1,26 @@
 -- One turn of a run, on the flat state: what is left of the run before a bytecode is what is left of it after the bytecode.
-use Prim.Native.Nat.{ℕ, zero, suc, _+_, _*_, _-_, _≤_, _<_, max}
+use Prim.Native.Nat.{ℕ, zero, suc, _+_, _*_, _-_, _≤_, max}
 use mathlib.Core.Path.{_≡_, refl, sym, ap, ap₂, _∙_, subst}
-use mathlib.Core.Bool.{Bool, true, false}
+use mathlib.Core.Bool.{Bool, false}
 use mathlib.Core.List.{List, [], _∷_, _++_}
 use native.Mathlib.Omega.{arith}
-use borrow.Author.Tests.{eq-eqb, ne-eqb}
+use borrow.Author.Tests.{eq-eqb}
 use lib.Dec.{T, eqb}
-use lib.ListN.{length, take, drop, length-append, length-drop}
+use lib.ListN.{length, drop}
 use lib.Seq.{drop-append-add, drop-drop}
-use Rattle.model.specs.Limits.{entryWords, cacheWords}
-use Rattle.model.specs.Objects.{Objects}
+use Rattle.model.specs.Limits.{entryWords}
 use Rattle.model.specs.Image.{Room}
 use Rattle.model.proofs.Extends.{Extends}
 use Rattle.model.proofs.Unchanged.{lookup-same}
-use Rattle.plain.specs.Registers.{Registers, running, Cause, phaseOf, withPhase}
-use Rattle.plain.specs.State.{Frame, Plain, objects, withFrames}
-use Rattle.plain.specs.Step.{Looked, Stepped, leadsTo, halts, missing, step}
-use Rattle.plain.specs.Calls.{Taken, taken, Ran, ran, stuck, counted, halted, onward, ifRunning, steps, Answer, result}
+use Rattle.plain.specs.Registers.{running, Cause, phaseOf, withPhase}
+use Rattle.plain.specs.State.{Plain, objects}
+use Rattle.plain.specs.Step.{Looked, leadsTo, halts, step}
+use Rattle.plain.specs.Calls.{Taken, taken, Ran, ran, stuck, counted, halted, onward, ifRunning, steps, result}
 use Rattle.plain.specs.Cache.{filled, cacheFine}
 use Rattle.plain.specs.Flat.{Flat, roomOf, flatObjects, plainOf, framesFrom, ifFrames}
-use Rattle.plain.specs.FlatCalls.{Given, gives, noAnswer, atFront, withPlain, laid, stackAfter, cacheAfter, topEnd, highestEnd, flatAfterRunFrom, runsFrom, highestOf, endsFrom}
+use Rattle.plain.specs.FlatCalls.{gives, atFront, withPlain, laid, stackAfter, cacheAfter, topEnd, highestEnd, flatAfterRunFrom, runsFrom, highestOf, endsFrom}
 use Rattle.plain.proofs.LaidLaws.{length-laid}
-use Rattle.plain.proofs.Preserve.{Goes, Kept}
+use Rattle.plain.proofs.Preserve.{Goes}
 use Rattle.plain.proofs.StateLaws.{PlainRight}
 use Rattle.plain.proofs.CacheLaws.{cache-filled, cache-kept, length-filled}
 use Rattle.plain.proofs.After.{kept-right}

@@ -1,13 +1,10 @@
 -- 01's section "Worked by hand": one statement, proved by computing it.
 use Prim.Native.Nat.{ℕ, pred, _+_, _*_}
 use mathlib.Core.Path.{_≡_, refl}
-use mathlib.Core.Bool.{Bool, true}
+use mathlib.Core.Bool.{true}
 use mathlib.Core.List.{List, [], _∷_}
 use mathlib.Core.Option.{Option, some}
-use lib.IntN.{ℤ, pos, negsuc}
-use Rattle.bytecode.specs.Code.{decodeAt}
-use Rattle.bytecode.specs.declared.Instruction.{Instruction}
-use Rattle.model.specs.declared.Computed.{Computed}
+use lib.IntN.{pos, negsuc}
 use Rattle.model.specs.declared.Computed.the-variants.{Word, Failed}
 use Rattle.model.specs.Word.{wordOf}
 use Rattle.model.specs.Arithmetic.{arithmetic}

@@ -1,23 +1,19 @@
 -- The model's laws give what a step needs of right objects.
-use Prim.Native.Nat.{ℕ, suc, _+_, _*_, _/_, _≤_, _<_}
-use mathlib.Core.Path.{_≡_, refl, sym, ap, _∙_, subst}
-use mathlib.Core.Bool.{Bool, true, false, _&&_}
+use Prim.Native.Nat.{ℕ, _+_, _/_}
+use mathlib.Core.Path.{sym, ap, _∙_, subst}
+use mathlib.Core.Bool.{Bool, _&&_}
 use mathlib.Core.List.{List, [], _∷_}
 use native.Mathlib.Omega.{arith}
 use lib.Dec.{T, ltb, ltb→lt, lt→ltb}
-use lib.ListN.{length}
 use Rattle.bytecode.specs.Test.{every}
 use Rattle.bytecode.proofs.TestLaws.{and-left, and-right, and-both}
-use Rattle.model.specs.declared.Computed.{Computed}
-use Rattle.model.specs.declared.Computed.the-variants.{Word, Failed}
-use Rattle.model.specs.Limits.{entryWords, fieldsKind, methodKind}
+use Rattle.model.specs.Limits.{fieldsKind, methodKind}
 use Rattle.model.specs.Word.{isValid, objectNumber}
 use Rattle.model.specs.Objects.{Objects, classOf, isKind, size}
 use Rattle.model.specs.Method.{home}
 use Rattle.model.specs.Depth.{noteAt}
 use Rattle.model.specs.Lookup.{inChain}
 use Rattle.model.specs.Image.{Room}
-use Rattle.model.specs.Arithmetic.{arithmetic}
 use Rattle.model.specs.Primitive.{storeWord}
 use Rattle.model.proofs.ChainLaws.{named}
 use Rattle.model.proofs.Facts.{Right, least, method-facts}
@@ -27,9 +23,7 @@ use Rattle.model.proofs.SendFacts.{lookup-facts, receiver-fields, field-valid, 
 use Rattle.model.proofs.StoreLaws.{stored-extends, stored-right}
 use Rattle.model.proofs.PrimitiveLaws.{ValidWord, arithmetic-valid, primitive-law}
 use Rattle.plain.specs.State.{Frame}
-use Rattle.plain.specs.Check.{noteOf}
 use Rattle.plain.proofs.FrameLaws.{FrameRight}
-use Rattle.plain.proofs.Preserve.{World}
 use Rattle.plain.proofs.After.{After}
 use Rattle.plain.proofs.RunLaws.{Worlds}
 

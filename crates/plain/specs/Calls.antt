@@ -12,8 +12,8 @@ use Rattle.model.specs.Method.{argumentCount, frameSize}
 use Rattle.model.specs.Lookup.{lookup}
 use Rattle.model.specs.Rules.{rule8}
 use Rattle.model.specs.Image.{Room, imageHeader, imageObjects}
-use Rattle.plain.specs.Registers.{Registers, idle, running, finished, Cause, phaseOf}
-use Rattle.plain.specs.State.{Frame, Plain, objects, withObjects, withFrames, newFrame, fitsStack}
+use Rattle.plain.specs.Registers.{idle, running, finished, Cause, phaseOf}
+use Rattle.plain.specs.State.{Plain, objects, withObjects, withFrames, newFrame, fitsStack}
 use Rattle.plain.specs.Step.{Looked, Stepped, leadsTo, halts, missing, Activation, answered, entered, unfit, activate, step}
 
 -- The machine starts with the image's objects and start words, no frames, phase and value 0.

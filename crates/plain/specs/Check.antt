@@ -12,8 +12,8 @@ use Rattle.model.specs.Method.{home, temporaryCount, frameSize}
 use Rattle.model.specs.Depth.{noteAt}
 use Rattle.model.specs.Lookup.{inChain}
 use Rattle.model.specs.Rules.{headerFine, rule4, rule5, rule6, rule7, rule8, methodTable}
-use Rattle.model.specs.Image.{Verdict, accepted, refused, unless, _then_, buffersFine}
-use Rattle.plain.specs.Registers.{Registers, finished, lastPhase, hasFrames}
+use Rattle.model.specs.Image.{Verdict, unless, _then_, buffersFine}
+use Rattle.plain.specs.Registers.{finished, lastPhase, hasFrames}
 use Rattle.plain.specs.State.{Frame, Plain, noMark, objects, fitsStack}
 use Rattle.plain.specs.Cache.{cacheFine}
 use Rattle.plain.specs.Flat.{Flat, roomOf, flatObjects, plainOf}

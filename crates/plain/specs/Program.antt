@@ -1,7 +1,6 @@
 -- The program step80 (01, "Worked by hand").
 use Prim.Native.Nat.{ℕ}
 use mathlib.Core.List.{List, []}
-use Rattle.model.specs.Limits.{mostObjects, mostBodyWords, entryWords, cacheWords}
 use Rattle.model.specs.Image.{Room, Verdict, accepted, refused, loadVerdict}
 use Rattle.plain.specs.State.{Plain}
 use Rattle.plain.specs.Calls.{loaded, Begun, begun, declined, begin, Ran, ran, stuck, steps}

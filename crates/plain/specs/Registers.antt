@@ -1,6 +1,6 @@
 -- The registers and the phases (01, "Plain machine" and "Calls").
 use Prim.Native.Nat.{ℕ}
-use mathlib.Core.Bool.{Bool, true, false, _||_, not}
+use mathlib.Core.Bool.{Bool, _||_, not}
 use lib.Dec.{eqb}
 
 pub record Registers : Type 0 where

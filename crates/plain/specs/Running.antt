@@ -1,14 +1,14 @@
 -- A handler that runs, in the lent buffers: what the functions of the interpreter ask of the buffers, and what they say of them.
-use Prim.Native.Nat.{ℕ, suc, _+_, _*_, _-_, _≤_, _<_}
+use Prim.Native.Nat.{ℕ, suc, _+_, _*_, _-_, _≤_}
 use mathlib.Core.Path.{_≡_}
 use mathlib.Core.Bool.{Bool, true}
-use mathlib.Core.List.{List, _∷_}
+use mathlib.Core.List.{List}
 use lib.Dec.{T}
 use lib.ListN.{length, getD, take, drop}
 use Rattle.bytecode.specs.Code.{nextAt, decodeAt}
 use Rattle.bytecode.specs.declared.Instruction.{Instruction}
 use Rattle.model.specs.Limits.{entryWords, classKind}
-use Rattle.model.specs.Objects.{Objects, objectsAt, classOf, isNilOr}
+use Rattle.model.specs.Objects.{objectsAt, classOf, isNilOr}
 use Rattle.model.specs.Method.{home, codeWords, codeSize}
 use Rattle.model.specs.Depth.{noteAt}
 use Rattle.model.specs.Lookup.{found, lookup, inChain}

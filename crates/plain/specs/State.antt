@@ -1,7 +1,7 @@
 -- The plain machine's state: registers, objects, frames (01, "Plain machine", first two paragraphs).
 use Prim.Native.Nat.{ℕ, _+_, _-_}
 use mathlib.Core.Bool.{Bool, _&&_}
-use mathlib.Core.List.{List, [], _∷_, _++_}
+use mathlib.Core.List.{List, [], _++_}
 use lib.Dec.{leb}
 use lib.ListN.{length, replicate}
 use Rattle.bytecode.specs.Constant.{nilWord}

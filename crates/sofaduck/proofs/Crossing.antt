@@ -1,13 +1,12 @@
 -- The machine's answers as C sees them.
 use Prim.Native.Nat.{ℕ, zero, suc, _≤_}
-use mathlib.Core.Path.{_≡_, refl, sym, ap, ap₂, _∙_, subst}
-use mathlib.Core.Bool.{Bool, true, false}
-use mathlib.Core.List.{List, [], _∷_}
+use mathlib.Core.Path.{_≡_, refl, sym, ap, _∙_, subst}
+use mathlib.Core.List.{List}
 use lib.ListN.{getD}
 use native.Mathlib.Omega.{arith}
-use Rattle.model.specs.Image.{Verdict, accepted, refused}
+use Rattle.model.specs.Image.{refused}
 use Rattle.plain.specs.Flat.{Flat, flat}
-use Rattle.plain.specs.Calls.{Answer, done, refusedBy, result, wrote}
+use Rattle.plain.specs.Calls.{Answer, refusedBy, result}
 use Rattle.plain.specs.Check.{check}
 use Rattle.plain.specs.FlatCalls.{Given, gives, saved, flatLoad, flatBegin, flatRun, flatDrop, flatForget, flatSave}
 use Rattle.sofaduck.proofs.Numbers.{NumberedIn, NumberedSaved, load-number, begin-number, run-number, drop-number, forget-number, check-number, save-number}
@@ -20,7 +19,7 @@ use Rattle.machine.specs.declared.Forgotten.{Forgotten}
 use Rattle.machine.specs.declared.Checked.{Checked}
 use Rattle.machine.specs.declared.Saved.{Saved}
 use Rattle.machine.specs.State.{registersOf, state, loadGives, beginGives, runGives, ReachIs, dropGives, forgetGives, checkGives, saveGives}
-use Rattle.sofaduck.specs.Border.{seven, sevenWords, stateOf, Seen, sees, seen, answerOf, verdictOf, runAnswer, RunWrites, saveAnswer, SaveWrites}
+use Rattle.sofaduck.specs.Border.{seven, sevenWords, stateOf, sees, seen, answerOf, verdictOf, runAnswer, RunWrites, saveAnswer, SaveWrites}
 use Rattle.plain.specs.Registers as R
 use Rattle.machine.specs.declared.Loaded.the-variants as L
 use Rattle.machine.specs.declared.Begun.the-variants as B

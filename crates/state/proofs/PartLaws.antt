@@ -6,18 +6,17 @@ use mathlib.Core.Bool.{Bool, true, false, _&&_, _||_, not}
 use mathlib.Core.List.{List, [], _∷_}
 use native.Mathlib.Omega.{arith}
 use borrow.Author.Tests.{eq-eqb, ne-eqb, le-leb, lt-leb}
-use lib.Dec.{T, leb, eqb, leb→le, eqb→eq}
+use lib.Dec.{T, leb, eqb, eqb→eq}
 use lib.ListN.{length}
 use lib.Seq.{length-take-le}
 use Rattle.bytecode.specs.Test.{if_then_else_, allOf}
 use Rattle.bytecode.proofs.Choice.{if-yes, if-no}
-use Rattle.bytecode.proofs.TestLaws.{true→T, T→true, and-left, and-right}
-use Rattle.model.specs.Limits.{entryWords, cacheWords, mostObjects, mostBodyWords}
+use Rattle.bytecode.proofs.TestLaws.{true→T, T→true, and-right}
+use Rattle.model.specs.Limits.{entryWords, cacheWords}
 use Rattle.model.specs.Word.{isValid}
 use Rattle.model.specs.Objects.{Objects, objectsAt}
-use Rattle.model.specs.Rules.{Right, sizesFine, headerFine, rule4, rule5, rule6, rule7, rule8}
-use Rattle.model.specs.Image.{Room, Verdict, accepted, refused, unless, _then_, buffersFine, objectsVerdict}
-use Rattle.model.specs.Notes.{NotedBefore}
+use Rattle.model.specs.Rules.{Right, headerFine, rule4, rule5, rule6, rule7, rule8}
+use Rattle.model.specs.Image.{unless, _then_, buffersFine, objectsVerdict}
 use Rattle.rules.specs.Lent.{Lent}
 use Rattle.store.specs.Answer.{numberOf, roomFor}
 use Rattle.store.specs.Judged.{Judged}
@@ -28,7 +27,7 @@ use Rattle.plain.specs.Cache.{cacheFine}
 use Rattle.plain.specs.Flat.{Flat, flat, framesFrom}
 use Rattle.plain.specs.Check.{imageRules, framesFine, stateFine}
 use Rattle.plain.specs.Running.{roomAt}
-use Rattle.plain.proofs.StateLaws.{image-right, right-image}
+use Rattle.plain.proofs.StateLaws.{image-right}
 use Rattle.plain.proofs.CheckParts.{imagePart, phasePart, valuePart, framesPart, cachePart, state-parts}
 use Rattle.state.specs.Parts.{registersFine, standingFine}
 

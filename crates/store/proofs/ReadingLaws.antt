@@ -1,16 +1,14 @@
 -- From the number of a verdict to the answer
 use Prim.Native.Nat.{ℕ, _≤_}
-use mathlib.Core.Path.{_≡_, refl, sym, ap, _∙_, subst}
+use mathlib.Core.Path.{_≡_, refl, sym, ap, _∙_}
 use mathlib.Core.Bool.{Bool, true, false}
 use mathlib.Core.List.{List, []}
 use native.Mathlib.Omega.{arith}
 use lib.Dec.{leb}
 use Rattle.bytecode.proofs.Choice.{if-cases}
-use Rattle.bytecode.specs.Test.{if_then_else_}
 use Rattle.model.specs.Objects.{Objects}
 use Rattle.model.specs.Rules.{headerFine, rule4, rule5, rule6, rule7, rule8}
 use Rattle.model.specs.Image.{Room, Header, Verdict, accepted, refused, _then_, unless, imageHeader, imageObjects, lengthFine, buffersFine, objectsVerdict, loadVerdict}
-use Rattle.store.specs.declared.Reading.{Reading}
 use Rattle.store.specs.declared.Reading.the-variants.{Accepted, Refused}
 use Rattle.store.specs.Answer.{numberOf, Stored, stored, storedBy}
 use Rattle.store.specs.Readings.{readingNumber, readingOf}

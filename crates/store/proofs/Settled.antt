@@ -1,8 +1,8 @@
 -- What is in the lent words after an image is put in place, and after it is undone.
-use Prim.Native.Nat.{ℕ, _*_, _≤_}
+use Prim.Native.Nat.{ℕ, _*_}
 use mathlib.Core.Path.{_≡_, refl, sym, ap, ap₂, _∙_, subst}
 use mathlib.Core.Bool.{true, false, _&&_}
-use mathlib.Core.List.{List, [], _++_}
+use mathlib.Core.List.{List, _++_}
 use lib.Dec.{leb, eqb, leb→le}
 use lib.ListN.{length, take, drop, replicate}
 use lib.Seq.{take-at, drop-at}

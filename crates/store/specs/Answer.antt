@@ -1,10 +1,9 @@
 -- What loading leaves in the lent contents and bodies, and its answer as a number (01, "From the input").
 use Prim.Native.Nat.{ℕ, _*_}
-use mathlib.Core.Bool.{Bool, true, false}
 use mathlib.Core.Path.{_≡_}
-use mathlib.Core.List.{List, [], _∷_, _++_}
+use mathlib.Core.List.{List, _++_}
 use lib.Dec.{T, leb}
-use lib.ListN.{length, drop, replicate}
+use lib.ListN.{drop, replicate}
 use Rattle.bytecode.specs.Test.{if_then_else_}
 use Rattle.model.specs.Limits.{entryWords}
 use Rattle.model.specs.Image.{Room, Verdict, accepted, refused, imageHeader, imageObjects, lengthFine}

@@ -1,17 +1,13 @@
 use native.Mathlib.Omega.{arith}
-use Prim.Native.Nat.{ℕ, _+_, _/_, _%_, _≤_}
-use mathlib.Core.Path.{_≡_, refl, sym, ap, _∙_, subst}
-use lib.Dec.{T}
+use Prim.Native.Nat.{ℕ, _/_, _%_}
+use mathlib.Core.Path.{sym, ap, _∙_}
 use borrow.Author.Tests.{not-true, not-false}
-use Rattle.model.specs.Limits.{methodKind, classKind}
-use Rattle.model.specs.Objects.{objectsAt, isKind, classOf}
+use Rattle.model.specs.Objects.{objectsAt, classOf}
 use Rattle.model.specs.Lookup.{lookup}
 use Rattle.model.proofs.SendFacts.{lookup-facts}
 use Rattle.model.proofs.Lent.{contents-room}
 use Rattle.readers.proofs.HeaderLaws.{frame-is, small-frame}
 use Rattle.begins.proofs.Beginnings.{refused-8, refused-9, refused-10, receiver-valid, class-starts, begun-answer, begun-unfit, begun-full, begun-room, begun-enters}
-use lib.Seq.{take-all}
-use lib.ListN.{length, take}
 use Rattle.begins.proofs.Beginnings.{first-words}
 use borrow.Author.Needs.{needs}
 use Rattle.begins.proofs.begin.Statement.{statement}

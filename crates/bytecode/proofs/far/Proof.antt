@@ -1,5 +1,5 @@
 -- `far` is `jumpOf` from 160 on.
-use Prim.Native.Nat.{_<_, _≤_}
+use Prim.Native.Nat.{_≤_}
 use native.Mathlib.Omega.{arith}
 use Rattle.bytecode.specs.Code.{jumpOf}
 use Rattle.bytecode.proofs.Choice.{ranges}

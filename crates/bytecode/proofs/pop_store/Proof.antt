@@ -1,5 +1,5 @@
 -- `pop_store` is `shortOf` from 96 on.
-use Prim.Native.Nat.{_<_, _≤_}
+use Prim.Native.Nat.{_≤_}
 use native.Mathlib.Omega.{arith}
 use Rattle.bytecode.specs.Code.{shortOf}
 use Rattle.bytecode.proofs.Choice.{ranges}

@@ -1,7 +1,6 @@
 use native.Mathlib.Omega.{arith}
 use lib.Bits.{and-le-l}
 use Rattle.cache.proofs.Caching.{entry-is}
-use borrow.Author.Needs.{needs}
 use Rattle.cache.proofs.entry.Statement.{statement}
 use Rattle.cache.proofs.entry.Tie as tie
 

@@ -1,6 +1,6 @@
 use Rattle.code.proofs.CodePlace.{code-lent, code-short, walked-put}
 use native.Mathlib.Omega.{arith}
-use mathlib.Core.Path.{_≡_, ap, _∙_}
+use mathlib.Core.Path.{ap, _∙_}
 use Rattle.readers.specs.Header.{literalsOf}
 use Rattle.code.proofs.LinkFine.{method-entry, method-word}
 use Rattle.code.proofs.CodePlace.{code-starts, body-size, body-inside}

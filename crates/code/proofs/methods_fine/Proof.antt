@@ -1,9 +1,9 @@
 use Prim.Native.Nat.{ℕ}
-use mathlib.Core.Path.{_≡_, refl, sym, ap, _∙_}
+use mathlib.Core.Path.{sym, _∙_}
 use native.Mathlib.Omega.{arith}
 use borrow.Author.Needs.{needs}
 use borrow.Author.Tests.{not-true, not-false}
-use lib.ListN.{length, length-replicate}
+use lib.ListN.{length-replicate}
 use Rattle.bytecode.proofs.TestLaws.{true→T}
 use Rattle.code.proofs.PassLaws.{seven-shapes, seven-holders, seven-codes, held-counts, zeros-at}
 use Rattle.code.proofs.methods_fine.Statement.{statement}

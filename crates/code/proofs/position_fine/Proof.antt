@@ -1,6 +1,5 @@
 use borrow.Author.Needs.{needs}
-use mathlib.Core.Path.{_∙_, sym, ap}
-use native.Mathlib.Omega.{arith}
+use mathlib.Core.Path.{_∙_}
 use Rattle.code.proofs.LinkFine.{decoded-small, linked-free, linked-noted}
 use Rattle.code.proofs.position_fine.Statement.{statement}
 use Rattle.code.proofs.position_fine.Tie as tie

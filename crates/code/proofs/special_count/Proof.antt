@@ -1,5 +1,4 @@
 use native.Mathlib.Omega.{arith}
-use mathlib.Core.Path.{_∙_, sym, ap}
 use Rattle.code.proofs.LinkFine.{special-need}
 use borrow.Author.Needs.{needs}
 use Rattle.code.proofs.special_count.Statement.{statement}

@@ -1,4 +1,3 @@
-use native.Mathlib.Omega.{arith}
 use mathlib.Core.Path.{sym, _∙_}
 use borrow.Author.Tests.{not-true, not-false}
 use Rattle.state.proofs.PartLaws.{header-no, registers-no, judged-no, lent, cache-long, notes-room, rights, all-noted, standing-no, cache-left}

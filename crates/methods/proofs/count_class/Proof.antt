@@ -1,13 +1,11 @@
-use Prim.Native.Nat.{ℕ, _+_, _-_, _*_, _/_, _≤_, _<_}
-use mathlib.Core.Path.{_≡_, refl, sym, ap, _∙_, subst}
-use mathlib.Core.Bool.{Bool, true, false}
-use mathlib.Core.List.{List}
+use Prim.Native.Nat.{_-_, _/_, _≤_}
+use mathlib.Core.Path.{_≡_, refl, _∙_, subst}
 use native.Mathlib.Omega.{arith}
 use borrow.Author.Needs.{needs}
 use borrow.Author.Tests.{not-true, not-false}
 use lib.ListN.{length}
 use Rattle.model.specs.Limits.{listKind}
-use Rattle.model.specs.Objects.{Objects, objectsAt, size, dictionaryWord, pairCount}
+use Rattle.model.specs.Objects.{objectsAt, size}
 use Rattle.readers.proofs.InsideLaws.{entry-here, class-inside}
 use Rattle.methods.specs.Counts.{Counting, Turned}
 use Rattle.methods.proofs.AskedLaws.{dictionary-kind, pair-asked, class-no, turned-on, class-done}

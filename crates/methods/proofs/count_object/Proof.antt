@@ -1,8 +1,7 @@
-use Prim.Native.Nat.{ℕ, _+_, _*_}
-use mathlib.Core.Path.{_≡_, refl, sym, ap, _∙_, subst}
+use Prim.Native.Nat.{_*_}
+use mathlib.Core.Path.{refl, sym, _∙_}
 use native.Mathlib.Omega.{arith}
 use Rattle.methods.proofs.AskedLaws.{no-class-here, class-here, turned-here}
-use borrow.Author.Needs.{needs}
 use Rattle.methods.proofs.count_object.Statement.{statement}
 use Rattle.methods.proofs.count_object.Tie as tie
 

@@ -1,12 +1,8 @@
-use Prim.Native.Nat.{ℕ, _+_, _*_, _/_}
-use mathlib.Core.Path.{_≡_, refl, sym, ap, _∙_, subst}
-use mathlib.Core.Bool.{Bool, true, false}
-use mathlib.Core.List.{List}
+use Prim.Native.Nat.{ℕ, _*_, _/_}
+use mathlib.Core.Path.{ap, _∙_}
 use native.Mathlib.Omega.{arith}
-use Rattle.model.specs.Limits.{classKind}
-use Rattle.model.specs.Objects.{Objects, objectsAt, bodyWord, dictionaryWord, pairSelector, pairMethod}
+use Rattle.model.specs.Objects.{objectsAt, bodyWord}
 use Rattle.readers.proofs.InsideLaws.{class-inside, method-inside}
-use Rattle.methods.specs.Counts.{Noted, Turned}
 use Rattle.methods.proofs.AskedLaws.{pair-inside, selector-most, method-held, pair-counts, pair-no, pair-turned}
 use borrow.Author.Needs.{needs}
 use Rattle.methods.proofs.count_pair.Statement.{statement}

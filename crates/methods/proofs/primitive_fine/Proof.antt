@@ -1,4 +1,3 @@
-use Prim.Native.Nat.{ℕ}
 use mathlib.Core.Path.{sym, ap, _∙_, subst}
 use Rattle.readers.specs.Header.{flagOf, literalsOf}
 use Rattle.methods.specs.Asked.{Literals}

@@ -1,6 +1,6 @@
-use mathlib.Core.Path.{_≡_, sym, _∙_}
+use mathlib.Core.Path.{sym, _∙_}
 use native.Mathlib.Omega.{arith}
-use Prim.Native.Nat.{ℕ, _/_}
+use Prim.Native.Nat.{_/_}
 use borrow.Author.Tests.{not-true, not-false}
 use Rattle.methods.proofs.SendLaws.{no-selector, selector-inside, none-under, count-under}
 use borrow.Author.Needs.{needs}

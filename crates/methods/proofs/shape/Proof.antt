@@ -1,5 +1,4 @@
-use Prim.Native.Nat.{ℕ, _+_, _*_}
-use mathlib.Core.Path.{refl, sym, ap, _∙_, subst}
+use mathlib.Core.Path.{refl, sym, ap, _∙_}
 use native.Mathlib.Omega.{arith}
 use borrow.Author.Tests.{lt-leb, le-leb, eq-eqb, ne-eqb, not-true, not-false}
 use Rattle.bytecode.proofs.TestLaws.{true→T}
@@ -7,7 +6,6 @@ use Rattle.model.specs.Limits.{methodKind}
 use Rattle.model.specs.Objects.{objectsAt}
 use Rattle.readers.specs.Header.{literalsOf}
 use Rattle.readers.proofs.InsideLaws.{entry-here, method-inside}
-use Rattle.methods.specs.Asked.{Literals}
 use Rattle.methods.proofs.ShapeLaws.{shape-is, passed-five}
 use borrow.Author.Needs.{needs}
 use Rattle.methods.proofs.shape.Statement.{statement}

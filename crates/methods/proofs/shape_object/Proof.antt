@@ -1,5 +1,4 @@
-use Prim.Native.Nat.{ℕ, _*_, _/_}
-use mathlib.Core.Path.{_≡_, refl, sym, ap, _∙_}
+use mathlib.Core.Path.{sym, _∙_}
 use native.Mathlib.Omega.{arith}
 use Rattle.methods.proofs.ShapeLaws.{no-method-here, method-here}
 use Rattle.bytecode.proofs.TestLaws.{true→T}

@@ -21,11 +21,11 @@ write-answer-requires-2 c κs = search needs
 enum-known-performed-3 : tie.Need-enum-known-performed-3
 enum-known-performed-3 c = search needs
 
-cast-put : tie.Need-cast-put
-cast-put c = search needs
+cast-write-answer : tie.Need-cast-write-answer
+cast-write-answer c = search needs
 
-cast-put-2 : tie.Need-cast-put-2
-cast-put-2 c = search needs
+cast-write-answer-2 : tie.Need-cast-write-answer-2
+cast-write-answer-2 c = search needs
 
 write-answer-requires-3 : tie.Need-write-answer-requires-3
 write-answer-requires-3 c κs = search needs
@@ -69,8 +69,8 @@ note-spec =
     enum-known-performed-2
     write-answer-requires-2
     enum-known-performed-3
-    cast-put
-    cast-put-2
+    cast-write-answer
+    cast-write-answer-2
     write-answer-requires-3
     same-length
     returns

@@ -1,6 +1,5 @@
 use native.Mathlib.Omega.{arith}
 use Prim.Native.Nat.{_+_}
-use mathlib.Core.Path.{_∙_}
 use Rattle.replay.specs.Encoding.{runLength}
 use Rattle.replay.proofs.Performing.{ran-done, ran-refused}
 use borrow.Author.Needs.{needs}

@@ -1,5 +1,5 @@
 use native.Mathlib.Omega.{arith}
-use mathlib.Core.Path.{ap, _∙_, sym}
+use mathlib.Core.Path.{ap}
 use Prim.Native.Nat.{ℕ, _+_}
 use Rattle.model.specs.Objects.{objectsAt}
 use Rattle.plain.proofs.RunningLaws.{top-bounds, is-method}

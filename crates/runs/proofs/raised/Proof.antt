@@ -1,5 +1,4 @@
 use native.Mathlib.Omega.{arith}
-use mathlib.Core.Path.{ap, _∙_, sym}
 use Rattle.runs.proofs.Looping.{raised-same, raised-other}
 use borrow.Author.Needs.{needs}
 use Rattle.runs.proofs.raised.Statement.{statement}

@@ -1,4 +1,3 @@
-use mathlib.Core.Path.{refl}
 use Rattle.state.proofs.PartLaws.{late-phase, finished-value, other-value}
 use borrow.Author.Needs.{needs}
 use Rattle.state.proofs.registers_fine.Statement.{statement}
