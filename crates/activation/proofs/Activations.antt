@@ -86,7 +86,8 @@ module _ {n b : ℕ} {contents bodies : List ℕ} {m receiver : ℕ} (a : Activa
       }
 
   -- the primitive that was performed is the method's, on its arguments
-  pub performed : {r : Done} {k count x y : ℕ} {contents′ bodies′ : List ℕ} (edition : ℕ) (arguments : List ℕ) → k ≡ primitiveNumber o m → count ≡ argumentCount o m → x ≡ getD arguments 0 0 → y ≡ getD arguments 1 0
+  pub performed : {r : Done} {k count x y : ℕ} {contents′ bodies′ : List ℕ} (edition : ℕ) (arguments : List ℕ) → k ≡ primitiveNumber o m → count ≡ argumentCount o m → x ≡ getD arguments 0 0
+      → y ≡ getD arguments 1 0
       → Does o (primitive edition (roomOf contents bodies) o k count receiver (x ∷ y ∷ [])) r contents bodies contents′ bodies′
       → Does o (primitive edition (roomOf contents bodies) o (primitiveNumber o m) (argumentCount o m) receiver (getD arguments 0 0 ∷ getD arguments 1 0 ∷ [])) r contents bodies contents′ bodies′
   performed {r} {k} {count} {x} {y} {contents′} {bodies′} edition arguments p q s t d =
@@ -104,7 +105,8 @@ module _ {n b : ℕ} {contents bodies : List ℕ} {m receiver : ℕ} (a : Activa
         let g : flag o m ≡ 6 = sym e ∙ h in
         if-no _ _ (ne-eqb (flag o m) receiverFlag (λ q. omega arith)) ∙ if-yes _ _ (eq-eqb (flag o m) fieldFlag g)
 
-    by-primitive : f ≢ 5 → f ≢ 6 → f ≡ 7 → activate edition room o m receiver arguments ≡ primitiveAnswered o m receiver (primitive edition room o (primitiveNumber o m) (argumentCount o m) receiver arguments)
+    by-primitive : f ≢ 5 → f ≢ 6 → f ≡ 7 → activate edition room o m receiver arguments ≡ primitiveAnswered o m receiver
+        (primitive edition room o (primitiveNumber o m) (argumentCount o m) receiver arguments)
     unfolding activate
     by-primitive p q h =
         if-no _ _ (ne-eqb (flag o m) receiverFlag (λ z. p (e ∙ z))) ∙ if-no _ _ (ne-eqb (flag o m) fieldFlag (λ z. q (e ∙ z))) ∙ if-yes _ _ (eq-eqb (flag o m) primitiveFlag (sym e ∙ h))

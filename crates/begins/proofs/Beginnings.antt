@@ -130,7 +130,8 @@ module _ {e n b : ℕ} {contents bodies stack : List ℕ} {w s : ℕ} {arguments
   abbrev oₐ : Objects
   oₐ = objectsAt n b contents bodies
 
-  activated : (cache : ℕ) (r′ : Activated) → r ≡ r′ → Rattle.activation.specs.Activating.ActivatedIs (activate e (roomOver cache) oₐ m w arguments) (entering oₐ m w) contents bodies contents′ bodies′ r′
+  activated : (cache : ℕ) (r′ : Activated) → r ≡ r′ → Rattle.activation.specs.Activating.ActivatedIs (activate e (roomOver cache) oₐ m w arguments)
+      (entering oₐ m w) contents bodies contents′ bodies′ r′
   activated cache r′ h =
       subst (Rattle.activation.specs.Activating.ActivatedIs (activate e (roomOver cache) oₐ m w arguments) (entering oₐ m w) contents bodies contents′ bodies′) h
       (a arguments ex ey (roomOver cache) refl refl)

@@ -71,7 +71,8 @@ module _ (edition : ℕ) (o : Objects) (stack : List ℕ) where
 
   pub from-bottom : (isTop : Bool) (left base : ℕ) → base ≡ 0 → T (standsAt o stack base) → allOf (frameRules edition o isTop (frameAt o stack base)) ≡ true
       → eqb (getD stack base 0) 0 ≡ fineFrom isTop left base
-  from-bottom isTop left base z s r = subst (λ (x : ℕ). T (standsAt o stack x) → allOf (frameRules edition o isTop (frameAt o stack x)) ≡ true → eqb (getD stack x 0) 0 ≡ fineFrom isTop left x) (sym z) go s r
+  from-bottom isTop left base z s r = subst (λ (x : ℕ). T (standsAt o stack x) → allOf (frameRules edition o isTop (frameAt o stack x)) ≡ true → eqb (getD stack x 0) 0 ≡ fineFrom isTop left x)
+      (sym z) go s r
     where
       go : T (standsAt o stack 0) → allOf (frameRules edition o isTop (frameAt o stack 0)) ≡ true → eqb (getD stack 0 0) 0 ≡ fineFrom isTop left 0
       go s r =

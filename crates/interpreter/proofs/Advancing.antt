@@ -106,7 +106,8 @@ module _ {n b : ℕ} {contents bodies stack₀ : List ℕ} {a : Active} (r₀ : 
   -- A return
   module _ (w : ℕ) (e : event ≡ Return w) where
     abbrev return-step : ℕ → ℕ → ℕ → Stepped
-    return-step edition receiver selector = returned (runningAt edition receiver selector n b top contents bodies stack) (topFrame n b top contents bodies stack) (restFrames n b top contents bodies stack) w
+    return-step edition receiver selector = returned (runningAt edition receiver selector n b top contents bodies stack) (topFrame n b top contents bodies stack)
+        (restFrames n b top contents bodies stack) w
 
     returns-word : Becomes n b top contents bodies stack bodies₁ stack₁ (λ room edition receiver selector. return-step edition receiver selector)
     returns-word = onto-left (λ room edition receiver selector. return-step edition receiver selector) (by-event r₀ bodies₁ stack₂ event says (Return w) e)
@@ -131,7 +132,8 @@ module _ {n b : ℕ} {contents bodies stack₀ : List ℕ} {a : Active} (r₀ : 
         let x = returns-word in
         made-as (x .steps edition receiver selector (roomAt contents bodies stack cache))
         (subst (λ (s : List ℕ). Made (return-step edition receiver selector) (runningWith edition receiver selector n b t) contents bodies stack cache contents bodies₁ s cache) (sym es)
-        (subst (λ (k : ℕ). Made (return-step edition receiver selector) (runningWith edition receiver selector n b k) contents bodies stack cache contents bodies₁ (after bodies₁ stack₁ k) cache) (sym et)
+        (subst (λ (k : ℕ). Made (return-step edition receiver selector) (runningWith edition receiver selector n b k) contents bodies stack cache contents bodies₁ (after bodies₁ stack₁ k) cache)
+        (sym et)
         (onto (x .words) (x .frames) (λ (l s : List ℕ). Made (return-step edition receiver selector) (runningWith edition receiver selector n b (frameSender s top)) contents
         bodies stack cache contents l (after l s (frameSender s top)) cache)
         (sender-returns r above edition receiver selector w cache))))
@@ -181,7 +183,8 @@ module _ {n b : ℕ} {contents bodies stack₀ : List ℕ} {a : Active} (r₀ : 
         )
 
     module _ (edition : ℕ) (cache contents′ bodies′ stack′ cache′ : List ℕ) (answer : Sent)
-        (h : (receiver selector : ℕ) → SentIs (send-step cache bodies₁ stack₁ edition receiver selector) edition receiver selector n b top contents bodies₁ stack₁ cache contents′ bodies′ stack′ cache′ answer)
+        (h : (receiver selector : ℕ) → SentIs (send-step cache bodies₁ stack₁ edition receiver selector) edition receiver selector n b top contents bodies₁ stack₁ cache contents′ bodies′ stack′
+        cache′ answer)
       where
         -- what the send says, of the buffers before the step
         said : (y : Sent) → answer ≡ y → (receiver selector : ℕ) → SentIs (send-step cache bodies stack edition receiver selector) edition receiver selector n b top contents

@@ -68,13 +68,15 @@ module _ (image contents bodies cache contents′ bodies′ : List ℕ) where
     unfolding flatLoad
     load-is v e = ap (afterLoad s image) (same-verdict ∙ e)
 
-    load-accepted : (edition n b receiver selector : ℕ) (cache′ : List ℕ) → Accepted edition n b receiver selector ≡ readingOf verdict h → stored 0 contents′ bodies′ ≡ storedBy verdict image contents bodies
+    load-accepted : (edition n b receiver selector : ℕ) (cache′ : List ℕ) → Accepted edition n b receiver selector ≡ readingOf verdict h
+        → stored 0 contents′ bodies′ ≡ storedBy verdict image contents bodies
         → cache′ ≡ sets cache 0 (replicate (length cache) 0)
         → loadGives (L.Accepted (record { n = n; b = b; receiver = receiver; selector = selector; phase = 0; top = 0; value = 0; edition = edition })) contents′ bodies′ stack cache′ ≡ flatLoad s image
     load-accepted edition n b receiver selector cache′ e q c = go verdict refl e q
       where
         go : (v : Verdict) → verdict ≡ v → Accepted edition n b receiver selector ≡ readingOf v h → stored 0 contents′ bodies′ ≡ storedBy v image contents bodies
-            → loadGives (L.Accepted (record { n = n; b = b; receiver = receiver; selector = selector; phase = 0; top = 0; value = 0; edition = edition })) contents′ bodies′ stack cache′ ≡ flatLoad s image
+            → loadGives (L.Accepted (record { n = n; b = b; receiver = receiver; selector = selector; phase = 0; top = 0; value = 0; edition = edition })) contents′ bodies′ stack cache′ ≡
+            flatLoad s image
         go (refused k) p e q = absurd (unfold readingOf in subst is-accepted e tt)
         go accepted p e q = unfold loadGives readingOf storedBy loaded in (
             let x : hOf (Accepted edition n b receiver selector) ≡ hOf (Accepted (h .edition) (h .n) (h .b) (h .receiver) (h .selector)) = ap hOf e in

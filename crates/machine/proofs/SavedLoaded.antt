@@ -84,7 +84,8 @@ module _ (s : Flat) (e : check s ≡ accepted) where
   unfolding objectsVerdict plainOf
   objects-pass =
       let r = check-right s e .plain in
-      five (rule4 (h .edition) (flatObjects s)) (rule5 (h .edition) (flatObjects s)) (rule6 (h .edition) (flatObjects s)) (rule7 (h .edition) (flatObjects s)) (rule8 (flatObjects s) (h .receiver) (h .selector) [])
+      five (rule4 (h .edition) (flatObjects s)) (rule5 (h .edition) (flatObjects s)) (rule6 (h .edition) (flatObjects s)) (rule7 (h .edition) (flatObjects s))
+      (rule8 (flatObjects s) (h .receiver) (h .selector) [])
       (r .image .rule-4) (r .image .rule-5) (r .image .rule-6) (r .image .rule-7) (r .starts)
     where
       five : (p q r s t : Bool) → T p → T q → T r → T s → T t → (unless p 4 then (unless q 5 then (unless r 6 then (unless s 7 then unless t 8)))) ≡ accepted

@@ -64,7 +64,8 @@ module _ {n b : ℕ} {contents bodies : List ℕ} {class i : ℕ} {counts : List
   unfolding Turned
   pair-no eh counts′ f = wrong-home (p .ready .edition) (p .ready .classes) (p .so-far) class (p .isClass) refl (p .inside) (p .long) (λ e. f (home-is eh ∙ e))
 
-  pub pair-turned : {s h count : ℕ} → s ≡ bodyWord o′ (d / 2) (2 * i) → h ≡ bodyWord o′ (m / 2) 1 → h ≡ class → count ≡ argumentCount o′ m → (counts′ : List ℕ) (r : Bool) → Noted counts (s / 2) (count + 1) counts′ r
+  pub pair-turned : {s h count : ℕ} → s ≡ bodyWord o′ (d / 2) (2 * i) → h ≡ bodyWord o′ (m / 2) 1 → h ≡ class → count ≡ argumentCount o′ m → (counts′ : List ℕ) (r : Bool)
+      → Noted counts (s / 2) (count + 1) counts′ r
       → Turned o′ (class / 2) (i + 1) counts′ r
   pair-turned {s} es eh f ec counts′ r t = go r (subst (λ (x : ℕ). Noted counts x (argumentCount o′ (pairMethod o′ (dictionaryWord o′ class) i) + 1) counts′
       r) (ap (λ (x : ℕ). x / 2) selector-is) (subst (λ (x : ℕ). Noted counts (s / 2) (x + 1) counts′ r) (ec ∙ ap (argumentCount o′) method-is) t))

@@ -169,8 +169,10 @@ module _ {e : ℕ} {o o′ : Objects} (x : Extends o o′) (r : Right e o) where
   rule-7-kept =
       at-upTo (o′ .n) (λ k. implies (eqb (kind o′ k) methodKind) (allOf (methodRules e o′ (pointer k))) && implies (eqb (kind o′ k) classKind) (dictionaryMethodsFine o′ (pointer k)))
       (λ k h g. and-both (implies (eqb (kind o′ k) methodKind) (allOf (methodRules e o′ (pointer k)))) (implies (eqb (kind o′ k) classKind) (dictionaryMethodsFine o′ (pointer k)))
-      (implying (eqb (kind o′ k) methodKind) (allOf (methodRules e o′ (pointer k))) (λ q. method-kept (pointer k) (old-kind k methodKind (omega arith) (omega arith) h g (eqb→eq (kind o′ k) methodKind q))))
-      (implying (eqb (kind o′ k) classKind) (dictionaryMethodsFine o′ (pointer k)) (λ q. methods-kept (pointer k) (old-kind k classKind (omega arith) (omega arith) h g (eqb→eq (kind o′ k) classKind q)))))
+      (implying (eqb (kind o′ k) methodKind) (allOf (methodRules e o′ (pointer k))) (λ q. method-kept (pointer k)
+      (old-kind k methodKind (omega arith) (omega arith) h g (eqb→eq (kind o′ k) methodKind q))))
+      (implying (eqb (kind o′ k) classKind) (dictionaryMethodsFine o′ (pointer k)) (λ q. methods-kept (pointer k)
+      (old-kind k classKind (omega arith) (omega arith) h g (eqb→eq (kind o′ k) classKind q)))))
 
   -- the known objects
   known-kept : T (allOf (knownObjectRules e o′))
@@ -299,7 +301,8 @@ module _ {e : ℕ} {o o′ : Objects} (x : Extends o o′) (r : Right e o) where
         (λ k h g. and-both (entryFine e o′ k) (implies (eqb (kind o′ k) classKind) (allOf (classRules e o′ (pointer k))))
         (and-both (isKind o′ classKind (classWord o′ k)) (fits e o′ k) (is-classed k h g) (fits-rule e o′ k (laid-out k h g .kinds)
         (entry-at (λ k. Fits o′ k (classWord o′ k)) fits-kept (y .fitting) k h g)))
-        (implying (eqb (kind o′ k) classKind) (allOf (classRules e o′ (pointer k))) (λ q. class-kept (pointer k) (old-kind k classKind (omega arith) (omega arith) h g (eqb→eq (kind o′ k) classKind q))))))
+        (implying (eqb (kind o′ k) classKind) (allOf (classRules e o′ (pointer k))) (λ q. class-kept (pointer k)
+        (old-kind k classKind (omega arith) (omega arith) h g (eqb→eq (kind o′ k) classKind q))))))
 
     pub right-kept : Right e o′
     right-kept =

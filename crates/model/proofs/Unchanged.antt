@@ -217,7 +217,8 @@ module _ {e : ℕ} {o o′ : Objects} (x : Extends o o′) (r : Right e o) where
       (λ k h g. implies-same (eqb (kind o k) classKind) (eqb (kind o′ k) classKind) (counts o s n (dictionaryWord o (pointer k))) (counts o′ s n (dictionaryWord o′ (pointer k)))
       (ap (λ (z : ℕ). eqb z classKind) (x .entries k 1 h g (omega arith)))
       (λ t. counts-same s n (pointer k) (subst (λ (z : ℕ). T (isKind o z (pointer k))) (eqb→eq (kind o k) classKind t) (naming o (kind o k) (pointer k) (named-pointer o k h g)))))
-      (λ k h g. implying (eqb (kind o′ k) classKind) (counts o′ s n (dictionaryWord o′ (pointer k))) (λ t. let b = eqb→eq (kind o′ k) classKind t in let a = x .new k h g (omega arith) in absurd (omega arith)))
+      (λ k h g. implying (eqb (kind o′ k) classKind) (counts o′ s n (dictionaryWord o′ (pointer k)))
+      (λ t. let b = eqb→eq (kind o′ k) classKind t in let a = x .new k h g (omega arith) in absurd (omega arith)))
 
   pub send-same : (s n : ℕ) → T (isValid (o .n) s) → sendFine o′ s n ≡ sendFine o s n
   unfolding sendFine

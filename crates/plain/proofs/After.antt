@@ -23,7 +23,14 @@ pub record After (e : ℕ) (room : Room) (o o′ : Objects) : Type 0 where
 -- a right state after a step
 pub kept-right : (room : Room) (s s′ : Plain) → PlainRight room s → Kept (After (s .registers .edition) room) room s s′ → PlainRight room s′
 kept-right room s s′ r k =
-    record { image = subst (λ (e : ℕ). Right e (objects s′)) (sym (k .edition)) (k .after .right); contents = k .after .contents; bodies = k .after .bodies; starts = starts′; stands = goes (k .shape) }
+    record {
+      image = subst (λ (e : ℕ). Right e (objects s′)) (sym (k .edition)) (k .after .right);
+      contents = k .after .contents;
+      bodies = k .after .bodies;
+      starts = starts′;
+      stands = goes
+          (k .shape);
+    }
   where
     starts′ : T (Rattle.model.specs.Rules.rule8 (objects s′) (s′ .registers .startReceiver) (s′ .registers .startSelector) [])
     starts′ =

@@ -64,7 +64,8 @@ module _ (room : Room) (worlds : Worlds room) (p : Plain) (r : PlainRight room p
   world = worlds edition o (r .image) (r .contents) (r .bodies)
 
   module _ (receiver : ℕ) (arguments : List ℕ) (v : T (isValid (o .n) receiver)) (va : Valid (o .n) arguments) where
-    activated-begins : (m : ℕ) → T (isKind o Rattle.model.specs.Limits.methodKind m) → argumentCount o m ≡ length arguments → (x : Activation) → Activates (After edition room) room p world m receiver x
+    activated-begins : (m : ℕ) → T (isKind o Rattle.model.specs.Limits.methodKind m) → argumentCount o m ≡ length arguments → (x : Activation)
+        → Activates (After edition room) room p world m receiver x
         → BeginGoes room p (beginActivated room p m receiver arguments x)
     activated-begins m k c (answered w o′) a =
         let e : Shape (room .stack) (withFrames (withObjects p o′) [] finished 0 w) = ends refl (a .1) refl refl in

@@ -21,5 +21,13 @@ use Rattle.plain.specs.FlatCalls.{laid, stackAfter, cacheAfter, flatBegi
 use Rattle.plain.specs.Program.{step80}
 
 unfoldable pub computing : Unit {0}
-unfolding if_then_else_ byteAt placeOf shortOf constantOf extendedOf jumpOf sendOf instructionOf lengthOf nextAt decodeAt specialCount need leaves usable successors wordOf valueOf isPointer isValid bodyWords bodyOf isKind classOf codeWords codeSize frameWords argumentCount walk walkFrom successorsAt depthAfterAt rulesAt fineAt depthTable findFrom findIn lookupWithin lookup inChainWithin inChain endsWithin startFine paddingFine layoutRules rule4 wordsFine rule5 fits entryFine pairFine dictionaryFine classRules knownObjectRules objectFine rule6 takesCount sendFine variableFine placeFine allowed methodTable methodRules dictionaryMethodsFine rule7 rule8 wordsOf bytesOf headerOf objectsIn imageHeader imageObjects imageOf lengthFine buffersFine objectsVerdict loadVerdict floorQuotient floorRemainder shifted number divided exactQuotient onIntegers onBits arithmetic storeWord objectByte storeByte isIndexable at atPut sizeAnswer appended hasRoom make new newWith perform primitiveCount primitive newFrame fitsStack operand fieldOf literalOf pushed read storedField stored returned entering activate framed sends arithmeticSends specialSends jumps execute stepFrame step loaded begin steps dropped call cacheEntryOf filled cachedRight cacheFine frameAt framesFrom plainOf imageRules noteOf frameRules framesFine plainRules plainFine stateFine check laid stackAfter cacheAfter flatBegin flatRun topEnd highestEnd reachFine flatDrop flatForget flatCall zeroed flatLoad savedImage saveVerdict flatSave step80
+unfolding if_then_else_ byteAt placeOf shortOf constantOf extendedOf jumpOf sendOf instructionOf lengthOf nextAt decodeAt specialCount need leaves usable successors wordOf valueOf isPointer
+    isValid bodyWords bodyOf isKind classOf codeWords codeSize frameWords argumentCount walk walkFrom successorsAt depthAfterAt rulesAt fineAt depthTable findFrom findIn lookupWithin lookup
+    inChainWithin inChain endsWithin startFine paddingFine layoutRules rule4 wordsFine rule5 fits entryFine pairFine dictionaryFine classRules knownObjectRules objectFine rule6 takesCount
+    sendFine variableFine placeFine allowed methodTable methodRules dictionaryMethodsFine rule7 rule8 wordsOf bytesOf headerOf objectsIn imageHeader imageObjects imageOf lengthFine buffersFine
+    objectsVerdict loadVerdict floorQuotient floorRemainder shifted number divided exactQuotient onIntegers onBits arithmetic storeWord objectByte storeByte isIndexable at atPut sizeAnswer
+    appended hasRoom make new newWith perform primitiveCount primitive newFrame fitsStack operand fieldOf literalOf pushed read storedField stored returned entering activate framed sends
+    arithmeticSends specialSends jumps execute stepFrame step loaded begin steps dropped call cacheEntryOf filled cachedRight cacheFine frameAt framesFrom plainOf imageRules noteOf frameRules
+    framesFine plainRules plainFine stateFine check laid stackAfter cacheAfter flatBegin flatRun topEnd highestEnd reachFine flatDrop flatForget flatCall zeroed flatLoad savedImage saveVerdict
+    flatSave step80
 computing = tt

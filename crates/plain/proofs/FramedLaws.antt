@@ -238,7 +238,8 @@ module _ {n b top : ℕ} {contents bodies stack : List ℕ} {selector count clas
 
       -- ---- the buffers after it
 
-      pub answered-made : (cache : List ℕ) (w n′ b′ : ℕ) (o′ : Objects) (contents′ bodies′ stack′ cache′ : List ℕ) → activate edition room o m receiver sentArguments ≡ answered w o′ → o′ .n ≡ n′ → o′ .b ≡ b′
+      pub answered-made : (cache : List ℕ) (w n′ b′ : ℕ) (o′ : Objects) (contents′ bodies′ stack′ cache′ : List ℕ) → activate edition room o m receiver sentArguments ≡ answered w o′ → o′ .n ≡ n′
+          → o′ .b ≡ b′
           → contents′ ≡ atFront (o′ .contents) contents → bodies′ ≡ atFront (o′ .bodies) bodies
           → stack′ ≡ set (set (set stack (operandsStart o (frameMethod stack top) top + (depth - suc count)) w) (top + 1) position) (top + 2) (depth - suc count + 1)
           → cache′ ≡ filled cache (looked selector class m)
@@ -256,7 +257,8 @@ module _ {n b top : ℕ} {contents bodies stack : List ℕ} {selector count clas
             cached = ek;
           }
 
-      pub entered-made : (cache : List ℕ) (base : ℕ) (contents′ bodies′ stack′ cache′ : List ℕ) → base ≡ top + frameSize o (frameMethod stack top) → activate edition room o m receiver sentArguments ≡ entered
+      pub entered-made : (cache : List ℕ) (base : ℕ) (contents′ bodies′ stack′ cache′ : List ℕ) → base ≡ top + frameSize o (frameMethod stack top)
+          → activate edition room o m receiver sentArguments ≡ entered
           → fitsStack (room .stack) (top + frameSize o (frameMethod stack top)) (frameSize o m) ≡ true → contents′ ≡ contents → bodies′ ≡ bodies
           → stack′ ≡ sets (set (set stack (top + 1) position) (top + 2) (depth - suc count)) base (newImage top m receiver (temporaryCount o m) sentArguments)
           → cache′ ≡ filled cache (looked selector class m)

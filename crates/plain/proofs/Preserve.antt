@@ -322,7 +322,8 @@ module _ (After : Objects → Objects → Type 0) (room : Room) (s : Plain) wher
         (run-on (movedTo f′ q (ops ++ (w ∷ []))) a b (pushed-right was f′ r′ o (world .self) q ops w e v u) l k)
 
     pushes-changed : (was : Bool) (f′ : Frame) → f′ .sender ≡ f .sender → f′ .method ≡ f .method → FrameRight edition o was f′ → (o′ : Objects) → After o o′ → (q : ℕ) (ops : List ℕ) (w : ℕ)
-        → noteAt (methodTable edition o (f′ .method)) q ≡ suc (suc (length ops)) → Valid (o .n) ops → T (isValid (o′ .n) w) → (l : Looked) → LookedRight o l → Goes (changed o′ (pushed s f′ rest q ops w l))
+        → noteAt (methodTable edition o (f′ .method)) q ≡ suc (suc (length ops)) → Valid (o .n) ops → T (isValid (o′ .n) w) → (l : Looked) → LookedRight o l
+        → Goes (changed o′ (pushed s f′ rest q ops w l))
     unfolding pushed
     pushes-changed was f′ a b r′ o′ x q ops w e v u l k =
         go (hasWord o f′ (length ops)) (has-word edition o (f′ .method) q (length ops) e)

@@ -71,7 +71,8 @@ module _ (room : Room) (worlds : Worlds room) where
   unfolding step
   frame-step p r f = go (p .frames) refl f
     where
-      head-right : (f : Frame) (rest : List Frame) → FramesRight (p .registers .edition) (objects p) (room .stack) true (p .registers .top) (f ∷ rest) → FrameRight (p .registers .edition) (objects p) true f
+      head-right : (f : Frame) (rest : List Frame) → FramesRight (p .registers .edition) (objects p) (room .stack) true (p .registers .top) (f ∷ rest)
+          → FrameRight (p .registers .edition) (objects p) true f
       head-right f [] x = x .0
       head-right f (g ∷ rest) x = x .0
 
@@ -201,7 +202,8 @@ module _ (room : Room) (worlds : Worlds room) where
           (p₁ : Plain) (stack₁ cache₁ : List ℕ) → PlainRight room p₁ → length stack₁ ≡ room .stack → length cache₁ ≡ cacheWords → Stood p₁ stack₁ → T (cacheFine (objects p₁) cache₁)
           → RunGoes n p₁ stack₁ cache₁ (steps room n p₁)
 
-      after-step : (x : Stepped) → step room p ≡ x → Goes (After (p .registers .edition) room) room p x → p .registers .phase ≡ running → Again → RunGoes (suc n) p stack cache (onward (λ s′. steps room n s′) p x)
+      after-step : (x : Stepped) → step room p ≡ x → Goes (After (p .registers .edition) room) room p x → p .registers .phase ≡ running → Again
+          → RunGoes (suc n) p stack cache (onward (λ s′. steps room n s′) p x)
       after-step (leadsTo p₁ l) x g e again =
           let r₁ = kept-right room p p₁ r (g .0) in
           let ls₁ = length-laid stack (p₁ .registers .top) (p₁ .frames) in

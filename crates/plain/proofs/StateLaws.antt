@@ -26,7 +26,8 @@ use Rattle.plain.proofs.Preserve.{Shape, runs, ends}
 pub data Stands (stack : ℕ) (s : Plain) : Type 0 where
   goes : Shape stack s → Stands stack s
   rests : s .registers .phase ≡ idle → s .registers .value ≡ 0 → s .registers .top ≡ 0 → s .frames ≡ [] → Stands stack s
-  waits : 3 ≤ s .registers .phase → s .registers .phase ≤ lastPhase → s .registers .value ≡ 0 → FramesRight (s .registers .edition) (objects s) stack true (s .registers .top) (s .frames) → Stands stack s
+  waits : 3 ≤ s .registers .phase → s .registers .phase ≤ lastPhase → s .registers .value ≡ 0 → FramesRight (s .registers .edition) (objects s) stack true (s .registers .top) (s .frames)
+      → Stands stack s
 
 -- A right state whose objects fit the buffers
 pub record PlainRight (room : Room) (s : Plain) : Type 0 where
@@ -51,8 +52,20 @@ pub image-right : (e : ℕ) (o : Objects) (receiver selector : ℕ) → length (
     → T (allOf (imageRules e o receiver selector)) → Right e o × T (rule8 o receiver selector [])
 unfolding imageRules
 image-right e o receiver selector c b t =
-    let r = rule (imageRules e o receiver selector) t in
-    (record { edition = and-left (isEdition e) (sizesFine e (o .n) (o .b)) (r 0); contents = c; bodies = b; sizes = and-right (isEdition e) (sizesFine e (o .n) (o .b)) (r 0); rule-4 = r 1; rule-5 = r 2; rule-6 = r 3; rule-7 = r 4 }, r 5)
+    let r = rule (imageRules e o receiver selector) t in (
+      record {
+        edition = and-left (isEdition e) (sizesFine e (o .n) (o .b)) (r 0);
+        contents = c;
+        bodies = b;
+        sizes = and-right (isEdition e) (sizesFine e (o .n) (o .b))
+            (r 0);
+        rule-4 = r 1;
+        rule-5 = r 2;
+        rule-6 = r 3;
+        rule-7 = r 4;
+      },
+      r 5,
+    )
 
 pub right-image : (e : ℕ) (o : Objects) (receiver selector : ℕ) → Right e o → T (rule8 o receiver selector []) → T (allOf (imageRules e o receiver selector))
 unfolding imageRules
@@ -83,9 +96,12 @@ module _ (stack : ℕ) (s : Plain) where
   stands-by zero e a v f = rests e (eqb→eq (s .registers .value) 0 v) (none-of f .0) (none-of f .1)
   stands-by (suc zero) e a v f = goes (runs e (eqb→eq (s .registers .value) 0 v) (frames-right (s .registers .edition) (objects s) stack true (s .registers .top) (s .frames) f))
   stands-by (suc (suc zero)) e a v f = goes (ends e v (none-of f .0) (none-of f .1))
-  stands-by (suc (suc (suc zero))) e a v f = waits (omega arith) (omega arith) (eqb→eq (s .registers .value) 0 v) (frames-right (s .registers .edition) (objects s) stack true (s .registers .top) (s .frames) f)
-  stands-by (suc (suc (suc (suc zero)))) e a v f = waits (omega arith) (omega arith) (eqb→eq (s .registers .value) 0 v) (frames-right (s .registers .edition) (objects s) stack true (s .registers .top) (s .frames) f)
-  stands-by (suc (suc (suc (suc (suc zero))))) e a v f = waits (omega arith) (omega arith) (eqb→eq (s .registers .value) 0 v) (frames-right (s .registers .edition) (objects s) stack true (s .registers .top) (s .frames) f)
+  stands-by (suc (suc (suc zero))) e a v f = waits (omega arith) (omega arith) (eqb→eq (s .registers .value) 0 v)
+      (frames-right (s .registers .edition) (objects s) stack true (s .registers .top) (s .frames) f)
+  stands-by (suc (suc (suc (suc zero)))) e a v f = waits (omega arith) (omega arith) (eqb→eq (s .registers .value) 0 v)
+      (frames-right (s .registers .edition) (objects s) stack true (s .registers .top) (s .frames) f)
+  stands-by (suc (suc (suc (suc (suc zero))))) e a v f = waits (omega arith) (omega arith) (eqb→eq (s .registers .value) 0 v)
+      (frames-right (s .registers .edition) (objects s) stack true (s .registers .top) (s .frames) f)
   stands-by (suc (suc (suc (suc (suc (suc p)))))) e a v f = absurd (let h = leb→le (suc (suc (suc (suc (suc (suc p)))))) lastPhase a in omega arith)
 
   record Fine (p : ℕ) : Type 0 where

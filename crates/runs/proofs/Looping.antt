@@ -205,7 +205,8 @@ module _ {s₀ : Flat} {grant edition receiver selector n b : ℕ} {a : Active} 
 
     pub loop-halted : (k : ℕ) → y ≡ A.Halted k
         → RunsTo s₀ grant edition receiver selector contents′ bodies′ stack′ cache′ (record { n = n; b = b; phase = k; top = a .base .0; value = 0; count = count; reach = reach })
-    loop-halted k e = halted-at s₀ grant edition receiver selector n b (a .base .0) contents bodies (written a stack) cache count reach (l .at) more contents′ bodies′ stack′ cache′ k (told (A.Halted k) e)
+    loop-halted k e = halted-at s₀ grant edition receiver selector n b (a .base .0) contents bodies (written a stack) cache count reach (l .at) more contents′ bodies′ stack′ cache′ k
+        (told (A.Halted k) e)
 
     -- the frame goes on
     pub loop-next-one : (q : CodePosition) (e : StackPosition) → y ≡ A.Next q e → Loop s₀ grant edition receiver selector n b (movedOn a q e) contents′ bodies′ stack′ cache′ (count + 1) reach
@@ -241,4 +242,5 @@ module _ {s₀ : Flat} {grant edition receiver selector n b : ℕ} {a : Active} 
           let h = l .at .turn .high in
           let e = top-end-is edition receiver selector n b (a .base .0) contents bodies (written a stack) cache in
           let k = said .1 in
-          below-at s₀ grant edition receiver selector n b (a .base .0) contents bodies (written a stack) cache count reach (l .at) more contents′ bodies′ stack′ cache′ n b (t .0) (said .0) (omega arith)
+          below-at s₀ grant edition receiver selector n b (a .base .0) contents bodies (written a stack) cache count reach (l .at) more contents′ bodies′ stack′ cache′ n b (t .0) (said .0)
+          (omega arith)

@@ -112,7 +112,12 @@ module _ {n b top : ℕ} {contents bodies stack : List ℕ} {selector count clas
             (subst (λ (d : List ℕ). Framing n b top contents d (r .running) m (r .receiver) sure) (sym (leaves .words))
             (subst (λ (k : ℕ). Framing n b top contents bodies k m (r .receiver) sure) (sym (g .running))
             (subst (λ (w : ℕ). Framing n b top contents bodies (frameMethod stack top) m w sure) (sym (g .receiver))
-            (record { guarded = record { right = (s .runs .edition, s .runs .right); method = found-method s m e; valid = receiver-valid s; homes = λ t. s .homes t m e }; below = is-method (s .runs); low = low }))))
+            (record {
+              guarded = record { right = (s .runs .edition, s .runs .right); method = found-method s m e; valid = receiver-valid s; homes = λ t. s .homes t m e };
+              below = is-method
+                  (s .runs);
+              low = low;
+            }))))
           where
             low : top < 65536
             low = let t = top-bounds (s .runs) .most in omega arith
@@ -165,5 +170,6 @@ module _ {n b top : ℕ} {contents bodies stack : List ℕ} {selector count clas
                 → cache′ ≡ filled cache (looked selector class m)
                 → (receiver₀ selector₀ : ℕ) → Made (step cache edition receiver₀ selector₀) (runningWith edition receiver₀ selector₀ n b at) contents bodies stack cache contents′ bodies′ stack′ cache′
             made-frame stack′ cache′ es ek receiver₀ selector₀ =
-                entered-made s room edition receiver₀ selector₀ m e cache at contents′ bodies′ stack′ cache′ (frame-at .above) (enters (frame-at .chain)) (frame-at .fits) (leaves .entries) (leaves .words)
+                entered-made s room edition receiver₀ selector₀ m e cache at contents′ bodies′ stack′ cache′ (frame-at .above) (enters (frame-at .chain)) (frame-at .fits) (leaves .entries)
+                (leaves .words)
                 (es ∙ (λ i. sets (set (set stack (top + 1) position) (top + 2) (g .left i)) at (newWords top m (g .receiver i) (frame-at .holds i) (arguments-read i)))) ek

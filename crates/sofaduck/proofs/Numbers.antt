@@ -97,7 +97,8 @@ begin-numbered room p w s arguments =
     by-found : (x : Found) → NumberedBegun (beginFound room p w arguments x)
     by-found Nothing = omega arith
     by-found (Method m) =
-        if-cases NumberedBegun (eqb (argumentCount (objects p) (m .0)) (length arguments)) _ _ (λ e. by-activation (m .0) (activate (p .registers .edition) room (objects p) (m .0) w arguments)) (λ e. omega arith)
+        if-cases NumberedBegun (eqb (argumentCount (objects p) (m .0)) (length arguments)) _ _ (λ e. by-activation (m .0) (activate (p .registers .edition) room (objects p) (m .0) w arguments))
+        (λ e. omega arith)
 
 pub load-number : (s : Flat) (bytes : List ℕ) → NumberedIn (flatLoad s bytes)
 unfolding flatLoad

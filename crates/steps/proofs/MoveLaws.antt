@@ -144,7 +144,8 @@ module _ {n b top : ℕ} {contents bodies stack : List ℕ} {h : Here} {i : Inst
   -- A word in the place of the `taken` uppermost operands
   room-for : (taken : ℕ) → noteAt (methodTable (a .at .runs .edition) o (frameMethod stack top)) (h .next) ≡ suc (suc (h .depth - taken)) → temporaryCount o (frameMethod stack top) +
       (h .depth - taken) < frameWords o (frameMethod stack top)
-  room-for taken e = ltb→lt (temporaryCount o (frameMethod stack top) + (h .depth - taken)) (frameWords o (frameMethod stack top)) (has-word (a .at .runs .edition) o (frameMethod stack top) (h .next) (h .depth - taken) e)
+  room-for taken e = ltb→lt (temporaryCount o (frameMethod stack top) + (h .depth - taken)) (frameWords o (frameMethod stack top))
+      (has-word (a .at .runs .edition) o (frameMethod stack top) (h .next) (h .depth - taken) e)
 
   pub answer-room : (taken : ℕ) → taken ≤ h .depth → noteAt (methodTable (a .at .runs .edition) o (frameMethod stack top)) (h .next) ≡ suc (suc (h .depth - taken)) → Answers top stack h taken
   answer-room taken l e =
@@ -176,7 +177,8 @@ module _ {n b top : ℕ} {contents bodies stack : List ℕ} {h : Here} {i : Inst
           lib.Dec.lt→ltb (temporaryCount o (f .method) + length (without f taken)) (frameWords o (f .method)) (let y = room in omega arith)
 
   -- the same with nothing taken
-  pub pushes : (w : ℕ) → noteAt (methodTable (a .at .runs .edition) o (frameMethod stack top)) (h .next) ≡ suc (suc (h .depth - 0)) → Does (λ s room. pushed s f rest (h .next) (f .operands) w noLookup)
+  pub pushes : (w : ℕ) → noteAt (methodTable (a .at .runs .edition) o (frameMethod stack top)) (h .next) ≡ suc (suc (h .depth - 0))
+      → Does (λ s room. pushed s f rest (h .next) (f .operands) w noLookup)
       → Moved n b top contents bodies stack bodies (answered stack top h 0 w)
   pushes w e d =
       answers 0 w (omega arith) e

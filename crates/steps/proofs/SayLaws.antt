@@ -105,7 +105,8 @@ module _ {n b top : ℕ} {contents bodies stack : List ℕ} {h : Here} where
   pub constant-says : {w : ℕ} (a : HereAt n b top contents bodies stack h (PushConstant w)) (stack′ : List ℕ)
       → stack′ ≡ answered stack top h 0 w → Moved n b top contents bodies stack bodies stack′
   unfolding execute successors need leaves
-  constant-says {w} a stack′ q = subst (λ (l : List ℕ). Moved n b top contents bodies stack bodies l) (sym q) (pushes a w (one-more a (List·Memᴰ·head refl) refl) (λ edition receiver selector room. refl))
+  constant-says {w} a stack′ q = subst (λ (l : List ℕ). Moved n b top contents bodies stack bodies l) (sym q)
+      (pushes a w (one-more a (List·Memᴰ·head refl) refl) (λ edition receiver selector room. refl))
 
   pub duplicate-needs : HereAt n b top contents bodies stack h Duplicate → 1 ≤ h .depth
   unfolding need
@@ -175,7 +176,8 @@ module _ {n b top : ℕ} {contents bodies stack : List ℕ} {h : Here} where
 
     chooses : Does a (λ s room. chosen s tested)
     unfolding execute jumps
-    chooses edition receiver selector room = ap (λ (x : Option ℕ). x >>= chosen (runningAt edition receiver selector n b top contents bodies stack)) (operand-is a 0 (h .operands + (h .depth - 1)) on-needs refl)
+    chooses edition receiver selector room = ap (λ (x : Option ℕ). x >>= chosen (runningAt edition receiver selector n b top contents bodies stack))
+        (operand-is a 0 (h .operands + (h .depth - 1)) on-needs refl)
 
     pub on-jumps : (w : ℕ) (stack′ : List ℕ) → w ≡ booleanWord condition → tested ≡ w → stack′ ≡ set (set stack (top + 1) (h .next + ahead)) (top + 2)
         (h .depth - 1) → Moved n b top contents bodies stack bodies stack′
@@ -187,7 +189,8 @@ module _ {n b top : ℕ} {contents bodies stack : List ℕ} {h : Here} where
         → stack′ ≡ set (set stack (top + 1) (h .next)) (top + 2) (h .depth - 1) → Moved n b top contents bodies stack bodies stack′
     on-stays w stack′ e t u q =
         subst (λ (l : List ℕ). Moved n b top contents bodies stack bodies l) (sym q)
-        (goes-popped a (h .next) (λ edition receiver selector room. chooses edition receiver selector room ∙ if-no _ _ (ne-eqb tested (booleanWord condition) (λ x. t (x ∙ sym e))) ∙ if-yes _ _ (either u)))
+        (goes-popped a (h .next) (λ edition receiver selector room. chooses edition receiver selector room ∙ if-no _ _ (ne-eqb tested (booleanWord condition) (λ x. t (x ∙ sym e)))
+        ∙ if-yes _ _ (either u)))
       where
         either : (tested ≡ trueWord) ⊎ (tested ≡ falseWord) → (eqb tested trueWord || eqb tested falseWord) ≡ true
         either (inl x) = ap (λ (y : Bool). y || eqb tested falseWord) (eq-eqb tested trueWord x)

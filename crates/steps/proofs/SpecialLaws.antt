@@ -199,5 +199,6 @@ module _ {n b top : ℕ} {contents bodies stack : List ℕ} {h : Here} {k : ℕ}
         subst (λ (l : List ℕ). Moved n b top contents bodies stack bodies l) (sym q)
         (answers a 1 w special-needs class-noted
         (λ edition receiver selector room. if-ge k 16 _ _ (omega arith) ∙ if-no _ _ (ne-eqb k 22 (λ y. omega arith)) ∙ if-yes _ _ (eq-eqb k 23 class)
-        ∙ ap (λ (x : Option ℕ). x >>= λ u. pushed (at edition receiver selector) f rest (h .next) (without f 1) (classOf o u) noLookup) (operand-is a 0 (h .operands + (h .depth - 1)) special-needs refl)
+        ∙ ap (λ (x : Option ℕ). x >>= λ u. pushed (at edition receiver selector) f rest (h .next) (without f 1) (classOf o u) noLookup)
+        (operand-is a 0 (h .operands + (h .depth - 1)) special-needs refl)
         ∙ ap (λ (x : ℕ). pushed (at edition receiver selector) f rest (h .next) (without f 1) x noLookup) (sym e)))

@@ -67,8 +67,11 @@ loop-again : tie.Need-loop-again Inv-loop μ-loop
 loop-again c =
     let at-loop = c .before .before .before .before .before .before in
     let at-start = at-loop .before .before .before .before in
-    let a = at-start .args in
-    (omega arith, cache-more (objectsAt (a .n) (a .b) (a .contents .now) (a .bodies .now)) (a .cache .now) (at-loop .loop .i) _ (at-loop .loop .inv .1) (c .before .cached-right .ensures) (c .if1 .left))
+    let a = at-start .args in (
+      omega arith,
+      cache-more (objectsAt (a .n) (a .b) (a .contents .now) (a .bodies .now)) (a .cache .now) (at-loop .loop .i) _ (at-loop .loop .inv .1) (c .before .cached-right .ensures)
+          (c .if1 .left),
+    )
 
 returns-2 : tie.Need-returns-2 Inv-loop μ-loop
 returns-2 c =

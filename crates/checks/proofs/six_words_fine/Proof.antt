@@ -39,7 +39,8 @@ returns-2 c =
     let at-if1 = c .before .before .before in
     let at-start = at-if1 .before .before .before .before .before .before in
     let a = at-start .args in
-    receiver-no (a .edition) (objectsAt (a .n) (a .b) (a .contents .now) (a .bodies .now)) (a .stack .now) (a .at .0) (a .uppermost) (at-if1 .if1 .left) _ (c .before .is-valid .ensures) (c .if2 .taken)
+    receiver-no (a .edition) (objectsAt (a .n) (a .b) (a .contents .now) (a .bodies .now)) (a .stack .now) (a .at .0) (a .uppermost) (at-if1 .if1 .left) _ (c .before .is-valid .ensures)
+    (c .if2 .taken)
 
 add-m : tie.Need-add-m
 add-m c = let h = header-inside (c .before .before .before .before .before .before .before .before .before .pre) in omega arith
@@ -105,7 +106,8 @@ mul-depth : tie.Need-mul-depth
 mul-depth c = let h = header-inside (c .before .before .before .before .before .before .before .before .before .before .before .before .before .before .before .before .pre) in omega arith
 
 shared-slice-read-depth : tie.Need-shared-slice-read-depth
-shared-slice-read-depth c = let h = header-inside (c .before .before .before .before .before .before .before .before .before .before .before .before .before .before .before .before .before .pre) in omega arith
+shared-slice-read-depth c = let h = header-inside (c .before .before .before .before .before .before .before .before .before .before .before .before .before .before .before .before .before .pre)
+    in omega arith
 
 cast-depth : tie.Need-cast-depth
 cast-depth c = omega (

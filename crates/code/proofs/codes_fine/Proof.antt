@@ -9,7 +9,8 @@ use Rattle.code.proofs.codes_fine.Statement.{statement}
 use Rattle.code.proofs.codes_fine.Tie as tie
 
 abbrev Inv-loop : tie.InvT-loop
-Inv-loop edition table contents bodies n b counts notes₀ pending₀ k₀ notes pending k = Going edition (objectsAt n b contents bodies) k notes × (length notes ≡ length notes₀) × (length pending ≡ length pending₀)
+Inv-loop edition table contents bodies n b counts notes₀ pending₀ k₀ notes pending k = Going edition (objectsAt n b contents bodies) k notes × (length notes ≡ length notes₀) ×
+    (length pending ≡ length pending₀)
 
 abbrev μ-loop : tie.MeasureT-loop
 μ-loop edition table contents bodies n b counts notes₀ pending₀ k₀ notes pending k = suc n - k

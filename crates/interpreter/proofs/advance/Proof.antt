@@ -100,7 +100,8 @@ returns-2 : tie.Need-returns-2
 returns-2 c =
     let at-step = c .before .before .before .before .before .before .before in
     let at-start = at-step .before .before .before .before .before .before .before .before .before in
-    went-on ((at-start .pre) .0) (at-step .step .last .1 .0) (at-step .step .last .1 .1 .0) (at-step .step .result) (at-step .step .ensures) _ _ _ (c .before .position .given .1) (at-start .args .edition)
+    went-on ((at-start .pre) .0) (at-step .step .last .1 .0) (at-step .step .last .1 .1 .0) (at-step .step .result) (at-step .step .ensures) _ _ _ (c .before .position .given .1)
+    (at-start .args .edition)
 
 same-length-7 : tie.Need-same-length-7
 same-length-7 c = search needs
@@ -212,7 +213,8 @@ returns-7 c =
     let at-step = at-w .before .before .before .before .before .before in
     let at-start = at-step .before .before .before .before .before .before .before .before .before in
     returned-below ((at-start .pre) .0) (at-step .step .last .1 .0) (at-step .step .last .1 .1 .0) (at-step .step .result) (at-step .step .ensures) _
-    (at-leave2 .leave2 .ensures) _ (at-w .w .given .1) _ _ _ (let h = at-if1 .if1 .left in omega arith) (at-return-to .return-to .ensures .0) (at-return-to .return-to .ensures .1) (at-start .args .edition)
+    (at-leave2 .leave2 .ensures) _ (at-w .w .given .1) _ _ _ (let h = at-if1 .if1 .left in omega arith) (at-return-to .return-to .ensures .0) (at-return-to .return-to .ensures .1)
+    (at-start .args .edition)
 
 same-length-26 : tie.Need-same-length-26
 same-length-26 c = search needs

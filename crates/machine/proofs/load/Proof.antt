@@ -38,7 +38,8 @@ returns c =
     let at-start = at-read .before .before .before .before .before .before .before in
     let a = at-start .args in
     let read = at-read .read .ensures in
-    λ g stack. read-accepted (a .image .now) (a .contents .now) (a .bodies .now) (a .cache .now) _ _ g stack _ _ _ _ _ _ _ (at-edition .edition .given .1) (read .0) (read .1) (c .before .before .fill .ensures)
+    λ g stack. read-accepted (a .image .now) (a .contents .now) (a .bodies .now) (a .cache .now) _ _ g stack _ _ _ _ _ _ _ (at-edition .edition .given .1) (read .0) (read .1)
+    (c .before .before .fill .ensures)
 
 same-length-4 : tie.Need-same-length-4
 same-length-4 c = search needs

@@ -39,7 +39,8 @@ returns-3 c =
     let at-start = at-known-fine .before .before .before in
     let a = at-start .args in
     let o = objectsAt (a .n) (a .b) (a .contents .now) (a .bodies .now) in
-    c .chains .ensures ∙ sym (by-chains (a .edition) o (sym (at-known-fine .known-fine .ensures) ∙ not-false _ (at-if1 .if1 .left)) (sym (c .before .before .shapes .ensures) ∙ not-false _ (c .before .if2 .left)))
+    c .chains .ensures ∙ sym (by-chains (a .edition) o (sym (at-known-fine .known-fine .ensures) ∙ not-false _ (at-if1 .if1 .left))
+    (sym (c .before .before .shapes .ensures) ∙ not-false _ (c .before .if2 .left)))
 
 pub classes-spec : {M : Type 1} → statement M
 classes-spec =

@@ -33,7 +33,8 @@ returns-2 c =
     let at-start = at-known-kinds .before .before .before in
     let a = at-start .args in
     let o = objectsAt (a .n) (a .b) (a .contents .now) (a .bodies .now) in
-    sym (no-form (a .edition) o (sym (at-known-kinds .known-kinds .ensures) ∙ not-false _ (c .before .before .if1 .left)) (λ e. c .if2 .taken (ap (λ (x : ℕ). x / 2) (c .before .word-of .ensures) ∙ e)))
+    sym (no-form (a .edition) o (sym (at-known-kinds .known-kinds .ensures) ∙ not-false _ (c .before .before .if1 .left))
+    (λ e. c .if2 .taken (ap (λ (x : ℕ). x / 2) (c .before .word-of .ensures) ∙ e)))
 
 selectors-fine-requires : tie.Need-selectors-fine-requires
 selectors-fine-requires c κs = search needs
@@ -45,7 +46,8 @@ returns-3 c =
     let at-start = at-known-kinds .before .before .before in
     let a = at-start .args in
     let o = objectsAt (a .n) (a .b) (a .contents .now) (a .bodies .now) in
-    c .selectors-fine .ensures ∙ sym (by-selectors (a .edition) o (sym (at-known-kinds .known-kinds .ensures) ∙ not-false _ (at-if1 .if1 .left)) (ap (λ (x : ℕ). x / 2) (sym (c .before .before .word-of .ensures)) ∙ c .before .if2 .left))
+    c .selectors-fine .ensures ∙ sym (by-selectors (a .edition) o (sym (at-known-kinds .known-kinds .ensures) ∙ not-false _ (at-if1 .if1 .left))
+    (ap (λ (x : ℕ). x / 2) (sym (c .before .before .word-of .ensures)) ∙ c .before .if2 .left))
 
 pub known-fine-spec : {M : Type 1} → statement M
 known-fine-spec =

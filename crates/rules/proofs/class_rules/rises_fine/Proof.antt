@@ -33,7 +33,8 @@ returns-2 c =
     let a = at-start .args in
     let p = at-start .pre in
     let o = objectsAt (a .n) (a .b) (a .contents .now) (a .bodies .now) in
-    ap₂ (λ (x y : ℕ). leb (x / 2) (y / 2)) (c .before .word-of .ensures ∙ ap (fieldsWord o) (p .1 .1 .0)) (c .word-of2 .ensures) ∙ sym (rises-class o (a .c) (λ e. c .before .before .if1 .left (p .1 .1 .0 ∙ e)))
+    ap₂ (λ (x y : ℕ). leb (x / 2) (y / 2)) (c .before .word-of .ensures ∙ ap (fieldsWord o) (p .1 .1 .0)) (c .word-of2 .ensures)
+    ∙ sym (rises-class o (a .c) (λ e. c .before .before .if1 .left (p .1 .1 .0 ∙ e)))
 
 pub rises-fine-spec : {M : Type 1} → statement M
 rises-fine-spec =

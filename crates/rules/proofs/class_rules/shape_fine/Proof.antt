@@ -58,7 +58,8 @@ returns-3 c =
     let at-start = at-entry-fine .before .before .before in
     let a = at-start .args in
     let o = objectsAt (a .n) (a .b) (a .contents .now) (a .bodies .now) in
-    c .class-fine .ensures ∙ sym (shape-class (a .edition) o (a .k) (sym (at-entry-fine .entry-fine .ensures) ∙ not-false _ (at-if1 .if1 .left)) (sym (c .before .before .kind .ensures) ∙ c .before .if2 .left))
+    c .class-fine .ensures ∙ sym (shape-class (a .edition) o (a .k) (sym (at-entry-fine .entry-fine .ensures) ∙ not-false _ (at-if1 .if1 .left))
+    (sym (c .before .before .kind .ensures) ∙ c .before .if2 .left))
 
 pub shape-fine-spec : {M : Type 1} → statement M
 shape-fine-spec =
