@@ -173,19 +173,19 @@ uint32_t sofaduck_begin(uint16_t *contents, size_t contents_length,
                         uint16_t receiver, uint16_t selector,
                         const uint16_t *arguments, size_t arguments_length);
 
-/* Run makes bytecodes until n are made or the phase is no longer running.
+/* Run makes bytecodes until as many as granted are made or the phase is no longer running.
  *
- *   n           any number, 0 too
- *   count       written: the bytecodes made, less than n only where the handler finished or halted
+ *   grant       any number of bytecodes, 0 too
+ *   count       written: the bytecodes made, less than granted only where the handler finished or halted
  *   reach       written: an index of the stack below which all frames of this run lay, at most the stack's length
  *
- * Returns 0, or 3 or 11; 12, no handler is running, with n = 0 too. Refused, it leaves count and reach unwritten. */
+ * Returns 0, or 3 or 11; 12, no handler is running, with a grant of 0 too. Refused, it leaves count and reach unwritten. */
 uint32_t sofaduck_run(uint16_t *contents, size_t contents_length,
                       uint16_t *bodies, size_t bodies_length,
                       uint16_t *stack, size_t stack_length,
                       uint16_t *cache, size_t cache_length,
                       uint16_t registers[SOFADUCK_REGISTERS],
-                      uint32_t n, uint32_t *count, uint32_t *reach);
+                      uint32_t grant, uint32_t *count, uint32_t *reach);
 
 /* Drop ends the handler, in any phase: phase idle, top and value 0. What it wrote into objects stays. Returns 0, or 3 or 11. */
 uint32_t sofaduck_drop(const uint16_t *contents, size_t contents_length,
@@ -248,8 +248,8 @@ static inline uint32_t sofaduck_state_begin(sofaduck_state *state, uint16_t rece
                                             size_t arguments_length) {
     return sofaduck_begin(SOFADUCK_STATE(state), receiver, selector, arguments, arguments_length);
 }
-static inline uint32_t sofaduck_state_run(sofaduck_state *state, uint32_t n, uint32_t *count, uint32_t *reach) {
-    return sofaduck_run(SOFADUCK_STATE(state), n, count, reach);
+static inline uint32_t sofaduck_state_run(sofaduck_state *state, uint32_t grant, uint32_t *count, uint32_t *reach) {
+    return sofaduck_run(SOFADUCK_STATE(state), grant, count, reach);
 }
 static inline uint32_t sofaduck_state_drop(sofaduck_state *state) { return sofaduck_drop(SOFADUCK_STATE(state)); }
 static inline uint32_t sofaduck_state_forget(sofaduck_state *state) { return sofaduck_forget(SOFADUCK_STATE(state)); }

@@ -6,7 +6,7 @@ ghost use mathlib.Core.List.{[], _∷_};
 ghost use lib.Dec.{leb};
 ghost use Rattle.model.specs.Objects.{objectsAt};
 ghost use Rattle.model.specs.Primitive.{primitive};
-ghost use Rattle.primitives.specs.Outcomes.{roomOf, Receives, Does};
+ghost use Rattle.primitives.specs.Outcomes.{Receives, DoesAt};
 ghost use Rattle.activation.specs.Activating.{Activable, Activates};
 use model::Computed;
 use model::Pointer;
@@ -40,7 +40,8 @@ pub fn try_primitive(
     y: u16,
 ) -> Done
     requires { ⌜ Receives n b (now contents) (now bodies) w ⌝ }
-    ensures { λ r. ⌜ Does (objectsAt n b (now (contents .entry)) (now (bodies .entry))) (primitive edition (roomOf (now (contents .entry)) (now (bodies .entry))) (objectsAt n b (now (contents .entry)) (now (bodies .entry))) k count w (x ∷ y ∷ [])) r (now (contents .entry)) (now (bodies .entry)) (now (contents .exit)) (now (bodies .exit)) ⌝ }
+    ensures { λ r. ⌜ DoesAt n b (now (contents .entry)) (now (bodies .entry)) (λ room o. primitive edition room o k count w (x ∷ y ∷ [])) r
+        (now (contents .exit)) (now (bodies .exit)) ⌝ }
 {
     if !is_arithmetic(k) {
         return primitives::primitive(contents, bodies, edition, n, b, k, count, w, x, y);
@@ -69,14 +70,14 @@ pub fn activate(
 {
     let header = objects::header(contents, bodies, n, b, method);
     let flag = readers::flag(header);
-    if flag == 5 {
+    if flag == limits::ANSWER_SELF {
         return Activated::Answer {
             word: receiver,
             n: n,
             b: b,
         };
     }
-    if flag == 6 {
+    if flag == limits::ANSWER_FIELD {
         let i = readers::temporary_count(header);
         if !readers::is_kind(contents, n, limits::FIELDS, receiver) {
             return Activated::Unfit;
@@ -92,7 +93,7 @@ pub fn activate(
             b: b,
         };
     }
-    if flag != 7 {
+    if flag != limits::PRIMITIVE {
         return Activated::Frame;
     }
     let k = objects::primitive_number(contents, bodies, n, b, method);

@@ -22,7 +22,12 @@ pub record Starts (e n b : ℕ) (contents bodies stack : List ℕ) (w s : ℕ) (
 -- A plain state with the objects of the buffers: start words, phase, top, value and frames may be any.
 abbrev pub stateOver : ℕ → ℕ → ℕ → ℕ → ℕ → ℕ → List Frame → ℕ → ℕ → List ℕ → List ℕ → Plain
 stateOver e receiver selector phase top value frames n b contents bodies =
-    record { registers = record { n = n; b = b; startReceiver = receiver; startSelector = selector; phase = phase; top = top; value = value; edition = e }; contents = take (entryWords * n) contents; bodies = take b bodies; frames = frames }
+    record {
+      registers = record { n = n; b = b; startReceiver = receiver; startSelector = selector; phase = phase; top = top; value = value; edition = e };
+      contents = take (entryWords * n) contents;
+      bodies = take b bodies;
+      frames = frames;
+    }
 
 -- Answered without a frame
 pub record Answers (x : Begun) (p : Plain) (w n b : ℕ) (contents bodies stack contents′ bodies′ stack′ : List ℕ) : Type 0 where
@@ -58,5 +63,6 @@ BeginIs x p contents bodies stack contents′ bodies′ stack′ (Refused k) = R
 abbrev pub Begins : ℕ → ℕ → ℕ → List ℕ → List ℕ → List ℕ → ℕ → ℕ → List ℕ → List ℕ → List ℕ → List ℕ → Beginning → Type 0
 Begins e n b contents bodies stack w s arguments contents′ bodies′ stack′ r =
     (receiver selector phase top value cache : ℕ) (frames : List Frame) → eqb phase running ≡ false
-    → BeginIs (begin (record { contents = length contents; bodies = length bodies; stack = length stack; cache = cache }) (stateOver e receiver selector phase top value frames n b contents bodies) w s arguments)
+    → BeginIs (begin (record { contents = length contents; bodies = length bodies; stack = length stack; cache = cache })
+    (stateOver e receiver selector phase top value frames n b contents bodies) w s arguments)
     (stateOver e receiver selector phase top value frames n b contents bodies) contents bodies stack contents′ bodies′ stack′ r

@@ -57,7 +57,8 @@ pub fn begin(
     arguments: &[u16],
 ) -> Beginning
     requires { ⌜ Starts edition n b (now contents) (now bodies) (now stack) receiver selector (now arguments) ⌝ }
-    ensures { λ r. ⌜ Begins edition n b (now (contents .entry)) (now (bodies .entry)) (now (stack .entry)) receiver selector (now (arguments .entry)) (now (contents .exit)) (now (bodies .exit)) (now (stack .exit)) r ⌝ }
+    ensures { λ r. ⌜ Begins edition n b (now (contents .entry)) (now (bodies .entry)) (now (stack .entry)) receiver selector (now (arguments .entry))
+        (now (contents .exit)) (now (bodies .exit)) (now (stack .exit)) r ⌝ }
 {
     if !words_fine(contents, n, receiver, selector, arguments) {
         return Beginning::Refused(8);

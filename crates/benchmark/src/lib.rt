@@ -33,8 +33,13 @@ pub extern "C" fn bench_walk(
     limit: usize,
     notes: &mut [u8],
 ) -> bool
-    ensures { λ r. ⌜ r ≡ fits (length (now (notes .entry))) (length (now (words .entry))) limit && isSome (depthTable (now (words .entry)) (length (now (notes .entry))) temporaries limit (indexed fields temporaries literals)) ⌝ }
-    ensures { λ _. ⌜ now (notes .exit) ≡ (if fits (length (now (notes .entry))) (length (now (words .entry))) limit then notesOf (length (now (notes .entry))) (depthTable (now (words .entry)) (length (now (notes .entry))) temporaries limit (indexed fields temporaries literals)) else now (notes .entry)) ⌝ }
+    ensures { λ r. ⌜ r ≡ fits (length (now (notes .entry))) (length (now (words .entry))) limit
+        && isSome (depthTable (now (words .entry)) (length (now (notes .entry))) temporaries limit (indexed fields temporaries literals)) ⌝ }
+    ensures { λ _. ⌜ now (notes .exit)
+        ≡ (if fits (length (now (notes .entry))) (length (now (words .entry))) limit
+        then notesOf (length (now (notes .entry))) (depthTable (now (words .entry)) (length (now (notes .entry))) temporaries limit
+        (indexed fields temporaries literals))
+        else now (notes .entry)) ⌝ }
 {
     let size = notes.len();
     if MOST_CODE < size {

@@ -89,7 +89,8 @@ fn six_words_fine(
     uppermost: bool,
 ) -> bool
     requires { ⌜ Stands edition n b (now contents) (now bodies) (now stack) (now notes) (at .0) ⌝ }
-    ensures { λ r. ⌜ r ≡ sixWordsFine edition (objectsAt n b (now (contents .entry)) (now (bodies .entry))) uppermost (frameAt (objectsAt n b (now (contents .entry)) (now (bodies .entry))) (now (stack .entry)) (at .0)) ⌝ }
+    ensures { λ r. ⌜ r ≡ sixWordsFine edition (objectsAt n b (now (contents .entry)) (now (bodies .entry))) uppermost
+        (frameAt (objectsAt n b (now (contents .entry)) (now (bodies .entry))) (now (stack .entry)) (at .0)) ⌝ }
 {
     let base = at.0;
     if stack[base + 4] != 0 {
@@ -136,7 +137,8 @@ fn frame_fine(
     uppermost: bool,
 ) -> bool
     requires { ⌜ Stands edition n b (now contents) (now bodies) (now stack) (now notes) (at .0) ⌝ }
-    ensures { λ r. ⌜ r ≡ allOf (frameRules edition (objectsAt n b (now (contents .entry)) (now (bodies .entry))) uppermost (frameAt (objectsAt n b (now (contents .entry)) (now (bodies .entry))) (now (stack .entry)) (at .0))) ⌝ }
+    ensures { λ r. ⌜ r ≡ allOf (frameRules edition (objectsAt n b (now (contents .entry)) (now (bodies .entry))) uppermost
+        (frameAt (objectsAt n b (now (contents .entry)) (now (bodies .entry))) (now (stack .entry)) (at .0))) ⌝ }
 {
     if !six_words_fine(contents, bodies, stack, notes, edition, n, b, at, uppermost) {
         return false;
@@ -162,7 +164,8 @@ pub fn frames_fine(
     top: StackPosition,
 ) -> bool
     requires { ⌜ Noted edition n b (now contents) (now bodies) (now notes) ⌝ }
-    ensures { λ r. ⌜ r ≡ framesFine edition (objectsAt n b (now (contents .entry)) (now (bodies .entry))) (length (now (stack .entry))) true (top .0) (framesFrom (suc (top .0)) (objectsAt n b (now (contents .entry)) (now (bodies .entry))) (now (stack .entry)) (top .0)) ⌝ }
+    ensures { λ r. ⌜ r ≡ framesFine edition (objectsAt n b (now (contents .entry)) (now (bodies .entry))) (length (now (stack .entry))) true (top .0)
+        (framesFrom (suc (top .0)) (objectsAt n b (now (contents .entry)) (now (bodies .entry))) (now (stack .entry)) (top .0)) ⌝ }
 {
     let end = frame_end(contents, bodies, stack, n, b, top);
     if end.0 == 0 {

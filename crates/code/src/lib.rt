@@ -81,7 +81,8 @@ fn selector_fine(
     arguments: u8,
 ) -> bool
     requires { ⌜ Asked (now table) n b (now contents) (now bodies) (now counts) m ⌝ }
-    ensures { λ r. ⌜ r ≡ sendFine (objectsAt n b (now (contents .entry)) (now (bodies .entry))) (literalOf (objectsAt n b (now (contents .entry)) (now (bodies .entry))) m literal) arguments ⌝ }
+    ensures { λ r. ⌜ r ≡ sendFine (objectsAt n b (now (contents .entry)) (now (bodies .entry)))
+        (literalOf (objectsAt n b (now (contents .entry)) (now (bodies .entry))) m literal) arguments ⌝ }
 {
     let s = literal_word(contents, bodies, n, b, m, literal as usize);
     methods::send_fine(contents, bodies, n, b, counts, s, arguments)
@@ -183,7 +184,9 @@ fn position_fine(
     notes: &[u8],
     p: usize,
 ) -> bool
-    requires { ⌜ Asked (now table) n b (now contents) (now bodies) (now counts) m × CodeLent (objectsAt n b (now contents) (now bodies)) m (now words) (length (now notes)) × (p < length (now notes)) ⌝ }
+    requires { ⌜ Asked (now table) n b (now contents) (now bodies) (now counts) m
+        × CodeLent (objectsAt n b (now contents) (now bodies)) m (now words) (length (now notes))
+        × (p < length (now notes)) ⌝ }
     ensures { λ r. ⌜ r ≡ linkedAt (objectsAt n b (now (contents .entry)) (now (bodies .entry))) m (now (notes .entry)) p ⌝ }
 {
     if notes[p] == 0 {
@@ -232,7 +235,9 @@ fn code_notes(
     notes: &mut [u8],
     pending: &mut [u16],
 ) -> bool
-    requires { ⌜ Asked (now table) n b (now contents) (now bodies) (now counts) m × CodeLent (objectsAt n b (now contents) (now bodies)) m (now words) (length (now notes)) × (length (now notes) ≤ length (now pending)) ⌝ }
+    requires { ⌜ Asked (now table) n b (now contents) (now bodies) (now counts) m
+        × CodeLent (objectsAt n b (now contents) (now bodies)) m (now words) (length (now notes))
+        × (length (now notes) ≤ length (now pending)) ⌝ }
     ensures { λ r. ⌜ Walked (methodTable edition (objectsAt n b (now (contents .entry)) (now (bodies .entry))) m) (length (now (notes .entry))) (now (notes .exit)) r ⌝ }
 {
     let header = readers::word_of(contents, bodies, n, b, Pointer(m), limits::HEADER) as usize;

@@ -78,7 +78,8 @@ fn fork(
     room: usize,
 ) -> Went
     requires { ⌜ Asks (now notes) (now pending) waiting room ⌝ }
-    ensures { λ r. ⌜ Step room (leb 1 depth) (next ∷ target ∷ []) (alike (depth - 1)) (now (notes .entry)) (now (pending .entry)) waiting (now (notes .exit)) (now (pending .exit)) r ⌝ }
+    ensures { λ r. ⌜ Step room (leb 1 depth) (next ∷ target ∷ []) (alike (depth - 1)) (now (notes .entry)) (now (pending .entry)) waiting (now (notes .exit))
+        (now (pending .exit)) r ⌝ }
 {
     if depth < 1 {
         return Went::Stuck;
@@ -99,7 +100,8 @@ fn onward(
 ) -> Went
     requires { ⌜ Asks (now notes) (now pending) waiting room ⌝ }
     requires { ⌜ (depth ≤ room) × (leaves ≤ 3) ⌝ }
-    ensures { λ r. ⌜ Step room (leb need depth) (next ∷ []) (alike (depth - need + leaves)) (now (notes .entry)) (now (pending .entry)) waiting (now (notes .exit)) (now (pending .exit)) r ⌝ }
+    ensures { λ r. ⌜ Step room (leb need depth) (next ∷ []) (alike (depth - need + leaves)) (now (notes .entry)) (now (pending .entry)) waiting
+        (now (notes .exit)) (now (pending .exit)) r ⌝ }
 {
     if depth < need {
         return Went::Stuck;
@@ -120,7 +122,9 @@ fn plain(
 ) -> Went
     requires { ⌜ Asks (now notes) (now pending) waiting room ⌝ }
     requires { ⌜ (depth ≤ room) × (at ≤ 48000) ⌝ }
-    ensures { λ r. ⌜ Step room (ltb (indexPart e) (getD (now (limits .entry)) (boundPart e) 0) && leb (needPart e) depth) ((at + 1) ∷ []) (alike (depth - needPart e + leavesPart e)) (now (notes .entry)) (now (pending .entry)) waiting (now (notes .exit)) (now (pending .exit)) r ⌝ }
+    ensures { λ r. ⌜ Step room (ltb (indexPart e) (getD (now (limits .entry)) (boundPart e) 0)
+        && leb (needPart e) depth) ((at + 1) ∷ []) (alike (depth - needPart e + leavesPart e)) (now (notes .entry)) (now (pending .entry))
+        waiting (now (notes .exit)) (now (pending .exit)) r ⌝ }
 {
     let bound = bytecode::entry_bound(e);
     let index = bytecode::entry_index(e) as u8;
@@ -203,7 +207,8 @@ fn extended(
     requires { ⌜ Asks (now notes) (now pending) waiting room ⌝ }
     requires { ⌜ Here (now limits) (now words) (length (now notes)) room at depth b e ⌝ }
     requires { ⌜ (128 ≤ b) × (b < 135) × (at + lengthPart e ≤ length (now notes)) ⌝ }
-    ensures { λ r. ⌜ Expand (now (limits .entry)) (now (words .entry)) (length (now (notes .entry))) room at depth (now (notes .entry)) (now (pending .entry)) waiting (now (notes .exit)) (now (pending .exit)) r ⌝ }
+    ensures { λ r. ⌜ Expand (now (limits .entry)) (now (words .entry)) (length (now (notes .entry))) room at depth (now (notes .entry)) (now (pending .entry))
+        waiting (now (notes .exit)) (now (pending .exit)) r ⌝ }
 {
     let x = bytecode::byte(words, at + 1);
     let y = bytecode::byte(words, at + 2);
@@ -238,7 +243,8 @@ fn jump(
     requires { ⌜ Asks (now notes) (now pending) waiting room ⌝ }
     requires { ⌜ Here (now limits) (now words) (length (now notes)) room at depth b e ⌝ }
     requires { ⌜ (144 ≤ b) × (b < 176) × (at + lengthPart e ≤ length (now notes)) ⌝ }
-    ensures { λ r. ⌜ Expand (now (limits .entry)) (now (words .entry)) (length (now (notes .entry))) room at depth (now (notes .entry)) (now (pending .entry)) waiting (now (notes .exit)) (now (pending .exit)) r ⌝ }
+    ensures { λ r. ⌜ Expand (now (limits .entry)) (now (words .entry)) (length (now (notes .entry))) room at depth (now (notes .entry)) (now (pending .entry))
+        waiting (now (notes .exit)) (now (pending .exit)) r ⌝ }
 {
     if b < 152 {
         return visit(
@@ -296,7 +302,8 @@ fn far(
     requires { ⌜ Asks (now notes) (now pending) waiting room ⌝ }
     requires { ⌜ Here (now limits) (now words) (length (now notes)) room at depth b e ⌝ }
     requires { ⌜ groupPart e ≡ 2 ⌝ }
-    ensures { λ r. ⌜ Expand (now (limits .entry)) (now (words .entry)) (length (now (notes .entry))) room at depth (now (notes .entry)) (now (pending .entry)) waiting (now (notes .exit)) (now (pending .exit)) r ⌝ }
+    ensures { λ r. ⌜ Expand (now (limits .entry)) (now (words .entry)) (length (now (notes .entry))) room at depth (now (notes .entry)) (now (pending .entry))
+        waiting (now (notes .exit)) (now (pending .exit)) r ⌝ }
 {
     if notes.len() < at + bytecode::entry_length(e) {
         return Went::Stuck;
@@ -344,7 +351,8 @@ fn expand(
 ) -> Went
     requires { ⌜ Asks (now notes) (now pending) waiting room ⌝ }
     requires { ⌜ Here (now limits) (now words) (length (now notes)) room at depth b e ⌝ }
-    ensures { λ r. ⌜ Expand (now (limits .entry)) (now (words .entry)) (length (now (notes .entry))) room at depth (now (notes .entry)) (now (pending .entry)) waiting (now (notes .exit)) (now (pending .exit)) r ⌝ }
+    ensures { λ r. ⌜ Expand (now (limits .entry)) (now (words .entry)) (length (now (notes .entry))) room at depth (now (notes .entry)) (now (pending .entry))
+        waiting (now (notes .exit)) (now (pending .exit)) r ⌝ }
 {
     let group = bytecode::entry_group(e);
     // two tests for the first two groups: four values tested one by one become a jump by a table, which is slower
@@ -387,7 +395,8 @@ fn turn(
     requires { ⌜ Static (now table) (now limits) (now words) room (now notes) (now pending) ⌝ }
     requires { ⌜ 0 < waiting ⌝ }
     requires { ⌜ WalkingAt (now limits) (now words) (length (now notes)) room (now notes) (now pending) waiting ⌝ }
-    ensures { λ r. ⌜ TurnAt (now (limits .entry)) (now (words .entry)) (length (now (notes .entry))) room (now (notes .entry)) (now (pending .entry)) waiting (now (notes .exit)) (now (pending .exit)) r ⌝ }
+    ensures { λ r. ⌜ TurnAt (now (limits .entry)) (now (words .entry)) (length (now (notes .entry))) room (now (notes .entry)) (now (pending .entry)) waiting
+        (now (notes .exit)) (now (pending .exit)) r ⌝ }
 {
     let last = waiting - 1;
     let at = pending[last] as usize;
@@ -448,7 +457,8 @@ pub fn walk(
     pending: &mut [u16],
 ) -> bool
     requires { ⌜ Lent (now table) (now words) limit (now notes) (now pending) ⌝ }
-    ensures { λ r. ⌜ Walked (depthTable (now (words .entry)) (length (now (notes .entry))) temporaries limit (indexed fields temporaries literals)) (length (now (notes .entry))) (now (notes .exit)) r ⌝ }
+    ensures { λ r. ⌜ Walked (depthTable (now (words .entry)) (length (now (notes .entry))) temporaries limit (indexed fields temporaries literals))
+        (length (now (notes .entry))) (now (notes .exit)) r ⌝ }
 {
     clear(notes);
     if notes.len() == 0 {

@@ -94,8 +94,13 @@ fn read_words(image: &[u8], from: usize, count: usize, words: &mut [u16])
 
 // The image's objects at the front of the two buffers; what lies behind them stays.
 pub fn place(image: &[u8], n: usize, b: usize, contents: &mut [u16], bodies: &mut [u16])
-    requires { ⌜ T (lengthFine (now image)) × (imageHeader (now image) .n ≡ n) × (imageHeader (now image) .b ≡ b) × (entryWords * n ≤ length (now contents)) × (b ≤ length (now bodies)) ⌝ }
-    ensures { λ _. ⌜ (now (contents .exit) ≡ imageObjects (now (image .entry)) .contents ++ drop (entryWords * n) (now (contents .entry))) × (now (bodies .exit) ≡ imageObjects (now (image .entry)) .bodies ++ drop b (now (bodies .entry))) ⌝ }
+    requires { ⌜ T (lengthFine (now image))
+        × (imageHeader (now image) .n ≡ n)
+        × (imageHeader (now image) .b ≡ b)
+        × (entryWords * n ≤ length (now contents))
+        × (b ≤ length (now bodies)) ⌝ }
+    ensures { λ _. ⌜ (now (contents .exit) ≡ imageObjects (now (image .entry)) .contents ++ drop (entryWords * n) (now (contents .entry)))
+        × (now (bodies .exit) ≡ imageObjects (now (image .entry)) .bodies ++ drop b (now (bodies .entry))) ⌝ }
 {
     read_words(
         image,
@@ -114,7 +119,8 @@ pub fn place(image: &[u8], n: usize, b: usize, contents: &mut [u16], bodies: &mu
 // Zeros in place of n objects and b body words; what lies behind them stays.
 pub fn zero(n: usize, b: usize, contents: &mut [u16], bodies: &mut [u16])
     requires { ⌜ (entryWords * n ≤ length (now contents)) × (b ≤ length (now bodies)) ⌝ }
-    ensures { λ _. ⌜ (now (contents .exit) ≡ replicate (entryWords * n) 0 ++ drop (entryWords * n) (now (contents .entry))) × (now (bodies .exit) ≡ replicate b 0 ++ drop b (now (bodies .entry))) ⌝ }
+    ensures { λ _. ⌜ (now (contents .exit) ≡ replicate (entryWords * n) 0 ++ drop (entryWords * n) (now (contents .entry)))
+        × (now (bodies .exit) ≡ replicate b 0 ++ drop b (now (bodies .entry))) ⌝ }
 {
     words::fill(contents, 0, limits::ENTRY_WORDS * n, 0);
     words::fill(bodies, 0, b, 0);
@@ -157,7 +163,10 @@ fn write_header(header: Header, output: &mut [u8])
 // The image of the objects in the two buffers, under this header, at the output's front, and how many bytes it has.
 pub fn write(header: Header, contents: &[u16], bodies: &[u16], output: &mut [u8]) -> usize
     requires { ⌜ (entryWords * header .n ≤ length (now contents)) × (header .b ≤ length (now bodies)) × (imageBytes (header .n) (header .b) ≤ length (now output)) ⌝ }
-    ensures { λ r. ⌜ (r ≡ imageBytes (header .n) (header .b)) × (now (output .exit) ≡ imageOf (asHeader header) (objectsAt (header .n) (header .b) (now (contents .entry)) (now (bodies .entry))) ++ drop (imageBytes (header .n) (header .b)) (now (output .entry))) ⌝ }
+    ensures { λ r. ⌜ (r ≡ imageBytes (header .n) (header .b))
+        × (now (output .exit)
+        ≡ imageOf (asHeader header) (objectsAt (header .n) (header .b) (now (contents .entry)) (now (bodies .entry))) ++ drop
+        (imageBytes (header .n) (header .b)) (now (output .entry))) ⌝ }
 {
     let bytes = length_of(header.n, header.b);
     let n = header.n as usize;

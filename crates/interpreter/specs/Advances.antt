@@ -29,10 +29,12 @@ pub record Stops (x : Stepped) (k : ℕ) (contents bodies stack cache contents�
 -- held; else its words are written.
 abbrev pub AdvancedIs : ℕ → ℕ → ℕ → ℕ → ℕ → Active → List ℕ → List ℕ → List ℕ → List ℕ → List ℕ → List ℕ → List ℕ → List ℕ → Advanced → Type 0
 AdvancedIs edition receiver selector n b a contents bodies stack cache contents′ bodies′ stack′ cache′ (Next q e) =
-    Made (stepOf edition receiver selector n b a contents bodies stack cache) (runningWith edition receiver selector n b (a .base .0)) contents bodies (written a stack) cache contents′ bodies′ (written (movedOn a q e) stack′) cache′
+    Made (stepOf edition receiver selector n b a contents bodies stack cache) (runningWith edition receiver selector n b (a .base .0))
+    contents bodies (written a stack) cache contents′ bodies′ (written (movedOn a q e) stack′) cache′
     × Stands n b contents′ bodies′ stack′ (movedOn a q e)
 AdvancedIs edition receiver selector n b a contents bodies stack cache contents′ bodies′ stack′ cache′ (Top n′ b′ t) =
-    Made (stepOf edition receiver selector n b a contents bodies stack cache) (runningWith edition receiver selector n′ b′ (t .0)) contents bodies (written a stack) cache contents′ bodies′ stack′ cache′
+    Made (stepOf edition receiver selector n b a contents bodies stack cache) (runningWith edition receiver selector n′ b′ (t .0))
+    contents bodies (written a stack) cache contents′ bodies′ stack′ cache′
 AdvancedIs edition receiver selector n b a contents bodies stack cache contents′ bodies′ stack′ cache′ (Below t) =
     Made (stepOf edition receiver selector n b a contents bodies stack cache) (runningWith edition receiver selector n b (t .0)) contents bodies (written a stack) cache contents′ bodies′ stack′ cache′
     × (t .0 + frameSize (objectsAt n b contents′ bodies′) (frameMethod stack′ (t .0)) ≤ a .base .0)

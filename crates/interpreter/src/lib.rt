@@ -46,7 +46,11 @@ fn return_to(
     w: u16,
 ) -> StackPosition
     requires { ⌜ Runs n b (top .0) (now contents) (now bodies) (now stack) × (0 < top .0) ⌝ }
-    ensures { λ r. ⌜ (r .0 ≡ frameSender (now (stack .entry)) (top .0)) × (now (stack .exit) ≡ set (set (now (stack .entry)) (r .0 + (6 + (temporaryCount (objectsAt n b (now (contents .entry)) (now (bodies .entry))) (frameMethod (now (stack .entry)) (r .0)) + frameDepth (now (stack .entry)) (r .0)))) w) (r .0 + 2) (suc (frameDepth (now (stack .entry)) (r .0)))) ⌝ }
+    ensures { λ r. ⌜ (r .0 ≡ frameSender (now (stack .entry)) (top .0))
+        × (now (stack .exit)
+        ≡ set (set (now (stack .entry)) (r .0 + (6 +
+        (temporaryCount (objectsAt n b (now (contents .entry)) (now (bodies .entry))) (frameMethod (now (stack .entry)) (r .0)) +
+        frameDepth (now (stack .entry)) (r .0)))) w) (r .0 + 2) (suc (frameDepth (now (stack .entry)) (r .0)))) ⌝ }
 {
     let base = top.0;
     let sender = stack[base] as usize;
@@ -72,7 +76,9 @@ pub fn advance(
     active: Active,
 ) -> Advanced
     requires { ⌜ IsActive n b (now contents) (now bodies) (now stack) active × Caches n b (now contents) (now bodies) (now cache) ⌝ }
-    ensures { λ r. ⌜ ((receiver selector : ℕ) → AdvancedIs edition receiver selector n b active (now (contents .entry)) (now (bodies .entry)) (now (stack .entry)) (now (cache .entry)) (now (contents .exit)) (now (bodies .exit)) (now (stack .exit)) (now (cache .exit)) r) ⌝ }
+    ensures { λ r. ⌜ ((receiver selector : ℕ)
+        → AdvancedIs edition receiver selector n b active (now (contents .entry)) (now (bodies .entry)) (now (stack .entry)) (now (cache .entry))
+        (now (contents .exit)) (now (bodies .exit)) (now (stack .exit)) (now (cache .exit)) r) ⌝ }
 {
     let top = active.base;
     match steps::step(contents, bodies, stack, n, b, active) {

@@ -32,7 +32,8 @@ pub enum Loaded {
 
 // An image put in place and the cache emptied, or nothing but zeros where it is refused by 4 to 8.
 pub fn load(image: &[u8], contents: &mut [u16], bodies: &mut [u16], cache: &mut [u16]) -> Loaded
-    ensures { λ r. ⌜ PromisedLoad (now (image .entry)) (now (contents .entry)) (now (bodies .entry)) (now (cache .entry)) r (now (contents .exit)) (now (bodies .exit)) (now (cache .exit)) ⌝ }
+    ensures { λ r. ⌜ PromisedLoad (now (image .entry)) (now (contents .entry)) (now (bodies .entry)) (now (cache .entry)) r (now (contents .exit))
+        (now (bodies .exit)) (now (cache .exit)) ⌝ }
 {
     match store::read(image, contents, bodies, cache.len()) {
         Reading::Accepted {
@@ -178,7 +179,8 @@ pub fn forget(
     stack: &[u16],
     cache: &mut [u16],
 ) -> Forgotten
-    ensures { λ r. ⌜ forgetGives r registers (now (contents .entry)) (now (bodies .entry)) (now (stack .entry)) (now (cache .exit)) ≡ flatForget (state registers (now (contents .entry)) (now (bodies .entry)) (now (stack .entry)) (now (cache .entry))) ⌝ }
+    ensures { λ r. ⌜ forgetGives r registers (now (contents .entry)) (now (bodies .entry)) (now (stack .entry)) (now (cache .exit))
+        ≡ flatForget (state registers (now (contents .entry)) (now (bodies .entry)) (now (stack .entry)) (now (cache .entry))) ⌝ }
 {
     match check(registers, contents, bodies, stack, cache) {
         Checked::Refused(k) => Forgotten::Refused(k),
@@ -198,7 +200,8 @@ pub fn save(
     cache: &[u16],
     output: &mut [u8],
 ) -> Saved
-    ensures { λ r. ⌜ saveGives r (now (output .exit)) ≡ flatSave (state registers (now (contents .entry)) (now (bodies .entry)) (now (stack .entry)) (now (cache .entry))) (now (output .entry)) ⌝ }
+    ensures { λ r. ⌜ saveGives r (now (output .exit))
+        ≡ flatSave (state registers (now (contents .entry)) (now (bodies .entry)) (now (stack .entry)) (now (cache .entry))) (now (output .entry)) ⌝ }
 {
     let n = registers.n;
     let b = registers.b;
@@ -281,7 +284,9 @@ impl Registers {
         selector: u16,
         arguments: &[u16],
     ) -> Begun
-        ensures { λ r. ⌜ beginGives r (now (contents .exit)) (now (bodies .exit)) (now (stack .exit)) (now (cache .entry)) ≡ flatBegin (state self (now (contents .entry)) (now (bodies .entry)) (now (stack .entry)) (now (cache .entry))) receiver selector (now (arguments .entry)) ⌝ }
+        ensures { λ r. ⌜ beginGives r (now (contents .exit)) (now (bodies .exit)) (now (stack .exit)) (now (cache .entry))
+            ≡ flatBegin (state self (now (contents .entry)) (now (bodies .entry)) (now (stack .entry)) (now (cache .entry))) receiver selector
+            (now (arguments .entry)) ⌝ }
     {
         match check(self, contents, bodies, stack, cache) {
             Checked::Refused(k) => Begun::Refused(k, self),
@@ -320,7 +325,8 @@ impl Registers {
         cache: &mut [u16],
         grant: u32,
     ) -> Ran
-        ensures { λ r. ⌜ PromisedRun (state self (now (contents .entry)) (now (bodies .entry)) (now (stack .entry)) (now (cache .entry))) grant r (now (contents .exit)) (now (bodies .exit)) (now (stack .exit)) (now (cache .exit)) ⌝ }
+        ensures { λ r. ⌜ PromisedRun (state self (now (contents .entry)) (now (bodies .entry)) (now (stack .entry)) (now (cache .entry))) grant r
+            (now (contents .exit)) (now (bodies .exit)) (now (stack .exit)) (now (cache .exit)) ⌝ }
     {
         match check(self, contents, bodies, stack, cache) {
             Checked::Refused(k) => Ran::Refused(k, self),
@@ -352,7 +358,8 @@ impl Registers {
 
     // All frames removed.
     pub fn drop(self, contents: &[u16], bodies: &[u16], stack: &[u16], cache: &[u16]) -> Dropped
-        ensures { λ r. ⌜ dropGives r (now (contents .entry)) (now (bodies .entry)) (now (stack .entry)) (now (cache .entry)) ≡ flatDrop (state self (now (contents .entry)) (now (bodies .entry)) (now (stack .entry)) (now (cache .entry))) ⌝ }
+        ensures { λ r. ⌜ dropGives r (now (contents .entry)) (now (bodies .entry)) (now (stack .entry)) (now (cache .entry))
+            ≡ flatDrop (state self (now (contents .entry)) (now (bodies .entry)) (now (stack .entry)) (now (cache .entry))) ⌝ }
     {
         match check(self, contents, bodies, stack, cache) {
             Checked::Refused(k) => Dropped::Refused(k, self),

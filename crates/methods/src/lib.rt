@@ -109,7 +109,10 @@ pub fn count_methods(
     b: usize,
     counts: &mut [u8],
 ) -> bool
-    requires { ⌜ Ready n b (now contents) (now bodies) × T (shapes (objectsAt n b (now contents) (now bodies))) × (n < length (now counts)) × ((j : ℕ) → getD (now counts) j 0 ≡ 0) ⌝ }
+    requires { ⌜ Ready n b (now contents) (now bodies)
+        × T (shapes (objectsAt n b (now contents) (now bodies)))
+        × (n < length (now counts))
+        × ((j : ℕ) → getD (now counts) j 0 ≡ 0) ⌝ }
     ensures { λ r. ⌜ Held (objectsAt n b (now (contents .entry)) (now (bodies .entry))) (now (counts .exit)) r ⌝ }
 {
     let mut k = 1;

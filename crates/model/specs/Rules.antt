@@ -14,9 +14,11 @@ use Rattle.bytecode.specs.declared.Place.{Place}
 use Rattle.bytecode.specs.declared.Place.the-variants.{Field, Temporary, Literal, LiteralVariable}
 use Rattle.bytecode.specs.declared.Instruction.{Instruction}
 use Rattle.bytecode.specs.declared.Instruction.the-variants.{Push, Store, PopStore, PushSelf, PushConstant, ReturnSelf, ReturnConstant, ReturnTop, Pop, Duplicate, Jump, JumpOn, Send, SuperSend, SpecialSend, Unused}
-use Rattle.model.specs.Limits.{isEdition, entryWords, leastObjects, mostObjects, mostBodyWords, fieldsKind, bytesKind, classKind, listKind, methodKind, lastKind, fixedForm, indexedForm, bytesForm, otherForm, lastForm, classWords, mostFields, nilObject, falseObject, trueObject, integerClassObject, selectorsObject, specialSelectors, fieldFlag, primitiveFlag}
+use Rattle.model.specs.Limits.{isEdition, entryWords, leastObjects, mostObjects, mostBodyWords, fieldsKind, bytesKind, classKind, listKind, methodKind, lastKind, fixedForm, indexedForm}
+use Rattle.model.specs.Limits.{bytesForm, otherForm, lastForm, classWords, mostFields, nilObject, falseObject, trueObject, integerClassObject, selectorsObject, specialSelectors, fieldFlag, primitiveFlag}
 use Rattle.model.specs.Word.{isInteger, isNatural, isValid, pointer, objectNumber, integerClass}
-use Rattle.model.specs.Objects.{Objects, classWord, kind, start, size, sizedInBytes, bodyWords, bodyEnd, bodyWord, bodyOf, isKind, isNilOr, superclassWord, dictionaryWord, fieldsWord, formWord, fieldCount, form, pairCount, pairSelector, pairMethod}
+use Rattle.model.specs.Objects.{Objects, classWord, kind, start, size, sizedInBytes, bodyWords, bodyEnd, bodyWord, bodyOf, isKind}
+use Rattle.model.specs.Objects.{isNilOr, superclassWord, dictionaryWord, fieldsWord, formWord, fieldCount, form, pairCount, pairSelector, pairMethod}
 use Rattle.model.specs.Method.{header, home, literal, flag, temporaryCount, literalCount, codeWords, codeSize, frameWords, extension, argumentCount, runsCode}
 use Rattle.model.specs.Lookup.{endsWithin}
 use Rattle.model.specs.Depth.{depthTable, isSome, Sound}

@@ -49,7 +49,9 @@ pub fn store_word(
     w: u16,
 )
     requires { ⌜ Inside n b (now contents) (now bodies) (p .0) i ⌝ }
-    ensures { λ _. ⌜ now (bodies .exit) ≡ atFront (storeWord (objectsAt n b (now (contents .entry)) (now (bodies .entry))) (objectNumber (p .0)) i w .bodies) (now (bodies .entry)) ⌝ }
+    ensures { λ _. ⌜ now (bodies .exit)
+        ≡ atFront (storeWord (objectsAt n b (now (contents .entry)) (now (bodies .entry))) (objectNumber (p .0)) i w .bodies)
+        (now (bodies .entry)) ⌝ }
 {
     let k = p.0 as usize / 2;
     let to = readers::start(contents, n, k) as usize + i;
@@ -78,7 +80,9 @@ pub fn store_byte(
     v: u8,
 )
     requires { ⌜ Inside n b (now contents) (now bodies) (p .0) (i / 2) ⌝ }
-    ensures { λ _. ⌜ now (bodies .exit) ≡ atFront (storeByte (objectsAt n b (now (contents .entry)) (now (bodies .entry))) (objectNumber (p .0)) i v .bodies) (now (bodies .entry)) ⌝ }
+    ensures { λ _. ⌜ now (bodies .exit)
+        ≡ atFront (storeByte (objectsAt n b (now (contents .entry)) (now (bodies .entry))) (objectNumber (p .0)) i v .bodies)
+        (now (bodies .entry)) ⌝ }
 {
     let w = readers::word_of(contents, bodies, n, b, p, i / 2);
     if i % 2 == 0 {

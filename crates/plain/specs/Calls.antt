@@ -19,7 +19,21 @@ use Rattle.plain.specs.Step.{Looked, Stepped, leadsTo, halts, missing, A
 -- The machine starts with the image's objects and start words, no frames, phase and value 0.
 unfoldable pub loaded : List ℕ → Plain
 loaded bytes =
-    record { registers = record { n = imageHeader bytes .n; b = imageHeader bytes .b; startReceiver = imageHeader bytes .receiver; startSelector = imageHeader bytes .selector; phase = idle; top = 0; value = 0; edition = imageHeader bytes .edition }; contents = imageObjects bytes .contents; bodies = imageObjects bytes .bodies; frames = [] }
+    record {
+      registers = record {
+        n = imageHeader bytes .n;
+        b = imageHeader bytes .b;
+        startReceiver = imageHeader bytes .receiver;
+        startSelector = imageHeader bytes .selector;
+        phase = idle;
+        top = 0;
+        value = 0;
+        edition = imageHeader bytes .edition;
+      };
+      contents = imageObjects bytes .contents;
+      bodies = imageObjects bytes .bodies;
+      frames = [];
+    }
 
 -- What begin leaves: a state, or the number of a refusal
 pub data Begun : Type 0 where

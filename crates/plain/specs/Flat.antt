@@ -55,7 +55,16 @@ operandsStart o m base = temporariesStart base + temporaryCount o m
 
 unfoldable pub frameAt : Objects → List ℕ → ℕ → Frame
 frameAt o stack base =
-    record { sender = frameSender stack base; position = framePosition stack base; depth = frameDepth stack base; method = frameMethod stack base; mark = frameMark stack base; receiver = frameReceiver stack base; temporaries = part stack (temporariesStart base) (temporaryCount o (frameMethod stack base)); operands = part stack (operandsStart o (frameMethod stack base) base) (frameDepth stack base) }
+    record {
+      sender = frameSender stack base;
+      position = framePosition stack base;
+      depth = frameDepth stack base;
+      method = frameMethod stack base;
+      mark = frameMark stack base;
+      receiver = frameReceiver stack base;
+      temporaries = part stack (temporariesStart base) (temporaryCount o (frameMethod stack base));
+      operands = part stack (operandsStart o (frameMethod stack base) base) (frameDepth stack base);
+    }
 
 -- The frames from the one at a base down to the bottom one, which is the one at base 0. Where the senders do not lead down to it, as check
 -- asks, there are no more than `left`.
@@ -77,4 +86,9 @@ ifFrames false fs = []
 unfoldable pub plainOf : Flat → Plain
 plainOf s =
     let frames : List Frame = framesFrom (suc (s .registers .top)) (flatObjects s) (s .stack) (s .registers .top) in
-    record { registers = s .registers; contents = take (entryWords * s .registers .n) (s .contents); bodies = take (s .registers .b) (s .bodies); frames = ifFrames (hasFrames (s .registers .phase)) frames }
+    record {
+      registers = s .registers;
+      contents = take (entryWords * s .registers .n) (s .contents);
+      bodies = take (s .registers .b) (s .bodies);
+      frames = ifFrames (hasFrames (s .registers .phase)) frames;
+    }

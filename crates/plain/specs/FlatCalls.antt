@@ -13,7 +13,8 @@ use Rattle.model.specs.Image.{Verdict, accepted, refused, unless, _then_, buffe
 pub use Rattle.model.specs.Objects.{atFront}
 use Rattle.plain.specs.Registers.{Registers, noRegisters, running}
 use Rattle.plain.specs.State.{Frame, Plain, objects}
-use Rattle.plain.specs.Calls.{loaded, Begun, begun, declined, begin, Ran, ran, stuck, Taken, taken, steps, dropped, Answer, done, refusedBy, result, wrote, Call, beginCall, runCall, dropCall, forgetCall}
+use Rattle.plain.specs.Calls.{loaded, Begun, begun, declined, begin, Ran, ran, stuck, Taken, taken, steps}
+use Rattle.plain.specs.Calls.{dropped, Answer, done, refusedBy, result, wrote, Call, beginCall, runCall, dropCall, forgetCall}
 use Rattle.plain.specs.Cache.{filled, emptyCache}
 use Rattle.plain.specs.Flat.{Flat, roomOf, flatObjects, plainOf}
 use Rattle.plain.specs.Check.{stateFine, check}

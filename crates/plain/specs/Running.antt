@@ -39,7 +39,12 @@ finishedWith e receiver selector n b w =
 
 abbrev pub runningAt : ℕ → ℕ → ℕ → ℕ → ℕ → ℕ → List ℕ → List ℕ → List ℕ → Plain
 runningAt e receiver selector n b top contents bodies stack =
-    record { registers = runningWith e receiver selector n b top; contents = take (entryWords * n) contents; bodies = take b bodies; frames = framesFrom (suc top) (objectsAt n b contents bodies) stack top }
+    record {
+      registers = runningWith e receiver selector n b top;
+      contents = take (entryWords * n) contents;
+      bodies = take b bodies;
+      frames = framesFrom (suc top) (objectsAt n b contents bodies) stack top;
+    }
 
 -- The top frame, and the frames below it
 abbrev pub topFrame : ℕ → ℕ → ℕ → List ℕ → List ℕ → List ℕ → Frame
@@ -110,6 +115,7 @@ pub record Sending (n b top : ℕ) (contents bodies stack : List ℕ) (selector 
 -- and the step that it is
 abbrev pub sendStep : Room → ℕ → ℕ → ℕ → ℕ → ℕ → ℕ → List ℕ → List ℕ → List ℕ → ℕ → ℕ → ℕ → ℕ → Stepped
 sendStep room e receiver selector n b top contents bodies stack s count class position =
-    afterLookup room (runningAt e receiver selector n b top contents bodies stack) (popped (topFrame n b top contents bodies stack) position (suc count)) (restFrames n b top contents bodies stack) s class
+    afterLookup room (runningAt e receiver selector n b top contents bodies stack)
+    (popped (topFrame n b top contents bodies stack) position (suc count)) (restFrames n b top contents bodies stack) s class
     (sentReceiver n b top contents bodies stack count) (drop (topFrame n b top contents bodies stack .depth - count) (topFrame n b top contents bodies stack .operands))
     (lookup (objectsAt n b contents bodies) s class)

@@ -57,7 +57,16 @@ withTemporaries f ts =
 -- A new frame: the arguments and then nil in its temporaries, no operands
 unfoldable pub newFrame : Objects → ℕ → ℕ → ℕ → List ℕ → Frame
 newFrame o sender m receiver arguments =
-    record { sender = sender; position = 0; depth = 0; method = m; mark = noMark; receiver = receiver; temporaries = arguments ++ replicate (temporaryCount o m - length arguments) nilWord; operands = [] }
+    record {
+      sender = sender;
+      position = 0;
+      depth = 0;
+      method = m;
+      mark = noMark;
+      receiver = receiver;
+      temporaries = arguments ++ replicate (temporaryCount o m - length arguments) nilWord;
+      operands = [];
+    }
 
 -- A frame of so many words fits at a base: its last word is in the stack, at most at 65,535.
 unfoldable pub fitsStack : ℕ → ℕ → ℕ → Bool

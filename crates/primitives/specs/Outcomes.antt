@@ -53,6 +53,11 @@ pub record Does (o : Objects) (z : Outcome) (r : Done) (contents bodies contents
   pub entries : contents′ ≡ atFront (objectsAfter o z .contents) contents
   pub words : bodies′ ≡ atFront (objectsAfter o z .bodies) bodies
 
+-- what z says of these objects and the room in these buffers
+abbrev pub DoesAt : ℕ → ℕ → List ℕ → List ℕ → (Room → Objects → Outcome) → Done → List ℕ → List ℕ → Type 0
+DoesAt n b contents bodies z r contents′ bodies′ =
+    Does (objectsAt n b contents bodies) (z (roomOf contents bodies) (objectsAt n b contents bodies)) r contents bodies contents′ bodies′
+
 -- How 60 to 62 take w: 1 by words, 2 by bytes, 0 not at all
 unfoldable pub elementsOf : Objects → ℕ → ℕ
 elementsOf o w = if isIndexable o w then form o (classOf o w) else 0

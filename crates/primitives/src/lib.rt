@@ -9,7 +9,7 @@ ghost use Rattle.model.specs.Rules.{IsRight};
 ghost use Rattle.model.specs.Primitive.{answers, at, atPut, sizeAnswer, appended, hasRoom, make, new, newWith, computed, perform, primitiveCount, primitive};
 ghost use Rattle.model.specs.Word.{pointer, booleanWord};
 ghost use lib.Dec.{eqb};
-ghost use Rattle.primitives.specs.Outcomes.{roomFor, roomOf, doneWith, Receives, Puts, Does, elementsOf, indexOf};
+ghost use Rattle.primitives.specs.Outcomes.{roomFor, doneWith, Receives, Puts, Does, DoesAt, elementsOf, indexOf};
 use model::Computed;
 use model::Pointer;
 use model::limits;
@@ -129,7 +129,8 @@ pub fn at_put(
     v: u16,
 ) -> Computed
     requires { ⌜ Receives n b (now contents) (now bodies) w ⌝ }
-    ensures { λ r. ⌜ Puts (objectsAt n b (now (contents .entry)) (now (bodies .entry))) (atPut (objectsAt n b (now (contents .entry)) (now (bodies .entry))) w x v) r (now (bodies .entry)) (now (bodies .exit)) ⌝ }
+    ensures { λ r. ⌜ Puts (objectsAt n b (now (contents .entry)) (now (bodies .entry)))
+        (atPut (objectsAt n b (now (contents .entry)) (now (bodies .entry))) w x v) r (now (bodies .entry)) (now (bodies .exit)) ⌝ }
 {
     let by = elements(contents, bodies, n, b, w);
     if by == 0 {
@@ -195,7 +196,11 @@ pub fn append(
     count: usize,
 ) -> Done
     requires { ⌜ (n < mostObjects) × (b + count ≤ mostBodyWords) × (entryWords * (n + 1) ≤ length (now contents)) ⌝ }
-    ensures { λ r. ⌜ ((bodies : List ℕ) → b + count ≤ length bodies → Does (objectsAt n b (now (contents .entry)) bodies) (answers (pointer (n + 1)) (appended (objectsAt n b (now (contents .entry)) bodies) (class .0) kind size (part bodies b count))) r (now (contents .entry)) bodies (now (contents .exit)) bodies) ⌝ }
+    ensures { λ r. ⌜ ((bodies : List ℕ)
+        → b + count ≤ length bodies
+        → Does (objectsAt n b (now (contents .entry)) bodies)
+        (answers (pointer (n + 1)) (appended (objectsAt n b (now (contents .entry)) bodies) (class .0) kind size (part bodies b count))) r
+        (now (contents .entry)) bodies (now (contents .exit)) bodies) ⌝ }
 {
     let at = limits::ENTRY_WORDS * n;
     contents[at] = class.0;
@@ -222,7 +227,8 @@ fn make(
     w: u16,
 ) -> Done
     requires { ⌜ IsRight (objectsAt n b (now contents) (now bodies)) × (count < 65536) ⌝ }
-    ensures { λ r. ⌜ Does (objectsAt n b (now (contents .entry)) (now (bodies .entry))) (make (roomOf (now (contents .entry)) (now (bodies .entry))) (objectsAt n b (now (contents .entry)) (now (bodies .entry))) (class .0) kind size count w) r (now (contents .entry)) (now (bodies .entry)) (now (contents .exit)) (now (bodies .exit)) ⌝ }
+    ensures { λ r. ⌜ DoesAt n b (now (contents .entry)) (now (bodies .entry)) (λ room o. make room o (class .0) kind size count w) r
+        (now (contents .exit)) (now (bodies .exit)) ⌝ }
 {
     if !has_room(contents.len(), bodies.len(), n, b, count) {
         return failed(n, b);
@@ -234,7 +240,8 @@ fn make(
 // 70
 pub fn new_object(contents: &mut [u16], bodies: &mut [u16], n: usize, b: usize, w: u16) -> Done
     requires { ⌜ IsRight (objectsAt n b (now contents) (now bodies)) ⌝ }
-    ensures { λ r. ⌜ Does (objectsAt n b (now (contents .entry)) (now (bodies .entry))) (new (roomOf (now (contents .entry)) (now (bodies .entry))) (objectsAt n b (now (contents .entry)) (now (bodies .entry))) w) r (now (contents .entry)) (now (bodies .entry)) (now (contents .exit)) (now (bodies .exit)) ⌝ }
+    ensures { λ r. ⌜ DoesAt n b (now (contents .entry)) (now (bodies .entry)) (λ room o. new room o w) r
+        (now (contents .exit)) (now (bodies .exit)) ⌝ }
 {
     if !readers::is_kind(contents, n, limits::CLASS, w) {
         return failed(n, b);
@@ -267,7 +274,8 @@ pub fn new_with(
     x: u16,
 ) -> Done
     requires { ⌜ IsRight (objectsAt n b (now contents) (now bodies)) ⌝ }
-    ensures { λ r. ⌜ Does (objectsAt n b (now (contents .entry)) (now (bodies .entry))) (newWith (roomOf (now (contents .entry)) (now (bodies .entry))) (objectsAt n b (now (contents .entry)) (now (bodies .entry))) w x) r (now (contents .entry)) (now (bodies .entry)) (now (contents .exit)) (now (bodies .exit)) ⌝ }
+    ensures { λ r. ⌜ DoesAt n b (now (contents .entry)) (now (bodies .entry)) (λ room o. newWith room o w x) r
+        (now (contents .exit)) (now (bodies .exit)) ⌝ }
 {
     if !readers::is_kind(contents, n, limits::CLASS, w) {
         return failed(n, b);
@@ -352,7 +360,8 @@ pub fn perform(
     y: u16,
 ) -> Done
     requires { ⌜ Receives n b (now contents) (now bodies) w × (1 ≤ k → 17 < k) ⌝ }
-    ensures { λ r. ⌜ Does (objectsAt n b (now (contents .entry)) (now (bodies .entry))) (perform edition (roomOf (now (contents .entry)) (now (bodies .entry))) (objectsAt n b (now (contents .entry)) (now (bodies .entry))) k w x y) r (now (contents .entry)) (now (bodies .entry)) (now (contents .exit)) (now (bodies .exit)) ⌝ }
+    ensures { λ r. ⌜ DoesAt n b (now (contents .entry)) (now (bodies .entry)) (λ room o. perform edition room o k w x y) r
+        (now (contents .exit)) (now (bodies .exit)) ⌝ }
 {
     if k == 60 {
         let answer = at(contents, bodies, n, b, w, x);
@@ -396,7 +405,8 @@ pub fn primitive(
     y: u16,
 ) -> Done
     requires { ⌜ Receives n b (now contents) (now bodies) w × (1 ≤ k → 17 < k) ⌝ }
-    ensures { λ r. ⌜ Does (objectsAt n b (now (contents .entry)) (now (bodies .entry))) (primitive edition (roomOf (now (contents .entry)) (now (bodies .entry))) (objectsAt n b (now (contents .entry)) (now (bodies .entry))) k count w (x ∷ y ∷ [])) r (now (contents .entry)) (now (bodies .entry)) (now (contents .exit)) (now (bodies .exit)) ⌝ }
+    ensures { λ r. ⌜ DoesAt n b (now (contents .entry)) (now (bodies .entry)) (λ room o. primitive edition room o k count w (x ∷ y ∷ [])) r
+        (now (contents .exit)) (now (bodies .exit)) ⌝ }
 {
     let takes = primitive_count(k);
     if count != takes {

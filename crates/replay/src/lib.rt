@@ -82,7 +82,10 @@ fn begin_call(
     i: usize,
 ) -> Performed
     requires { ⌜ i + (4 + getD (now calls) (i + 3) 0) ≤ length (now calls) ⌝ }
-    ensures { λ r. ⌜ performGives r (now (contents .exit)) (now (bodies .exit)) (now (stack .exit)) (now (cache .entry)) ≡ flatBegin (state registers (now (contents .entry)) (now (bodies .entry)) (now (stack .entry)) (now (cache .entry))) (getD (now (calls .entry)) (i + 1) 0) (getD (now (calls .entry)) (i + 2) 0) (part (now (calls .entry)) (i + 4) (getD (now (calls .entry)) (i + 3) 0)) ⌝ }
+    ensures { λ r. ⌜ performGives r (now (contents .exit)) (now (bodies .exit)) (now (stack .exit)) (now (cache .entry))
+        ≡ flatBegin (state registers (now (contents .entry)) (now (bodies .entry)) (now (stack .entry)) (now (cache .entry)))
+        (getD (now (calls .entry)) (i + 1) 0) (getD (now (calls .entry)) (i + 2) 0)
+        (part (now (calls .entry)) (i + 4) (getD (now (calls .entry)) (i + 3) 0)) ⌝ }
 {
     let receiver = calls[i + 1];
     let selector = calls[i + 2];
@@ -112,12 +115,14 @@ fn run_call(
     i: usize,
 ) -> Performed
     requires { ⌜ i + 3 ≤ length (now calls) ⌝ }
-    ensures { λ r. ⌜ performGives r (now (contents .exit)) (now (bodies .exit)) (now (stack .exit)) (now (cache .exit)) ≡ flatRun (state registers (now (contents .entry)) (now (bodies .entry)) (now (stack .entry)) (now (cache .entry))) (runLength (now (calls .entry)) i) ⌝ }
+    ensures { λ r. ⌜ performGives r (now (contents .exit)) (now (bodies .exit)) (now (stack .exit)) (now (cache .exit))
+        ≡ flatRun (state registers (now (contents .entry)) (now (bodies .entry)) (now (stack .entry)) (now (cache .entry)))
+        (runLength (now (calls .entry)) i) ⌝ }
 {
     let high = calls[i + 1] as u32;
     let low = calls[i + 2] as u32;
-    let n = 65536 * high + low;
-    match registers.run(contents, bodies, stack, cache, n) {
+    let grant = 65536 * high + low;
+    match registers.run(contents, bodies, stack, cache, grant) {
         Ran::Done {
             registers: next,
             count,
@@ -134,7 +139,8 @@ fn drop_call(
     stack: &[u16],
     cache: &[u16],
 ) -> Performed
-    ensures { λ r. ⌜ performGives r (now (contents .entry)) (now (bodies .entry)) (now (stack .entry)) (now (cache .entry)) ≡ flatDrop (state registers (now (contents .entry)) (now (bodies .entry)) (now (stack .entry)) (now (cache .entry))) ⌝ }
+    ensures { λ r. ⌜ performGives r (now (contents .entry)) (now (bodies .entry)) (now (stack .entry)) (now (cache .entry))
+        ≡ flatDrop (state registers (now (contents .entry)) (now (bodies .entry)) (now (stack .entry)) (now (cache .entry))) ⌝ }
 {
     match registers.drop(contents, bodies, stack, cache) {
         Dropped::Dropped(next) => Performed::Done(next),
@@ -149,7 +155,8 @@ fn forget_call(
     stack: &[u16],
     cache: &mut [u16],
 ) -> Performed
-    ensures { λ r. ⌜ performGives r (now (contents .entry)) (now (bodies .entry)) (now (stack .entry)) (now (cache .exit)) ≡ flatForget (state registers (now (contents .entry)) (now (bodies .entry)) (now (stack .entry)) (now (cache .entry))) ⌝ }
+    ensures { λ r. ⌜ performGives r (now (contents .entry)) (now (bodies .entry)) (now (stack .entry)) (now (cache .exit))
+        ≡ flatForget (state registers (now (contents .entry)) (now (bodies .entry)) (now (stack .entry)) (now (cache .entry))) ⌝ }
 {
     match machine::forget(registers, contents, bodies, stack, cache) {
         Forgotten::Emptied => Performed::Done(registers),
@@ -168,7 +175,9 @@ fn make_call(
     i: usize,
 ) -> Performed
     requires { ⌜ 1 ≤ sizeAt (now calls) i ⌝ }
-    ensures { λ r. ⌜ performGives r (now (contents .exit)) (now (bodies .exit)) (now (stack .exit)) (now (cache .exit)) ≡ flatCall (state registers (now (contents .entry)) (now (bodies .entry)) (now (stack .entry)) (now (cache .entry))) (callAt (now (calls .entry)) i) ⌝ }
+    ensures { λ r. ⌜ performGives r (now (contents .exit)) (now (bodies .exit)) (now (stack .exit)) (now (cache .exit))
+        ≡ flatCall (state registers (now (contents .entry)) (now (bodies .entry)) (now (stack .entry)) (now (cache .entry)))
+        (callAt (now (calls .entry)) i) ⌝ }
 {
     let kind = calls[i];
     if kind == 0 {
@@ -232,7 +241,9 @@ fn play(
     calls: &[u16],
     answers: &mut [u32],
 ) -> Played
-    ensures { λ r. ⌜ Plays (now (calls .entry)) (now (answers .entry)) (state start (now (contents .entry)) (now (bodies .entry)) (now (stack .entry)) (now (cache .entry))) (r .calls) (state (r .registers) (now (contents .exit)) (now (bodies .exit)) (now (stack .exit)) (now (cache .exit))) (now (answers .exit)) ⌝ }
+    ensures { λ r. ⌜ Plays (now (calls .entry)) (now (answers .entry))
+        (state start (now (contents .entry)) (now (bodies .entry)) (now (stack .entry)) (now (cache .entry))) (r .calls)
+        (state (r .registers) (now (contents .exit)) (now (bodies .exit)) (now (stack .exit)) (now (cache .exit))) (now (answers .exit)) ⌝ }
 {
     let room = answers.len() / 4;
     let mut registers = start;
@@ -270,7 +281,10 @@ pub fn replay(
     cache: &mut [u16],
     answers: &mut [u32],
 ) -> Replayed
-    ensures { λ r. ⌜ ((g : R.Registers) → Replays (flat g (now (contents .entry)) (now (bodies .entry)) (now (stack .entry)) (now (cache .entry))) (now (image .entry)) (now (calls .entry)) (now (answers .entry)) (now (contents .exit)) (now (bodies .exit)) (now (stack .exit)) (now (cache .exit)) (now (answers .exit)) r) ⌝ }
+    ensures { λ r. ⌜ ((g : R.Registers)
+        → Replays (flat g (now (contents .entry)) (now (bodies .entry)) (now (stack .entry)) (now (cache .entry))) (now (image .entry))
+        (now (calls .entry)) (now (answers .entry)) (now (contents .exit)) (now (bodies .exit)) (now (stack .exit)) (now (cache .exit))
+        (now (answers .exit)) r) ⌝ }
 {
     match machine::load(image, contents, bodies, cache) {
         Loaded::Accepted(start) => {

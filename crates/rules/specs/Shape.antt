@@ -7,7 +7,8 @@ use mathlib.Core.List.{List, [], _∷_}
 use lib.Dec.{leb, eqb}
 use Rattle.bytecode.specs.Test.{if_then_else_, implies, every, allOf}
 use Rattle.bytecode.specs.Constant.{nilWord}
-use Rattle.model.specs.Limits.{fieldsKind, bytesKind, classKind, listKind, methodKind, fixedForm, indexedForm, bytesForm, otherForm, lastForm, mostFields, nilObject, falseObject, trueObject, integerClassObject, selectorsObject, specialSelectors}
+use Rattle.model.specs.Limits.{fieldsKind, bytesKind, classKind, listKind, methodKind, fixedForm, indexedForm, bytesForm, otherForm}
+use Rattle.model.specs.Limits.{lastForm, mostFields, nilObject, falseObject, trueObject, integerClassObject, selectorsObject, specialSelectors}
 use Rattle.model.specs.Word.{isNatural, pointer}
 use Rattle.model.specs.Objects.{Objects, kind, size, bodyOf, isKind, isNilOr, superclassWord, dictionaryWord, fieldsWord, formWord, fieldCount}
 use Rattle.model.specs.Lookup.{endsWithin}

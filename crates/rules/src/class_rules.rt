@@ -90,7 +90,10 @@ fn numbers_fine(edition: u16, fields: u16, form: u16) -> bool
 
 // F of the class c is not below that of its superclass s.
 fn rises_fine(contents: &[u16], bodies: &[u16], n: usize, b: usize, c: u16, s: u16) -> bool
-    requires { ⌜ Laid n b (now contents) (now bodies) × ((isKind (objectsAt n b (now contents) (now bodies)) classKind c ≡ true) × ((s ≡ superclassWord (objectsAt n b (now contents) (now bodies)) c) × (isNilOr (objectsAt n b (now contents) (now bodies)) classKind s ≡ true))) ⌝ }
+    requires { ⌜ Laid n b (now contents) (now bodies)
+        × ((isKind (objectsAt n b (now contents) (now bodies)) classKind c ≡ true)
+        × ((s ≡ superclassWord (objectsAt n b (now contents) (now bodies)) c)
+        × (isNilOr (objectsAt n b (now contents) (now bodies)) classKind s ≡ true))) ⌝ }
     ensures { λ r. ⌜ r ≡ risesFine (objectsAt n b (now (contents .entry)) (now (bodies .entry))) c ⌝ }
 {
     if s == limits::NIL {
@@ -102,8 +105,10 @@ fn rises_fine(contents: &[u16], bodies: &[u16], n: usize, b: usize, c: u16, s: u
 
 // The selector of pair i is above the one before it.
 fn selector_rises(contents: &[u16], bodies: &[u16], n: usize, b: usize, d: u16, i: usize) -> bool
-    requires { ⌜ Laid n b (now contents) (now bodies) × ((isKind (objectsAt n b (now contents) (now bodies)) listKind d ≡ true) × (i < pairCount (objectsAt n b (now contents) (now bodies)) d)) ⌝ }
-    ensures { λ r. ⌜ r ≡ implies (ltb 0 i) (ltb (pairSelector (objectsAt n b (now (contents .entry)) (now (bodies .entry))) d (i - 1)) (pairSelector (objectsAt n b (now (contents .entry)) (now (bodies .entry))) d i)) ⌝ }
+    requires { ⌜ Laid n b (now contents) (now bodies)
+        × ((isKind (objectsAt n b (now contents) (now bodies)) listKind d ≡ true) × (i < pairCount (objectsAt n b (now contents) (now bodies)) d)) ⌝ }
+    ensures { λ r. ⌜ r ≡ implies (ltb 0 i) (ltb (pairSelector (objectsAt n b (now (contents .entry)) (now (bodies .entry))) d (i - 1))
+        (pairSelector (objectsAt n b (now (contents .entry)) (now (bodies .entry))) d i)) ⌝ }
 {
     if i == 0 {
         return true;
@@ -114,7 +119,8 @@ fn selector_rises(contents: &[u16], bodies: &[u16], n: usize, b: usize, d: u16, 
 
 // Pair i is a selector and a method, and the selector rises.
 fn pair_fine(contents: &[u16], bodies: &[u16], n: usize, b: usize, d: u16, i: usize) -> bool
-    requires { ⌜ Laid n b (now contents) (now bodies) × ((isKind (objectsAt n b (now contents) (now bodies)) listKind d ≡ true) × (i < pairCount (objectsAt n b (now contents) (now bodies)) d)) ⌝ }
+    requires { ⌜ Laid n b (now contents) (now bodies)
+        × ((isKind (objectsAt n b (now contents) (now bodies)) listKind d ≡ true) × (i < pairCount (objectsAt n b (now contents) (now bodies)) d)) ⌝ }
     ensures { λ r. ⌜ r ≡ pairFine (objectsAt n b (now (contents .entry)) (now (bodies .entry))) d i ⌝ }
 {
     let s = readers::word_of(contents, bodies, n, b, Pointer(d), 2 * i);
@@ -130,7 +136,9 @@ fn pair_fine(contents: &[u16], bodies: &[u16], n: usize, b: usize, d: u16, i: us
 
 // The pairs of the list d.
 fn pairs_fine(contents: &[u16], bodies: &[u16], n: usize, b: usize, d: u16, count: usize) -> bool
-    requires { ⌜ Laid n b (now contents) (now bodies) × ((isKind (objectsAt n b (now contents) (now bodies)) listKind d ≡ true) × (count ≡ pairCount (objectsAt n b (now contents) (now bodies)) d)) ⌝ }
+    requires { ⌜ Laid n b (now contents) (now bodies)
+        × ((isKind (objectsAt n b (now contents) (now bodies)) listKind d ≡ true)
+        × (count ≡ pairCount (objectsAt n b (now contents) (now bodies)) d)) ⌝ }
     ensures { λ r. ⌜ r ≡ below count (pairFine (objectsAt n b (now (contents .entry)) (now (bodies .entry))) d) ⌝ }
 {
     let mut i = 0;
@@ -208,7 +216,8 @@ pub fn shapes(edition: u16, contents: &[u16], bodies: &[u16], n: usize, b: usize
 
 // The chain of superclasses from the class c comes to nil within n turns.
 fn ends(contents: &[u16], bodies: &[u16], n: usize, b: usize, c: u16) -> bool
-    requires { ⌜ Laid n b (now contents) (now bodies) × ((Closed (objectsAt n b (now contents) (now bodies))) × (isKind (objectsAt n b (now contents) (now bodies)) classKind c ≡ true)) ⌝ }
+    requires { ⌜ Laid n b (now contents) (now bodies)
+        × ((Closed (objectsAt n b (now contents) (now bodies))) × (isKind (objectsAt n b (now contents) (now bodies)) classKind c ≡ true)) ⌝ }
     ensures { λ r. ⌜ r ≡ endsWithin n (objectsAt n b (now (contents .entry)) (now (bodies .entry))) c ⌝ }
 {
     let mut at = c;

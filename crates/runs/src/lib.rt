@@ -74,7 +74,8 @@ pub fn run(
     grant: u32,
 ) -> Ended
     requires { ⌜ Goes edition n b top (now contents) (now bodies) (now stack) (now cache) ⌝ }
-    ensures { λ r. ⌜ RunsOn edition n b top (now (contents .entry)) (now (bodies .entry)) (now (stack .entry)) (now (cache .entry)) grant (now (contents .exit)) (now (bodies .exit)) (now (stack .exit)) (now (cache .exit)) r ⌝ }
+    ensures { λ r. ⌜ RunsOn edition n b top (now (contents .entry)) (now (bodies .entry)) (now (stack .entry)) (now (cache .entry)) grant
+        (now (contents .exit)) (now (bodies .exit)) (now (stack .exit)) (now (cache .exit)) r ⌝ }
 {
     let mut objects = n;
     let mut words = b;

@@ -98,7 +98,7 @@ fn acted(
     requires { ⌜ Activable n b (now contents) (now bodies) (method .0) receiver ⌝ }
     ensures { λ r. ⌜ Activates edition n b (now (contents .entry)) (now (bodies .entry)) (method .0) receiver x y (now (contents .exit)) (now (bodies .exit)) r ⌝ }
 {
-    if readers::flag(objects::header(contents, bodies, n, b, method)) < 5 {
+    if readers::flag(objects::header(contents, bodies, n, b, method)) < limits::ANSWER_SELF {
         return Activated::Frame;
     }
     activation::activate(contents, bodies, edition, n, b, method, receiver, x, y)
@@ -115,7 +115,9 @@ fn runs_on(
     sure: bool,
 ) -> bool
     requires { ⌜ Guarded n b (now contents) (now bodies) (method .0) receiver sure ⌝ }
-    ensures { λ r. ⌜ r ≡ inChain (objectsAt n b (now (contents .entry)) (now (bodies .entry))) (home (objectsAt n b (now (contents .entry)) (now (bodies .entry))) (method .0)) (classOf (objectsAt n b (now (contents .entry)) (now (bodies .entry))) receiver) ⌝ }
+    ensures { λ r. ⌜ r ≡ inChain (objectsAt n b (now (contents .entry)) (now (bodies .entry)))
+        (home (objectsAt n b (now (contents .entry)) (now (bodies .entry))) (method .0))
+        (classOf (objectsAt n b (now (contents .entry)) (now (bodies .entry))) receiver) ⌝ }
 {
     if sure {
         return true;
@@ -175,7 +177,9 @@ fn make_frame(
     count: usize,
 )
     requires { ⌜ Enters (now stack) (top .0) (next .0) left base temporaries from count ⌝ }
-    ensures { λ _. ⌜ now (stack .exit) ≡ sets (set (set (now (stack .entry)) (top .0 + 1) (next .0)) (top .0 + 2) left) base (newWords (top .0) (method .0) receiver temporaries (part (now (stack .entry)) from count)) ⌝ }
+    ensures { λ _. ⌜ now (stack .exit)
+        ≡ sets (set (set (now (stack .entry)) (top .0 + 1) (next .0)) (top .0 + 2) left) base
+        (newWords (top .0) (method .0) receiver temporaries (part (now (stack .entry)) from count)) ⌝ }
 {
     let mut arguments = [0u16; limits::LARGE_FRAME];
     words::copy(&mut arguments, 0, stack, from, count);
@@ -210,8 +214,12 @@ pub fn send(
     next: CodePosition,
     sure: bool,
 ) -> Sent
-    requires { ⌜ Sending n b (top .0) (now contents) (now bodies) (now stack) selector count (class .0) (next .0) sure × Caches n b (now contents) (now bodies) (now cache) × (next .0 < 65536) × OperandsAt n b (top .0) (now contents) (now bodies) (now stack) (operands .0) (end .0) ⌝ }
-    ensures { λ r. ⌜ Sends edition n b (top .0) (now (contents .entry)) (now (bodies .entry)) (now (stack .entry)) (now (cache .entry)) selector count (class .0) (next .0) (now (contents .exit)) (now (bodies .exit)) (now (stack .exit)) (now (cache .exit)) r ⌝ }
+    requires { ⌜ Sending n b (top .0) (now contents) (now bodies) (now stack) selector count (class .0) (next .0) sure
+        × Caches n b (now contents) (now bodies) (now cache)
+        × (next .0 < 65536)
+        × OperandsAt n b (top .0) (now contents) (now bodies) (now stack) (operands .0) (end .0) ⌝ }
+    ensures { λ r. ⌜ Sends edition n b (top .0) (now (contents .entry)) (now (bodies .entry)) (now (stack .entry)) (now (cache .entry)) selector count
+        (class .0) (next .0) (now (contents .exit)) (now (bodies .exit)) (now (stack .exit)) (now (cache .exit)) r ⌝ }
 {
     let found = cache::cached(contents, bodies, cache, n, b, selector, class);
     let Found::Method(method) = found else {

@@ -48,7 +48,9 @@ pub extern "C" fn sofaduck_load(
     cache: &mut [u16],
     registers: &mut [u16; 7],
 ) -> u32
-    ensures { λ r. ⌜ ((g : R.Registers) (stack : List ℕ) → sees (answerOf r) (now (registers .exit)) (now (contents .exit)) (now (bodies .exit)) stack (now (cache .exit)) ≡ seen (flatLoad (flat g (now (contents .entry)) (now (bodies .entry)) stack (now (cache .entry))) (now (image .entry)))) ⌝ }
+    ensures { λ r. ⌜ ((g : R.Registers) (stack : List ℕ)
+        → sees (answerOf r) (now (registers .exit)) (now (contents .exit)) (now (bodies .exit)) stack (now (cache .exit))
+        ≡ seen (flatLoad (flat g (now (contents .entry)) (now (bodies .entry)) stack (now (cache .entry))) (now (image .entry)))) ⌝ }
 {
     match machine::load(image, contents, bodies, cache) {
         Loaded::Accepted(r) => {
@@ -73,7 +75,9 @@ pub extern "C" fn sofaduck_begin(
     selector: u16,
     arguments: &[u16],
 ) -> u32
-    ensures { λ r. ⌜ sees (answerOf r) (now (registers .exit)) (now (contents .exit)) (now (bodies .exit)) (now (stack .exit)) (now (cache .entry)) ≡ seen (flatBegin (stateOf (now (registers .entry)) (now (contents .entry)) (now (bodies .entry)) (now (stack .entry)) (now (cache .entry))) receiver selector (now (arguments .entry))) ⌝ }
+    ensures { λ r. ⌜ sees (answerOf r) (now (registers .exit)) (now (contents .exit)) (now (bodies .exit)) (now (stack .exit)) (now (cache .entry))
+        ≡ seen (flatBegin (stateOf (now (registers .entry)) (now (contents .entry)) (now (bodies .entry)) (now (stack .entry))
+        (now (cache .entry))) receiver selector (now (arguments .entry))) ⌝ }
 {
     let before = read_registers(registers);
     match before.begin(
@@ -103,14 +107,19 @@ pub extern "C" fn sofaduck_run(
     stack: &mut [u16],
     cache: &mut [u16],
     registers: &mut [u16; 7],
-    n: u32,
+    grant: u32,
     count: &mut u32,
     reach: &mut u32,
 ) -> u32
-    ensures { λ r. ⌜ (sees (runAnswer r (sevenWords (now (registers .exit))) (now (count .exit))) (now (registers .exit)) (now (contents .exit)) (now (bodies .exit)) (now (stack .exit)) (now (cache .exit)) ≡ seen (flatRun (stateOf (now (registers .entry)) (now (contents .entry)) (now (bodies .entry)) (now (stack .entry)) (now (cache .entry))) n)) × RunWrites r (stateOf (now (registers .entry)) (now (contents .entry)) (now (bodies .entry)) (now (stack .entry)) (now (cache .entry))) n (now (count .entry)) (now (reach .entry)) (now (count .exit)) (now (reach .exit)) ⌝ }
+    ensures { λ r. ⌜ (sees (runAnswer r (sevenWords (now (registers .exit))) (now (count .exit))) (now (registers .exit)) (now (contents .exit))
+        (now (bodies .exit)) (now (stack .exit)) (now (cache .exit))
+        ≡ seen (flatRun (stateOf (now (registers .entry)) (now (contents .entry)) (now (bodies .entry)) (now (stack .entry))
+        (now (cache .entry))) grant))
+        × RunWrites r (stateOf (now (registers .entry)) (now (contents .entry)) (now (bodies .entry)) (now (stack .entry)) (now (cache .entry)))
+        grant (now (count .entry)) (now (reach .entry)) (now (count .exit)) (now (reach .exit)) ⌝ }
 {
     let before = read_registers(registers);
-    match before.run(contents, bodies, stack, cache, n) {
+    match before.run(contents, bodies, stack, cache, grant) {
         Ran::Done {
             registers: r,
             count: made,
@@ -136,7 +145,9 @@ pub extern "C" fn sofaduck_drop(
     cache: &[u16],
     registers: &mut [u16; 7],
 ) -> u32
-    ensures { λ r. ⌜ sees (answerOf r) (now (registers .exit)) (now (contents .entry)) (now (bodies .entry)) (now (stack .entry)) (now (cache .entry)) ≡ seen (flatDrop (stateOf (now (registers .entry)) (now (contents .entry)) (now (bodies .entry)) (now (stack .entry)) (now (cache .entry)))) ⌝ }
+    ensures { λ r. ⌜ sees (answerOf r) (now (registers .exit)) (now (contents .entry)) (now (bodies .entry)) (now (stack .entry)) (now (cache .entry))
+        ≡ seen (flatDrop (stateOf (now (registers .entry)) (now (contents .entry)) (now (bodies .entry)) (now (stack .entry))
+        (now (cache .entry)))) ⌝ }
 {
     let before = read_registers(registers);
     match before.drop(contents, bodies, stack, cache) {
@@ -159,7 +170,9 @@ pub extern "C" fn sofaduck_forget(
     cache: &mut [u16],
     registers: &[u16; 7],
 ) -> u32
-    ensures { λ r. ⌜ gives (answerOf r) (stateOf (now (registers .entry)) (now (contents .entry)) (now (bodies .entry)) (now (stack .entry)) (now (cache .exit))) ≡ flatForget (stateOf (now (registers .entry)) (now (contents .entry)) (now (bodies .entry)) (now (stack .entry)) (now (cache .entry))) ⌝ }
+    ensures { λ r. ⌜ gives (answerOf r) (stateOf (now (registers .entry)) (now (contents .entry)) (now (bodies .entry)) (now (stack .entry))
+        (now (cache .exit)))
+        ≡ flatForget (stateOf (now (registers .entry)) (now (contents .entry)) (now (bodies .entry)) (now (stack .entry)) (now (cache .entry))) ⌝ }
 {
     match machine::forget(read_registers(registers), contents, bodies, stack, cache) {
         Forgotten::Emptied => 0,
@@ -193,7 +206,10 @@ pub extern "C" fn sofaduck_save(
     output: &mut [u8],
     length: &mut u32,
 ) -> u32
-    ensures { λ r. ⌜ (saved (saveAnswer r (now (length .exit))) (now (output .exit)) ≡ flatSave (stateOf (now (registers .entry)) (now (contents .entry)) (now (bodies .entry)) (now (stack .entry)) (now (cache .entry))) (now (output .entry))) × SaveWrites r (now (length .entry)) (now (length .exit)) ⌝ }
+    ensures { λ r. ⌜ (saved (saveAnswer r (now (length .exit))) (now (output .exit))
+        ≡ flatSave (stateOf (now (registers .entry)) (now (contents .entry)) (now (bodies .entry)) (now (stack .entry)) (now (cache .entry)))
+        (now (output .entry)))
+        × SaveWrites r (now (length .entry)) (now (length .exit)) ⌝ }
 {
     match machine::save(
         read_registers(registers),

@@ -115,7 +115,8 @@ pub record SendsAt (n b top : ℕ) (contents bodies stack : List ℕ) (h : Here)
   pub fine : T (sendFine (objectsAt n b contents bodies) s count)
   pub steps : (edition receiver selector : ℕ) (room : Room)
       → stepAt room edition receiver selector n b top contents bodies stack
-      ≡ sends room (runningAt edition receiver selector n b top contents bodies stack) (topFrame n b top contents bodies stack) (restFrames n b top contents bodies stack) (h .next) (classOf (objectsAt n b contents bodies)) s count
+      ≡ sends room (runningAt edition receiver selector n b top contents bodies stack)
+      (topFrame n b top contents bodies stack) (restFrames n b top contents bodies stack) (h .next) (classOf (objectsAt n b contents bodies)) s count
 
 -- The numbers of the frame that the loop holds
 abbrev pub hereOf : List ℕ → Active → ℕ → Here
@@ -138,10 +139,12 @@ Says n b contents a bodies stack bodies′ stack′ (Next q e) =
     × Stands n b contents bodies′ stack′ (movedOn a q e)
 Says n b contents a bodies stack bodies′ stack′ (Send s k c q sure) =
     Sending n b (a .base .0) contents bodies (written a stack) s k (c .0) (q .0) sure
-    × Becomes n b (a .base .0) contents bodies (written a stack) bodies′ (written a stack′) (λ room edition receiver selector. sendStep room edition receiver selector n b (a .base .0) contents bodies (written a stack) s k (c .0) (q .0))
+    × Becomes n b (a .base .0) contents bodies (written a stack) bodies′ (written a stack′)
+    (λ room edition receiver selector. sendStep room edition receiver selector n b (a .base .0) contents bodies (written a stack) s k (c .0) (q .0))
 Says n b contents a bodies stack bodies′ stack′ (Return w) =
     Becomes n b (a .base .0) contents bodies (written a stack) bodies′ (written a stack′)
     (λ room edition receiver selector.
-    returned (runningAt edition receiver selector n b (a .base .0) contents bodies (written a stack)) (topFrame n b (a .base .0) contents bodies (written a stack)) (restFrames n b (a .base .0) contents bodies (written a stack)) w)
+    returned (runningAt edition receiver selector n b (a .base .0) contents bodies (written a stack))
+    (topFrame n b (a .base .0) contents bodies (written a stack)) (restFrames n b (a .base .0) contents bodies (written a stack)) w)
 Says n b contents a bodies stack bodies′ stack′ NoBoolean =
     Becomes n b (a .base .0) contents bodies (written a stack) bodies′ (written a stack′) (λ room edition receiver selector. halts noBoolean)

@@ -58,7 +58,9 @@ pub fn hold(
     top: StackPosition,
 ) -> Active
     requires { ⌜ Runs n b (top .0) (now contents) (now bodies) (now stack) ⌝ }
-    ensures { λ r. ⌜ (r .base .0 ≡ top .0) × (written r (now (stack .entry)) ≡ now (stack .entry)) × Stands n b (now (contents .entry)) (now (bodies .entry)) (now (stack .entry)) r ⌝ }
+    ensures { λ r. ⌜ (r .base .0 ≡ top .0)
+        × (written r (now (stack .entry)) ≡ now (stack .entry))
+        × Stands n b (now (contents .entry)) (now (bodies .entry)) (now (stack .entry)) r ⌝ }
 {
     let base = top.0;
     let method = Pointer(stack[base + 3]);
@@ -95,8 +97,10 @@ fn code_byte(
     active: Active,
     k: usize,
 ) -> u8
-    requires { ⌜ IsActive n b (now contents) (now bodies) (now stack) active × (active .position .0 + k < codeSize (objectsAt n b (now contents) (now bodies)) (frameMethod (now stack) (active .base .0))) ⌝ }
-    ensures { λ r. ⌜ r ≡ byteAt (codeWords (objectsAt n b (now (contents .entry)) (now (bodies .entry))) (frameMethod (now (stack .entry)) (active .base .0))) (active .position .0 + k) ⌝ }
+    requires { ⌜ IsActive n b (now contents) (now bodies) (now stack) active
+        × (active .position .0 + k < codeSize (objectsAt n b (now contents) (now bodies)) (frameMethod (now stack) (active .base .0))) ⌝ }
+    ensures { λ r. ⌜ r ≡ byteAt (codeWords (objectsAt n b (now (contents .entry)) (now (bodies .entry))) (frameMethod (now (stack .entry)) (active .base .0)))
+        (active .position .0 + k) ⌝ }
 {
     let base = active.base.0;
     let method = Pointer(stack[base + 3]);
@@ -119,7 +123,9 @@ fn read(
     place: Place,
 ) -> u16
     requires { ⌜ Doing n b (now contents) (now bodies) (now stack) active (next .0) (Push place) ⌝ }
-    ensures { λ r. ⌜ read (objectsAt n b (now (contents .entry)) (now (bodies .entry))) (topFrame n b (active .base .0) (now (contents .entry)) (now (bodies .entry)) (written active (now (stack .entry)))) place ≡ some r ⌝ }
+    ensures { λ r. ⌜ read (objectsAt n b (now (contents .entry)) (now (bodies .entry)))
+        (topFrame n b (active .base .0) (now (contents .entry)) (now (bodies .entry)) (written active (now (stack .entry)))) place
+        ≡ some r ⌝ }
 {
     let base = active.base.0;
     match place {
@@ -214,9 +220,9 @@ fn boolean(b: bool) -> u16
     ensures { λ r. ⌜ r ≡ booleanWord b ⌝ }
 {
     if b {
-        return 6;
+        return limits::TRUE;
     }
-    4
+    limits::FALSE
 }
 
 // A jump where the top operand is the condition; on where it is the other boolean.
@@ -242,13 +248,13 @@ fn jump_on(
             end: StackPosition(end),
         };
     }
-    if w == 6 {
+    if w == limits::TRUE {
         return Event::Next {
             position: next,
             end: StackPosition(end),
         };
     }
-    if w == 4 {
+    if w == limits::FALSE {
         return Event::Next {
             position: next,
             end: StackPosition(end),

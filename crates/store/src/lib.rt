@@ -113,7 +113,9 @@ fn settle(
     bodies: &mut [u16],
 ) -> u32
     requires { ⌜ Passed (now image) edition n b (now contents) (now bodies) ⌝ }
-    ensures { λ r. ⌜ stored r (now (contents .exit)) (now (bodies .exit)) ≡ storedBy (objectsVerdict edition (imageObjects (now (image .entry))) receiver selector) (now (image .entry)) (now (contents .entry)) (now (bodies .entry)) ⌝ }
+    ensures { λ r. ⌜ stored r (now (contents .exit)) (now (bodies .exit))
+        ≡ storedBy (objectsVerdict edition (imageObjects (now (image .entry))) receiver selector) (now (image .entry)) (now (contents .entry))
+        (now (bodies .entry)) ⌝ }
 {
     image::place(image, n, b, contents, bodies);
     let mut notes = [0u8; limits::MOST_BODY_BYTES];
@@ -136,7 +138,11 @@ fn settle(
 
 // An image read into the front of contents and bodies. `cache` is the length of the cache, which 01 asks for here too.
 pub fn read(image: &[u8], contents: &mut [u16], bodies: &mut [u16], cache: usize) -> Reading
-    ensures { λ r. ⌜ (r ≡ readingOf (loadVerdict (roomFor (length (now (contents .entry))) (length (now (bodies .entry))) cache) (now (image .entry))) (imageHeader (now (image .entry)))) × (stored (readingNumber r) (now (contents .exit)) (now (bodies .exit)) ≡ storedBy (loadVerdict (roomFor (length (now (contents .entry))) (length (now (bodies .entry))) cache) (now (image .entry))) (now (image .entry)) (now (contents .entry)) (now (bodies .entry))) ⌝ }
+    ensures { λ r. ⌜ (r ≡ readingOf (loadVerdict (roomFor (length (now (contents .entry))) (length (now (bodies .entry))) cache) (now (image .entry)))
+        (imageHeader (now (image .entry))))
+        × (stored (readingNumber r) (now (contents .exit)) (now (bodies .exit))
+        ≡ storedBy (loadVerdict (roomFor (length (now (contents .entry))) (length (now (bodies .entry))) cache) (now (image .entry)))
+        (now (image .entry)) (now (contents .entry)) (now (bodies .entry))) ⌝ }
 {
     if !image::length_fine(image) {
         return Reading::Refused(1);

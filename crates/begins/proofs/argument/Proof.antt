@@ -3,8 +3,6 @@ use mathlib.Core.Path.{sym}
 use borrow.Author.Needs.{needs}
 use Rattle.begins.proofs.argument.Statement.{statement}
 use Rattle.begins.proofs.argument.Tie as tie
-use Rattle.begins.proofs.argument.Reads as reads
-use Rattle.begins.proofs.argument.Lts as lts
 
 returns : tie.Need-returns
 returns c = sym (List·getD-eq-default (c .before .args .arguments .now) 0 (c .if1 .taken))

@@ -12,18 +12,6 @@ use Rattle.begins.proofs.Beginnings.{first-words}
 use borrow.Author.Needs.{needs}
 use Rattle.begins.proofs.begin.Statement.{statement}
 use Rattle.begins.proofs.begin.Tie as tie
-use Rattle.begins.proofs.begin.Reads as reads
-use Rattle.begins.proofs.begin.Lts as lts
-use Rattle.activation.proofs.activate.Reads as activate-reads
-use Rattle.begins.proofs.argument.Reads as argument-reads
-use Rattle.begins.proofs.words_fine.Reads as words-fine-reads
-use Rattle.frames.proofs.write_frame.Reads as write-frame-reads
-use Rattle.objects.proofs.argument_count.Reads as argument-count-reads
-use Rattle.objects.proofs.class_of.Reads as class-of-reads
-use Rattle.readers.proofs.frame_words.Reads as frame-words-reads
-use Rattle.objects.proofs.header.Reads as header-reads
-use Rattle.objects.proofs.lookup.Reads as lookup-reads
-use Rattle.readers.proofs.temporary_count.Reads as temporary-count-reads
 
 words-fine-requires : tie.Need-words-fine-requires
 words-fine-requires c κs =

@@ -5,11 +5,6 @@ use Rattle.begins.proofs.Beginnings.{no-receiver, no-selector, argument
 use borrow.Author.Needs.{needs}
 use Rattle.begins.proofs.words_fine.Statement.{statement}
 use Rattle.begins.proofs.words_fine.Tie as tie
-use Rattle.begins.proofs.words_fine.Reads as reads
-use Rattle.begins.proofs.words_fine.Lts as lts
-use Rattle.readers.proofs.is_kind.Reads as is-kind-reads
-use Rattle.readers.proofs.is_valid.Reads as is-valid-reads
-use Rattle.readers.proofs.valid_words.Reads as valid-words-reads
 
 is-valid-requires : tie.Need-is-valid-requires
 is-valid-requires c κs = search needs

@@ -3,8 +3,6 @@ use native.Mathlib.Omega.{arith}
 use lib.ListN.{length-set}
 use Rattle.frames.proofs.push.Statement.{statement}
 use Rattle.frames.proofs.push.Tie as tie
-use Rattle.frames.proofs.push.Reads as reads
-use Rattle.frames.proofs.push.Lts as lts
 
 mul-stack : tie.Need-mul-stack
 mul-stack c = search needs

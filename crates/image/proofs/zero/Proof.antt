@@ -6,7 +6,6 @@ use Rattle.words.proofs.Runs.{filled-front}
 use borrow.Author.Needs.{needs}
 use Rattle.image.proofs.zero.Statement.{statement}
 use Rattle.image.proofs.zero.Tie as tie
-use Rattle.words.proofs.fill.Reads as fill-reads
 
 mul-fill : tie.Need-mul-fill
 mul-fill c = search needs

@@ -3,10 +3,6 @@ use Rattle.machine.proofs.Answers.{answers-3, buffers-pass, answers-11,
 use borrow.Author.Needs.{needs}
 use Rattle.machine.proofs.check.Statement.{statement}
 use Rattle.machine.proofs.check.Tie as tie
-use Rattle.machine.proofs.check.Reads as reads
-use Rattle.machine.proofs.check.Lts as lts
-use Rattle.machine.proofs.state_fine.Reads as state-fine-reads
-use Rattle.store.proofs.buffers_fine.Reads as buffers-fine-reads
 
 buffers-fine-requires : tie.Need-buffers-fine-requires
 buffers-fine-requires c κs = search needs

@@ -2,9 +2,6 @@ use Rattle.machine.proofs.Answers.{forgets-not, forgets}
 use borrow.Author.Needs.{needs}
 use Rattle.machine.proofs.forget.Statement.{statement}
 use Rattle.machine.proofs.forget.Tie as tie
-use Rattle.machine.proofs.forget.Reads as reads
-use Rattle.machine.proofs.forget.Lts as lts
-use Rattle.machine.proofs.check.Reads as check-reads
 
 check-requires : tie.Need-check-requires
 check-requires c κs = search needs

@@ -2,10 +2,6 @@ use Rattle.machine.proofs.Loading.{read-accepted, read-refused}
 use borrow.Author.Needs.{needs}
 use Rattle.machine.proofs.load.Statement.{statement}
 use Rattle.machine.proofs.load.Tie as tie
-use Rattle.machine.proofs.load.Reads as reads
-use Rattle.machine.proofs.load.Lts as lts
-use Rattle.machine.proofs.Registers.none.Reads as none-reads
-use Rattle.store.proofs.read.Reads as read-reads
 
 read-requires : tie.Need-read-requires
 read-requires c κs = search needs

@@ -3,11 +3,6 @@ use Rattle.machine.proofs.Answers.{saves-not, saves-room, saves, saves-
 use borrow.Author.Needs.{needs}
 use Rattle.machine.proofs.save.Statement.{statement}
 use Rattle.machine.proofs.save.Tie as tie
-use Rattle.machine.proofs.save.Reads as reads
-use Rattle.machine.proofs.save.Lts as lts
-use Rattle.image.proofs.length_of.Reads as length-of-reads
-use Rattle.image.proofs.write.Reads as write-reads
-use Rattle.machine.proofs.check.Reads as check-reads
 
 length-of-requires : tie.Need-length-of-requires
 length-of-requires c κs = search needs

@@ -5,13 +5,6 @@ use Rattle.machine.specs.State.{registersOf}
 use borrow.Author.Needs.{needs}
 use Rattle.machine.proofs.state_fine.Statement.{statement}
 use Rattle.machine.proofs.state_fine.Tie as tie
-use Rattle.machine.proofs.state_fine.Reads as reads
-use Rattle.machine.proofs.state_fine.Lts as lts
-use Rattle.cache.proofs.cache_fine.Reads as cache-fine-reads
-use Rattle.state.proofs.registers_fine.Reads as registers-fine-reads
-use Rattle.state.proofs.standing_fine.Reads as standing-fine-reads
-use Rattle.store.proofs.header_fine.Reads as header-fine-reads
-use Rattle.store.proofs.judge.Reads as judge-reads
 
 header-fine-requires : tie.Need-header-fine-requires
 header-fine-requires c κs = search needs

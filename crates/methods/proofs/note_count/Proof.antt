@@ -4,8 +4,6 @@ use Rattle.methods.specs.Counts.{Noted}
 use borrow.Author.Needs.{needs}
 use Rattle.methods.proofs.note_count.Statement.{statement}
 use Rattle.methods.proofs.note_count.Tie as tie
-use Rattle.methods.proofs.note_count.Reads as reads
-use Rattle.methods.proofs.note_count.Lts as lts
 
 slice-read-old : tie.Need-slice-read-old
 slice-read-old c = search needs

@@ -6,11 +6,6 @@ use Rattle.readers.proofs.HeaderLaws.{count-low, count-extended, count-
 use borrow.Author.Needs.{needs}
 use Rattle.readers.proofs.argument_count.Statement.{statement}
 use Rattle.readers.proofs.argument_count.Tie as tie
-use Rattle.readers.proofs.argument_count.Reads as reads
-use Rattle.readers.proofs.argument_count.Lts as lts
-use Rattle.readers.proofs.flag.Reads as flag-reads
-use Rattle.readers.proofs.literal_count.Reads as literal-count-reads
-use Rattle.readers.proofs.word_of.Reads as word-of-reads
 
 -- src/lib.rt:292:18
 word-of-requires : tie.Need-word-of-requires

@@ -5,9 +5,6 @@ use lib.Dec.{leb, eqb}
 use borrow.Author.Needs.{needs}
 use Rattle.readers.proofs.runs_code.Statement.{statement}
 use Rattle.readers.proofs.runs_code.Tie as tie
-use Rattle.readers.proofs.runs_code.Reads as reads
-use Rattle.readers.proofs.runs_code.Lts as lts
-use Rattle.readers.proofs.flag.Reads as flag-reads
 
 -- src/lib.rt:279:9
 flag-requires : tie.Need-flag-requires

@@ -5,9 +5,6 @@ use Rattle.readers.proofs.Bodies.{word-at}
 use borrow.Author.Needs.{needs}
 use Rattle.readers.proofs.word_of.Statement.{statement}
 use Rattle.readers.proofs.word_of.Tie as tie
-use Rattle.readers.proofs.word_of.Reads as reads
-use Rattle.readers.proofs.word_of.Lts as lts
-use Rattle.readers.proofs.start.Reads as start-reads
 
 -- src/lib.rt:242:13
 cast-k : tie.Need-cast-k

@@ -6,9 +6,6 @@ use Rattle.replay.proofs.Performing.{begun-done, begun-refused, argumen
 use borrow.Author.Needs.{needs}
 use Rattle.replay.proofs.begin_call.Statement.{statement}
 use Rattle.replay.proofs.begin_call.Tie as tie
-use Rattle.replay.proofs.begin_call.Reads as reads
-use Rattle.replay.proofs.begin_call.Lts as lts
-use Rattle.machine.proofs.Registers.begin.Reads as begin-reads
 
 add-receiver : tie.Need-add-receiver
 add-receiver c = search needs

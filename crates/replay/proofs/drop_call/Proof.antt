@@ -2,9 +2,6 @@ use Rattle.replay.proofs.Performing.{dropped-done, dropped-refused}
 use borrow.Author.Needs.{needs}
 use Rattle.replay.proofs.drop_call.Statement.{statement}
 use Rattle.replay.proofs.drop_call.Tie as tie
-use Rattle.replay.proofs.drop_call.Reads as reads
-use Rattle.replay.proofs.drop_call.Lts as lts
-use Rattle.machine.proofs.Registers.drop.Reads as drop-reads
 
 drop-requires : tie.Need-drop-requires
 drop-requires c κs = search needs

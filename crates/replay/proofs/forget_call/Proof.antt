@@ -2,9 +2,6 @@ use Rattle.replay.proofs.Performing.{forgotten-done, forgotten-refused}
 use borrow.Author.Needs.{needs}
 use Rattle.replay.proofs.forget_call.Statement.{statement}
 use Rattle.replay.proofs.forget_call.Tie as tie
-use Rattle.replay.proofs.forget_call.Reads as reads
-use Rattle.replay.proofs.forget_call.Lts as lts
-use Rattle.machine.proofs.forget.Reads as forget-reads
 
 forget-requires : tie.Need-forget-requires
 forget-requires c κs = search needs

@@ -4,12 +4,6 @@ use Rattle.replay.proofs.Lists.{within, begin-fits, run-fits, calls-beg
 use borrow.Author.Needs.{needs}
 use Rattle.replay.proofs.make_call.Statement.{statement}
 use Rattle.replay.proofs.make_call.Tie as tie
-use Rattle.replay.proofs.make_call.Reads as reads
-use Rattle.replay.proofs.make_call.Lts as lts
-use Rattle.replay.proofs.begin_call.Reads as begin-call-reads
-use Rattle.replay.proofs.drop_call.Reads as drop-call-reads
-use Rattle.replay.proofs.forget_call.Reads as forget-call-reads
-use Rattle.replay.proofs.run_call.Reads as run-call-reads
 
 mul-kind : tie.Need-mul-kind
 mul-kind c =

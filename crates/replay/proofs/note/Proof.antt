@@ -2,9 +2,6 @@ use Rattle.replay.proofs.Performing.{noted-done, noted-refused, noted-r
 use borrow.Author.Needs.{needs}
 use Rattle.replay.proofs.note.Statement.{statement}
 use Rattle.replay.proofs.note.Tie as tie
-use Rattle.replay.proofs.note.Reads as reads
-use Rattle.replay.proofs.note.Lts as lts
-use Rattle.replay.proofs.write_answer.Reads as write-answer-reads
 
 enum-known-performed : tie.Need-enum-known-performed
 enum-known-performed c = search needs

@@ -7,11 +7,6 @@ use Rattle.machine.specs.State.{state}
 use Rattle.replay.proofs.Playing.{Inv, starts, ends-full, ends-none, stands, fits, ends-inside, goes-on}
 use Rattle.replay.proofs.play.Statement.{statement}
 use Rattle.replay.proofs.play.Tie as tie
-use Rattle.replay.proofs.play.Reads as reads
-use Rattle.replay.proofs.play.Lts as lts
-use Rattle.replay.proofs.note.Reads as note-reads
-use Rattle.replay.proofs.make_call.Reads as make-call-reads
-use Rattle.replay.proofs.size_at.Reads as size-at-reads
 
 abbrev Inv-loop : tie.InvT-loop
 Inv-loop contents₀ bodies₀ stack₀ cache₀ calls answers₀ room registers₀ i₀ made₀ contents bodies stack cache answers registers i made =

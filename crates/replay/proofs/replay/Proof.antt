@@ -2,10 +2,6 @@ use Rattle.replay.proofs.Playing.{declines, makes}
 use borrow.Author.Needs.{needs}
 use Rattle.replay.proofs.replay.Statement.{statement}
 use Rattle.replay.proofs.replay.Tie as tie
-use Rattle.replay.proofs.replay.Reads as reads
-use Rattle.replay.proofs.replay.Lts as lts
-use Rattle.machine.proofs.load.Reads as load-reads
-use Rattle.replay.proofs.play.Reads as play-reads
 
 load-requires : tie.Need-load-requires
 load-requires c κs = search needs

@@ -5,9 +5,6 @@ use Rattle.replay.proofs.Performing.{ran-done, ran-refused}
 use borrow.Author.Needs.{needs}
 use Rattle.replay.proofs.run_call.Statement.{statement}
 use Rattle.replay.proofs.run_call.Tie as tie
-use Rattle.replay.proofs.run_call.Reads as reads
-use Rattle.replay.proofs.run_call.Lts as lts
-use Rattle.machine.proofs.Registers.run.Reads as run-reads
 
 add-high : tie.Need-add-high
 add-high c = search needs
@@ -33,13 +30,13 @@ shared-slice-read-low c = search needs
 cast-low : tie.Need-cast-low
 cast-low c = omega (arith, c .before .shared-slice-known2 .given (c .before .before .before .before .before .before .before .args .i + 2))
 
-mul-n : tie.Need-mul-n
-mul-n c =
+mul-grant : tie.Need-mul-grant
+mul-grant c =
     let at-start = c .before .before .before .before .before .before .before in
     let h = c .before .before .shared-slice-known .given (at-start .args .i + 1) in let l = c .before .shared-slice-known2 .given (at-start .args .i + 2) in omega arith
 
-add-n : tie.Need-add-n
-add-n c =
+add-grant : tie.Need-add-grant
+add-grant c =
     let at-start = c .before .before .before .before .before .before .before in
     let h = c .before .before .shared-slice-known .given (at-start .args .i + 1) in let l = c .before .shared-slice-known2 .given (at-start .args .i + 2) in omega arith
 
@@ -100,8 +97,8 @@ run-call-spec =
     mul-low
     shared-slice-read-low
     cast-low
-    mul-n
-    add-n
+    mul-grant
+    add-grant
     run-requires
     enum-known-next
     enum-known-k

@@ -5,8 +5,6 @@ use Rattle.replay.proofs.Lists.{size-past, size-begin-short, size-begin
 use borrow.Author.Needs.{needs}
 use Rattle.replay.proofs.size_at.Statement.{statement}
 use Rattle.replay.proofs.size_at.Tie as tie
-use Rattle.replay.proofs.size_at.Reads as reads
-use Rattle.replay.proofs.size_at.Lts as lts
 
 returns : tie.Need-returns
 returns c = sym (size-past (c .before .args .calls .now) (c .before .args .i) (c .if1 .taken))

@@ -4,8 +4,6 @@ use Rattle.replay.proofs.Lists.{puts}
 use borrow.Author.Needs.{needs}
 use Rattle.replay.proofs.write_answer.Statement.{statement}
 use Rattle.replay.proofs.write_answer.Tie as tie
-use Rattle.replay.proofs.write_answer.Reads as reads
-use Rattle.replay.proofs.write_answer.Lts as lts
 
 mul-answers : tie.Need-mul-answers
 mul-answers c = search needs

@@ -7,10 +7,6 @@ use Rattle.readers.proofs.HeaderLaws.{frame-is, small-frame}
 use borrow.Author.Needs.{needs}
 use Rattle.runs.proofs.frame_end.Statement.{statement}
 use Rattle.runs.proofs.frame_end.Tie as tie
-use Rattle.runs.proofs.frame_end.Reads as reads
-use Rattle.runs.proofs.frame_end.Lts as lts
-use Rattle.readers.proofs.frame_words.Reads as frame-words-reads
-use Rattle.objects.proofs.header.Reads as header-reads
 
 add-t10 : tie.Need-add-t10
 add-t10 c = let t = top-bounds (c .before .before .before .pre) in omega arith

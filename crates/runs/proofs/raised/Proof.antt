@@ -3,9 +3,6 @@ use Rattle.runs.proofs.Looping.{raised-same, raised-other}
 use borrow.Author.Needs.{needs}
 use Rattle.runs.proofs.raised.Statement.{statement}
 use Rattle.runs.proofs.raised.Tie as tie
-use Rattle.runs.proofs.raised.Reads as reads
-use Rattle.runs.proofs.raised.Lts as lts
-use Rattle.runs.proofs.frame_end.Reads as frame-end-reads
 
 returns : tie.Need-returns
 returns c =

@@ -8,13 +8,6 @@ use Rattle.runs.specs.Ends.{startOf}
 use Rattle.runs.proofs.Looping.{Loop, start-runs, loop-start, loop-holds-it, loop-active, loop-cached, held-small, held-lengths, held-leaves, loop-ends, loop-finished, loop-halted, loop-next-one, went-runs, loop-went, back-runs, loop-back}
 use Rattle.runs.proofs.run.Statement.{statement}
 use Rattle.runs.proofs.run.Tie as tie
-use Rattle.runs.proofs.run.Reads as reads
-use Rattle.runs.proofs.run.Lts as lts
-use Rattle.interpreter.proofs.advance.Reads as advance-reads
-use Rattle.runs.proofs.frame_end.Reads as frame-end-reads
-use Rattle.runs.proofs.raised.Reads as raised-reads
-use Rattle.steps.proofs.hold.Reads as hold-reads
-use Rattle.steps.proofs.leave.Reads as leave-reads
 
 abbrev Inv-loop : tie.InvT-loop
 Inv-loop contents₀ bodies₀ stack₀ cache₀ edition n b top grant objects₀ words₀ count₀ reach₀ active₀ contents bodies stack cache objects words count reach active =

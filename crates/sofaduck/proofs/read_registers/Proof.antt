@@ -2,8 +2,6 @@ use Rattle.sofaduck.proofs.Crossing.{take-seven}
 use borrow.Author.Needs.{needs}
 use Rattle.sofaduck.proofs.read_registers.Statement.{statement}
 use Rattle.sofaduck.proofs.read_registers.Tie as tie
-use Rattle.sofaduck.proofs.read_registers.Reads as reads
-use Rattle.sofaduck.proofs.read_registers.Lts as lts
 
 element-copy-out-t4 : tie.Need-element-copy-out-t4
 element-copy-out-t4 c = search needs

@@ -2,11 +2,6 @@ use Rattle.sofaduck.proofs.Crossing.{begin-done, begin-refused}
 use borrow.Author.Needs.{needs}
 use Rattle.sofaduck.proofs.sofaduck_begin.Statement.{statement}
 use Rattle.sofaduck.proofs.sofaduck_begin.Tie as tie
-use Rattle.sofaduck.proofs.sofaduck_begin.Reads as reads
-use Rattle.sofaduck.proofs.sofaduck_begin.Lts as lts
-use Rattle.machine.proofs.Registers.begin.Reads as begin-reads
-use Rattle.sofaduck.proofs.write_registers.Reads as write-registers-reads
-use Rattle.sofaduck.proofs.read_registers.Reads as read-registers-reads
 
 read-registers-requires : tie.Need-read-registers-requires
 read-registers-requires c κs = search needs

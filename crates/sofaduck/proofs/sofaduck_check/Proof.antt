@@ -2,10 +2,6 @@ use Rattle.sofaduck.proofs.Crossing.{check-done, check-refused}
 use borrow.Author.Needs.{needs}
 use Rattle.sofaduck.proofs.sofaduck_check.Statement.{statement}
 use Rattle.sofaduck.proofs.sofaduck_check.Tie as tie
-use Rattle.sofaduck.proofs.sofaduck_check.Reads as reads
-use Rattle.sofaduck.proofs.sofaduck_check.Lts as lts
-use Rattle.machine.proofs.check.Reads as check-reads
-use Rattle.sofaduck.proofs.read_registers.Reads as read-registers-reads
 
 read-registers-requires : tie.Need-read-registers-requires
 read-registers-requires c κs = search needs

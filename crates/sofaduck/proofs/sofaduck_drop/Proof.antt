@@ -2,11 +2,6 @@ use Rattle.sofaduck.proofs.Crossing.{drop-done, drop-refused}
 use borrow.Author.Needs.{needs}
 use Rattle.sofaduck.proofs.sofaduck_drop.Statement.{statement}
 use Rattle.sofaduck.proofs.sofaduck_drop.Tie as tie
-use Rattle.sofaduck.proofs.sofaduck_drop.Reads as reads
-use Rattle.sofaduck.proofs.sofaduck_drop.Lts as lts
-use Rattle.machine.proofs.Registers.drop.Reads as drop-reads
-use Rattle.sofaduck.proofs.write_registers.Reads as write-registers-reads
-use Rattle.sofaduck.proofs.read_registers.Reads as read-registers-reads
 
 read-registers-requires : tie.Need-read-registers-requires
 read-registers-requires c κs = search needs

@@ -2,10 +2,6 @@ use Rattle.sofaduck.proofs.Crossing.{forget-done, forget-refused}
 use borrow.Author.Needs.{needs}
 use Rattle.sofaduck.proofs.sofaduck_forget.Statement.{statement}
 use Rattle.sofaduck.proofs.sofaduck_forget.Tie as tie
-use Rattle.sofaduck.proofs.sofaduck_forget.Reads as reads
-use Rattle.sofaduck.proofs.sofaduck_forget.Lts as lts
-use Rattle.machine.proofs.forget.Reads as forget-reads
-use Rattle.sofaduck.proofs.read_registers.Reads as read-registers-reads
 
 read-registers-requires : tie.Need-read-registers-requires
 read-registers-requires c κs = search needs

@@ -2,10 +2,6 @@ use Rattle.sofaduck.proofs.Crossing.{load-done, load-refused}
 use borrow.Author.Needs.{needs}
 use Rattle.sofaduck.proofs.sofaduck_load.Statement.{statement}
 use Rattle.sofaduck.proofs.sofaduck_load.Tie as tie
-use Rattle.sofaduck.proofs.sofaduck_load.Reads as reads
-use Rattle.sofaduck.proofs.sofaduck_load.Lts as lts
-use Rattle.machine.proofs.load.Reads as load-reads
-use Rattle.sofaduck.proofs.write_registers.Reads as write-registers-reads
 
 load-requires : tie.Need-load-requires
 load-requires c κs = search needs

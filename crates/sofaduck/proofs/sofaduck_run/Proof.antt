@@ -2,11 +2,6 @@ use Rattle.sofaduck.proofs.Crossing.{run-done, run-refused}
 use borrow.Author.Needs.{needs}
 use Rattle.sofaduck.proofs.sofaduck_run.Statement.{statement}
 use Rattle.sofaduck.proofs.sofaduck_run.Tie as tie
-use Rattle.sofaduck.proofs.sofaduck_run.Reads as reads
-use Rattle.sofaduck.proofs.sofaduck_run.Lts as lts
-use Rattle.machine.proofs.Registers.run.Reads as run-reads
-use Rattle.sofaduck.proofs.write_registers.Reads as write-registers-reads
-use Rattle.sofaduck.proofs.read_registers.Reads as read-registers-reads
 
 read-registers-requires : tie.Need-read-registers-requires
 read-registers-requires c κs = search needs
@@ -45,7 +40,7 @@ returns c =
     let at-start = at-read-registers .before .before .before .before .before .before in
     let args = at-start .args in
     run-done (args .registers .now) (args .contents .now) (args .bodies .now) (args .stack .now) (args .cache .now) (at-read-registers .read-registers .result)
-    (at-read-registers .read-registers .ensures) (args .n) _ _ _ _ _ (at-run .run .result) (at-run .run .ensures) (args .count .now) (args .reach .now) _ _ _
+    (at-read-registers .read-registers .ensures) (args .grant) _ _ _ _ _ (at-run .run .result) (at-run .run .ensures) (args .count .now) (args .reach .now) _ _ _
     (c .before .before .before .r .given .1) (c .write-registers .ensures)
 
 same-length-5 : tie.Need-same-length-5
@@ -67,7 +62,7 @@ returns-2 c =
     let at-start = at-read-registers .before .before .before .before .before .before in
     let args = at-start .args in
     run-refused (args .registers .now) (args .contents .now) (args .bodies .now) (args .stack .now) (args .cache .now) (at-read-registers .read-registers .result)
-    (at-read-registers .read-registers .ensures) (args .n) _ _ _ _ _ (at-run .run .result) (at-run .run .ensures) (args .count .now) (args .reach .now) _ _
+    (at-read-registers .read-registers .ensures) (args .grant) _ _ _ _ _ (at-run .run .result) (at-run .run .ensures) (args .count .now) (args .reach .now) _ _
     (c .before .before .before .k .given .1) (c .write-registers2 .ensures)
 
 pub sofaduck-run-spec : {M : Type 1} → statement M

@@ -2,10 +2,6 @@ use Rattle.sofaduck.proofs.Crossing.{save-done, save-refused}
 use borrow.Author.Needs.{needs}
 use Rattle.sofaduck.proofs.sofaduck_save.Statement.{statement}
 use Rattle.sofaduck.proofs.sofaduck_save.Tie as tie
-use Rattle.sofaduck.proofs.sofaduck_save.Reads as reads
-use Rattle.sofaduck.proofs.sofaduck_save.Lts as lts
-use Rattle.machine.proofs.save.Reads as save-reads
-use Rattle.sofaduck.proofs.read_registers.Reads as read-registers-reads
 
 read-registers-requires : tie.Need-read-registers-requires
 read-registers-requires c κs = search needs

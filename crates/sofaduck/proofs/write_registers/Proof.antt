@@ -1,8 +1,6 @@
 use Rattle.sofaduck.proofs.write_registers.Statement.{statement}
 use mathlib.Core.Path.{refl}
 use Rattle.sofaduck.proofs.write_registers.Tie as tie
-use Rattle.sofaduck.proofs.write_registers.Reads as reads
-use Rattle.sofaduck.proofs.write_registers.Lts as lts
 
 returns : tie.Need-returns
 returns c = refl

@@ -2,9 +2,6 @@ use Rattle.state.proofs.PartLaws.{late-phase, finished-value, other-val
 use borrow.Author.Needs.{needs}
 use Rattle.state.proofs.registers_fine.Statement.{statement}
 use Rattle.state.proofs.registers_fine.Tie as tie
-use Rattle.state.proofs.registers_fine.Reads as reads
-use Rattle.state.proofs.registers_fine.Lts as lts
-use Rattle.readers.proofs.is_valid.Reads as is-valid-reads
 
 returns : tie.Need-returns
 returns c = late-phase (c .before .args .n) (c .before .args .phase) (c .before .args .value) (c .if1 .taken)

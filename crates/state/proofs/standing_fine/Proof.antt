@@ -4,9 +4,6 @@ use Rattle.state.proofs.PartLaws.{none-standing, all-standing}
 use borrow.Author.Needs.{needs}
 use Rattle.state.proofs.standing_fine.Statement.{statement}
 use Rattle.state.proofs.standing_fine.Tie as tie
-use Rattle.state.proofs.standing_fine.Reads as reads
-use Rattle.state.proofs.standing_fine.Lts as lts
-use Rattle.checks.proofs.frames_fine.Reads as frames-fine-reads
 
 returns : tie.Need-returns
 returns c =

@@ -3,12 +3,6 @@ use Rattle.machine.proofs.Beginning.{begins-not, begins-right, begins-1
 use borrow.Author.Needs.{needs}
 use Rattle.machine.proofs.Registers.begin.Statement.{statement}
 use Rattle.machine.proofs.Registers.begin.Tie as tie
-use Rattle.machine.proofs.Registers.begin.Reads as reads
-use Rattle.machine.proofs.Registers.begin.Lts as lts
-use Rattle.begins.proofs.begin.Reads as begin-reads
-use Rattle.machine.proofs.Registers.with_phase.Reads as with-phase-reads
-use Rattle.machine.proofs.Registers.with_sizes.Reads as with-sizes-reads
-use Rattle.machine.proofs.check.Reads as check-reads
 
 check-requires : tie.Need-check-requires
 check-requires c κs = search needs

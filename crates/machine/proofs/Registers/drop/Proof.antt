@@ -2,10 +2,6 @@ use Rattle.machine.proofs.Answers.{drops-not, drops}
 use borrow.Author.Needs.{needs}
 use Rattle.machine.proofs.Registers.drop.Statement.{statement}
 use Rattle.machine.proofs.Registers.drop.Tie as tie
-use Rattle.machine.proofs.Registers.drop.Reads as reads
-use Rattle.machine.proofs.Registers.drop.Lts as lts
-use Rattle.machine.proofs.Registers.with_phase.Reads as with-phase-reads
-use Rattle.machine.proofs.check.Reads as check-reads
 
 check-requires : tie.Need-check-requires
 check-requires c κs = search needs

@@ -3,12 +3,6 @@ use native.Mathlib.Omega.{arith}
 use borrow.Author.Needs.{needs}
 use Rattle.machine.proofs.Registers.run.Statement.{statement}
 use Rattle.machine.proofs.Registers.run.Tie as tie
-use Rattle.machine.proofs.Registers.run.Reads as reads
-use Rattle.machine.proofs.Registers.run.Lts as lts
-use Rattle.machine.proofs.Registers.with_phase.Reads as with-phase-reads
-use Rattle.machine.proofs.Registers.with_sizes.Reads as with-sizes-reads
-use Rattle.machine.proofs.check.Reads as check-reads
-use Rattle.runs.proofs.run.Reads as run-reads
 
 check-requires : tie.Need-check-requires
 check-requires c κs = search needs
