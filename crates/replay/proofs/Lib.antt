@@ -1,3 +1,3 @@
 pub mod Lists
-pub mod Performing
+pub mod Replying
 pub mod Playing

@@ -18,9 +18,9 @@ use Rattle.machine.specs.declared.Registers.{Registers}
 use Rattle.machine.specs.declared.Loaded.{Loaded}
 use Rattle.machine.specs.State.{state, loadGives}
 use Rattle.machine.proofs.Loading.{none-given}
-use Rattle.replay.specs.declared.Performed.{Performed}
+use Rattle.replay.specs.declared.Reply.{Reply}
 use Rattle.replay.specs.Encoding.{sizeAt, callAt, callsOf, answerWords, allWords}
-use Rattle.replay.specs.Replays.{registersIn, answerIn, performGives, answersOf, callsMade, Plays, Makes, Declines}
+use Rattle.replay.specs.Replays.{registersIn, answerIn, replyGives, answersOf, callsMade, Plays, Makes, Declines}
 use Rattle.replay.proofs.Lists.{within, ends-within, left, left-full, left-none, left-more, last-more, answers-more, four-words, put-before, put-behind, last-checks}
 use Rattle.machine.specs.declared.Loaded.the-variants as L
 
@@ -107,8 +107,8 @@ module _ (words answers₀ : List ℕ) (s₀ s : Flat) (answers : List ℕ) (i k
     pub ends-inside : i + n ≤ length words
     ends-inside = let e = sized in let w = ends-within words i stands in omega arith
 
-    module _ (p : Performed) (contents bodies stack cache answers′ : List ℕ)
-        (made : performGives p contents bodies stack cache ≡ flatCall s (callAt words i)) (noted : answers′ ≡ sets answers (4 * k) (answerWords (answerIn p)))
+    module _ (p : Reply) (contents bodies stack cache answers′ : List ℕ)
+        (made : replyGives p contents bodies stack cache ≡ flatCall s (callAt words i)) (noted : answers′ ≡ sets answers (4 * k) (answerWords (answerIn p)))
         (lc : length contents ≡ length (s .contents)) (lb : length bodies ≡ length (s .bodies)) (ls : length stack ≡ length (s .stack)) (lk : length cache ≡ length (s .cache)) where
       abbrev s′ : Flat
       s′ = state (registersIn p) contents bodies stack cache

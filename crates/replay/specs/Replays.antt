@@ -12,25 +12,25 @@ use Rattle.plain.specs.FlatCalls.{Given, gives, noAnswer, flatLoad, flatCall}
 use Rattle.plain.specs.CallLists.{Agrees, lastState}
 use Rattle.machine.specs.declared.Registers.{Registers}
 use Rattle.machine.specs.State.{state}
-use Rattle.replay.specs.declared.Performed.{Performed}
-use Rattle.replay.specs.declared.Performed.the-variants as P
+use Rattle.replay.specs.declared.Reply.{Reply}
+use Rattle.replay.specs.declared.Reply.the-variants as P
 use Rattle.replay.specs.declared.Replayed.{Replayed}
 use Rattle.replay.specs.declared.Replayed.the-variants as M
 use Rattle.replay.specs.Encoding.{callsOf, allWords}
 
 -- One call as the code made it
-unfoldable pub registersIn : Performed → Registers
+unfoldable pub registersIn : Reply → Registers
 registersIn (P.Done r) = r
 registersIn (P.Refused k r) = r
 registersIn (P.Ran count r) = r
 
-unfoldable pub answerIn : Performed → Answer
+unfoldable pub answerIn : Reply → Answer
 answerIn (P.Done r) = done
 answerIn (P.Refused k r) = refusedBy k
 answerIn (P.Ran count r) = result (r .phase) count (r .value)
 
-abbrev pub performGives : Performed → List ℕ → List ℕ → List ℕ → List ℕ → Given
-performGives p contents bodies stack cache = gives (answerIn p) (state (registersIn p) contents bodies stack cache)
+abbrev pub replyGives : Reply → List ℕ → List ℕ → List ℕ → List ℕ → Given
+replyGives p contents bodies stack cache = gives (answerIn p) (state (registersIn p) contents bodies stack cache)
 
 -- The answers of a list of calls. (No call is without an answer where check accepts the state.)
 abbrev pub answered : Given → (Flat → List Answer) → List Answer

@@ -11,7 +11,7 @@ ghost use Rattle.plain.specs.Flat.{flat};
 ghost use Rattle.plain.specs.FlatCalls.{flatBegin, flatRun, flatDrop, flatForget, flatCall};
 ghost use Rattle.machine.specs.State.{state};
 ghost use Rattle.replay.specs.Encoding.{sizeAt, callAt, runLength, answerWords};
-ghost use Rattle.replay.specs.Replays.{registersIn, answerIn, performGives, Plays, Replays};
+ghost use Rattle.replay.specs.Replays.{registersIn, answerIn, replyGives, Plays, Replays};
 use machine::Begun;
 use machine::Dropped;
 use machine::Forgotten;
@@ -20,7 +20,7 @@ use machine::Ran;
 use machine::Registers;
 
 // A call that was made: its answer, and the registers that it left. Phase and value of a run are those of the registers.
-enum Performed {
+enum Reply {
     Done(Registers),
     Refused(u32, Registers),
     Ran(u32, Registers),
@@ -80,9 +80,9 @@ fn begin_call(
     cache: &[u16],
     calls: &[u16],
     i: usize,
-) -> Performed
+) -> Reply
     requires { ⌜ i + (4 + getD (now calls) (i + 3) 0) ≤ length (now calls) ⌝ }
-    ensures { λ r. ⌜ performGives r (now (contents .exit)) (now (bodies .exit)) (now (stack .exit)) (now (cache .entry))
+    ensures { λ r. ⌜ replyGives r (now (contents .exit)) (now (bodies .exit)) (now (stack .exit)) (now (cache .entry))
         ≡ flatBegin (state registers (now (contents .entry)) (now (bodies .entry)) (now (stack .entry)) (now (cache .entry)))
         (getD (now (calls .entry)) (i + 1) 0) (getD (now (calls .entry)) (i + 2) 0)
         (part (now (calls .entry)) (i + 4) (getD (now (calls .entry)) (i + 3) 0)) ⌝ }
@@ -100,8 +100,8 @@ fn begin_call(
         selector,
         &calls[from..end],
     ) {
-        Begun::Started(next) => Performed::Done(next),
-        Begun::Refused(k, next) => Performed::Refused(k, next),
+        Begun::Started(next) => Reply::Done(next),
+        Begun::Refused(k, next) => Reply::Refused(k, next),
     }
 }
 
@@ -113,9 +113,9 @@ fn run_call(
     cache: &mut [u16],
     calls: &[u16],
     i: usize,
-) -> Performed
+) -> Reply
     requires { ⌜ i + 3 ≤ length (now calls) ⌝ }
-    ensures { λ r. ⌜ performGives r (now (contents .exit)) (now (bodies .exit)) (now (stack .exit)) (now (cache .exit))
+    ensures { λ r. ⌜ replyGives r (now (contents .exit)) (now (bodies .exit)) (now (stack .exit)) (now (cache .exit))
         ≡ flatRun (state registers (now (contents .entry)) (now (bodies .entry)) (now (stack .entry)) (now (cache .entry)))
         (runLength (now (calls .entry)) i) ⌝ }
 {
@@ -127,8 +127,8 @@ fn run_call(
             registers: next,
             count,
             reach: _,
-        } => Performed::Ran(count, next),
-        Ran::Refused(k, next) => Performed::Refused(k, next),
+        } => Reply::Ran(count, next),
+        Ran::Refused(k, next) => Reply::Refused(k, next),
     }
 }
 
@@ -138,13 +138,13 @@ fn drop_call(
     bodies: &[u16],
     stack: &[u16],
     cache: &[u16],
-) -> Performed
-    ensures { λ r. ⌜ performGives r (now (contents .entry)) (now (bodies .entry)) (now (stack .entry)) (now (cache .entry))
+) -> Reply
+    ensures { λ r. ⌜ replyGives r (now (contents .entry)) (now (bodies .entry)) (now (stack .entry)) (now (cache .entry))
         ≡ flatDrop (state registers (now (contents .entry)) (now (bodies .entry)) (now (stack .entry)) (now (cache .entry))) ⌝ }
 {
     match registers.drop(contents, bodies, stack, cache) {
-        Dropped::Dropped(next) => Performed::Done(next),
-        Dropped::Refused(k, next) => Performed::Refused(k, next),
+        Dropped::Dropped(next) => Reply::Done(next),
+        Dropped::Refused(k, next) => Reply::Refused(k, next),
     }
 }
 
@@ -154,13 +154,13 @@ fn forget_call(
     bodies: &[u16],
     stack: &[u16],
     cache: &mut [u16],
-) -> Performed
-    ensures { λ r. ⌜ performGives r (now (contents .entry)) (now (bodies .entry)) (now (stack .entry)) (now (cache .exit))
+) -> Reply
+    ensures { λ r. ⌜ replyGives r (now (contents .entry)) (now (bodies .entry)) (now (stack .entry)) (now (cache .exit))
         ≡ flatForget (state registers (now (contents .entry)) (now (bodies .entry)) (now (stack .entry)) (now (cache .entry))) ⌝ }
 {
     match machine::forget(registers, contents, bodies, stack, cache) {
-        Forgotten::Emptied => Performed::Done(registers),
-        Forgotten::Refused(k) => Performed::Refused(k, registers),
+        Forgotten::Emptied => Reply::Done(registers),
+        Forgotten::Refused(k) => Reply::Refused(k, registers),
     }
 }
 
@@ -173,9 +173,9 @@ fn make_call(
     cache: &mut [u16],
     calls: &[u16],
     i: usize,
-) -> Performed
+) -> Reply
     requires { ⌜ 1 ≤ sizeAt (now calls) i ⌝ }
-    ensures { λ r. ⌜ performGives r (now (contents .exit)) (now (bodies .exit)) (now (stack .exit)) (now (cache .exit))
+    ensures { λ r. ⌜ replyGives r (now (contents .exit)) (now (bodies .exit)) (now (stack .exit)) (now (cache .exit))
         ≡ flatCall (state registers (now (contents .entry)) (now (bodies .entry)) (now (stack .entry)) (now (cache .entry)))
         (callAt (now (calls .entry)) i) ⌝ }
 {
@@ -204,20 +204,20 @@ fn write_answer(answers: &mut [u32], at: usize, number: u32, phase: u32, count: 
 }
 
 // The answer written down; the registers of the call.
-fn note(performed: Performed, answers: &mut [u32], at: usize) -> Registers
+fn note(reply: Reply, answers: &mut [u32], at: usize) -> Registers
     requires { ⌜ at + 4 ≤ length (now answers) ⌝ }
-    ensures { λ r. ⌜ (r ≡ registersIn performed) × (now (answers .exit) ≡ sets (now (answers .entry)) at (answerWords (answerIn performed))) ⌝ }
+    ensures { λ r. ⌜ (r ≡ registersIn reply) × (now (answers .exit) ≡ sets (now (answers .entry)) at (answerWords (answerIn reply))) ⌝ }
 {
-    match performed {
-        Performed::Done(registers) => {
+    match reply {
+        Reply::Done(registers) => {
             write_answer(answers, at, 0, 0, 0, 0);
             registers
         }
-        Performed::Refused(k, registers) => {
+        Reply::Refused(k, registers) => {
             write_answer(answers, at, k, 0, 0, 0);
             registers
         }
-        Performed::Ran(count, registers) => {
+        Reply::Ran(count, registers) => {
             write_answer(
                 answers,
                 at,
@@ -257,8 +257,8 @@ fn play(
                 calls: made,
             };
         }
-        let performed = make_call(registers, contents, bodies, stack, cache, calls, i);
-        registers = note(performed, answers, 4 * made);
+        let reply = make_call(registers, contents, bodies, stack, cache, calls, i);
+        registers = note(reply, answers, 4 * made);
         i += size;
         made += 1;
     }

@@ -2,7 +2,7 @@ use mathlib.Core.Path.{_∙_}
 use Prim.Native.Nat.{_+_}
 use lib.ListN.{getD}
 use Rattle.machine.specs.State.{state}
-use Rattle.replay.proofs.Performing.{begun-done, begun-refused, arguments-are}
+use Rattle.replay.proofs.Replying.{begun-done, begun-refused, arguments-are}
 use borrow.Author.Needs.{needs}
 use Rattle.replay.proofs.begin_call.Statement.{statement}
 use Rattle.replay.proofs.begin_call.Tie as tie

@@ -1,4 +1,4 @@
-use Rattle.replay.proofs.Performing.{dropped-done, dropped-refused}
+use Rattle.replay.proofs.Replying.{dropped-done, dropped-refused}
 use borrow.Author.Needs.{needs}
 use Rattle.replay.proofs.drop_call.Statement.{statement}
 use Rattle.replay.proofs.drop_call.Tie as tie

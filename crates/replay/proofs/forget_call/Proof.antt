@@ -1,4 +1,4 @@
-use Rattle.replay.proofs.Performing.{forgotten-done, forgotten-refused}
+use Rattle.replay.proofs.Replying.{forgotten-done, forgotten-refused}
 use borrow.Author.Needs.{needs}
 use Rattle.replay.proofs.forget_call.Statement.{statement}
 use Rattle.replay.proofs.forget_call.Tie as tie

@@ -1,22 +1,22 @@
-use Rattle.replay.proofs.Performing.{noted-done, noted-refused, noted-ran}
+use Rattle.replay.proofs.Replying.{noted-done, noted-refused, noted-ran}
 use borrow.Author.Needs.{needs}
 use Rattle.replay.proofs.note.Statement.{statement}
 use Rattle.replay.proofs.note.Tie as tie
 
-enum-known-performed : tie.Need-enum-known-performed
-enum-known-performed c = search needs
+enum-known-reply : tie.Need-enum-known-reply
+enum-known-reply c = search needs
 
 write-answer-requires : tie.Need-write-answer-requires
 write-answer-requires c κs = search needs
 
-enum-known-performed-2 : tie.Need-enum-known-performed-2
-enum-known-performed-2 c = search needs
+enum-known-reply-2 : tie.Need-enum-known-reply-2
+enum-known-reply-2 c = search needs
 
 write-answer-requires-2 : tie.Need-write-answer-requires-2
 write-answer-requires-2 c κs = search needs
 
-enum-known-performed-3 : tie.Need-enum-known-performed-3
-enum-known-performed-3 c = search needs
+enum-known-reply-3 : tie.Need-enum-known-reply-3
+enum-known-reply-3 c = search needs
 
 cast-write-answer : tie.Need-cast-write-answer
 cast-write-answer c = search needs
@@ -35,7 +35,7 @@ returns c =
     let at-make-called = c .before .before .before .before .before in
     let at-start = at-make-called .before .before .before in
     let args = at-start .args in
-    noted-done (args .performed) (args .answers .now) _ (args .at) _ (at-make-called .performed .given .1) (c .before .before .write-answer .ensures)
+    noted-done (args .reply) (args .answers .now) _ (args .at) _ (at-make-called .reply .given .1) (c .before .before .write-answer .ensures)
 
 same-length-2 : tie.Need-same-length-2
 same-length-2 c = search needs
@@ -45,7 +45,7 @@ returns-2 c =
     let at-make-called2 = c .before .before .before .before .before in
     let at-start = at-make-called2 .before .before .before in
     let args = at-start .args in
-    noted-refused (args .performed) (args .answers .now) _ (args .at) _ _ (at-make-called2 .performed2 .given .1) (c .before .before .write-answer2 .ensures)
+    noted-refused (args .reply) (args .answers .now) _ (args .at) _ _ (at-make-called2 .reply2 .given .1) (c .before .before .write-answer2 .ensures)
 
 same-length-3 : tie.Need-same-length-3
 same-length-3 c = search needs
@@ -55,17 +55,17 @@ returns-3 c =
     let at-make-called3 = c .before .before .before .before .before .before .before in
     let at-start = at-make-called3 .before .before .before in
     let args = at-start .args in
-    noted-ran (args .performed) (args .answers .now) _ (args .at) _ _ (at-make-called3 .performed3 .given .1) (c .before .before .write-answer3 .ensures)
+    noted-ran (args .reply) (args .answers .now) _ (args .at) _ _ (at-make-called3 .reply3 .given .1) (c .before .before .write-answer3 .ensures)
 
 pub note-spec : {M : Type 1} → statement M
 note-spec =
     tie.close
     (tie.spec
-    enum-known-performed
+    enum-known-reply
     write-answer-requires
-    enum-known-performed-2
+    enum-known-reply-2
     write-answer-requires-2
-    enum-known-performed-3
+    enum-known-reply-3
     cast-write-answer
     cast-write-answer-2
     write-answer-requires-3

@@ -1,7 +1,7 @@
 use native.Mathlib.Omega.{arith}
 use Prim.Native.Nat.{_+_}
 use Rattle.replay.specs.Encoding.{runLength}
-use Rattle.replay.proofs.Performing.{ran-done, ran-refused}
+use Rattle.replay.proofs.Replying.{ran-done, ran-refused}
 use borrow.Author.Needs.{needs}
 use Rattle.replay.proofs.run_call.Statement.{statement}
 use Rattle.replay.proofs.run_call.Tie as tie

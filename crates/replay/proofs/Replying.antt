@@ -13,49 +13,49 @@ use Rattle.machine.specs.declared.Dropped.{Dropped}
 use Rattle.machine.specs.declared.Ran.{Ran}
 use Rattle.machine.specs.declared.Forgotten.{Forgotten}
 use Rattle.machine.specs.State.{beginGives, runGives, dropGives, forgetGives}
-use Rattle.replay.specs.declared.Performed.{Performed}
+use Rattle.replay.specs.declared.Reply.{Reply}
 use Rattle.replay.specs.Encoding.{answerWords}
-use Rattle.replay.specs.Replays.{registersIn, answerIn, performGives}
+use Rattle.replay.specs.Replays.{registersIn, answerIn, replyGives}
 use Rattle.machine.specs.declared.Begun.the-variants as B
 use Rattle.machine.specs.declared.Ran.the-variants as N
 use Rattle.machine.specs.declared.Dropped.the-variants as D
 use Rattle.machine.specs.declared.Forgotten.the-variants as F
-use Rattle.replay.specs.declared.Performed.the-variants as P
+use Rattle.replay.specs.declared.Reply.the-variants as P
 
 module _ (contents bodies stack cache : List ℕ) (g : Given) where
   module _ (x : Begun) (e : beginGives x contents bodies stack cache ≡ g) where
-    pub begun-done : (r : Registers) → x ≡ B.Started r → performGives (P.Done r) contents bodies stack cache ≡ g
+    pub begun-done : (r : Registers) → x ≡ B.Started r → replyGives (P.Done r) contents bodies stack cache ≡ g
     unfolding beginGives registersIn answerIn
     begun-done r q = ap (λ (y : Begun). beginGives y contents bodies stack cache) (sym q) ∙ e
 
-    pub begun-refused : (k : ℕ) (r : Registers) → x ≡ B.Refused k r → performGives (P.Refused k r) contents bodies stack cache ≡ g
+    pub begun-refused : (k : ℕ) (r : Registers) → x ≡ B.Refused k r → replyGives (P.Refused k r) contents bodies stack cache ≡ g
     unfolding beginGives registersIn answerIn
     begun-refused k r q = ap (λ (y : Begun). beginGives y contents bodies stack cache) (sym q) ∙ e
 
   module _ (x : Ran) (e : runGives x contents bodies stack cache ≡ g) where
-    pub ran-done : (r : Registers) (count reach : ℕ) → x ≡ N.Done r count reach → performGives (P.Ran count r) contents bodies stack cache ≡ g
+    pub ran-done : (r : Registers) (count reach : ℕ) → x ≡ N.Done r count reach → replyGives (P.Ran count r) contents bodies stack cache ≡ g
     unfolding runGives registersIn answerIn
     ran-done r count reach q = ap (λ (y : Ran). runGives y contents bodies stack cache) (sym q) ∙ e
 
-    pub ran-refused : (k : ℕ) (r : Registers) → x ≡ N.Refused k r → performGives (P.Refused k r) contents bodies stack cache ≡ g
+    pub ran-refused : (k : ℕ) (r : Registers) → x ≡ N.Refused k r → replyGives (P.Refused k r) contents bodies stack cache ≡ g
     unfolding runGives registersIn answerIn
     ran-refused k r q = ap (λ (y : Ran). runGives y contents bodies stack cache) (sym q) ∙ e
 
   module _ (x : Dropped) (e : dropGives x contents bodies stack cache ≡ g) where
-    pub dropped-done : (r : Registers) → x ≡ D.Dropped r → performGives (P.Done r) contents bodies stack cache ≡ g
+    pub dropped-done : (r : Registers) → x ≡ D.Dropped r → replyGives (P.Done r) contents bodies stack cache ≡ g
     unfolding dropGives registersIn answerIn
     dropped-done r q = ap (λ (y : Dropped). dropGives y contents bodies stack cache) (sym q) ∙ e
 
-    pub dropped-refused : (k : ℕ) (r : Registers) → x ≡ D.Refused k r → performGives (P.Refused k r) contents bodies stack cache ≡ g
+    pub dropped-refused : (k : ℕ) (r : Registers) → x ≡ D.Refused k r → replyGives (P.Refused k r) contents bodies stack cache ≡ g
     unfolding dropGives registersIn answerIn
     dropped-refused k r q = ap (λ (y : Dropped). dropGives y contents bodies stack cache) (sym q) ∙ e
 
   module _ (r : Registers) (x : Forgotten) (e : forgetGives x r contents bodies stack cache ≡ g) where
-    pub forgotten-done : x ≡ F.Emptied → performGives (P.Done r) contents bodies stack cache ≡ g
+    pub forgotten-done : x ≡ F.Emptied → replyGives (P.Done r) contents bodies stack cache ≡ g
     unfolding forgetGives registersIn answerIn
     forgotten-done q = ap (λ (y : Forgotten). forgetGives y r contents bodies stack cache) (sym q) ∙ e
 
-    pub forgotten-refused : (k : ℕ) → x ≡ F.Refused k → performGives (P.Refused k r) contents bodies stack cache ≡ g
+    pub forgotten-refused : (k : ℕ) → x ≡ F.Refused k → replyGives (P.Refused k r) contents bodies stack cache ≡ g
     unfolding forgetGives registersIn answerIn
     forgotten-refused k q = ap (λ (y : Forgotten). forgetGives y r contents bodies stack cache) (sym q) ∙ e
 
@@ -68,12 +68,12 @@ arguments-are s receiver selector words from count = ap (λ (n : ℕ). flatBegin
     back x y = omega arith
 
 -- the answer written down
-module _ (x : Performed) (answers answers′ : List ℕ) (at : ℕ) where
+module _ (x : Reply) (answers answers′ : List ℕ) (at : ℕ) where
   abbrev Noted : Registers → Type 0
   Noted r = (r ≡ registersIn x) × (answers′ ≡ sets answers at (answerWords (answerIn x)))
 
-  noted : (y : Performed) → x ≡ y → answers′ ≡ sets answers at (answerWords (answerIn y)) → Noted (registersIn y)
-  noted y q e = (ap registersIn (sym q), e ∙ ap (λ (z : Performed). sets answers at (answerWords (answerIn z))) (sym q))
+  noted : (y : Reply) → x ≡ y → answers′ ≡ sets answers at (answerWords (answerIn y)) → Noted (registersIn y)
+  noted y q e = (ap registersIn (sym q), e ∙ ap (λ (z : Reply). sets answers at (answerWords (answerIn z))) (sym q))
 
   pub noted-done : (r : Registers) → x ≡ P.Done r → answers′ ≡ sets answers at (0 ∷ 0 ∷ 0 ∷ 0 ∷ []) → Noted r
   noted-done r q e = unfold registersIn answerIn answerWords in noted (P.Done r) q e
