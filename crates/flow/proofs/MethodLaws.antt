@@ -14,7 +14,7 @@ use Rattle.bytecode.specs.declared.Instruction.{Instruction}
 use Rattle.bytecode.proofs.TestLaws.{true→T, T→true, implied, below-at}
 use Rattle.model.specs.Objects.{Objects}
 use Rattle.model.specs.Method.{codeWords, codeSize, temporaryCount, frameWords}
-use Rattle.model.specs.Depth.{depthTable, isSome}
+use Rattle.model.specs.Depth.{depthTable}
 use Rattle.model.specs.Rules.{methodTable}
 use Rattle.model.proofs.DepthLaws.{table-notes}
 use Rattle.flow.specs.Linked.{linked, linkedAt, allLinked}
@@ -91,11 +91,3 @@ module _ (edition : ℕ) (o : Objects) (m : ℕ) where
         noted : (v p : ℕ) → getD t p 0 ≡ v → T (ltb 0 v) → linked o m (decodeAt (codeWords o m) (codeSize o m) p) ≡ false → methodTable edition o m ≡ none
         noted zero p h l f = absurd l
         noted (suc d) p h l f = method-fails-at p d h f
-
-    -- both in one equation
-    pub method-sound : isSome (methodTable edition o m) ≡ allLinked o m t
-    method-sound = go (allLinked o m t) refl
-      where
-        go : (x : Bool) → allLinked o m t ≡ x → isSome (methodTable edition o m) ≡ x
-        go true a = ap isSome (method-some a)
-        go false a = ap isSome (method-fails a)

@@ -31,7 +31,7 @@ use Rattle.plain.specs.Flat.{frameDepth, frameMethod, operandsStart, fra
 use Rattle.plain.specs.FlatCalls.{atFront, laid}
 use Rattle.plain.specs.Cache.{filled}
 use Rattle.plain.specs.Running.{runningWith, runningAt, topFrame, restFrames, Made, Sending, sentReceiver, sendStep}
-use Rattle.plain.proofs.StepLaws.{Valid, has-word, without-length, arguments-length}
+use Rattle.plain.proofs.StepLaws.{Valid, has-word, without-length}
 use Rattle.plain.proofs.Preserve.{entered-runs}
 use Rattle.plain.proofs.RunningLaws.{stood, all-right, top-right, top-bounds}
 use Rattle.plain.proofs.WriteLaws.{operand-here, moved-writes, pushed-writes}
@@ -122,10 +122,6 @@ module _ {n b top : ℕ} {contents bodies stack : List ℕ} {selector count clas
     where
       behind : (x : ℕ) → x + (depth - suc count) + 1 ≡ x + (depth - count)
       behind x = let h = s .needs in omega arith
-
-  pub arguments-count : length sentArguments ≡ count
-  unfolding frameAt
-  arguments-count = arguments-length o f (top-right (s .runs)) count (let h = s .needs in omega arith)
 
   -- ---- the method that was found
 

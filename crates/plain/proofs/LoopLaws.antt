@@ -78,9 +78,6 @@ module _ (s₀ : Flat) (grant : ℕ) (s : Flat) (count reach : ℕ) (t : Turn s�
       none = let m = t .made in omega arith
 
   module _ (more : count < grant) where
-    left : ℕ
-    left = grant - (count + 1)
-
     rest-more : runsFrom grant 0 s₀ ≡ runsFrom (suc (grant - (count + 1))) count s
     rest-more = t .rest ∙ ap (λ (k : ℕ). runsFrom k count s) (left-one grant count more)
 

@@ -25,10 +25,6 @@ points n w e =
       most = leb→le (w / 2) n (and-right (leb 1 (w / 2)) (leb (w / 2) n) q);
     }
 
-pub kind-points : (o : Objects) (k w : ℕ) → isKind o k w ≡ true → isPointer (o .n) w ≡ true
-unfolding isKind
-kind-points o k w e = T→true (isPointer (o .n) w) (and-left (isPointer (o .n) w) (eqb (kind o (w / 2)) k) (true→T e))
-
 pub is-named : (o : Objects) (k w : ℕ) → isKind o k w ≡ true → Named o k w
 is-named o k w e = named o k w (true→T e)
 

@@ -77,10 +77,6 @@ module _ (r : Registers) (contents bodies stack cache : List ℕ) where
   image-no : imagePart s ≡ false → false ≡ stateFine s
   image-no e = sym (parts ∙ ap (λ (x : Bool). x && (phasePart s && (valuePart s && (framesPart s && cachePart s)))) e)
 
-  and-no : (b : Bool) → (b && false) ≡ false
-  and-no true = refl
-  and-no false = refl
-
   pub registers-no : registersFine (r .n) (r .phase) (r .value) ≡ false → false ≡ stateFine s
   unfolding registersFine
   registers-no e = sym (parts ∙ regroup (imagePart s) (phasePart s) (valuePart s) (framesPart s && cachePart s) e)
