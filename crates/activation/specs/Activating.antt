@@ -4,6 +4,8 @@ use mathlib.Core.Path.{_≡_}
 use mathlib.Core.List.{List}
 use lib.Dec.{T}
 use lib.ListN.{length, getD}
+use Rattle.model.specs.declared.Computed.{Computed}
+use Rattle.model.specs.declared.Computed.the-variants.{Word, Failed}
 use Rattle.model.specs.Limits.{methodKind}
 use Rattle.model.specs.Word.{isValid}
 use Rattle.model.specs.Objects.{Objects, objectsAt, isKind}
@@ -34,6 +36,11 @@ pub record Leaves (x y : Activation) (contents bodies contents′ bodies′ : Li
   pub leads : x ≡ y
   pub entries : contents′ ≡ contents
   pub words : bodies′ ≡ bodies
+
+-- What a primitive leads to: its answer, or a frame where it fails
+unfoldable pub outcome : Computed → ℕ → ℕ → Activated
+outcome (Word w) n b = Answer w n b
+outcome Failed n b = Frame
 
 abbrev pub ActivatedIs : Activation → Activation → List ℕ → List ℕ → List ℕ → List ℕ → Activated → Type 0
 ActivatedIs x frame contents bodies contents′ bodies′ (Answer w n b) = Answers x w n b contents bodies contents′ bodies′

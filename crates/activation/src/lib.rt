@@ -4,10 +4,9 @@ ghost use mathlib.Core.Path.{_≡_};
 ghost use mathlib.Core.Bool.{_&&_};
 ghost use mathlib.Core.List.{[], _∷_};
 ghost use lib.Dec.{leb};
-ghost use Rattle.model.specs.Objects.{objectsAt};
 ghost use Rattle.model.specs.Primitive.{primitive};
 ghost use Rattle.primitives.specs.Outcomes.{Receives, DoesAt};
-ghost use Rattle.activation.specs.Activating.{Activable, Activates};
+ghost use Rattle.activation.specs.Activating.{outcome, Activable, Activates};
 use model::Computed;
 use model::Pointer;
 use model::limits;
@@ -18,6 +17,25 @@ pub enum Activated {
     Answer { word: u16, n: usize, b: usize },
     Frame,
     Unfit,
+}
+
+// The extensions of at: and at:put:, the primitives 60 with one argument and 61 with two.
+const AT: usize = 512 * 1 + 2 * 60 + 1;
+
+const AT_PUT: usize = 512 * 2 + 2 * 61 + 1;
+
+// What a primitive leads to: its answer, or a frame where it fails.
+fn outcome(answer: Computed, n: usize, b: usize) -> Activated
+    ensures { λ r. ⌜ r ≡ outcome answer n b ⌝ }
+{
+    match answer {
+        Computed::Word(w) => Activated::Answer {
+            word: w,
+            n: n,
+            b: b,
+        },
+        Computed::Failed => Activated::Frame,
+    }
 }
 
 fn is_arithmetic(k: usize) -> bool
@@ -100,12 +118,40 @@ pub fn activate(
     let count = objects::argument_count(contents, bodies, n, b, method);
     let done = try_primitive(contents, bodies, edition, n, b, k, count, receiver, x, y);
     let answer = done.answer;
-    match answer {
-        Computed::Word(w) => Activated::Answer {
-            word: w,
-            n: done.n,
-            b: done.b,
-        },
-        Computed::Failed => Activated::Frame,
+    outcome(answer, done.n, done.b)
+}
+
+// The same for the sends of the run loop, into which it is compiled: a frame, at: and at:put: at once, the others by a call.
+pub fn act(
+    contents: &mut [u16],
+    bodies: &mut [u16],
+    edition: u16,
+    n: usize,
+    b: usize,
+    method: Pointer,
+    receiver: u16,
+    x: u16,
+    y: u16,
+) -> Activated
+    requires { ⌜ Activable n b (now contents) (now bodies) (method .0) receiver ⌝ }
+    ensures { λ r. ⌜ Activates edition n b (now (contents .entry)) (now (bodies .entry)) (method .0) receiver x y (now (contents .exit)) (now (bodies .exit)) r ⌝ }
+{
+    let flag = readers::flag(objects::header(contents, bodies, n, b, method));
+    if flag < limits::ANSWER_SELF {
+        return Activated::Frame;
     }
+    if flag == limits::PRIMITIVE {
+        let e = objects::extension(contents, bodies, n, b, method);
+        if e == AT {
+            return outcome(primitives::at(contents, bodies, n, b, receiver, x), n, b);
+        }
+        if e == AT_PUT {
+            return outcome(
+                primitives::at_put(contents, bodies, n, b, receiver, x, y),
+                n,
+                b,
+            );
+        }
+    }
+    activate(contents, bodies, edition, n, b, method, receiver, x, y)
 }

@@ -2,6 +2,7 @@ pub mod Machine
 pub mod Magnitude
 pub mod Values
 pub mod Ranges
+pub mod Tags
 pub mod Quotients
 pub mod Shifts
 pub mod Equality

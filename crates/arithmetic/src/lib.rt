@@ -8,6 +8,7 @@ ghost use lib.Signed.{mag, quotZ, shrZ};
 ghost use Rattle.model.specs.Limits.{largestInteger};
 ghost use Rattle.model.specs.Word.{valueOf, wordOf};
 ghost use Rattle.model.specs.Arithmetic.{arithmetic, number, truth, divided, exactQuotient, floorQuotient, floorRemainder, shifted, onIntegers, onBits};
+ghost use Rattle.arithmetic.specs.Tagged.{tagged, Fitted};
 use model::Computed;
 
 // The integers that have a word.
@@ -221,7 +222,28 @@ pub fn compute(k: u8, v: u16, w: u16) -> Computed
     on_integers(k, value(v), value(w))
 }
 
-// The same for the run loop, into which it is compiled: the frequent primitives at once, the others by a call.
+// An integer's word as a signed number, twice the integer and 1. Order, sum and difference of two are those of the integers, but for the tag.
+fn signed(w: u16) -> i32
+    requires { ⌜ w % 2 ≡ 1 ⌝ }
+    ensures { λ r. ⌜ r ≡ tagged (valueOf w) ⌝ }
+{
+    ((w as u32 + 32768) % 65536) as i32 - 32768
+}
+
+// The word of such a number. One out of range fails.
+fn fit(z: i32) -> Computed
+    ensures { λ r. ⌜ Fitted z r ⌝ }
+{
+    if z < -32768 {
+        return Computed::Failed;
+    }
+    if 32767 < z {
+        return Computed::Failed;
+    }
+    Computed::Word(((z + 65536) as u32 % 65536) as u16)
+}
+
+// The same for the run loop, into which it is compiled: the frequent primitives at once and on the words, the others by a call.
 pub fn arithmetic(k: u8, v: u16, w: u16) -> Computed
     ensures { λ r. ⌜ r ≡ arithmetic k v w ⌝ }
 {
@@ -232,14 +254,14 @@ pub fn arithmetic(k: u8, v: u16, w: u16) -> Computed
         return Computed::Failed;
     }
     match k {
-        1 => number(value(v) + value(w)),
-        2 => number(value(v) - value(w)),
-        3 => truth(value(v) < value(w)),
-        4 => truth(value(w) < value(v)),
-        5 => truth(value(v) <= value(w)),
-        6 => truth(value(w) <= value(v)),
-        7 => truth(value(v) == value(w)),
-        8 => truth(value(v) != value(w)),
+        1 => fit(signed(v) + signed(w) - 1),
+        2 => fit(signed(v) - signed(w) + 1),
+        3 => truth(signed(v) < signed(w)),
+        4 => truth(signed(w) < signed(v)),
+        5 => truth(signed(v) <= signed(w)),
+        6 => truth(signed(w) <= signed(v)),
+        7 => truth(v == w),
+        8 => truth(v != w),
         9 => number(value(v) * value(w)),
         14 => Computed::Word(v & w),
         15 => Computed::Word(v | w),

@@ -3,3 +3,4 @@ pub mod Constant
 pub mod Code
 pub mod Effect
 pub mod Table
+pub mod Kinds

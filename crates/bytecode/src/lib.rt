@@ -1,11 +1,12 @@
 // The instructions of a method's code. specs/Code.antt says which bytes mean which, specs/Effect.antt what each needs and leaves.
 ghost use mathlib.Core.Path.{_≡_};
-ghost use Prim.Native.Nat.{ℕ, _+_, _/_, _<_, _≤_};
+ghost use Prim.Native.Nat.{ℕ, _+_, _*_, _/_, _<_, _≤_};
 ghost use lib.ListN.{length};
-ghost use Rattle.bytecode.specs.Code.{byteAt, placeOf, shortOf, constantOf, jumpOf, sendOf, extendedOf, instructionOf, decodeAt};
+ghost use Rattle.bytecode.specs.Code.{byteAt, bytesAfter, placeOf, shortOf, constantOf, jumpOf, sendOf, extendedOf, instructionOf, nextAt, decodeAt};
 ghost use Rattle.bytecode.specs.Table.{groupPart, lengthPart, needPart, leavesPart, boundPart, indexPart, extraOf, Entry, IsTable};
 
 mod entries;
+mod kinds;
 
 // Where a push or a store finds its operand. The number is a usize so that a place has more than 8 bytes: one of 2, 4 or 8 bytes is copied
 // as a single number, which hides its case from the compiler.
@@ -364,4 +365,203 @@ pub fn decode(words: &[u16], size: usize, at: usize) -> Instruction
         return Instruction::Unused;
     }
     far(b, byte_after(words, at, 1))
+}
+
+// An instruction, and the position behind it.
+pub struct Decoded {
+    pub instruction: Instruction,
+    pub next: usize,
+}
+
+// What an arm of the decoder below answers.
+fn ends(instruction: Instruction, next: usize) -> Decoded
+    ensures { λ r. ⌜ r ≡ record { instruction = instruction; next = next } ⌝ }
+{
+    Decoded {
+        instruction: instruction,
+        next: next,
+    }
+}
+
+// The decoder of the run loop, its only caller: see docs/DECISIONS.md, "The run loop". Each kind of byte has an arm, which
+// builds its own variant.
+pub fn instruction_at(words: &[u16], at: usize) -> Decoded
+    requires { ⌜ (nextAt (now words) at ≤ 2 * length (now words)) × (at < 65536) ⌝ }
+    ensures { λ r. ⌜ (r .instruction ≡ instructionOf (byteAt (now (words .entry)) at) (bytesAfter (now (words .entry)) at))
+        × (r .next ≡ nextAt (now (words .entry)) at) ⌝ }
+{
+    let b = fetch(words, at);
+    match kinds::kind(b) {
+        0 => ends(Instruction::Push(Place::Field((b % 16) as usize)), at + 1),
+        1 => ends(
+            Instruction::Push(Place::Temporary((b % 16) as usize)),
+            at + 1,
+        ),
+        2 => ends(Instruction::Push(Place::Literal((b % 32) as usize)), at + 1),
+        3 => ends(
+            Instruction::Push(Place::LiteralVariable((b % 32) as usize)),
+            at + 1,
+        ),
+        4 => ends(
+            Instruction::PopStore(Place::Field((b % 8) as usize)),
+            at + 1,
+        ),
+        5 => ends(
+            Instruction::PopStore(Place::Temporary((b % 8) as usize)),
+            at + 1,
+        ),
+        6 => ends(Instruction::PushSelf, at + 1),
+        7 => ends(Instruction::PushConstant(6), at + 1),
+        8 => ends(Instruction::PushConstant(4), at + 1),
+        9 => ends(Instruction::PushConstant(2), at + 1),
+        10 => ends(Instruction::PushConstant(65535), at + 1),
+        11 => ends(Instruction::PushConstant(1), at + 1),
+        12 => ends(Instruction::PushConstant(3), at + 1),
+        13 => ends(Instruction::PushConstant(5), at + 1),
+        14 => ends(Instruction::ReturnSelf, at + 1),
+        15 => ends(Instruction::ReturnConstant(6), at + 1),
+        16 => ends(Instruction::ReturnConstant(4), at + 1),
+        17 => ends(Instruction::ReturnConstant(2), at + 1),
+        18 => ends(Instruction::ReturnTop, at + 1),
+        19 => ends(Instruction::Unused, at + 1),
+        20 => ends(Instruction::Push(place_of(fetch(words, at + 1))), at + 2),
+        21 => ends(Instruction::Store(place_of(fetch(words, at + 1))), at + 2),
+        22 => ends(
+            Instruction::PopStore(place_of(fetch(words, at + 1))),
+            at + 2,
+        ),
+        23 => {
+            let x = fetch(words, at + 1);
+            ends(
+                Instruction::Send {
+                    literal: x % 32,
+                    arguments: x / 32,
+                },
+                at + 2,
+            )
+        },
+        24 => {
+            let x = fetch(words, at + 1);
+            let y = fetch(words, at + 2);
+            ends(
+                Instruction::Send {
+                    literal: y,
+                    arguments: x,
+                },
+                at + 3,
+            )
+        },
+        25 => {
+            let x = fetch(words, at + 1);
+            ends(
+                Instruction::SuperSend {
+                    literal: x % 32,
+                    arguments: x / 32,
+                },
+                at + 2,
+            )
+        },
+        26 => {
+            let x = fetch(words, at + 1);
+            let y = fetch(words, at + 2);
+            ends(
+                Instruction::SuperSend {
+                    literal: y,
+                    arguments: x,
+                },
+                at + 3,
+            )
+        },
+        27 => ends(Instruction::Pop, at + 1),
+        28 => ends(Instruction::Duplicate, at + 1),
+        29 => ends(Instruction::Unused, at + 1),
+        30 => ends(
+            Instruction::Jump {
+                ahead: (b % 8) as u16 + 1,
+                back: 0,
+            },
+            at + 1,
+        ),
+        31 => ends(
+            Instruction::JumpOn {
+                condition: false,
+                ahead: (b % 8) as u16 + 1,
+            },
+            at + 1,
+        ),
+        32 => ends(
+            Instruction::Jump {
+                ahead: (b % 8) as u16 * 256 + fetch(words, at + 1) as u16,
+                back: 1024,
+            },
+            at + 2,
+        ),
+        33 => ends(
+            Instruction::JumpOn {
+                condition: true,
+                ahead: (b % 4) as u16 * 256 + fetch(words, at + 1) as u16,
+            },
+            at + 2,
+        ),
+        34 => ends(
+            Instruction::JumpOn {
+                condition: false,
+                ahead: (b % 4) as u16 * 256 + fetch(words, at + 1) as u16,
+            },
+            at + 2,
+        ),
+        35 => ends(Instruction::SpecialSend(0), at + 1),
+        36 => ends(Instruction::SpecialSend(1), at + 1),
+        37 => ends(Instruction::SpecialSend(2), at + 1),
+        38 => ends(Instruction::SpecialSend(3), at + 1),
+        39 => ends(Instruction::SpecialSend(4), at + 1),
+        40 => ends(Instruction::SpecialSend(5), at + 1),
+        41 => ends(Instruction::SpecialSend(6), at + 1),
+        42 => ends(Instruction::SpecialSend(7), at + 1),
+        43 => ends(Instruction::SpecialSend(8), at + 1),
+        44 => ends(Instruction::SpecialSend(9), at + 1),
+        45 => ends(Instruction::SpecialSend(10), at + 1),
+        46 => ends(Instruction::SpecialSend(11), at + 1),
+        47 => ends(Instruction::SpecialSend(12), at + 1),
+        48 => ends(Instruction::SpecialSend(13), at + 1),
+        49 => ends(Instruction::SpecialSend(14), at + 1),
+        50 => ends(Instruction::SpecialSend(15), at + 1),
+        51 => ends(Instruction::SpecialSend(16), at + 1),
+        52 => ends(Instruction::SpecialSend(17), at + 1),
+        53 => ends(Instruction::SpecialSend(18), at + 1),
+        54 => ends(Instruction::SpecialSend(19), at + 1),
+        55 => ends(Instruction::SpecialSend(20), at + 1),
+        56 => ends(Instruction::SpecialSend(21), at + 1),
+        57 => ends(Instruction::SpecialSend(22), at + 1),
+        58 => ends(Instruction::SpecialSend(23), at + 1),
+        59 => ends(Instruction::SpecialSend(24), at + 1),
+        60 => ends(Instruction::SpecialSend(25), at + 1),
+        61 => ends(Instruction::SpecialSend(26), at + 1),
+        62 => ends(Instruction::SpecialSend(27), at + 1),
+        63 => ends(Instruction::SpecialSend(28), at + 1),
+        64 => ends(Instruction::SpecialSend(29), at + 1),
+        65 => ends(Instruction::SpecialSend(30), at + 1),
+        66 => ends(Instruction::SpecialSend(31), at + 1),
+        67 => ends(
+            Instruction::Send {
+                literal: b % 16,
+                arguments: 0,
+            },
+            at + 1,
+        ),
+        68 => ends(
+            Instruction::Send {
+                literal: b % 16,
+                arguments: 1,
+            },
+            at + 1,
+        ),
+        _ => ends(
+            Instruction::Send {
+                literal: b % 16,
+                arguments: 2,
+            },
+            at + 1,
+        ),
+    }
 }

@@ -1,4 +1,4 @@
--- An entry of the cache that has a selector and a class, and one that is written.
+-- An entry of the cache that has a selector and a class, and one that is filled.
 use Prim.Native.Nat.{ℕ, suc, _+_, _/_, _%_, _≤_, _<_}
 use mathlib.Core.Path.{_≡_, refl, sym, ap, ap₂, _∙_, subst}
 use mathlib.Core.Bool.{Bool, _&&_}
@@ -7,14 +7,16 @@ use native.Mathlib.Omega.{arith}
 use borrow.Author.Tests.{ne-eqb}
 use lib.Dec.{T, eqb, eqb→eq}
 use lib.ListN.{getD, set}
+use lib.Seq.{set-getD}
 use lib.Bits.{bitAnd}
 use Rattle.bytecode.proofs.TestLaws.{below-at}
 use Rattle.model.specs.declared.Found.{Found}
 use Rattle.model.specs.declared.Found.the-variants.{Method, Nothing}
 use Rattle.model.specs.Limits.{cacheEntries}
-use Rattle.model.specs.Objects.{Objects}
+use Rattle.model.specs.Objects.{Objects, objectsAt}
 use Rattle.model.specs.Lookup.{found, lookup}
 use Rattle.plain.specs.Step.{looked}
+use Rattle.cache.specs.Caches.{Caches, Kept}
 use Rattle.plain.specs.Cache.{cacheEntryOf, cachePlace, filled, finds, emptyOr, cachedRight, cachedRightAt, cacheFine}
 
 pub entry-is : (s c : ℕ) → bitAnd s c / 2 % cacheEntries ≡ cacheEntryOf s c
@@ -54,3 +56,28 @@ entry-filled cache s c m e p =
 
     two : (k : ℕ) → k + 2 ≡ suc (suc k)
     two k = omega arith
+
+-- ---- an entry that is there already
+
+entry-below : (s c : ℕ) → cacheEntryOf s c < cacheEntries
+unfolding cacheEntryOf
+entry-below s c = omega arith
+
+-- a cache of these objects has the method that a lookup in them finds
+pub found-kept : {n b : ℕ} {contents bodies cache : List ℕ} {selector class method : ℕ} → Caches n b contents bodies cache → 1 ≤ selector
+    → lookup (objectsAt n b contents bodies) selector class ≡ found method → Kept cache selector class method
+found-kept {cache = cache} {selector = s} {class = c} k named f =
+    record { held = λ p q. ap method-of (cached-found _ cache s c (cacheEntryOf s c) (k .fine) named (entry-below s c) p q ∙ f) }
+  where
+    method-of : Found → ℕ
+    method-of (Method x) = x .0
+    method-of Nothing = 0
+
+-- what is filled in then is there
+three-same : (l : List ℕ) (i j k : ℕ) {x y z : ℕ} → getD l i 0 ≡ x → getD l j 0 ≡ y → getD l k 0 ≡ z → set (set (set l i x) j y) k z ≡ l
+three-same l i j k p q r = rw (← p, set-getD, ← q, set-getD, ← r, set-getD)
+
+pub entry-there : (cache : List ℕ) (s c m e : ℕ) → e ≡ cacheEntryOf s c → Kept cache s c m → getD cache (cachePlace e) 0 ≡ s → getD cache (cachePlace e + 1) 0 ≡ c
+    → cache ≡ filled cache (looked s c m)
+entry-there cache s c m e p k x y =
+    sym (three-same cache (cachePlace e) (cachePlace e + 1) (cachePlace e + 2) x y (rw p (k .held (rw p at x) (rw p at y)))) ∙ entry-filled cache s c m e p

@@ -1,13 +1,13 @@
 -- What the functions of the cache ask of the buffers.
-use Prim.Native.Nat.{ℕ, _≤_}
+use Prim.Native.Nat.{ℕ, _+_, _≤_}
 use mathlib.Core.Path.{_≡_}
 use mathlib.Core.List.{List}
 use lib.Dec.{T}
-use lib.ListN.{length}
+use lib.ListN.{length, getD}
 use Rattle.model.specs.Limits.{cacheWords, classKind}
 use Rattle.model.specs.Objects.{objectsAt, isNilOr}
 use Rattle.model.specs.Rules.{IsRight}
-use Rattle.plain.specs.Cache.{cacheFine}
+use Rattle.plain.specs.Cache.{cacheEntryOf, cachePlace, cacheFine}
 
 -- A cache of the lookups of these objects
 pub record Caches (n b : ℕ) (contents bodies cache : List ℕ) : Type 0 where
@@ -20,3 +20,8 @@ pub record Asks (n b : ℕ) (contents bodies cache : List ℕ) (selector class :
   pub starts : T (isNilOr (objectsAt n b contents bodies) classKind class)
   pub caches : Caches n b contents bodies cache
   pub named : 1 ≤ selector
+
+-- Where the entry of a selector and a class has both, it has this method.
+pub record Kept (cache : List ℕ) (selector class method : ℕ) : Type 0 where
+  pub held : let at = cachePlace (cacheEntryOf selector class) in
+      getD cache at 0 ≡ selector → getD cache (at + 1) 0 ≡ class → getD cache (at + 2) 0 ≡ method

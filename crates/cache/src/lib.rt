@@ -10,7 +10,7 @@ ghost use Rattle.model.specs.Lookup.{lookup};
 ghost use Rattle.model.specs.Rules.{IsRight};
 ghost use Rattle.plain.specs.Step.{looked};
 ghost use Rattle.plain.specs.Cache.{cacheEntryOf, filled, cachedRight, cacheFine};
-ghost use Rattle.cache.specs.Caches.{Asks};
+ghost use Rattle.cache.specs.Caches.{Asks, Kept};
 use model::Found;
 use model::Pointer;
 use model::limits;
@@ -49,12 +49,17 @@ pub fn cached(
     Found::Method(Pointer(cache[at + 2]))
 }
 
-// A lookup that found is kept. Where it came from the cache, its words are written over themselves.
+// A lookup that found is kept. Where it came from the cache, its words stand there.
 pub fn fill(cache: &mut [u16], selector: u16, class: Pointer, method: Pointer)
-    requires { ⌜ length (now cache) ≡ cacheWords ⌝ }
+    requires { ⌜ (length (now cache) ≡ cacheWords) × Kept (now cache) selector (class .0) (method .0) ⌝ }
     ensures { λ _. ⌜ now (cache .exit) ≡ filled (now (cache .entry)) (looked selector (class .0) (method .0)) ⌝ }
 {
     let at = CACHE_ENTRY_WORDS * entry(selector, class.0);
+    if cache[at] == selector {
+        if cache[at + 1] == class.0 {
+            return;
+        }
+    }
     cache[at] = selector;
     cache[at + 1] = class.0;
     cache[at + 2] = method.0;

@@ -1,2 +1,2 @@
-pub mod Advancing
 pub mod Returning
+pub mod Advancing

@@ -1,44 +1,58 @@
 -- What a whole bytecode leads to.
-use Prim.Native.Nat.{ℕ, _+_, _≤_}
+use Prim.Native.Nat.{ℕ, suc, _+_, _≤_}
 use mathlib.Core.Path.{_≡_}
 use mathlib.Core.List.{List}
+use lib.ListN.{set}
 use Rattle.model.specs.Objects.{objectsAt}
-use Rattle.model.specs.Method.{frameSize}
+use Rattle.model.specs.Method.{temporaryCount}
 use Rattle.plain.specs.Registers.{Cause, phaseOf}
-use Rattle.plain.specs.Flat.{frameMethod}
+use Rattle.plain.specs.Flat.{frameSender, frameDepth, frameMethod}
 use Rattle.plain.specs.Step.{Stepped, halts, step}
 use Rattle.plain.specs.Running.{runningWith, runningAt, roomAt, finishedWith, Made, Stays}
-use Rattle.steps.specs.declared.Active.{Active}
-use Rattle.steps.specs.Events.{written, movedOn, Stands}
+use Rattle.frames.specs.declared.Active.{Active}
+use Rattle.frames.specs.Active.{written, movedOn, Stands, Onward, Held, frameEnd}
+use Rattle.sends.specs.Sends.{Halts}
 use Rattle.interpreter.specs.declared.Advanced.{Advanced}
-use Rattle.interpreter.specs.declared.Advanced.the-variants.{Next, Top, Below, Finished, Halted}
+use Rattle.interpreter.specs.declared.Advanced.the-variants.{Next, Answered, Top, Below, Finished, Halted}
 
 -- The step that the buffers are about to make
 abbrev pub stepOf : ℕ → ℕ → ℕ → ℕ → ℕ → Active → List ℕ → List ℕ → List ℕ → List ℕ → Stepped
 stepOf edition receiver selector n b a contents bodies stack cache =
     step (roomAt contents bodies (written a stack) cache) (runningAt edition receiver selector n b (a .base .0) contents bodies (written a stack))
 
--- A halt before the bytecode, with the phase that says why: nothing changes.
-pub record Stops (x : Stepped) (k : ℕ) (contents bodies stack cache contents′ bodies′ stack′ cache′ : List ℕ) : Type 0 where
-  pub cause : Cause
-  pub steps : x ≡ halts cause
-  pub phase : k ≡ phaseOf cause
-  pub stays : Stays contents bodies stack cache contents′ bodies′ stack′ cache′
+-- The stack with a word pushed on the frame at `sender`
+abbrev pub pushedOn : ℕ → ℕ → ℕ → List ℕ → List ℕ → List ℕ → ℕ → List ℕ
+pushedOn n b sender contents bodies stack w =
+    set (set stack (sender + (6 + (temporaryCount (objectsAt n b contents bodies) (frameMethod stack sender) + frameDepth stack sender))) w) (sender + 2) (suc (frameDepth stack sender))
+
+-- The sender's frame, taken with a word pushed on it
+pub record Returned (n b top : ℕ) (contents bodies stack stack′ : List ℕ) (w : ℕ) (a : Active) : Type 0 where
+  pub base : a .base .0 ≡ frameSender stack top
+  pub words : written a stack′ ≡ pushedOn n b (a .base .0) contents bodies stack w
+  pub stands : Stands n b contents bodies stack′ a
 
 -- What an answer says of the frame that the loop holds, where the stack stands for `written a stack`: where the frame goes on, it is still
--- held; else its words are written.
+-- held; another one is held then in its place; else its words are written.
 abbrev pub AdvancedIs : ℕ → ℕ → ℕ → ℕ → ℕ → Active → List ℕ → List ℕ → List ℕ → List ℕ → List ℕ → List ℕ → List ℕ → List ℕ → Advanced → Type 0
 AdvancedIs edition receiver selector n b a contents bodies stack cache contents′ bodies′ stack′ cache′ (Next q e) =
     Made (stepOf edition receiver selector n b a contents bodies stack cache) (runningWith edition receiver selector n b (a .base .0))
     contents bodies (written a stack) cache contents′ bodies′ (written (movedOn a q e) stack′) cache′
-    × Stands n b contents′ bodies′ stack′ (movedOn a q e)
-AdvancedIs edition receiver selector n b a contents bodies stack cache contents′ bodies′ stack′ cache′ (Top n′ b′ t) =
-    Made (stepOf edition receiver selector n b a contents bodies stack cache) (runningWith edition receiver selector n′ b′ (t .0))
+    × Onward a stack stack′ (e .0)
+AdvancedIs edition receiver selector n b a contents bodies stack cache contents′ bodies′ stack′ cache′ (Answered n′ b′ q e) =
+    Made (stepOf edition receiver selector n b a contents bodies stack cache) (runningWith edition receiver selector n′ b′ (a .base .0))
+    contents bodies (written a stack) cache contents′ bodies′ (written (movedOn a q e) stack′) cache′
+    × Onward a stack stack′ (e .0)
+AdvancedIs edition receiver selector n b a contents bodies stack cache contents′ bodies′ stack′ cache′ (Top f end) =
+    Made (stepOf edition receiver selector n b a contents bodies stack cache) (runningWith edition receiver selector n b (f .base .0))
     contents bodies (written a stack) cache contents′ bodies′ stack′ cache′
-AdvancedIs edition receiver selector n b a contents bodies stack cache contents′ bodies′ stack′ cache′ (Below t) =
-    Made (stepOf edition receiver selector n b a contents bodies stack cache) (runningWith edition receiver selector n b (t .0)) contents bodies (written a stack) cache contents′ bodies′ stack′ cache′
-    × (t .0 + frameSize (objectsAt n b contents′ bodies′) (frameMethod stack′ (t .0)) ≤ a .base .0)
+    × Held n b (f .base .0) contents′ bodies′ stack′ f
+    × (end ≡ frameEnd n b (f .base .0) contents′ bodies′ stack′)
+AdvancedIs edition receiver selector n b a contents bodies stack cache contents′ bodies′ stack′ cache′ (Below f) =
+    Made (stepOf edition receiver selector n b a contents bodies stack cache) (runningWith edition receiver selector n b (f .base .0))
+    contents bodies (written a stack) cache contents′ bodies′ (written f stack′) cache′
+    × Stands n b contents′ bodies′ stack′ f
+    × (frameEnd n b (f .base .0) contents′ bodies′ (written f stack′) ≤ a .base .0)
 AdvancedIs edition receiver selector n b a contents bodies stack cache contents′ bodies′ stack′ cache′ (Finished w) =
     Made (stepOf edition receiver selector n b a contents bodies stack cache) (finishedWith edition receiver selector n b w) contents bodies (written a stack) cache contents′ bodies′ stack′ cache′
 AdvancedIs edition receiver selector n b a contents bodies stack cache contents′ bodies′ stack′ cache′ (Halted k) =
-    Stops (stepOf edition receiver selector n b a contents bodies stack cache) k contents bodies (written a stack) cache contents′ bodies′ stack′ cache′
+    Halts (stepOf edition receiver selector n b a contents bodies stack cache) k contents bodies (written a stack) cache contents′ bodies′ stack′ cache′

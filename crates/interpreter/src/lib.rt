@@ -1,41 +1,40 @@
 // A bytecode of a running handler, whole: the step, and the sends and returns that it leaves to be made.
 ghost use mathlib.Core.Path.{_≡_};
-ghost use Prim.Native.Nat.{ℕ, _+_, suc, _<_};
-ghost use lib.ListN.{set};
-ghost use Rattle.model.specs.Objects.{objectsAt};
-ghost use Rattle.model.specs.Method.{temporaryCount};
-ghost use Rattle.plain.specs.Flat.{frameSender, frameDepth, frameMethod};
+ghost use Prim.Native.Nat.{ℕ, _<_};
 ghost use Rattle.plain.specs.Running.{Runs};
 ghost use Rattle.cache.specs.Caches.{Caches};
-ghost use Rattle.steps.specs.Events.{IsActive};
-ghost use Rattle.interpreter.specs.Advances.{AdvancedIs};
+ghost use Rattle.frames.specs.Active.{IsActive};
+ghost use Rattle.interpreter.specs.Advances.{Returned, AdvancedIs};
+use frames::Active;
 use model::CodePosition;
-use model::Pointer;
 use model::StackPosition;
-use model::limits;
 use sends::Sent;
-use steps::Active;
 use steps::Event;
 
-// What a bytecode leads to: the running frame goes on, at another position and with operands up to another end; or a send was made, with the
-// number of objects and body words and the top frame then; or a return to the frame below; or the value that the run finishes with; or a halt,
-// with the phase that says why (3, 4 or 5).
+// What a bytecode leads to: the running frame goes on, at another position and with operands up to another end, after a send that was
+// answered with the number of objects and body words then; or a new frame is on top, which ends at `end`; or the frame below is, after a
+// return; or the value that the run finishes with; or a halt, with the phase that says why.
 pub enum Advanced {
     Next {
         position: CodePosition,
         end: StackPosition,
     },
-    Top {
+    Answered {
         n: usize,
         b: usize,
-        top: StackPosition,
+        position: CodePosition,
+        end: StackPosition,
     },
-    Below(StackPosition),
+    Top {
+        frame: Active,
+        end: usize,
+    },
+    Below(Active),
     Finished(u16),
     Halted(u16),
 }
 
-// A return above the bottom: the word is pushed on the frame below, which is on top then.
+// A return above the bottom: the sender's frame is taken, and the word is pushed on it.
 fn return_to(
     contents: &[u16],
     bodies: &[u16],
@@ -44,24 +43,17 @@ fn return_to(
     b: usize,
     top: StackPosition,
     w: u16,
-) -> StackPosition
+) -> Active
     requires { ⌜ Runs n b (top .0) (now contents) (now bodies) (now stack) × (0 < top .0) ⌝ }
-    ensures { λ r. ⌜ (r .0 ≡ frameSender (now (stack .entry)) (top .0))
-        × (now (stack .exit)
-        ≡ set (set (now (stack .entry)) (r .0 + (6 +
-        (temporaryCount (objectsAt n b (now (contents .entry)) (now (bodies .entry))) (frameMethod (now (stack .entry)) (r .0)) +
-        frameDepth (now (stack .entry)) (r .0)))) w) (r .0 + 2) (suc (frameDepth (now (stack .entry)) (r .0)))) ⌝ }
+    ensures { λ r. ⌜ Returned n b (top .0) (now (contents .entry)) (now (bodies .entry)) (now (stack .entry)) (now (stack .exit)) w r ⌝ }
 {
-    let base = top.0;
-    let sender = stack[base] as usize;
-    let method = Pointer(stack[sender + 3]);
-    let header = objects::header(contents, bodies, n, b, method);
-    let temporaries = readers::temporary_count(header);
-    let depth = stack[sender + 2] as usize;
-    let place = sender + (limits::FRAME_HEADER + (temporaries + depth));
-    stack[place] = w;
-    stack[sender + 2] = (depth + 1) as u16;
-    StackPosition(sender)
+    let sender = frames::sender(stack, top);
+    let mut active = frames::hold(contents, bodies, stack, n, b, sender);
+    let end = active.end.0;
+    stack[end] = w;
+    let behind = StackPosition(end + 1);
+    active.end = behind;
+    active
 }
 
 // A whole bytecode. The frame's words for position and depth are written but where it goes on.
@@ -80,20 +72,12 @@ pub fn advance(
         → AdvancedIs edition receiver selector n b active (now (contents .entry)) (now (bodies .entry)) (now (stack .entry)) (now (cache .entry))
         (now (contents .exit)) (now (bodies .exit)) (now (stack .exit)) (now (cache .exit)) r) ⌝ }
 {
-    let top = active.base;
     match steps::step(contents, bodies, stack, n, b, active) {
         Event::Next { position, end } => Advanced::Next {
             position: position,
             end: end,
         },
-        Event::Send {
-            selector,
-            count,
-            class,
-            next,
-            sure,
-        } => {
-            steps::leave(stack, active);
+        Event::Send(message) => {
             match sends::send(
                 contents,
                 bodies,
@@ -102,43 +86,43 @@ pub fn advance(
                 edition,
                 n,
                 b,
-                top,
-                active.operands,
-                active.end,
-                selector,
-                count,
-                class,
-                next,
-                sure,
+                active,
+                message,
             ) {
                 Sent::Answered {
                     n: objects,
                     b: words,
-                } => Advanced::Top {
-                    n: objects,
-                    b: words,
-                    top: top,
+                } => {
+                    let next = message.next;
+                    Advanced::Answered {
+                        n: objects,
+                        b: words,
+                        position: next,
+                        end: StackPosition(active.end.0 - message.count),
+                    }
+                }
+                Sent::Entered { frame, end } => Advanced::Top {
+                    frame: frame,
+                    end: end,
                 },
-                Sent::Entered(base) => Advanced::Top {
-                    n: n,
-                    b: b,
-                    top: base,
-                },
-                Sent::NotUnderstood => Advanced::Halted(3),
-                Sent::NoRoom => Advanced::Halted(5),
+                Sent::Halted(k) => {
+                    frames::leave(stack, active);
+                    Advanced::Halted(k)
+                }
             }
         }
         Event::Return(w) => {
-            steps::leave(stack, active);
+            frames::leave(stack, active);
+            let top = active.base;
             let base = top.0;
             if base == 0 {
                 return Advanced::Finished(w);
             }
             Advanced::Below(return_to(contents, bodies, stack, n, b, top, w))
         }
-        Event::NoBoolean => {
-            steps::leave(stack, active);
-            Advanced::Halted(4)
+        Event::Halt(k) => {
+            frames::leave(stack, active);
+            Advanced::Halted(k)
         }
     }
 }

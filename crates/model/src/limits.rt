@@ -68,11 +68,30 @@ pub const SMALL_FRAME: usize = 12;
 
 pub const LARGE_FRAME: usize = 32;
 
-// and before them
+// and before them, which are, by their places:
 pub const FRAME_HEADER: usize = 6;
+
+pub const FRAME_SENDER: usize = 0;
+
+pub const FRAME_POSITION: usize = 1;
+
+pub const FRAME_DEPTH: usize = 2;
+
+pub const FRAME_METHOD: usize = 3;
+
+pub const FRAME_ZERO: usize = 4;
+
+pub const FRAME_RECEIVER: usize = 5;
 
 // A frame ends here or below.
 pub const MOST_STACK_WORDS: usize = 65536;
+
+// The phases of a halt: not understood, no boolean, no room in the stack.
+pub const NOT_UNDERSTOOD: u16 = 3;
+
+pub const NO_BOOLEAN: u16 = 4;
+
+pub const NO_STACK_ROOM: u16 = 5;
 
 // Objects with a fixed number, and the words of some.
 pub const NIL_OBJECT: usize = 1;

@@ -5,6 +5,7 @@ use mathlib.Core.Bool.{false}
 use mathlib.Core.List.{List}
 use native.Mathlib.Omega.{arith}
 use lib.Dec.{eqb}
+use Rattle.model.proofs.Extends.{Extends}
 use Rattle.model.specs.Image.{accepted}
 use Rattle.model.specs.Method.{frameSize}
 use Rattle.model.specs.Objects.{objectsAt}
@@ -12,6 +13,7 @@ use Rattle.plain.specs.Registers.{Registers, running, Cause, phaseOf, wi
 use Rattle.plain.specs.Step.{halts, step}
 use Rattle.plain.specs.Cache.{filled}
 use Rattle.plain.specs.Calls.{Ran, ran, stuck, steps, result}
+use Rattle.plain.specs.State.{Plain, objects}
 use Rattle.plain.specs.Flat.{Flat, flat, roomOf, plainOf, frameMethod, frameAt, framesFrom}
 use Rattle.plain.specs.Check.{check}
 use Rattle.plain.specs.FlatCalls.{gives, laid, withPlain, topEnd, highestOf, runsFrom, endsFrom}
@@ -20,7 +22,7 @@ use Rattle.plain.specs.RunLoop.{Turn}
 use Rattle.plain.proofs.FlatLaws.{FlatRight, check-right, right-check}
 use Rattle.plain.proofs.RunLaws.{RunGoes, runs-right}
 use Rattle.plain.proofs.Worlds.{worlds}
-use Rattle.plain.proofs.TurnLaws.{own-stood, runs-out, runs-over, ends-out, ends-over, highest-least, turn-plain, turn-room, turn-level, turn-right, turn-runs, turn-ends, halt-runs, halt-ends}
+use Rattle.plain.proofs.TurnLaws.{own-stood, runs-out, runs-over, ends-out, ends-over, highest-least, turn-plain, turn-room, turn-level, turn-right, turn-runs, turn-ends, halt-runs, halt-ends, extends-p}
 use Rattle.plain.proofs.MadeLaws.{made-flat}
 
 -- the end of the top frame is a number of the buffers
@@ -119,6 +121,10 @@ module _ (s₀ : Flat) (grant : ℕ) (s : Flat) (count reach : ℕ) (t : Turn s�
       ends-s′ =
           ends-more ∙ turn-ends s right-s (t .phase) (m .state) (m .lookup) (m .steps) (grant - (count + 1)) reach (t .high)
           ∙ (λ i. endsFrom (grant - (count + 1)) (max reach (topEnd (sym plain-s′ i))) (sym s′-is i))
+
+      -- the objects hold those before
+      pub loop-extends : Extends (objects (plainOf s)) (objects (plainOf s′))
+      loop-extends = subst (λ (q : Plain). Extends (objects (plainOf s)) (objects q)) (sym plain-s′) (extends-p s right-s (t .phase) (m .state) (m .lookup) (m .steps))
 
       -- on the same level no frame ends higher
       pub loop-level : r .phase ≡ running → r .top ≡ s .registers .top → topEnd (plainOf s′) ≤ reach

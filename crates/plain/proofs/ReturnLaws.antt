@@ -10,7 +10,10 @@ use lib.ListN.{length, take, set}
 use lib.Seq.{set-getD, getD-set-other}
 use Rattle.model.specs.Limits.{entryWords, methodKind}
 use Rattle.model.specs.Objects.{Objects, objectsAt, isKind}
-use Rattle.model.specs.Method.{temporaryCount, frameWords, frameSize}
+use Rattle.model.specs.Method.{temporaryCount, codeWords, codeSize, frameWords, frameSize}
+use Rattle.model.specs.Depth.{fineAt}
+use Rattle.model.specs.Rules.{allowed}
+use Rattle.model.proofs.DepthLaws.{fine-inside}
 use Rattle.model.proofs.Lent.{contents-room, bodies-room, front-same}
 use Rattle.plain.specs.Registers.{Registers, finished}
 use Rattle.plain.specs.State.{Frame, movedTo, withFrames}
@@ -19,7 +22,7 @@ use Rattle.plain.specs.Flat.{frameSender, framePosition, frameDepth, fra
 use Rattle.plain.specs.FlatCalls.{laid}
 use Rattle.plain.specs.Cache.{filled}
 use Rattle.plain.specs.Running.{Runs, runningWith, runningAt, finishedWith, topFrame, restFrames, Made}
-use Rattle.plain.proofs.FrameLaws.{FrameRight, FramesRight, Fits, within}
+use Rattle.plain.proofs.FrameLaws.{FrameRight, FramesRight, Fits, within, frame-spot}
 use Rattle.plain.proofs.WriteLaws.{frame-right-at, frame-here-at, pushed-at}
 use Rattle.plain.proofs.RunningLaws.{all-right, words-cases}
 
@@ -31,6 +34,7 @@ pub record SenderBounds (o : Objects) (top sender : ℕ) (stack : List ℕ) : Ty
   pub holds : temporaryCount o (frameMethod stack sender) + suc (frameDepth stack sender) ≤ frameWords o (frameMethod stack sender)
   pub limit : frameWords o (frameMethod stack sender) ≤ 32
   pub isMethod : T (isKind o methodKind (frameMethod stack sender))
+  pub position : framePosition stack sender < codeSize o (frameMethod stack sender)
 
 module _ {n b top : ℕ} {contents bodies stack : List ℕ} (r : Runs n b top contents bodies stack) where
   abbrev o : Objects
@@ -124,10 +128,20 @@ module _ {n b top : ℕ} {contents bodies stack : List ℕ} (r : Runs n b top co
     limits : Limits (below .g .method) (below .g .depth)
     limits = (sym (below .base), below .fits .inside, below .fits .most, within o false (below .g) g-right, words-cases o (below .g .method) .1, g-right .isMethod)
 
+    position-inside : below .g .position < codeSize o (below .g .method)
+    unfolding fineAt
+    position-inside =
+        let m = below .g .method in
+        fine-inside (codeWords o m) (codeSize o m) (temporaryCount o m) (frameWords o m) (allowed (r .edition) o m) (below .g .position) _ (frame-spot o false (below .g) g-right .kept)
+
     pub sender-bounds : SenderBounds o top s stack
     sender-bounds =
         let x = subst (λ (m : ℕ). Limits m (frameDepth stack s)) (sym method-g) (subst (Limits (below .g .method)) (sym depth-g) limits) in
-        record { below = x .0; inside = x .1; most = x .2; holds = x .3; limit = x .4; isMethod = x .5 }
+        record { below = x .0; inside = x .1; most = x .2; holds = x .3; limit = x .4; isMethod = x .5; position = inside-there }
+      where
+        inside-there : framePosition stack s < codeSize o (frameMethod stack s)
+        inside-there =
+            subst (λ (m : ℕ). framePosition stack s < codeSize o m) (sym method-g) (subst (λ (p : ℕ). p < codeSize o (below .g .method)) (sym position-g) position-inside)
 
     -- Above the bottom: one operand and the depth of the sender's frame
     abbrev after : ℕ → List ℕ

@@ -122,7 +122,7 @@ module _ (s : Flat) (right : FlatRight s) (phase : s .registers .phase ≡ runni
   stood-p : Stood p′ stack′
   stood-p = shape-stood room (worlds room) p′ (s .stack) refl (goes-on .0 .shape)
 
-  extends-p : Extends (objects p) (objects p′)
+  pub extends-p : Extends (objects p) (objects p′)
   extends-p = goes-on .0 .after .extends
 
   cached-p : T (cacheFine (objects p′) cache′)

@@ -3,12 +3,11 @@ use Prim.Native.Nat.{ℕ, _+_, _-_, _≤_, _<_, max}
 use mathlib.Core.Path.{_≡_, refl, sym, ap, _∙_, subst}
 use mathlib.Core.List.{List}
 use native.Mathlib.Omega.{arith}
-use native.Mathlib.Decide.{ℕ-discrete}
-use borrow.Author.Tests.{eq-eqb, ne-eqb}
 use lib.ListN.{length}
-use Rattle.bytecode.proofs.Choice.{if-yes, if-no}
 use Rattle.model.specs.Image.{Room, accepted}
+use Rattle.model.specs.Objects.{objectsAt}
 use Rattle.model.proofs.Facts.{most, most-words}
+use Rattle.model.proofs.Extends.{Extends}
 use Rattle.plain.specs.Step.{Stepped, step}
 use Rattle.plain.specs.Flat.{Flat, flat, roomOf, plainOf}
 use Rattle.plain.specs.Check.{check}
@@ -18,16 +17,17 @@ use Rattle.plain.specs.RunLoop.{Turn}
 use Rattle.plain.proofs.FlatLaws.{FlatRight, check-right}
 use Rattle.plain.proofs.RunningLaws.{top-bounds}
 use Rattle.plain.proofs.MadeLaws.{made-as, running-is, running-runs}
-use Rattle.plain.proofs.LoopLaws.{top-end-is, turn-start, loop-out, loop-out-ends, loop-halts, loop-halts-ends, loop-level, loop-next, loop-over, loop-over-ends}
+use Rattle.plain.proofs.LoopLaws.{top-end-is, turn-start, loop-out, loop-out-ends, loop-halts, loop-halts-ends, loop-extends, loop-level, loop-next, loop-over, loop-over-ends}
 use Rattle.cache.specs.Caches.{Caches}
 use Rattle.model.specs.declared.CodePosition.{CodePosition}
 use Rattle.model.specs.declared.StackPosition.{StackPosition}
-use Rattle.steps.specs.declared.Active.{Active}
-use Rattle.steps.specs.Events.{written, movedOn, Stands, IsActive, Leaving}
-use Rattle.steps.proofs.ActiveLaws.{length-written, leaving}
+use Rattle.frames.specs.declared.Active.{Active}
+use Rattle.frames.specs.Active.{written, movedOn, Stands, IsActive, Held, Onward, Leaving, frameEnd}
+use Rattle.frames.proofs.ActiveLaws.{length-written, leaving, stands-onward}
 use Rattle.interpreter.specs.declared.Advanced.{Advanced}
-use Rattle.interpreter.specs.Advances.{Stops, AdvancedIs}
-use Rattle.runs.specs.Ends.{startOf, frameEnd, raisedTo, RunsTo}
+use Rattle.sends.specs.Sends.{Halts}
+use Rattle.interpreter.specs.Advances.{AdvancedIs, stepOf}
+use Rattle.runs.specs.Ends.{startOf, RunsTo}
 use Rattle.interpreter.specs.declared.Advanced.the-variants as A
 
 -- The state of the loop: from s₀ the run came to a running state, and the highest end fits a word and one.
@@ -97,7 +97,7 @@ module _ (s₀ : Flat) (grant edition receiver selector n b top : ℕ) (contents
           small = l .low;
         }
 
-    halted-at : (k : ℕ) → Stops x k contents bodies stack cache contents′ bodies′ stack′ cache′
+    halted-at : (k : ℕ) → Halts x k contents bodies stack cache contents′ bodies′ stack′ cache′
         → RunsTo s₀ grant edition receiver selector contents′ bodies′ stack′ cache′ (record { n = n; b = b; phase = k; top = top; value = 0; count = count; reach = reach })
     halted-at k h =
         let u = h .stays in
@@ -127,120 +127,152 @@ module _ (s₀ : Flat) (grant edition receiver selector n b top : ℕ) (contents
       abbrev end′ : ℕ
       end′ = frameEnd n′ b′ t contents′ bodies′ stack′
 
-      raises : Dec (top ≡ t) → raisedTo top t reach end′ ≡ max reach (topEnd (plainOf s′))
-      unfolding raisedTo
-      raises (yes q) =
-          let h = loop-level s₀ grant sₗ count reach (l .turn) more (runningWith edition receiver selector n′ b′ t) contents′ bodies′ stack′ cache′ made refl (sym q) in
-          if-yes _ _ (eq-eqb top t q) ∙ omega arith
-      raises (no q) = if-no _ _ (ne-eqb top t q) ∙ ap (max reach) (sym (top-end-is edition receiver selector n′ b′ t contents′ bodies′ stack′ cache′))
+      -- the objects hold those before
+      extends-at : Extends (objectsAt n b contents bodies) (objectsAt n′ b′ contents′ bodies′)
+      unfolding plainOf
+      extends-at = loop-extends s₀ grant sₗ count reach (l .turn) more (runningWith edition receiver selector n′ b′ t) contents′ bodies′ stack′ cache′ made
 
-      went-at : (reach′ : ℕ) → reach′ ≡ raisedTo top t reach end′ → reach′ ≤ 65536 → LoopAt s₀ grant edition receiver selector n′ b′ t contents′ bodies′ stack′ cache′ (count + 1) reach′
-      went-at reach′ h g = record { turn = next reach′ (h ∙ raises (ℕ-discrete top t)); low = g }
+      -- the same frame on top
+      level-at : t ≡ top → LoopAt s₀ grant edition receiver selector n′ b′ t contents′ bodies′ stack′ cache′ (count + 1) reach
+      level-at q =
+          let h = loop-level s₀ grant sₗ count reach (l .turn) more (runningWith edition receiver selector n′ b′ t) contents′ bodies′ stack′ cache′ made refl q in
+          record { turn = next reach (omega arith); low = l .low }
 
-      -- a frame that ends no higher
-      below-at : end′ ≤ reach → LoopAt s₀ grant edition receiver selector n′ b′ t contents′ bodies′ stack′ cache′ (count + 1) reach
-      below-at h =
-          record { turn = next reach (let e = top-end-is edition receiver selector n′ b′ t contents′ bodies′ stack′ cache′ in omega arith); low = l .low }
-
--- The highest end, by the code's tests
-pub raised-same : (before top reach end : ℕ) → before ≡ top → reach ≡ raisedTo before top reach end
-unfolding raisedTo
-raised-same before top reach end e = sym (if-yes _ _ (eq-eqb before top e))
-
-pub raised-other : (before top reach end r : ℕ) → (before ≡ top → ⊥) → r ≡ max reach end → r ≡ raisedTo before top reach end
-unfolding raisedTo
-raised-other before top reach end r e h = h ∙ sym (if-no _ _ (ne-eqb before top e))
+      -- another one
+      other-at : (reach′ : ℕ) → reach′ ≡ max reach end′ → LoopAt s₀ grant edition receiver selector n′ b′ t contents′ bodies′ stack′ cache′ (count + 1) reach′
+      other-at reach′ h =
+          let e = top-end-is edition receiver selector n′ b′ t contents′ bodies′ stack′ cache′ in
+          record { turn = next reach′ (h ∙ ap (max reach) (sym e)); low = let k = top-bounds runs-at in let g = l .low in omega arith }
 
 -- ---- the frame that the loop holds
 
-pub record Loop (s₀ : Flat) (grant edition receiver selector n b : ℕ) (a : Active) (contents bodies stack cache : List ℕ) (count reach : ℕ) : Type 0 where
-  pub at : LoopAt s₀ grant edition receiver selector n b (a .base .0) contents bodies (written a stack) cache count reach
+pub record Loop (s₀ : Flat) (grant edition receiver selector n b : ℕ) (a : Active) (contents bodies stack cache : List ℕ) (left reach : ℕ) : Type 0 where
+  pub at : LoopAt s₀ grant edition receiver selector n b (a .base .0) contents bodies (written a stack) cache (grant - left) reach
   pub stands : Stands n b contents bodies stack a
+  pub within : left ≤ grant
 
-pub loop-holds-it : {s₀ : Flat} {grant edition receiver selector n b top : ℕ} {contents bodies stack cache : List ℕ} {count reach : ℕ} → LoopAt s₀ grant edition receiver
-    selector n b top contents bodies stack cache count reach
-    → (a : Active) → (a .base .0 ≡ top) × (written a stack ≡ stack) × Stands n b contents bodies stack a → Loop s₀ grant edition receiver selector n b a contents bodies stack cache count reach
-loop-holds-it {s₀} {grant} {edition} {receiver} {selector} {n} {b} {top} {contents} {bodies} {stack} {cache} {count} {reach} l a e =
+pub loop-holds-it : {s₀ : Flat} {grant edition receiver selector n b top : ℕ} {contents bodies stack cache : List ℕ} {reach : ℕ}
+    → LoopAt s₀ grant edition receiver selector n b top contents bodies stack cache 0 reach
+    → (a : Active) → Held n b top contents bodies stack a → Loop s₀ grant edition receiver selector n b a contents bodies stack cache grant reach
+loop-holds-it {s₀} {grant} {edition} {receiver} {selector} {n} {b} {top} {contents} {bodies} {stack} {cache} {reach} l a h =
     record {
-      at = subst (λ (t : ℕ). LoopAt s₀ grant edition receiver selector n b t contents bodies (written a stack) cache count reach) (sym (e .0))
-          (subst (λ (s : List ℕ). LoopAt s₀ grant edition receiver selector n b top contents bodies s cache count reach) (sym (e .1)) l);
-      stands = e .2;
+      at = subst (λ (c : ℕ). LoopAt s₀ grant edition receiver selector n b (a .base .0) contents bodies (written a stack) cache c reach) (none grant)
+          (subst (λ (t : ℕ). LoopAt s₀ grant edition receiver selector n b t contents bodies (written a stack) cache 0 reach) (sym (h .base))
+          (subst (λ (s : List ℕ). LoopAt s₀ grant edition receiver selector n b top contents bodies s cache 0 reach) (sym (h .same)) l));
+      stands = h .stands;
+      within = omega arith;
     }
+  where
+    none : (k : ℕ) → 0 ≡ k - k
+    none k = omega arith
 
-module _ {s₀ : Flat} {grant edition receiver selector n b : ℕ} {a : Active} {contents bodies stack cache : List ℕ} {count reach : ℕ} (l : Loop s₀ grant edition receiver selector n b a contents bodies stack cache count reach) where
+module _ {s₀ : Flat} {grant edition receiver selector n b : ℕ} {a : Active} {contents bodies stack cache : List ℕ} {left reach : ℕ} (l : Loop s₀ grant edition receiver selector n b a contents bodies stack cache left reach) where
+  -- what the stack stands for
+  abbrev v : List ℕ
+  v = written a stack
+
   -- what a bytecode asks for
   pub loop-active : IsActive n b contents bodies stack a
   loop-active =
-      record { runs = loop-runs s₀ grant edition receiver selector n b (a .base .0) contents bodies (written a stack) cache count reach (l .at); stands = l .stands }
+      record { runs = loop-runs s₀ grant edition receiver selector n b (a .base .0) contents bodies v cache (grant - left) reach (l .at); stands = l .stands }
 
   pub loop-cached : Caches n b contents bodies cache
-  loop-cached = loop-caches s₀ grant edition receiver selector n b (a .base .0) contents bodies (written a stack) cache count reach (l .at)
+  loop-cached = loop-caches s₀ grant edition receiver selector n b (a .base .0) contents bodies v cache (grant - left) reach (l .at)
 
   pub held-small : (n ≤ 2047) × (b ≤ 24000) × (a .base .0 < 65536)
-  held-small = loop-small s₀ grant edition receiver selector n b (a .base .0) contents bodies (written a stack) cache count reach (l .at)
+  held-small = loop-small s₀ grant edition receiver selector n b (a .base .0) contents bodies v cache (grant - left) reach (l .at)
 
   pub held-lengths : (length contents ≡ length (s₀ .contents)) × (length bodies ≡ length (s₀ .bodies)) × (length stack ≡ length (s₀ .stack)) × (length cache ≡ length (s₀ .cache))
   held-lengths =
-      let e = loop-lengths s₀ grant edition receiver selector n b (a .base .0) contents bodies (written a stack) cache count reach (l .at) in
+      let e = loop-lengths s₀ grant edition receiver selector n b (a .base .0) contents bodies v cache (grant - left) reach (l .at) in
       (e .0, e .1, sym (length-written a stack) ∙ e .2, e .3)
 
   pub held-leaves : Leaving stack a
   held-leaves = leaving loop-active
 
   -- the grant is used up, and the frame's words are written
-  pub loop-ends : (stack′ : List ℕ) → stack′ ≡ written a stack → grant ≤ count
-      → RunsTo s₀ grant edition receiver selector contents bodies stack′ cache (record { n = n; b = b; phase = 1; top = a .base .0; value = 0; count = count; reach = reach })
+  pub loop-ends : (stack′ : List ℕ) → stack′ ≡ written a stack → left ≤ 0
+      → RunsTo s₀ grant edition receiver selector contents bodies stack′ cache (record { n = n; b = b; phase = 1; top = a .base .0; value = 0; count = grant; reach = reach })
   loop-ends stack′ e h =
-      subst (λ (s : List ℕ). RunsTo s₀ grant edition receiver selector contents bodies s cache (record { n = n; b = b; phase = 1; top = a .base .0; value = 0; count = count; reach = reach })) (sym e)
-      (ends-at s₀ grant edition receiver selector n b (a .base .0) contents bodies (written a stack) cache count reach (l .at) h)
+      subst (λ (s : List ℕ). RunsTo s₀ grant edition receiver selector contents bodies s cache (record { n = n; b = b; phase = 1; top = a .base .0; value = 0; count = grant; reach = reach })) (sym e)
+      (subst (λ (c : ℕ). RunsTo s₀ grant edition receiver selector contents bodies v cache (record { n = n; b = b; phase = 1; top = a .base .0; value = 0; count = c; reach = reach })) all
+      (ends-at s₀ grant edition receiver selector n b (a .base .0) contents bodies v cache (grant - left) reach (l .at) (omega arith)))
+    where
+      all : grant - left ≡ grant
+      all = omega arith
 
-  module _ (more : count < grant) (contents′ bodies′ stack′ cache′ : List ℕ) (y : Advanced) (z : AdvancedIs edition receiver selector n b a contents bodies stack cache contents′ bodies′ stack′ cache′ y) where
+  module _ (more : 0 < left) (contents′ bodies′ stack′ cache′ : List ℕ) (y : Advanced) (z : AdvancedIs edition receiver selector n b a contents bodies stack cache contents′ bodies′ stack′ cache′ y) where
     told : (y′ : Advanced) → y ≡ y′ → AdvancedIs edition receiver selector n b a contents bodies stack cache contents′ bodies′ stack′ cache′ y′
     told y′ e = subst (AdvancedIs edition receiver selector n b a contents bodies stack cache contents′ bodies′ stack′ cache′) e z
 
+    fewer : grant - left < grant
+    fewer = let w = l .within in omega arith
+
+    -- one more is made
+    one-less : grant - left + 1 ≡ grant - (left - 1)
+    one-less = let w = l .within in omega arith
+
     pub loop-finished : (w : ℕ) → y ≡ A.Finished w
-        → RunsTo s₀ grant edition receiver selector contents′ bodies′ stack′ cache′ (record { n = n; b = b; phase = 2; top = 0; value = w; count = count + 1; reach = reach })
-    loop-finished w e = finished-at s₀ grant edition receiver selector n b (a .base .0) contents bodies (written a stack) cache count reach (l .at) more contents′
-        bodies′ stack′ cache′ w (told (A.Finished w) e)
+        → RunsTo s₀ grant edition receiver selector contents′ bodies′ stack′ cache′ (record { n = n; b = b; phase = 2; top = 0; value = w; count = grant - left + 1; reach = reach })
+    loop-finished w e =
+        finished-at s₀ grant edition receiver selector n b (a .base .0) contents bodies v cache (grant - left) reach (l .at) fewer contents′ bodies′ stack′ cache′ w (told (A.Finished w) e)
 
     pub loop-halted : (k : ℕ) → y ≡ A.Halted k
-        → RunsTo s₀ grant edition receiver selector contents′ bodies′ stack′ cache′ (record { n = n; b = b; phase = k; top = a .base .0; value = 0; count = count; reach = reach })
-    loop-halted k e = halted-at s₀ grant edition receiver selector n b (a .base .0) contents bodies (written a stack) cache count reach (l .at) more contents′ bodies′ stack′ cache′ k
-        (told (A.Halted k) e)
+        → RunsTo s₀ grant edition receiver selector contents′ bodies′ stack′ cache′ (record { n = n; b = b; phase = k; top = a .base .0; value = 0; count = grant - left; reach = reach })
+    loop-halted k e =
+        halted-at s₀ grant edition receiver selector n b (a .base .0) contents bodies v cache (grant - left) reach (l .at) fewer contents′ bodies′ stack′ cache′ k (told (A.Halted k) e)
 
-    -- the frame goes on
-    pub loop-next-one : (q : CodePosition) (e : StackPosition) → y ≡ A.Next q e → Loop s₀ grant edition receiver selector n b (movedOn a q e) contents′ bodies′ stack′ cache′ (count + 1) reach
-    loop-next-one q e d =
-        let m : AdvancedIs edition receiver selector n b a contents bodies stack cache contents′ bodies′ stack′ cache′ (A.Next q e) = told (A.Next q e) d in
+    -- a frame is held, with one bytecode less to make
+    holds : (n′ b′ : ℕ) (f : Active) (reach′ : ℕ)
+        → LoopAt s₀ grant edition receiver selector n′ b′ (f .base .0) contents′ bodies′ (written f stack′) cache′ (grant - left + 1) reach′ → Stands n′ b′ contents′ bodies′ stack′ f
+        → Loop s₀ grant edition receiver selector n′ b′ f contents′ bodies′ stack′ cache′ (left - 1) reach′
+    holds n′ b′ f reach′ h s =
         record {
-          at = went-at s₀ grant edition receiver selector n b (a .base .0) contents bodies (written a stack) cache count reach (l .at) more contents′ bodies′
-              (written (movedOn a q e) stack′) cache′ n b (a .base .0) (m .0) reach (raised-same (a .base .0) (a .base .0) reach _ refl) (l .at .low);
-          stands = m .1;
+          at = subst (λ (c : ℕ). LoopAt s₀ grant edition receiver selector n′ b′ (f .base .0) contents′ bodies′ (written f stack′) cache′ c reach′) one-less h;
+          stands = s;
+          within = let w = l .within in omega arith;
         }
 
-    -- another frame is on top, or the same
-    module _ (n′ b′ : ℕ) (t : StackPosition) (d : y ≡ A.Top n′ b′ t) where
-      pub went-runs : Runs n′ b′ (t .0) contents′ bodies′ stack′
-      went-runs = runs-at s₀ grant edition receiver selector n b (a .base .0) contents bodies (written a stack) cache count reach (l .at) more contents′ bodies′ stack′
-          cache′ n′ b′ (t .0) (told (A.Top n′ b′ t) d)
+    -- the frame goes on
+    goes-on : (n′ b′ : ℕ) (q : CodePosition) (e : StackPosition)
+        → Made (stepOf edition receiver selector n b a contents bodies stack cache) (runningWith edition receiver selector n′ b′ (a .base .0)) contents bodies v cache contents′ bodies′
+        (written (movedOn a q e) stack′) cache′ → Onward a stack stack′ (e .0)
+        → Loop s₀ grant edition receiver selector n′ b′ (movedOn a q e) contents′ bodies′ stack′ cache′ (left - 1) reach
+    goes-on n′ b′ q e m w =
+        holds n′ b′ (movedOn a q e) reach
+        (level-at s₀ grant edition receiver selector n b (a .base .0) contents bodies v cache (grant - left) reach (l .at) fewer contents′ bodies′ (written (movedOn a q e) stack′) cache′ n′ b′
+        (a .base .0) m refl)
+        (stands-onward n′ b′ contents′ bodies′ loop-active
+        (extends-at s₀ grant edition receiver selector n b (a .base .0) contents bodies v cache (grant - left) reach (l .at) fewer contents′ bodies′ (written (movedOn a q e) stack′) cache′ n′ b′
+        (a .base .0) m) q e w)
 
-      pub loop-went : (reach′ : ℕ) → reach′ ≡ raisedTo (a .base .0) (t .0) reach (frameEnd n′ b′ (t .0) contents′ bodies′ stack′) → reach′ ≤ 65536
-          → LoopAt s₀ grant edition receiver selector n′ b′ (t .0) contents′ bodies′ stack′ cache′ (count + 1) reach′
-      loop-went reach′ h g = went-at s₀ grant edition receiver selector n b (a .base .0) contents bodies (written a stack) cache count reach (l .at) more contents′
-          bodies′ stack′ cache′ n′ b′ (t .0) (told (A.Top n′ b′ t) d) reach′ h g
+    pub loop-next-one : (q : CodePosition) (e : StackPosition) → y ≡ A.Next q e → Loop s₀ grant edition receiver selector n b (movedOn a q e) contents′ bodies′ stack′ cache′ (left - 1) reach
+    loop-next-one q e d =
+        let m : AdvancedIs edition receiver selector n b a contents bodies stack cache contents′ bodies′ stack′ cache′ (A.Next q e) = told (A.Next q e) d in
+        goes-on n b q e (m .0) (m .1)
+
+    pub loop-answered : (n′ b′ : ℕ) (q : CodePosition) (e : StackPosition) → y ≡ A.Answered n′ b′ q e
+        → Loop s₀ grant edition receiver selector n′ b′ (movedOn a q e) contents′ bodies′ stack′ cache′ (left - 1) reach
+    loop-answered n′ b′ q e d =
+        let m : AdvancedIs edition receiver selector n b a contents bodies stack cache contents′ bodies′ stack′ cache′ (A.Answered n′ b′ q e) = told (A.Answered n′ b′ q e) d in
+        goes-on n′ b′ q e (m .0) (m .1)
+
+    -- a new frame is on top
+    pub loop-entered : (f : Active) (end : ℕ) → y ≡ A.Top f end → (reach′ : ℕ) → reach′ ≡ max reach end → Loop s₀ grant edition receiver selector n b f contents′ bodies′ stack′ cache′ (left - 1) reach′
+    loop-entered f end d reach′ h =
+        let m : AdvancedIs edition receiver selector n b a contents bodies stack cache contents′ bodies′ stack′ cache′ (A.Top f end) = told (A.Top f end) d in
+        holds n b f reach′
+        (subst (λ (s : List ℕ). LoopAt s₀ grant edition receiver selector n b (f .base .0) contents′ bodies′ s cache′ (grant - left + 1) reach′) (sym (m .1 .same))
+        (other-at s₀ grant edition receiver selector n b (a .base .0) contents bodies v cache (grant - left) reach (l .at) fewer contents′ bodies′ stack′ cache′ n b (f .base .0) (m .0) reach′
+        (h ∙ ap (max reach) (m .2)))) (m .1 .stands)
 
     -- a return: the frame below ends where the top one began
-    module _ (t : StackPosition) (d : y ≡ A.Below t) where
-      said : AdvancedIs edition receiver selector n b a contents bodies stack cache contents′ bodies′ stack′ cache′ (A.Below t)
-      said = told (A.Below t) d
-
-      pub back-runs : Runs n b (t .0) contents′ bodies′ stack′
-      back-runs = runs-at s₀ grant edition receiver selector n b (a .base .0) contents bodies (written a stack) cache count reach (l .at) more contents′ bodies′ stack′ cache′ n b (t .0) (said .0)
-
-      pub loop-back : LoopAt s₀ grant edition receiver selector n b (t .0) contents′ bodies′ stack′ cache′ (count + 1) reach
-      loop-back =
-          let h = l .at .turn .high in
-          let e = top-end-is edition receiver selector n b (a .base .0) contents bodies (written a stack) cache in
-          let k = said .1 in
-          below-at s₀ grant edition receiver selector n b (a .base .0) contents bodies (written a stack) cache count reach (l .at) more contents′ bodies′ stack′ cache′ n b (t .0) (said .0)
-          (omega arith)
+    pub loop-back : (f : Active) → y ≡ A.Below f → Loop s₀ grant edition receiver selector n b f contents′ bodies′ stack′ cache′ (left - 1) reach
+    loop-back f d =
+        let m : AdvancedIs edition receiver selector n b a contents bodies stack cache contents′ bodies′ stack′ cache′ (A.Below f) = told (A.Below f) d in
+        let h = l .at .turn .high in
+        let e = top-end-is edition receiver selector n b (a .base .0) contents bodies v cache in
+        let k = m .2 in
+        holds n b f reach
+        (other-at s₀ grant edition receiver selector n b (a .base .0) contents bodies v cache (grant - left) reach (l .at) fewer contents′ bodies′ (written f stack′) cache′ n b (f .base .0) (m .0)
+        reach (omega arith)) (m .1)

@@ -1,13 +1,9 @@
 -- How the run loop ends, from a state in phase 1 given by N, B, top and the lent words.
-use Prim.Native.Nat.{ℕ, _+_, max, _≤_}
+use Prim.Native.Nat.{ℕ, _≤_}
 use mathlib.Core.Path.{_≡_}
 use mathlib.Core.List.{List}
-use lib.Dec.{eqb}
-use Rattle.bytecode.specs.Test.{if_then_else_}
-use Rattle.model.specs.Objects.{objectsAt}
-use Rattle.model.specs.Method.{frameSize}
 use Rattle.model.specs.Image.{accepted}
-use Rattle.plain.specs.Flat.{Flat, flat, frameMethod}
+use Rattle.plain.specs.Flat.{Flat, flat}
 use Rattle.plain.specs.Check.{check}
 use Rattle.plain.specs.Calls.{result}
 use Rattle.plain.specs.FlatCalls.{gives, runsFrom, endsFrom}
@@ -39,11 +35,3 @@ abbrev pub RunsOn : (e n b top : ℕ) (contents bodies stack cache : List ℕ) (
 RunsOn e n b top contents bodies stack cache grant contents′ bodies′ stack′ cache′ r =
     (receiver selector : ℕ) → check (startOf e receiver selector n b top contents bodies stack cache) ≡ accepted
     → RunsTo (startOf e receiver selector n b top contents bodies stack cache) grant e receiver selector contents′ bodies′ stack′ cache′ r
-
--- Where the frame at `top` ends
-abbrev pub frameEnd : (n b top : ℕ) → List ℕ → List ℕ → List ℕ → ℕ
-frameEnd n b top contents bodies stack = top + frameSize (objectsAt n b contents bodies) (frameMethod stack top)
-
--- The highest end once `top` is the top frame: where it is the same, no frame ends higher.
-unfoldable pub raisedTo : ℕ → ℕ → ℕ → ℕ → ℕ
-raisedTo before top reach end = if eqb before top then reach else max reach end

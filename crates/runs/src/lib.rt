@@ -1,8 +1,9 @@
 // The run loop, over N, B, top and the lent words. The start words are none of its business: what it promises holds for all of them.
 ghost use mathlib.Core.Path.{_≡_};
-ghost use Prim.Native.Nat.{_≤_};
+ghost use Prim.Native.Nat.{_≤_, max};
 ghost use Rattle.plain.specs.Running.{Runs};
-ghost use Rattle.runs.specs.Ends.{frameEnd, raisedTo, Goes, RunsOn};
+ghost use Rattle.frames.specs.Active.{frameEnd};
+ghost use Rattle.runs.specs.Ends.{Goes, RunsOn};
 use interpreter::Advanced;
 use model::Pointer;
 use model::StackPosition;
@@ -32,29 +33,13 @@ fn frame_end(
     ensures { λ r. ⌜ (r ≡ frameEnd n b (top .0) (now (contents .entry)) (now (bodies .entry)) (now (stack .entry))) × (r ≤ 65536) ⌝ }
 {
     let base = top.0;
-    let method = Pointer(stack[base + 3]);
-    let words = readers::frame_words(objects::header(contents, bodies, n, b, method));
-    base + (limits::FRAME_HEADER + words)
+    let method = Pointer(stack[base + limits::FRAME_METHOD]);
+    frames::end_of(contents, bodies, n, b, top, method)
 }
 
-// The highest end once the top frame is another one: where it is the same, no frame ends higher.
-fn raised(
-    contents: &[u16],
-    bodies: &[u16],
-    stack: &[u16],
-    n: usize,
-    b: usize,
-    before: usize,
-    top: usize,
-    reach: usize,
-) -> usize
-    requires { ⌜ Runs n b top (now contents) (now bodies) (now stack) × (reach ≤ 65536) ⌝ }
-    ensures { λ r. ⌜ (r ≡ raisedTo before top reach (frameEnd n b top (now (contents .entry)) (now (bodies .entry)) (now (stack .entry)))) × (r ≤ 65536) ⌝ }
+fn higher(reach: usize, end: usize) -> usize
+    ensures { λ r. ⌜ r ≡ max reach end ⌝ }
 {
-    if before == top {
-        return reach;
-    }
-    let end = frame_end(contents, bodies, stack, n, b, StackPosition(top));
     if reach < end {
         return end;
     }
@@ -80,10 +65,10 @@ pub fn run(
     let mut objects = n;
     let mut words = b;
     let start = StackPosition(top);
-    let mut count: u32 = 0;
+    let mut left = grant;
     let mut reach = frame_end(contents, bodies, stack, objects, words, start);
-    let mut active = steps::hold(contents, bodies, stack, objects, words, start);
-    while count < grant {
+    let mut active = frames::hold(contents, bodies, stack, objects, words, start);
+    while 0 < left {
         match interpreter::advance(
             contents,
             bodies,
@@ -97,31 +82,28 @@ pub fn run(
             Advanced::Next { position, end } => {
                 active.position = position;
                 active.end = end;
-                count += 1;
+                left -= 1;
             }
-            Advanced::Top {
+            Advanced::Answered {
                 n: grown,
                 b: longer,
-                top: next,
+                position,
+                end,
             } => {
                 objects = grown;
                 words = longer;
-                reach = raised(
-                    contents,
-                    bodies,
-                    stack,
-                    objects,
-                    words,
-                    active.base.0,
-                    next.0,
-                    reach,
-                );
-                active = steps::hold(contents, bodies, stack, objects, words, next);
-                count += 1;
+                active.position = position;
+                active.end = end;
+                left -= 1;
             }
-            Advanced::Below(below) => {
-                active = steps::hold(contents, bodies, stack, objects, words, below);
-                count += 1;
+            Advanced::Top { frame, end } => {
+                active = frame;
+                reach = higher(reach, end);
+                left -= 1;
+            }
+            Advanced::Below(frame) => {
+                active = frame;
+                left -= 1;
             }
             Advanced::Finished(w) => {
                 return Ended {
@@ -130,7 +112,7 @@ pub fn run(
                     phase: 2,
                     top: 0,
                     value: w,
-                    count: count + 1,
+                    count: grant - left + 1,
                     reach: reach,
                 };
             }
@@ -141,20 +123,20 @@ pub fn run(
                     phase: k,
                     top: active.base.0 as u16,
                     value: 0,
-                    count: count,
+                    count: grant - left,
                     reach: reach,
                 };
             }
         }
     }
-    steps::leave(stack, active);
+    frames::leave(stack, active);
     Ended {
         n: objects as u16,
         b: words as u16,
         phase: 1,
         top: active.base.0 as u16,
         value: 0,
-        count: count,
+        count: grant,
         reach: reach,
     }
 }

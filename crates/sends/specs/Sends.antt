@@ -1,54 +1,27 @@
 -- What the functions of a send ask of the buffers, and what their answers say.
-use Prim.Native.Nat.{ℕ, suc, _+_, _-_, _≤_, _<_}
+use Prim.Native.Nat.{ℕ, _+_, _-_, _≤_, _<_}
 use mathlib.Core.Path.{_≡_}
 use mathlib.Core.Bool.{Bool, true, false}
 use mathlib.Core.List.{List}
 use lib.Dec.{T}
-use lib.ListN.{length, getD}
+use lib.ListN.{length}
 use Rattle.model.specs.Limits.{methodKind}
 use Rattle.model.specs.Word.{isValid}
-use Rattle.model.specs.Objects.{Objects, objectsAt, classOf, isKind, part}
+use Rattle.model.specs.Objects.{Objects, objectsAt, classOf, isKind}
 use Rattle.model.specs.Method.{home, temporaryCount, frameSize}
 use Rattle.model.specs.Lookup.{inChain}
 use Rattle.model.specs.Rules.{IsRight}
-use Rattle.plain.specs.Registers.{notUnderstood, noStackRoom}
+use Rattle.plain.specs.Registers.{Cause, phaseOf}
 use Rattle.plain.specs.State.{fitsStack}
 use Rattle.plain.specs.Step.{Stepped, halts}
-use Rattle.plain.specs.Flat.{frameDepth, frameMethod, operandsStart}
-use Rattle.plain.specs.Running.{runningWith, Made, Stays, sentReceiver, roomAt, sendStep}
-use Rattle.sends.specs.declared.Message.{Message}
+use Rattle.plain.specs.Running.{runningWith, Made, Stays, roomAt, sendStep}
+use Rattle.frames.specs.declared.Active.{Active}
+use Rattle.frames.specs.declared.Message.{Message}
+use Rattle.frames.specs.Active.{written, movedOn, Onward, Fresh, Held, frameEnd}
 use Rattle.sends.specs.declared.Base.{Base}
 use Rattle.sends.specs.declared.Base.the-variants.{At, Full, Unfit}
 use Rattle.sends.specs.declared.Sent.{Sent}
-use Rattle.sends.specs.declared.Sent.the-variants.{Answered, Entered, NotUnderstood, NoRoom}
-
--- The first operand of the top frame, and the place behind its last
-pub record OperandsAt (n b top : ℕ) (contents bodies stack : List ℕ) (operands end : ℕ) : Type 0 where
-  pub first : operands ≡ operandsStart (objectsAt n b contents bodies) (frameMethod stack top) top
-  pub behind : end ≡ operands + frameDepth stack top
-
--- Receiver and arguments among operands that can be read, and what is read of them
-pub record Readable (stack : List ℕ) (top operands end count : ℕ) : Type 0 where
-  pub frame : top + 3 < length stack
-  pub needs : operands + suc count ≤ end
-  pub inside : end ≤ length stack
-
-pub record Reads (stack : List ℕ) (top operands end count : ℕ) (r : Message) : Type 0 where
-  pub running : r .running ≡ frameMethod stack top
-  pub left : r .left ≡ end - suc count - operands
-  pub place : r .place ≡ end - suc count
-  pub receiver : r .receiver ≡ getD stack (r .place) 0
-  pub first : r .first ≡ getD (part stack (r .place + 1) count) 0 0
-  pub second : r .second ≡ getD (part stack (r .place + 1) count) 1 0
-
--- Receiver and arguments of a send, the uppermost operands of the top frame
-pub record MessageIs (n b top : ℕ) (contents bodies stack : List ℕ) (count : ℕ) (r : Message) : Type 0 where
-  pub running : r .running ≡ frameMethod stack top
-  pub left : r .left ≡ frameDepth stack top - suc count
-  pub place : r .place ≡ operandsStart (objectsAt n b contents bodies) (frameMethod stack top) top + (frameDepth stack top - suc count)
-  pub receiver : r .receiver ≡ sentReceiver n b top contents bodies stack count
-  pub first : r .first ≡ getD (part stack (r .place + 1) count) 0 0
-  pub second : r .second ≡ getD (part stack (r .place + 1) count) 1 0
+use Rattle.sends.specs.declared.Sent.the-variants.{Answered, Entered, Halted}
 
 -- A method that may get a frame: where it is `sure`, the receiver is one that the method can run on.
 pub record Guarded (n b : ℕ) (contents bodies : List ℕ) (m receiver : ℕ) (sure : Bool) : Type 0 where
@@ -63,19 +36,21 @@ pub record Framing (n b top : ℕ) (contents bodies : List ℕ) (running m recei
   pub below : T (isKind (objectsAt n b contents bodies) methodKind running)
   pub low : top < 65536
 
--- Where it stands, and its temporaries; or it does not fit; or the receiver is none for it
-pub record FrameAt (o : Objects) (room top running m receiver base temporaries : ℕ) : Type 0 where
+-- Where it stands, its temporaries and its end; or it does not fit; or the receiver is none for it
+pub record FrameAt (o : Objects) (room top running m receiver : ℕ) (f : Active) (temporaries end : ℕ) : Type 0 where
   pub chain : inChain o (home o m) (classOf o receiver) ≡ true
-  pub above : base ≡ top + frameSize o running
+  pub above : f .base .0 ≡ top + frameSize o running
   pub holds : temporaries ≡ temporaryCount o m
   pub fits : fitsStack room (top + frameSize o running) (frameSize o m) ≡ true
+  pub ends : end ≡ f .base .0 + frameSize o m
+  pub fresh : Fresh o m f
 
 pub record NoFrame (o : Objects) (room top running m receiver : ℕ) : Type 0 where
   pub chain : inChain o (home o m) (classOf o receiver) ≡ true
   pub fits : fitsStack room (top + frameSize o running) (frameSize o m) ≡ false
 
 abbrev pub BaseIs : Objects → ℕ → ℕ → ℕ → ℕ → ℕ → Base → Type 0
-BaseIs o room top running m receiver (At base temporaries) = FrameAt o room top running m receiver base temporaries
+BaseIs o room top running m receiver (At f temporaries end) = FrameAt o room top running m receiver f temporaries end
 BaseIs o room top running m receiver Full = NoFrame o room top running m receiver
 BaseIs o room top running m receiver Unfit = inChain o (home o m) (classOf o receiver) ≡ false
 
@@ -90,20 +65,33 @@ pub record Enters (stack : List ℕ) (top next left base temporaries from count 
   pub few : count ≤ temporaries
   pub most : temporaries ≤ 32
 
--- What a send leads to, of which x is the step
-abbrev pub SentIs : Stepped → ℕ → ℕ → ℕ → ℕ → ℕ → ℕ → List ℕ → List ℕ → List ℕ → List ℕ → List ℕ → List ℕ → List ℕ → List ℕ → Sent → Type 0
-SentIs x e receiver selector n b top contents bodies stack cache contents′ bodies′ stack′ cache′ (Answered n′ b′) =
-    Made x (runningWith e receiver selector n′ b′ top) contents bodies stack cache contents′ bodies′ stack′ cache′
-SentIs x e receiver selector n b top contents bodies stack cache contents′ bodies′ stack′ cache′ (Entered t) =
-    Made x (runningWith e receiver selector n b (t .0)) contents bodies stack cache contents′ bodies′ stack′ cache′
-SentIs x e receiver selector n b top contents bodies stack cache contents′ bodies′ stack′ cache′ NotUnderstood =
-    (x ≡ halts notUnderstood) × Stays contents bodies stack cache contents′ bodies′ stack′ cache′
-SentIs x e receiver selector n b top contents bodies stack cache contents′ bodies′ stack′ cache′ NoRoom =
-    (x ≡ halts noStackRoom) × Stays contents bodies stack cache contents′ bodies′ stack′ cache′
+-- A halt before the bytecode, with the phase that says why: nothing changes.
+pub record Halts (x : Stepped) (k : ℕ) (contents bodies stack cache contents′ bodies′ stack′ cache′ : List ℕ) : Type 0 where
+  pub cause : Cause
+  pub steps : x ≡ halts cause
+  pub phase : k ≡ phaseOf cause
+  pub stays : Stays contents bodies stack cache contents′ bodies′ stack′ cache′
+
+-- The frame behind an answered send
+abbrev pub behindSend : Active → Message → Active
+behindSend a m = movedOn a (m .next) (record { 0 = a .end .0 - m .count })
+
+-- What a send by the frame that the loop holds leads to, of which x is the step
+abbrev pub SentIs : Stepped → ℕ → ℕ → ℕ → ℕ → ℕ → Active → Message → List ℕ → List ℕ → List ℕ → List ℕ → List ℕ → List ℕ → List ℕ → List ℕ → Sent → Type 0
+SentIs x e receiver selector n b a m contents bodies stack cache contents′ bodies′ stack′ cache′ (Answered n′ b′) =
+    Made x (runningWith e receiver selector n′ b′ (a .base .0)) contents bodies (written a stack) cache contents′ bodies′ (written (behindSend a m) stack′) cache′
+    × Onward a stack stack′ (a .end .0 - m .count)
+SentIs x e receiver selector n b a m contents bodies stack cache contents′ bodies′ stack′ cache′ (Entered f end) =
+    Made x (runningWith e receiver selector n b (f .base .0)) contents bodies (written a stack) cache contents′ bodies′ stack′ cache′
+    × Held n b (f .base .0) contents′ bodies′ stack′ f
+    × (end ≡ frameEnd n b (f .base .0) contents′ bodies′ stack′)
+SentIs x e receiver selector n b a m contents bodies stack cache contents′ bodies′ stack′ cache′ (Halted k) =
+    Halts x k contents bodies stack cache contents′ bodies′ stack′ cache′
 
 -- What `send` promises in an edition, with whatever receiver and selector the run began
-abbrev pub Sends : (e n b top : ℕ) (contents bodies stack cache : List ℕ) (selector count class next : ℕ) (contents′ bodies′ stack′ cache′ : List ℕ) → Sent → Type 0
-Sends e n b top contents bodies stack cache selector count class next contents′ bodies′ stack′ cache′ r =
+abbrev pub Sends : (e n b : ℕ) (a : Active) (m : Message) (contents bodies stack cache contents′ bodies′ stack′ cache′ : List ℕ) → Sent → Type 0
+Sends e n b a m contents bodies stack cache contents′ bodies′ stack′ cache′ r =
     (receiver startSelector : ℕ)
-    → SentIs (sendStep (roomAt contents bodies stack cache) e receiver startSelector n b top contents bodies stack selector count class next)
-    e receiver startSelector n b top contents bodies stack cache contents′ bodies′ stack′ cache′ r
+    → SentIs (sendStep (roomAt contents bodies (written a stack) cache) e receiver startSelector n b (a .base .0) contents bodies (written a stack) (m .selector) (m .count) (m .class .0)
+    (m .next .0))
+    e receiver startSelector n b a m contents bodies stack cache contents′ bodies′ stack′ cache′ r

@@ -10,39 +10,35 @@ ghost use Rattle.model.specs.Lookup.{inChain};
 ghost use Rattle.plain.specs.Running.{Sending};
 ghost use Rattle.cache.specs.Caches.{Caches};
 ghost use Rattle.frames.specs.Words.{newWords};
+ghost use Rattle.frames.specs.Active.{written, IsActive};
 ghost use Rattle.activation.specs.Activating.{Activable, Activates};
-ghost use Rattle.sends.specs.Sends.{OperandsAt, Readable, Reads, Guarded, Framing, BaseIs, Enters, Sends};
+ghost use Rattle.sends.specs.Sends.{Guarded, Framing, BaseIs, Enters, Sends};
 use activation::Activated;
+use frames::Active;
+use frames::Message;
 use model::CodePosition;
 use model::Found;
 use model::Pointer;
 use model::StackPosition;
 use model::limits;
 
-// Receiver, first and second argument (0 where there is none) of a send by a running method. The receiver's place is in the stack;
-// `left` operands stay below it.
-struct Message {
-    running: u16,
-    left: usize,
-    place: usize,
-    receiver: u16,
-    first: u16,
-    second: u16,
-}
-
-// Where the frame of a method stands and how many temporaries it has; or the stack is full; or the receiver is none for the method.
+// The frame of a method, how many temporaries it has and where it ends; or the stack is full; or the receiver is none for the method.
 enum Base {
-    At { base: usize, temporaries: usize },
+    At {
+        frame: Active,
+        temporaries: usize,
+        end: usize,
+    },
     Full,
     Unfit,
 }
 
-// What a send leads to: an answer, with the number of objects and body words then; a new top frame; or a halt.
+// What a send leads to: an answer, with the number of objects and body words then; a new top frame, and where it ends; or a halt, with the
+// phase that says why.
 pub enum Sent {
     Answered { n: usize, b: usize },
-    Entered(StackPosition),
-    NotUnderstood,
-    NoRoom,
+    Entered { frame: Active, end: usize },
+    Halted(u16),
 }
 
 // Argument i of `count` in the stack, 0 where there is none.
@@ -56,52 +52,40 @@ fn argument(stack: &[u16], from: usize, count: usize, i: usize) -> u16
     stack[from + i]
 }
 
-// The operands of the top frame start at `operands` and end before `end`.
-fn received(
-    stack: &[u16],
-    top: StackPosition,
-    operands: StackPosition,
-    end: StackPosition,
-    count: usize,
-) -> Message
-    requires { ⌜ Readable (now stack) (top .0) (operands .0) (end .0) count ⌝ }
-    ensures { λ r. ⌜ Reads (now (stack .entry)) (top .0) (operands .0) (end .0) count r ⌝ }
-{
-    let base = top.0;
-    let running = stack[base + 3];
-    let place = end.0 - 1 - count;
-    let left = place - operands.0;
-    let first = argument(stack, place + 1, count, 0);
-    let second = argument(stack, place + 1, count, 1);
-    Message {
-        running: running,
-        left: left,
-        place: place,
-        receiver: stack[place],
-        first: first,
-        second: second,
-    }
-}
-
-// What a method does. Most run in a frame at once: their flag alone is read here.
+// What a method does on the receiver at a place and the arguments above it. Most run in a frame at once: their flag alone is read here.
 fn acted(
     contents: &mut [u16],
     bodies: &mut [u16],
+    stack: &[u16],
     edition: u16,
     n: usize,
     b: usize,
     method: Pointer,
-    receiver: u16,
-    x: u16,
-    y: u16,
+    place: usize,
+    count: usize,
 ) -> Activated
-    requires { ⌜ Activable n b (now contents) (now bodies) (method .0) receiver ⌝ }
-    ensures { λ r. ⌜ Activates edition n b (now (contents .entry)) (now (bodies .entry)) (method .0) receiver x y (now (contents .exit)) (now (bodies .exit)) r ⌝ }
+    requires { ⌜ Activable n b (now contents) (now bodies) (method .0) (getD (now stack) place 0) × (place + 1 + count ≤ length (now stack)) ⌝ }
+    ensures { λ r. ⌜ Activates edition n b (now (contents .entry)) (now (bodies .entry)) (method .0) (getD (now (stack .entry)) place 0)
+        (getD (part (now (stack .entry)) (place + 1) count) 0 0) (getD (part (now (stack .entry)) (place + 1) count) 1 0)
+        (now (contents .exit)) (now (bodies .exit)) r ⌝ }
 {
     if readers::flag(objects::header(contents, bodies, n, b, method)) < limits::ANSWER_SELF {
         return Activated::Frame;
     }
-    activation::activate(contents, bodies, edition, n, b, method, receiver, x, y)
+    let receiver = stack[place];
+    let first = argument(stack, place + 1, count, 0);
+    let second = argument(stack, place + 1, count, 1);
+    activation::act(
+        contents,
+        bodies,
+        edition,
+        n,
+        b,
+        method,
+        receiver,
+        first,
+        second,
+    )
 }
 
 // Whether the method's home is in the receiver's class chain; a sure send need not look.
@@ -127,8 +111,8 @@ fn runs_on(
     objects::in_chain(contents, bodies, n, b, home, class)
 }
 
-// The base of a frame above that of the running method, in a stack of `room` words.
-fn new_base(
+// The frame of a method above that of the running one, in a stack of `room` words.
+fn new_frame(
     contents: &[u16],
     bodies: &[u16],
     n: usize,
@@ -146,20 +130,28 @@ fn new_base(
     if !runs_on(contents, bodies, n, b, method, receiver, sure) {
         return Base::Unfit;
     }
-    let below = readers::frame_words(objects::header(contents, bodies, n, b, running));
-    let header = objects::header(contents, bodies, n, b, method);
-    let base = top.0 + limits::FRAME_HEADER + below;
-    let end = base + limits::FRAME_HEADER + readers::frame_words(header);
+    let base = StackPosition(frames::end_of(contents, bodies, n, b, top, running));
+    let end = frames::end_of(contents, bodies, n, b, base, method);
     if room < end {
         return Base::Full;
     }
     if limits::MOST_STACK_WORDS < end {
         return Base::Full;
     }
-    let temporaries = readers::temporary_count(header);
+    let code = objects::code_of(contents, bodies, n, b, method);
+    let temporaries = readers::temporary_count(objects::header(contents, bodies, n, b, method));
+    let operands = StackPosition(frames::first_temporary(base) + temporaries);
     Base::At {
-        base: base,
+        frame: Active {
+            base: base,
+            code: code.from,
+            limit: code.end,
+            operands: operands,
+            position: CodePosition(0),
+            end: operands,
+        },
         temporaries: temporaries,
+        end: end,
     }
 }
 
@@ -195,8 +187,7 @@ fn make_frame(
     );
 }
 
-// A send of a selector with `count` arguments by the top frame, the search starting at a class; `next` is the position behind it. The frame's
-// operands start at `operands` and end before `end`.
+// A send by the running frame. Where it is answered, the frame is still held: only the word in the receiver's place is written.
 pub fn send(
     contents: &mut [u16],
     bodies: &mut [u16],
@@ -205,81 +196,69 @@ pub fn send(
     edition: u16,
     n: usize,
     b: usize,
-    top: StackPosition,
-    operands: StackPosition,
-    end: StackPosition,
-    selector: u16,
-    count: usize,
-    class: Pointer,
-    next: CodePosition,
-    sure: bool,
+    active: Active,
+    message: Message,
 ) -> Sent
-    requires { ⌜ Sending n b (top .0) (now contents) (now bodies) (now stack) selector count (class .0) (next .0) sure
+    requires { ⌜ IsActive n b (now contents) (now bodies) (now stack) active
+        × Sending n b (active .base .0) (now contents) (now bodies) (written active (now stack)) (message .selector) (message .count) (message .class .0) (message .next .0)
+        (message .sure)
         × Caches n b (now contents) (now bodies) (now cache)
-        × (next .0 < 65536)
-        × OperandsAt n b (top .0) (now contents) (now bodies) (now stack) (operands .0) (end .0) ⌝ }
-    ensures { λ r. ⌜ Sends edition n b (top .0) (now (contents .entry)) (now (bodies .entry)) (now (stack .entry)) (now (cache .entry)) selector count
-        (class .0) (next .0) (now (contents .exit)) (now (bodies .exit)) (now (stack .exit)) (now (cache .exit)) r ⌝ }
+        × (message .next .0 < 65536) ⌝ }
+    ensures { λ r. ⌜ Sends edition n b active message (now (contents .entry)) (now (bodies .entry)) (now (stack .entry)) (now (cache .entry))
+        (now (contents .exit)) (now (bodies .exit)) (now (stack .exit)) (now (cache .exit)) r ⌝ }
 {
+    let selector = message.selector;
+    let class = message.class;
+    let count = message.count;
     let found = cache::cached(contents, bodies, cache, n, b, selector, class);
     let Found::Method(method) = found else {
-        return Sent::NotUnderstood;
+        return Sent::Halted(limits::NOT_UNDERSTOOD);
     };
-    let sent = received(stack, top, operands, end, count);
-    let running = sent.running;
-    let left = sent.left;
-    let place = sent.place;
-    let receiver = sent.receiver;
-    let done = acted(
-        contents,
-        bodies,
-        edition,
-        n,
-        b,
-        method,
-        receiver,
-        sent.first,
-        sent.second,
-    );
+    let top = active.base;
+    let place = active.end.0 - 1 - count;
+    let running = Pointer(stack[top.0 + limits::FRAME_METHOD]);
+    let receiver = stack[place];
+    let done = acted(contents, bodies, stack, edition, n, b, method, place, count);
     match done {
         Activated::Answer {
             word: word,
             n: objects,
             b: words,
         } => {
-            frames::push(stack, top, StackPosition(place), next, left + 1, word);
+            stack[place] = word;
             cache::fill(cache, selector, class, method);
             Sent::Answered {
                 n: objects,
                 b: words,
             }
         }
-        Activated::Unfit => Sent::NotUnderstood,
+        Activated::Unfit => Sent::Halted(limits::NOT_UNDERSTOOD),
         Activated::Frame => {
             let room = stack.len();
-            let fit = new_base(
+            let fit = new_frame(
                 contents,
                 bodies,
                 n,
                 b,
                 room,
                 top,
-                Pointer(running),
+                running,
                 method,
                 receiver,
-                sure,
+                message.sure,
             );
             match fit {
                 Base::At {
-                    base: base,
+                    frame: frame,
                     temporaries: temporaries,
+                    end: end,
                 } => {
                     make_frame(
                         stack,
                         top,
-                        next,
-                        left,
-                        base,
+                        message.next,
+                        place - active.operands.0,
+                        frame.base.0,
                         method,
                         receiver,
                         temporaries,
@@ -287,10 +266,13 @@ pub fn send(
                         count,
                     );
                     cache::fill(cache, selector, class, method);
-                    Sent::Entered(StackPosition(base))
+                    Sent::Entered {
+                        frame: frame,
+                        end: end,
+                    }
                 }
-                Base::Full => Sent::NoRoom,
-                Base::Unfit => Sent::NotUnderstood,
+                Base::Full => Sent::Halted(limits::NO_STACK_ROOM),
+                Base::Unfit => Sent::Halted(limits::NOT_UNDERSTOOD),
             }
         }
     }

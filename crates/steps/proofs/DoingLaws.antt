@@ -21,6 +21,7 @@ use Rattle.model.specs.Method.{home, literal, literalCount, codeWords}
 use Rattle.model.specs.Rules.{Right, specialSelector}
 use Rattle.model.specs.Arithmetic.{arithmetic}
 use Rattle.model.specs.Primitive.{storeWord}
+use Rattle.model.specs.Image.{Room}
 use Rattle.model.specs.declared.StackPosition.{StackPosition}
 use Rattle.model.specs.declared.Pointer.{Pointer}
 use Rattle.model.specs.declared.Computed.{Computed}
@@ -28,7 +29,8 @@ use Rattle.model.specs.declared.Computed.the-variants.{Word, Failed}
 use Rattle.model.proofs.ChainLaws.{Named, named}
 use Rattle.model.proofs.Extends.{Extends, temporaries-same, literal-count-same}
 use Rattle.model.proofs.StoreLaws.{stored-extends}
-use Rattle.plain.specs.Step.{read, triedPrimitive}
+use Rattle.plain.specs.Registers.{noBoolean}
+use Rattle.plain.specs.Step.{Stepped, read, triedPrimitive}
 use Rattle.plain.specs.Flat.{frameMethod, frameReceiver, operandsStart}
 use Rattle.plain.specs.FlatCalls.{atFront}
 use Rattle.plain.specs.Running.{topFrame}
@@ -36,13 +38,15 @@ use Rattle.plain.proofs.RunningLaws.{is-method}
 use Rattle.readers.specs.Places.{Inside}
 use Rattle.objects.specs.Lent.{Holds}
 use Rattle.objects.proofs.Buffers.{contents-room, bodies-room, stored-objects}
-use Rattle.steps.specs.declared.Active.{Active}
+use Rattle.frames.specs.declared.Active.{Active}
+use Rattle.frames.specs.Active.{written, movedOn, Onward}
+use Rattle.frames.proofs.ActiveLaws.{active-method, length-written, word-written, moves-on, puts, put-method, Ends, ends, method-read, receiver-read}
 use Rattle.steps.specs.declared.Event.{Event}
-use Rattle.steps.specs.declared.Event.the-variants.{Next, Return, NoBoolean}
-use Rattle.steps.specs.Events.{written, Stands, IsActive, Doing, Fetched, movedOn, Pushing, Pushed, leftBy, Storing, StoringAt, Sends, hereOf, Says}
-use Rattle.steps.proofs.HereLaws.{operand-valid}
+use Rattle.steps.specs.declared.Event.the-variants.{Next, Return, Halt}
+use Rattle.steps.specs.Events.{StepIs, Becomes, Doing, Computing, Pushing, Pushed, leftBy, Storing, StoringAt, Sends, hereOf, Says}
+use Rattle.steps.proofs.HereLaws.{bounds, operand-valid}
 use Rattle.steps.proofs.MoveLaws.{Answers, same-two, same-three}
-use Rattle.steps.proofs.ActiveLaws.{active-method, length-written, word-written, moves-on, puts, put-method, Ends, ends, method-read, receiver-read, doing, here, says-moved, says-answered, says-pushed, stands-on}
+use Rattle.steps.proofs.ActiveLaws.{here, says-moved, says-answered, says-pushed}
 use Rattle.steps.proofs.PlaceLaws.{HasField, ReadsLiteral, literal-there, own-field, own-inside, own-read, temporary-inside, temporary-read, literal-below, literal-read, variable-below, variable-field, variable-inside, variable-read, push-place, store-place, store-writable, store-needs}
 use Rattle.steps.proofs.StoreLaws.{store-field, store-temporary, store-variable}
 use Rattle.steps.proofs.SayLaws.{push-room, push-says, self-room, self-says, constant-room, constant-says, duplicate-needs, duplicate-room, duplicate-says, pop-needs, pop-says, jump-back, jump-says, on-needs, on-small, on-jumps, on-stays, on-halts, self-returns, constant-returns, top-needs, top-returns, unused-never}
@@ -51,14 +55,15 @@ use Rattle.steps.proofs.SpecialLaws.{special-small, selector-inside, sp
 use Rattle.steps.specs.declared.Event.the-variants as E
 use Rattle.steps.proofs.SpecialLaws as S
 
--- The instruction of a byte that is known
-pub doing-at : {n b : ℕ} {contents bodies stack : List ℕ} {a : Active} {op : ℕ} → Fetched n b contents bodies stack a op → (c k next : ℕ) (i : Instruction)
-    → op ≡ c → lengthOf c ≡ k → next ≡ a .position .0 + k
-    → instructionOf c (bytesAfter (codeWords (objectsAt n b contents bodies) (frameMethod stack (a .base .0))) (a .position .0)) ≡ i
-    → Doing n b contents bodies stack a next i
-doing-at {n} {b} {contents} {bodies} {stack} {a} f c k next i e l d g =
-    doing f k next i (ap lengthOf e ∙ l) d
-    (ap (λ (x : ℕ). instructionOf x (bytesAfter (codeWords (objectsAt n b contents bodies) (frameMethod stack (a .base .0))) (a .position .0))) e ∙ g)
+-- Nothing is written.
+stays : {n b : ℕ} {contents bodies stack : List ℕ} {a : Active} {x : Room → ℕ → ℕ → ℕ → Stepped} → StepIs n b (a .base .0) contents bodies (written a stack) x
+    → Becomes n b contents a bodies stack bodies stack x
+stays e = record { words = refl; frames = refl; steps = e }
+
+-- The instruction by another name
+pub told : {n b : ℕ} {contents bodies stack : List ℕ} {a : Active} {next : ℕ} {i : Instruction} → Doing n b contents bodies stack a next i → (j : Instruction) → i ≡ j
+    → Doing n b contents bodies stack a next j
+told {n} {b} {contents} {bodies} {stack} {a} {next} d j e = subst (Doing n b contents bodies stack a next) e d
 
 module _ {n b : ℕ} {contents bodies stack : List ℕ} {a : Active} {next : ℕ} {i : Instruction} (d : Doing n b contents bodies stack a next i) where
   room-of : Answers (a .base .0) (written a stack) (hereOf stack a next) 0 → Pushing stack a
@@ -108,8 +113,10 @@ module _ {n b : ℕ} {contents bodies stack : List ℕ} {a : Active} {next j : �
       let x = temporary-inside (d .active .runs) j (push-place (here d)) in
       (omega arith, x .1)
 
-  pub temporary-reads : Doing n b contents bodies stack a next (Push (Temporary j)) → ReadIs n b contents bodies stack a (Temporary j) (getD stack (a .base .0 + 6 + j) 0)
-  temporary-reads d = temporary-read (d .active .runs) j (push-place (here d)) ∙ ap some (word-written a stack (a .base .0 + 6 + j) (omega arith))
+  pub temporary-reads : Doing n b contents bodies stack a next (Push (Temporary j)) → (at : ℕ) → at ≡ a .base .0 + 6 + j → ReadIs n b contents bodies stack a (Temporary j) (getD stack at 0)
+  temporary-reads d at e =
+      temporary-read (d .active .runs) j (push-place (here d)) ∙ ap some (word-written a stack (a .base .0 + 6 + j) (omega arith))
+      ∙ ap (λ (i : ℕ). some (getD stack i 0)) (sym e)
 
   pub literal-lies : Doing n b contents bodies stack a next (Push (Literal j)) → ReadsLiteral n b contents bodies (frameMethod stack (a .base .0)) j
   literal-lies d = literal-there (here d) j (literal-below (d .active .runs) j (push-place (here d)))
@@ -164,44 +171,8 @@ module _ {n b : ℕ} {contents bodies stack : List ℕ} {a : Active} {next : ℕ
   abbrev o : Objects
   o = objectsAt n b contents bodies
 
-  -- methods are as they were where a field is stored
-  stands-stored : (v j w : ℕ) (bodies′ : List ℕ) → HasField n b contents bodies v j → bodies′ ≡ atFront (storeWord o (objectNumber v) j w .bodies) bodies
-      → Stands n b contents bodies′ stack (movedOn a (record { 0 = next }) (record { 0 = end }))
-  stands-stored v j w bodies′ f e =
-      record {
-        code = st .code ∙ ap₂ (λ (x y : ℕ). x + (2 + y)) (sym starts) (sym (literal-count-same x right m t))
-            ∙ ap (λ (q : Objects). start q (objectNumber m) + (2 + literalCount q m)) (sym same);
-        operands = st .operands ∙ ap (λ (k : ℕ). a .base .0 + 6 + k)
-            (sym (temporaries-same x right m t)) ∙ ap (λ (q : Objects). operandsStart q m (a .base .0)) (sym same);
-        above = store-above;
-      }
-    where
-      r : IsActive n b contents bodies stack a
-      r = z .doing .active
-
-      st : Stands n b contents bodies stack a
-      st = r .stands
-
-      right : Right (r .runs .edition) o
-      right = r .runs .right
-
-      m : ℕ
-      m = frameMethod stack (a .base .0)
-
-      t : T (isKind o methodKind m)
-      t = subst (λ (k : ℕ). T (isKind o methodKind k)) (method-read r) (is-method (r .runs))
-
-      k : Named o fieldsKind v
-      k = named o fieldsKind v (f .kinds)
-
-      x : Extends o (storeWord o (objectNumber v) j w)
-      x = stored-extends right (objectNumber v) j w (k .least) (k .most) (k .kinds) (f .below)
-
-      starts : start (storeWord o (objectNumber v) j w) (objectNumber m) ≡ start o (objectNumber m)
-      starts = let h = named o methodKind m t in x .entries (m / 2) 2 (h .least) (h .most) (omega arith)
-
-      same : objectsAt n b contents bodies′ ≡ storeWord o (objectNumber v) j w
-      same = ap (λ (l : List ℕ). objectsAt n b contents l) e ∙ stored-objects n b contents bodies (objectNumber v) j w (bodies-room n b contents bodies right)
+  onward : Onward a stack stack end
+  onward = record { method = refl; above = store-above }
 
 module _ {n b : ℕ} {contents bodies stack : List ℕ} {a : Active} {next j end : ℕ} where
   pub own-there : Storing n b contents bodies stack a next (Field j) end → Inside n b contents bodies (frameReceiver stack (a .base .0)) j
@@ -219,8 +190,7 @@ module _ {n b : ℕ} {contents bodies stack : List ℕ} {a : Active} {next j end
       (sym (top-read z at p)) in (
         store-field (store-at z) bodies′ (written (movedOn a (record { 0 = next }) (record { 0 = end })) stack) e′
             (moves-on a stack (record { 0 = next }) (record { 0 = end })),
-        stands-stored z (frameReceiver v (a .base .0)) j _ bodies′
-            (own-field (z .doing .active .runs) j (store-place (store-at z))) e′,
+        onward z,
       )
 
   pub temporary-room : Storing n b contents bodies stack a next (Temporary j) end → (a .base .0 + 6 + j < length stack) × (a .base .0 + 6 + j < 65536)
@@ -229,15 +199,15 @@ module _ {n b : ℕ} {contents bodies stack : List ℕ} {a : Active} {next j end
       let x = temporary-inside (z .doing .active .runs) j (store-place (store-at z)) in
       (omega arith, x .1)
 
-  pub temporary-stored : (z : Storing n b contents bodies stack a next (Temporary j) end) (at : ℕ) (stack′ : List ℕ) → at ≡ a .end .0 - 1
-      → stack′ ≡ set stack (a .base .0 + 6 + j) (getD stack at 0) → Says n b contents a bodies stack bodies stack′ (Next (record { 0 = next }) (record { 0 = end }))
-  temporary-stored z at stack′ p e =
+  pub temporary-stored : (z : Storing n b contents bodies stack a next (Temporary j) end) (at to : ℕ) (stack′ : List ℕ) → at ≡ a .end .0 - 1 → to ≡ a .base .0 + 6 + j
+      → stack′ ≡ set stack to (getD stack at 0) → Says n b contents a bodies stack bodies stack′ (Next (record { 0 = next }) (record { 0 = end }))
+  temporary-stored z at to stack′ p g e =
       let v = written a stack in
-      subst (λ (l : List ℕ). Says n b contents a bodies stack bodies l (Next (record { 0 = next }) (record { 0 = end }))) (sym e) (
+      subst (λ (l : List ℕ). Says n b contents a bodies stack bodies l (Next (record { 0 = next }) (record { 0 = end })))
+      (sym (e ∙ ap (λ (i : ℕ). set stack i (getD stack at 0)) g)) (
         store-temporary (store-at z) (written (movedOn a (record { 0 = next }) (record { 0 = end })) (set stack (a .base .0 + 6 + j) (getD stack at 0)))
             (puts a stack (a .base .0 + 6 + j) (getD stack at 0) (omega arith) (record { 0 = next }) (record { 0 = end }) ∙ same-three v refl (sym (top-read z at p)) refl refl refl refl),
-        stands-on (z .doing .active) (record { 0 = next }) (record { 0 = end }) (set stack (a .base .0 + 6 + j) (getD stack at 0))
-            (put-method a stack (a .base .0 + 6 + j) (getD stack at 0) (omega arith) (omega arith)) (store-above z),
+        record { method = put-method a stack (a .base .0 + 6 + j) (getD stack at 0) (omega arith) (omega arith); above = store-above z },
       )
 
   pub literal-never : Storing n b contents bodies stack a next (Literal j) end → ⊥
@@ -245,10 +215,6 @@ module _ {n b : ℕ} {contents bodies stack : List ℕ} {a : Active} {next j end
 
   pub variable-holds : Storing n b contents bodies stack a next (LiteralVariable j) end → ReadsLiteral n b contents bodies (frameMethod stack (a .base .0)) j
   variable-holds z = literal-there (here (z .doing)) j (variable-below (z .doing .active .runs) j (store-place (store-at z)))
-
-  variable-has : (z : Storing n b contents bodies stack a next (LiteralVariable j) end) (v : ℕ) → v ≡ literal (objectsAt n b contents bodies)
-      (frameMethod stack (a .base .0)) j → HasField n b contents bodies v 1
-  variable-has z v e = variable-field (z .doing .active .runs) j v (frameMethod stack (a .base .0)) (sym (method-read (z .doing .active))) (store-place (store-at z)) e
 
   pub variable-room : Storing n b contents bodies stack a next (LiteralVariable j) end → (v : ℕ) → v ≡ literal (objectsAt n b contents bodies)
       (frameMethod stack (a .base .0)) j → Inside n b contents bodies v 1
@@ -264,7 +230,7 @@ module _ {n b : ℕ} {contents bodies stack : List ℕ} {a : Active} {next j end
       ∙ ap (λ (y : ℕ). atFront (storeWord (objectsAt n b contents bodies) (objectNumber v) 1 y .bodies) bodies) (sym (top-read z at p)) in (
         store-variable (store-at z) v bodies′ (written (movedOn a (record { 0 = next }) (record { 0 = end })) stack) q e′
             (moves-on a stack (record { 0 = next }) (record { 0 = end })),
-        stands-stored z v 1 _ bodies′ (variable-has z v q) e′,
+        onward z,
       )
 
 pub storing-kept : {n b : ℕ} {contents bodies stack : List ℕ} {a : Active} {next : ℕ} {p : Place} → Doing n b contents bodies stack a next (Store p)
@@ -307,15 +273,22 @@ module _ {n b : ℕ} {contents bodies stack : List ℕ} {a : Active} {next ahead
       either (inr x) = inr (operand-read d 0 at on-one p ∙ x)
 
   pub halts-there : (w at : ℕ) → at ≡ a .end .0 - 1 → w ≡ booleanWord condition → (getD stack at 0 ≡ w → ⊥) → (getD stack at 0 ≡ 6 → ⊥)
-      → (getD stack at 0 ≡ 4 → ⊥) → Says n b contents a bodies stack bodies stack NoBoolean
+      → (getD stack at 0 ≡ 4 → ⊥) → Says n b contents a bodies stack bodies stack (Halt 4)
   halts-there w at p e t u v =
-      on-halts (here d) w e (λ x. t (sym (operand-read d 0 at on-one p) ∙ x)) (λ x. u (sym (operand-read d 0 at on-one p) ∙ x)) (λ x. v (sym (operand-read d 0 at on-one p) ∙ x))
+      record {
+        cause = noBoolean;
+        phase = refl;
+        becomes = stays (on-halts (here d) w e (λ x. t (sym (operand-read d 0 at on-one p) ∙ x)) (λ x. u (sym (operand-read d 0 at on-one p) ∙ x)) (λ x. v (sym (operand-read d 0 at on-one p) ∙ x)));
+      }
 
 -- ---- other jumps, and a pop
 
 module _ {n b : ℕ} {contents bodies stack : List ℕ} {a : Active} {next ahead back : ℕ} (d : Doing n b contents bodies stack a next (Jump ahead back)) where
   pub jump-low : back ≤ next + ahead
   jump-low = jump-back (here d)
+
+  pub jump-small : next < 65536
+  jump-small = bounds (here d) .next
 
   pub jump-done : (q : ℕ) → q ≡ next + ahead - back → Says n b contents a bodies stack bodies stack (Next (record { 0 = q }) (a .end))
   jump-done q e =
@@ -365,16 +338,16 @@ module _ {n b : ℕ} {contents bodies stack : List ℕ} {a : Active} {next : ℕ
   -- ---- returns
 
   pub self-returned : Doing n b contents bodies stack a next ReturnSelf → Says n b contents a bodies stack bodies stack (Return (frameReceiver stack (a .base .0)))
-  self-returned d = subst (λ (w : ℕ). Says n b contents a bodies stack bodies stack (Return w)) (receiver-read (d .active)) (self-returns (here d))
+  self-returned d = subst (λ (w : ℕ). Says n b contents a bodies stack bodies stack (Return w)) (receiver-read (d .active)) (stays (self-returns (here d)))
 
   pub constant-returned : {w : ℕ} → Doing n b contents bodies stack a next (ReturnConstant w) → Says n b contents a bodies stack bodies stack (Return w)
-  constant-returned d = constant-returns (here d)
+  constant-returned d = stays (constant-returns (here d))
 
   pub top-one : Doing n b contents bodies stack a next ReturnTop → 1 ≤ a .end .0 - a .operands .0
   top-one d = top-needs (here d)
 
   pub top-returned : (d : Doing n b contents bodies stack a next ReturnTop) (at : ℕ) → at ≡ a .end .0 - 1 → Says n b contents a bodies stack bodies stack (Return (getD stack at 0))
-  top-returned d at p = subst (λ (w : ℕ). Says n b contents a bodies stack bodies stack (Return w)) (operand-read d 0 at (top-one d) p) (top-returns (here d))
+  top-returned d at p = subst (λ (w : ℕ). Says n b contents a bodies stack bodies stack (Return w)) (operand-read d 0 at (top-one d) p) (stays (top-returns (here d)))
 
   pub never : Doing n b contents bodies stack a next Unused → ⊥
   never d = unused-never (here d)
@@ -399,9 +372,10 @@ module _ {n b : ℕ} {contents bodies stack : List ℕ} {a : Active} {next s cou
       (subst (λ (x : ℕ). T (isValid n x)) (sent-read at p) (sent-valid (z .sends) at (sent-place at p)), contents-room n b contents bodies (z .active .runs .right))
 
   pub sent-done : (at : ℕ) (c : Pointer) → at ≡ a .end .0 - 1 - count → c .0 ≡ classOf (objectsAt n b contents bodies) (getD stack at 0)
-      → Says n b contents a bodies stack bodies stack (E.Send s count c (record { 0 = next }) true)
+      → Says n b contents a bodies stack bodies stack (E.Send (record { count = count; next = record { 0 = next }; selector = s; class = c; sure = true }))
   sent-done at c p e =
-      sent-says (z .sends) at (c .0) (sent-place at p) (e ∙ ap (classOf (objectsAt n b contents bodies)) (sym (sent-read at p)))
+      let x = sent-says (z .sends) at (c .0) (sent-place at p) (e ∙ ap (classOf (objectsAt n b contents bodies)) (sym (sent-read at p))) in
+      (x .0, stays (x .1))
 
 module _ {n b : ℕ} {contents bodies stack : List ℕ} {a : Active} {next l k : ℕ} where
   pub send-literal : Doing n b contents bodies stack a next (Send l k) → ReadsLiteral n b contents bodies (frameMethod stack (a .base .0)) l
@@ -423,14 +397,14 @@ module _ {n b : ℕ} {contents bodies stack : List ℕ} {a : Active} {next l k :
 
   pub super-done : (at s c : ℕ) (class : Pointer) → at ≡ a .end .0 - 1 - k → s ≡ literal (objectsAt n b contents bodies) (frameMethod stack (a .base .0)) l
       → c ≡ home (objectsAt n b contents bodies) (frameMethod stack (a .base .0)) → class .0 ≡ superclassWord (objectsAt n b contents bodies) c
-      → Says n b contents a bodies stack bodies stack (E.Send s k class (record { 0 = next }) (eqb (getD stack at 0) (frameReceiver stack (a .base .0))))
+      → Says n b contents a bodies stack bodies stack (E.Send (record { count = k; next = record { 0 = next }; selector = s; class = class; sure = eqb (getD stack at 0) (frameReceiver stack (a .base .0)) }))
   super-done at s c class p e q g =
       let x = ends (d .active) in
       let o = super-one in
       let place : at ≡ a .operands .0 + (a .end .0 - a .operands .0 - 1 - k) = omega arith in
       let y : getD (written a stack) at 0 ≡ getD stack at 0 = word-written a stack at (omega arith) in
-      subst (λ (t : Bool). Says n b contents a bodies stack bodies stack (E.Send s k class (record { 0 = next }) t)) (ap₂ eqb y (receiver-read (d .active)))
-      (super-says (here d) at s c (class .0) place e q g)
+      subst (λ (t : Bool). Says n b contents a bodies stack bodies stack (E.Send (record { count = k; next = record { 0 = next }; selector = s; class = class; sure = t })))
+      (ap₂ eqb y (receiver-read (d .active))) (let x = super-says (here d) at s c (class .0) place e q g in (x .0, stays (x .1)))
 
 -- ---- special sends
 
@@ -459,19 +433,11 @@ module _ {n b : ℕ} {contents bodies stack : List ℕ} {a : Active} {next k : �
         (getD (written a stack) (a .operands .0 + (a .end .0 - a .operands .0 - 1)) 0)
     operands-read t under last p q = ap₂ (λ (u w : ℕ). arithmetic t u w) (sym (operand-read d 1 under two p)) (sym (operand-read d 0 last special-one q))
 
-    pub computed-done : (under last w : ℕ) (x : Computed) (e : StackPosition) (stack′ : List ℕ) → under ≡ a .end .0 - 2 → last ≡ a .end .0 - 1
-        → x ≡ arithmetic (triedPrimitive k) (getD stack under 0) (getD stack last 0) → x ≡ Word w → e .0 ≡ a .end .0 - 1 → stack′ ≡ set stack under w
-        → Says n b contents a bodies stack bodies stack′ (Next (record { 0 = next }) e)
-    computed-done under last w x e stack′ p q c y u s =
-        let o = two in
-        let z = ends (d .active) in
-        says-answered d 2 w under (record { 0 = next }) e stack′ s refl p (omega arith) two (λ l r. arithmetic-says (here d) small (triedPrimitive k) w x l
-        refl (c ∙ operands-read (triedPrimitive k) under last p q) y r)
-
-    pub failed-sends : (under last s : ℕ) (x : Computed) → under ≡ a .end .0 - 2 → last ≡ a .end .0 - 1
-        → x ≡ arithmetic (triedPrimitive k) (getD stack under 0) (getD stack last 0) → x ≡ Failed → s ≡ specialSelector (objectsAt n b contents bodies) k → Sends n b contents bodies stack a next s 1
-    failed-sends under last s x p q c y u =
-        record { active = d .active; sends = arithmetic-sends (here d) small (triedPrimitive k) s x refl (c ∙ operands-read (triedPrimitive k) under last p q) y u }
+    -- what its primitive computed, where the call names it by its number
+    pub computing : {j : ℕ} {x : Computed} → x ≡ arithmetic (triedPrimitive j) (getD stack (a .end .0 - 2) 0) (getD stack (a .end .0 - 1) 0) → k ≡ j
+        → Computing n b contents bodies stack a next k x
+    computing e p =
+        record { doing = d; small = small; computed = e ∙ ap (λ (t : ℕ). arithmetic (triedPrimitive t) (getD stack (a .end .0 - 2) 0) (getD stack (a .end .0 - 1) 0)) (sym p) }
 
   pub same-two-there : k ≡ 22 → 2 ≤ a .end .0 - a .operands .0
   same-two-there e = S.same-two (here d) e
@@ -494,3 +460,26 @@ module _ {n b : ℕ} {contents bodies stack : List ℕ} {a : Active} {next k : �
 
   pub special-done : (s count : ℕ) → 16 ≤ k → k ≢ 22 → k ≢ 23 → s ≡ specialSelector (objectsAt n b contents bodies) k → count ≡ specialCount k → Sends n b contents bodies stack a next s count
   special-done s count g p q e c = record { active = d .active; sends = special-sends (here d) s count g p q e c }
+
+module _ {n b : ℕ} {contents bodies stack : List ℕ} {a : Active} {next k : ℕ} {x : Computed} (z : Computing n b contents bodies stack a next k x) where
+  pub computing-two : 2 ≤ a .end .0 - a .operands .0
+  computing-two = two (z .doing) (z .small)
+
+  pub computing-ends : Ends a stack
+  computing-ends = ends (z .doing .active)
+
+  computed-here : x ≡ arithmetic (triedPrimitive k) (getD (written a stack) (a .operands .0 + (a .end .0 - a .operands .0 - 2)) 0)
+      (getD (written a stack) (a .operands .0 + (a .end .0 - a .operands .0 - 1)) 0)
+  computed-here = z .computed ∙ operands-read (z .doing) (z .small) (triedPrimitive k) (a .end .0 - 2) (a .end .0 - 1) refl refl
+
+  pub computed-done : (w : ℕ) (e : StackPosition) (stack′ : List ℕ) → x ≡ Word w → e .0 ≡ a .end .0 - 1 → stack′ ≡ set stack (a .end .0 - 2) w
+      → Says n b contents a bodies stack bodies stack′ (Next (record { 0 = next }) e)
+  computed-done w e stack′ y u s =
+      let o = computing-two in
+      let g = computing-ends in
+      says-answered (z .doing) 2 w (a .end .0 - 2) (record { 0 = next }) e stack′ s refl refl (omega arith) o
+      (λ l r. arithmetic-says (here (z .doing)) (z .small) (triedPrimitive k) w x l refl computed-here y r)
+
+  pub failed-sends : (s : ℕ) → x ≡ Failed → s ≡ specialSelector (objectsAt n b contents bodies) k → Sends n b contents bodies stack a next s 1
+  failed-sends s y u =
+      record { active = z .doing .active; sends = arithmetic-sends (here (z .doing)) (z .small) (triedPrimitive k) s x refl computed-here y u }

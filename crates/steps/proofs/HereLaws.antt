@@ -33,6 +33,7 @@ use Rattle.plain.proofs.FrameLaws.{frame-spot}
 use Rattle.plain.proofs.RunningLaws.{top-right, is-method, top-bounds}
 use Rattle.plain.proofs.WriteLaws.{operand-here}
 use Rattle.objects.specs.Lent.{Holds}
+use Rattle.frames.proofs.Standing.{coded, next-inside}
 use Rattle.steps.specs.Events.{Here, HereAt}
 
 -- a list's element, as a read that may find nothing
@@ -40,75 +41,6 @@ pub element-is : (l : List ℕ) (i : ℕ) → i < length l → getElem? l i ≡ 
 element-is [] i h = absurd (omega arith)
 element-is (x ∷ l) zero h = refl
 element-is (x ∷ l) (suc i) h = element-is l i (omega arith)
-
-never-unused : (q : ℕ) → T (usable q Unused) → ⊥
-unfolding usable
-never-unused q t = t
-
--- The instruction of a running frame
-module _ {n b top : ℕ} {contents bodies stack : List ℕ} (r : Runs n b top contents bodies stack) where
-  abbrev o : Objects
-  o = objectsAt n b contents bodies
-
-  abbrev f : Frame
-  f = topFrame n b top contents bodies stack
-
-  abbrev m : ℕ
-  m = frameMethod stack top
-
-  abbrev p : ℕ
-  p = framePosition stack top
-
-  pub holds-method : (w : ℕ) → w ≡ m → Holds methodKind n b contents bodies w
-  holds-method w e = record { right = (r .edition, r .right); kinds = subst (λ (x : ℕ). T (Rattle.model.specs.Objects.isKind o methodKind x)) (sym e) (is-method r) }
-
-  spot-here : Spot (r .edition) o m p (frameDepth stack top)
-  unfolding frameAt
-  spot-here = frame-spot o true f (top-right r)
-
-  -- the bytes of the code
-  pub record Coded : Type 0 where
-    pub small : codeSize o m < 65536
-    pub words : codeSize o m ≤ 2 * (bodyWords o (objectNumber m) - (2 + literalCount o m))
-    pub least : 2 + literalCount o m ≤ bodyWords o (objectNumber m)
-    pub ends : start o (objectNumber m) + bodyWords o (objectNumber m) ≤ b
-
-  pub coded : Coded
-  unfolding codeSize
-  coded =
-      let g = named o methodKind m (is-method r) in
-      let w = method-words (r .right) m (is-method r) in
-      let i = inside (r .right) (objectNumber m) (g .least) (g .most) in
-      let k = most-words (r .right) in
-      let f = method-facts (r .right) m (is-method r) .holds in
-      record { small = omega arith; words = omega arith; least = omega arith; ends = i }
-
-  -- a noted position is inside the code
-  pub noted-inside : (q d : ℕ) → noteAt (methodTable (r .edition) o m) q ≡ suc d → q < codeSize o m
-  unfolding fineAt
-  noted-inside q d e = fine-inside (codeWords o m) (codeSize o m) (temporaryCount o m) (frameWords o m) (allowed (r .edition) o m) q d (spot (r .edition) o m q d e .kept)
-
-  pub noted-small : (q d : ℕ) → noteAt (methodTable (r .edition) o m) q ≡ suc d → q < 65536
-  noted-small q d e = let x = noted-inside q d e in let y = coded .small in omega arith
-
-  pub position-inside : p < codeSize o m
-  unfolding fineAt
-  position-inside = fine-inside (codeWords o m) (codeSize o m) (temporaryCount o m) (frameWords o m) (allowed (r .edition) o m) p (frameDepth stack top) (spot-here .kept)
-
-  usable-here : T (usable (nextAt (codeWords o m) p) (decodeAt (codeWords o m) (codeSize o m) p))
-  unfolding rulesAt
-  usable-here = rule (rulesAt (codeWords o m) (codeSize o m) (temporaryCount o m) (frameWords o m) (allowed (r .edition) o m) p (frameDepth stack top)) (spot-here .kept) 0
-
-  pub next-inside : nextAt (codeWords o m) p ≤ codeSize o m
-  next-inside = go (decLt (codeSize o m) (nextAt (codeWords o m) p))
-    where
-      go : Dec (codeSize o m < nextAt (codeWords o m) p) → nextAt (codeWords o m) p ≤ codeSize o m
-      go (yes h) =
-          absurd (never-unused (nextAt (codeWords o m) p) (subst (λ (i : Instruction). T (usable (nextAt (codeWords o m) p) i)) (decode-short (codeWords o m) (codeSize o m) p h) usable-here))
-      go (no h) = omega arith
-
-  pub decode-is : instructionOf (byteAt (codeWords o m) p) (bytesAfter (codeWords o m) p) ≡ decodeAt (codeWords o m) (codeSize o m) p
-  decode-is = sym (decode-whole (codeWords o m) (codeSize o m) p next-inside)
 
 -- Numbers of the running frame
 pub record Bounds (top : ℕ) (stack : List ℕ) (h : Here) : Type 0 where

@@ -8,4 +8,3 @@ pub mod SayLaws
 pub mod SendLaws
 pub mod SpecialLaws
 pub mod DoingLaws
-pub mod RowLaws

@@ -33,7 +33,8 @@ use Rattle.readers.specs.Places.{Inside}
 use Rattle.objects.specs.Lent.{Holds}
 use Rattle.objects.proofs.Bodies.{field-inside}
 use Rattle.steps.specs.Events.{Here, HereAt, storing, leftBy, StoringAt}
-use Rattle.steps.proofs.HereLaws.{element-is, holds-method, operand-is}
+use Rattle.steps.proofs.HereLaws.{element-is, operand-is}
+use Rattle.frames.proofs.Standing.{holds-method}
 use Rattle.steps.proofs.MoveLaws.{Does, all-operands, depth-of, goes-storing}
 
 -- a word with a field

@@ -28,8 +28,9 @@ use Rattle.plain.specs.Flat.{frameMethod, frameReceiver, frameAt}
 use Rattle.plain.specs.Running.{Moved, runningAt, topFrame, restFrames}
 use Rattle.plain.proofs.NowLaws.{Now}
 use Rattle.plain.proofs.RunningLaws.{receiver-is, step-is, now-is}
-use Rattle.steps.specs.Events.{Here, HereAt, answered, Becomes, stepAt}
-use Rattle.steps.proofs.HereLaws.{noted-small, operand-is}
+use Rattle.steps.specs.Events.{Here, HereAt, answered, StepIs, stepAt}
+use Rattle.steps.proofs.HereLaws.{operand-is}
+use Rattle.frames.proofs.Standing.{noted-small}
 use Rattle.steps.proofs.MoveLaws.{Does, Answers, depth-of, provided-holds, goes-whole, goes-popped, answer-room, pushes}
 
 -- ---- what is noted behind an instruction
@@ -64,7 +65,7 @@ module _ {n b top : ℕ} {contents bodies stack : List ℕ} {h : Here} {i : Inst
 
 abbrev Returns : ℕ → ℕ → ℕ → List ℕ → List ℕ → List ℕ → ℕ → Type 0
 Returns n b top contents bodies stack w =
-    Becomes n b top contents bodies stack bodies stack
+    StepIs n b top contents bodies stack
     (λ room edition receiver selector.
     returned (runningAt edition receiver selector n b top contents bodies stack) (topFrame n b top contents bodies stack) (restFrames n b top contents bodies stack) w)
 
@@ -201,31 +202,23 @@ module _ {n b top : ℕ} {contents bodies stack : List ℕ} {h : Here} where
             or-true false = refl
 
     pub on-halts : (w : ℕ) → w ≡ booleanWord condition → (tested ≡ w → ⊥) → (tested ≡ trueWord → ⊥) → (tested ≡ falseWord → ⊥)
-        → Becomes n b top contents bodies stack bodies stack (λ room edition receiver selector. halts noBoolean)
+        → StepIs n b top contents bodies stack (λ room edition receiver selector. halts noBoolean)
     on-halts w e t u v =
-        record {
-          words = refl;
-          frames = refl;
-          steps = λ edition receiver selector room. done a (λ s room. chosen s tested) chooses edition receiver selector room
-              ∙ if-no _ _ (ne-eqb tested (booleanWord condition) (λ x. t (x ∙ sym e))) ∙ if-no _ _ (ap₂ _||_ (ne-eqb tested trueWord u) (ne-eqb tested falseWord v));
-        }
+        λ edition receiver selector room. done a (λ s room. chosen s tested) chooses edition receiver selector room
+        ∙ if-no _ _ (ne-eqb tested (booleanWord condition) (λ x. t (x ∙ sym e))) ∙ if-no _ _ (ap₂ _||_ (ne-eqb tested trueWord u) (ne-eqb tested falseWord v))
 
   -- ---- returns
 
   pub self-returns : HereAt n b top contents bodies stack h ReturnSelf → Returns n b top contents bodies stack (frameReceiver stack top)
   unfolding execute
   self-returns a =
-      record {
-        words = refl;
-        frames = refl;
-        steps = λ edition receiver selector room. step-is (a .at) edition receiver selector room
-            ∙ ap (λ (x : ℕ). returned (runningAt edition receiver selector n b top contents bodies stack) (topFrame n b top contents bodies stack)
-            (restFrames n b top contents bodies stack) x) (receiver-is (a .at .runs));
-      }
+      λ edition receiver selector room. step-is (a .at) edition receiver selector room
+      ∙ ap (λ (x : ℕ). returned (runningAt edition receiver selector n b top contents bodies stack) (topFrame n b top contents bodies stack)
+      (restFrames n b top contents bodies stack) x) (receiver-is (a .at .runs))
 
   pub constant-returns : {w : ℕ} → HereAt n b top contents bodies stack h (ReturnConstant w) → Returns n b top contents bodies stack w
   unfolding execute
-  constant-returns a = record { words = refl; frames = refl; steps = λ edition receiver selector room. step-is (a .at) edition receiver selector room }
+  constant-returns a = λ edition receiver selector room. step-is (a .at) edition receiver selector room
 
   pub top-needs : HereAt n b top contents bodies stack h ReturnTop → 1 ≤ h .depth
   unfolding need
@@ -234,13 +227,9 @@ module _ {n b top : ℕ} {contents bodies stack : List ℕ} {h : Here} where
   pub top-returns : HereAt n b top contents bodies stack h ReturnTop → Returns n b top contents bodies stack (getD stack (h .operands + (h .depth - 1)) 0)
   unfolding execute
   top-returns a =
-      record {
-        words = refl;
-        frames = refl;
-        steps = λ edition receiver selector room. step-is (a .at) edition receiver selector room
-            ∙ ap (λ (x : Option ℕ). x >>= λ y. returned (runningAt edition receiver selector n b top contents bodies stack) (topFrame n b top contents bodies stack)
-            (restFrames n b top contents bodies stack) y) (operand-is a 0 (h .operands + (h .depth - 1)) (top-needs a) refl);
-      }
+      λ edition receiver selector room. step-is (a .at) edition receiver selector room
+      ∙ ap (λ (x : Option ℕ). x >>= λ y. returned (runningAt edition receiver selector n b top contents bodies stack) (topFrame n b top contents bodies stack)
+      (restFrames n b top contents bodies stack) y) (operand-is a 0 (h .operands + (h .depth - 1)) (top-needs a) refl)
 
   pub unused-never : HereAt n b top contents bodies stack h Unused → ⊥
   unfolding usable

@@ -32,7 +32,7 @@ use Rattle.plain.specs.Running.{Sending, sendStep, sentReceiver, runningAt, top
 use Rattle.plain.proofs.RunningLaws.{top-right, is-method, method-is, step-is, now-is}
 use Rattle.objects.specs.Lent.{Holds}
 use Rattle.model.proofs.Parts.{or-right}
-use Rattle.steps.specs.Events.{Here, HereAt, SendsAt, Becomes, stepAt}
+use Rattle.steps.specs.Events.{Here, HereAt, SendsAt, StepIs, stepAt}
 use Rattle.steps.proofs.ChainSteps.{chain-joined}
 use Rattle.steps.proofs.HereLaws.{operand-is, operand-valid}
 use Rattle.steps.proofs.PlaceLaws.{literal-at}
@@ -84,18 +84,14 @@ module _ {n b top : ℕ} {contents bodies stack : List ℕ} {h : Here} {i : Inst
   becomes-send : (from : ℕ → ℕ) (s count class : ℕ) → suc count ≤ frameDepth stack top → class ≡ from (own count)
       → ((edition receiver selector : ℕ) (room : Room) → stepAt room edition receiver selector n b top contents bodies stack ≡ sends room
       (runningAt edition receiver selector n b top contents bodies stack) f rest (h .next) from s count)
-      → Becomes n b top contents bodies stack bodies stack (λ room edition receiver selector. sendStep room edition receiver selector n b top contents bodies stack s count class (h .next))
+      → StepIs n b top contents bodies stack (λ room edition receiver selector. sendStep room edition receiver selector n b top contents bodies stack s count class (h .next))
   unfolding sends
   becomes-send from s count class l c e =
-      record {
-        words = refl;
-        frames = refl;
-        steps = λ edition receiver selector room. e edition receiver selector room
-            ∙ ap (λ (x : Option ℕ). x >>= λ w. afterLookup room (runningAt edition receiver selector n b top contents bodies stack) (popped f (h .next) (suc count))
-            rest s (from w) w (drop (f .depth - count) (f .operands)) (lookup o s (from w))) (receiver-found count l)
-            ∙ ap (λ (x : ℕ). afterLookup room (runningAt edition receiver selector n b top contents bodies stack) (popped f (h .next) (suc count)) rest s x (own count)
-            (drop (f .depth - count) (f .operands)) (lookup o s x)) (sym c);
-      }
+      λ edition receiver selector room. e edition receiver selector room
+      ∙ ap (λ (x : Option ℕ). x >>= λ w. afterLookup room (runningAt edition receiver selector n b top contents bodies stack) (popped f (h .next) (suc count))
+      rest s (from w) w (drop (f .depth - count) (f .operands)) (lookup o s (from w))) (receiver-found count l)
+      ∙ ap (λ (x : ℕ). afterLookup room (runningAt edition receiver selector n b top contents bodies stack) (popped f (h .next) (suc count)) rest s x (own count)
+      (drop (f .depth - count) (f .operands)) (lookup o s x)) (sym c)
 
 -- The receiver's class
 module _ {n b top : ℕ} {contents bodies stack : List ℕ} {h : Here} {s count : ℕ} (z : SendsAt n b top contents bodies stack h s count) where
@@ -107,7 +103,7 @@ module _ {n b top : ℕ} {contents bodies stack : List ℕ} {h : Here} {s count 
 
   pub sent-says : (at class : ℕ) → at ≡ h .operands + (h .depth - 1 - count) → class ≡ classOf (objectsAt n b contents bodies) (getD stack at 0)
       → Sending n b top contents bodies stack s count class (h .next) true
-      × Becomes n b top contents bodies stack bodies stack (λ room edition receiver selector. sendStep room edition receiver selector n b top contents bodies stack s count class (h .next))
+      × StepIs n b top contents bodies stack (λ room edition receiver selector. sendStep room edition receiver selector n b top contents bodies stack s count class (h .next))
   sent-says at class e c =
       let r = z .here .at .runs .right in
       let v = receiver-valid (z .here) count (z .needs) in
@@ -216,7 +212,7 @@ module _ {n b top : ℕ} {contents bodies stack : List ℕ} {h : Here} {l k : �
   pub super-says : (at s c class : ℕ) → at ≡ h .operands + (h .depth - 1 - k) → s ≡ literal (objectsAt n b contents bodies) (h .method) l
       → c ≡ home (objectsAt n b contents bodies) (h .method) → class ≡ superclassWord (objectsAt n b contents bodies) c
       → Sending n b top contents bodies stack s k class (h .next) (eqb (getD stack at 0) (frameReceiver stack top))
-      × Becomes n b top contents bodies stack bodies stack (λ room edition receiver selector. sendStep room edition receiver selector n b top contents bodies stack s k class (h .next))
+      × StepIs n b top contents bodies stack (λ room edition receiver selector. sendStep room edition receiver selector n b top contents bodies stack s k class (h .next))
   unfolding execute
   super-says at s c class e p q d = (
     record {

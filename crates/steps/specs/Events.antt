@@ -1,29 +1,27 @@
--- What a bytecode is to the run loop, and where the running frame stands.
+-- What a bytecode is to the run loop.
 use Prim.Native.Nat.{ℕ, suc, _+_, _-_, _≤_, _<_}
 use mathlib.Core.Path.{_≡_}
 use mathlib.Core.Bool.{Bool, true, false}
 use mathlib.Core.List.{List}
 use lib.Dec.{T}
-use lib.ListN.{length, set}
-use Rattle.bytecode.specs.Code.{byteAt}
+use lib.ListN.{length, getD, set}
 use Rattle.bytecode.specs.declared.Place.{Place}
 use Rattle.bytecode.specs.declared.Instruction.{Instruction}
-use Rattle.bytecode.specs.declared.Instruction.the-variants.{Store, PopStore}
-use Rattle.model.specs.Word.{objectNumber}
-use Rattle.model.specs.Objects.{objectsAt, classOf, start}
-use Rattle.model.specs.Method.{literalCount, codeWords}
-use Rattle.model.specs.declared.CodePosition.{CodePosition}
-use Rattle.model.specs.declared.StackPosition.{StackPosition}
+use Rattle.bytecode.specs.declared.Instruction.the-variants.{Store, PopStore, SpecialSend}
+use Rattle.model.specs.Objects.{objectsAt, classOf}
 use Rattle.model.specs.Depth.{noteAt}
 use Rattle.model.specs.Rules.{sendFine, methodTable}
 use Rattle.model.specs.Image.{Room}
-use Rattle.plain.specs.Registers.{noBoolean}
-use Rattle.plain.specs.Step.{Stepped, halts, returned, sends, step}
+use Rattle.model.specs.Arithmetic.{arithmetic}
+use Rattle.model.specs.declared.Computed.{Computed}
+use Rattle.plain.specs.Registers.{Cause, phaseOf}
+use Rattle.plain.specs.Step.{Stepped, halts, returned, sends, step, triedPrimitive}
 use Rattle.plain.specs.Flat.{frameDepth, frameMethod, operandsStart}
-use Rattle.plain.specs.Running.{Runs, At, Moved, Sending, sendStep, runningAt, topFrame, restFrames}
-use Rattle.steps.specs.declared.Active.{Active}
+use Rattle.plain.specs.Running.{At, Moved, Sending, sendStep, runningAt, topFrame, restFrames}
+use Rattle.frames.specs.declared.Active.{Active}
+use Rattle.frames.specs.Active.{written, movedOn, Onward, IsActive}
 use Rattle.steps.specs.declared.Event.{Event}
-use Rattle.steps.specs.declared.Event.the-variants.{Next, Send, Return, NoBoolean}
+use Rattle.steps.specs.declared.Event.the-variants.{Next, Send, Return, Halt}
 
 -- A running frame about to do an instruction, in the numbers that the laws speak of: its method, its first operand, how many there are, and
 -- the position behind the instruction
@@ -39,36 +37,10 @@ pub record HereAt (n b top : ℕ) (contents bodies stack : List ℕ) (h : Here) 
   pub isOperands : h .operands ≡ operandsStart (objectsAt n b contents bodies) (frameMethod stack top) top
   pub isDepth : h .depth ≡ frameDepth stack top
 
--- The stack with the frame's position and depth in its words: what the stack stands for while the loop holds the frame
-abbrev pub written : Active → List ℕ → List ℕ
-written a stack = set (set stack (a .base .0 + 1) (a .position .0)) (a .base .0 + 2) (a .end .0 - a .operands .0)
-
--- Where its code and its operands start
-pub record Stands (n b : ℕ) (contents bodies stack : List ℕ) (a : Active) : Type 0 where
-  pub code : a .code ≡ start (objectsAt n b contents bodies) (objectNumber (frameMethod stack (a .base .0))) + (2 + literalCount (objectsAt n b contents bodies) (frameMethod stack (a .base .0)))
-  pub operands : a .operands .0 ≡ operandsStart (objectsAt n b contents bodies) (frameMethod stack (a .base .0)) (a .base .0)
-  pub above : a .operands .0 ≤ a .end .0
-
-pub record IsActive (n b : ℕ) (contents bodies stack : List ℕ) (a : Active) : Type 0 where
-  pub runs : Runs n b (a .base .0) contents bodies (written a stack)
-  pub stands : Stands n b contents bodies stack a
-
--- and its instruction, with the position behind it; or only the byte at its position
+-- The frame that the loop holds and its instruction, with the position behind it
 pub record Doing (n b : ℕ) (contents bodies stack : List ℕ) (a : Active) (next : ℕ) (i : Instruction) : Type 0 where
   pub active : IsActive n b contents bodies stack a
   pub at : At n b (a .base .0) contents bodies (written a stack) next i
-
-pub record Fetched (n b : ℕ) (contents bodies stack : List ℕ) (a : Active) (op : ℕ) : Type 0 where
-  pub active : IsActive n b contents bodies stack a
-  pub byte : op ≡ byteAt (codeWords (objectsAt n b contents bodies) (frameMethod stack (a .base .0))) (a .position .0)
-
--- What writing its words asks
-abbrev pub Leaving : List ℕ → Active → Type 0
-Leaving stack a = (a .base .0 + 2 < length stack) × (a .position .0 < 65536) × (a .operands .0 ≤ a .end .0) × (a .end .0 - a .operands .0 < 65536)
-
--- The frame at another position, with its operands up to another end
-abbrev pub movedOn : Active → CodePosition → StackPosition → Active
-movedOn a q e = record { base = a .base; code = a .code; operands = a .operands; position = q; end = e }
 
 -- A push: what it asks, and what it does
 abbrev pub Pushing : List ℕ → Active → Type 0
@@ -118,6 +90,12 @@ pub record SendsAt (n b top : ℕ) (contents bodies stack : List ℕ) (h : Here)
       ≡ sends room (runningAt edition receiver selector n b top contents bodies stack)
       (topFrame n b top contents bodies stack) (restFrames n b top contents bodies stack) (h .next) (classOf (objectsAt n b contents bodies)) s count
 
+-- 176 plus k, and what its primitive gives for the two uppermost operands
+pub record Computing (n b : ℕ) (contents bodies stack : List ℕ) (a : Active) (next k : ℕ) (x : Computed) : Type 0 where
+  pub doing : Doing n b contents bodies stack a next (SpecialSend k)
+  pub small : k < 16
+  pub computed : x ≡ arithmetic (triedPrimitive k) (getD stack (a .end .0 - 2) 0) (getD stack (a .end .0 - 1) 0)
+
 -- The numbers of the frame that the loop holds
 abbrev pub hereOf : List ℕ → Active → ℕ → Here
 hereOf stack a next = record { method = frameMethod stack (a .base .0); operands = a .operands .0; depth = a .end .0 - a .operands .0; next = next }
@@ -126,25 +104,36 @@ pub record Sends (n b : ℕ) (contents bodies stack : List ℕ) (a : Active) (ne
   pub active : IsActive n b contents bodies stack a
   pub sends : SendsAt n b (a .base .0) contents bodies (written a stack) (hereOf stack a next) s count
 
--- Nothing is written, and the step is another one.
-pub record Becomes (n b top : ℕ) (contents bodies stack bodies′ stack′ : List ℕ) (x : Room → ℕ → ℕ → ℕ → Stepped) : Type 0 where
+-- The step is another one,
+abbrev pub StepIs : (n b top : ℕ) (contents bodies stack : List ℕ) → (Room → ℕ → ℕ → ℕ → Stepped) → Type 0
+StepIs n b top contents bodies stack x =
+    (edition receiver selector : ℕ) (room : Room) → stepAt room edition receiver selector n b top contents bodies stack ≡ x room edition receiver selector
+
+-- and nothing is written.
+pub record Becomes (n b : ℕ) (contents : List ℕ) (a : Active) (bodies stack bodies′ stack′ : List ℕ) (x : Room → ℕ → ℕ → ℕ → Stepped) : Type 0 where
   pub words : bodies′ ≡ bodies
   pub frames : stack′ ≡ stack
-  pub steps : (edition receiver selector : ℕ) (room : Room) → stepAt room edition receiver selector n b top contents bodies stack ≡ x room edition receiver selector
+  pub steps : StepIs n b (a .base .0) contents bodies (written a stack) x
+
+-- The same of a halt, with the phase that says why
+pub record Halting (n b : ℕ) (contents : List ℕ) (a : Active) (bodies stack bodies′ stack′ : List ℕ) (k : ℕ) : Type 0 where
+  pub cause : Cause
+  pub phase : k ≡ phaseOf cause
+  pub becomes : Becomes n b contents a bodies stack bodies′ stack′ (λ room edition receiver selector. halts cause)
 
 -- What an event says: the bytecode is done, or it is a send that is to be made, or a return of a word, or it halts.
 abbrev pub Says : ℕ → ℕ → List ℕ → Active → List ℕ → List ℕ → List ℕ → List ℕ → Event → Type 0
 Says n b contents a bodies stack bodies′ stack′ (Next q e) =
     Moved n b (a .base .0) contents bodies (written a stack) bodies′ (written (movedOn a q e) stack′)
-    × Stands n b contents bodies′ stack′ (movedOn a q e)
-Says n b contents a bodies stack bodies′ stack′ (Send s k c q sure) =
-    Sending n b (a .base .0) contents bodies (written a stack) s k (c .0) (q .0) sure
-    × Becomes n b (a .base .0) contents bodies (written a stack) bodies′ (written a stack′)
-    (λ room edition receiver selector. sendStep room edition receiver selector n b (a .base .0) contents bodies (written a stack) s k (c .0) (q .0))
+    × Onward a stack stack′ (e .0)
+Says n b contents a bodies stack bodies′ stack′ (Send m) =
+    Sending n b (a .base .0) contents bodies (written a stack) (m .selector) (m .count) (m .class .0) (m .next .0) (m .sure)
+    × Becomes n b contents a bodies stack bodies′ stack′
+    (λ room edition receiver selector. sendStep room edition receiver selector n b (a .base .0) contents bodies (written a stack) (m .selector) (m .count) (m .class .0)
+    (m .next .0))
 Says n b contents a bodies stack bodies′ stack′ (Return w) =
-    Becomes n b (a .base .0) contents bodies (written a stack) bodies′ (written a stack′)
+    Becomes n b contents a bodies stack bodies′ stack′
     (λ room edition receiver selector.
     returned (runningAt edition receiver selector n b (a .base .0) contents bodies (written a stack))
     (topFrame n b (a .base .0) contents bodies (written a stack)) (restFrames n b (a .base .0) contents bodies (written a stack)) w)
-Says n b contents a bodies stack bodies′ stack′ NoBoolean =
-    Becomes n b (a .base .0) contents bodies (written a stack) bodies′ (written a stack′) (λ room edition receiver selector. halts noBoolean)
+Says n b contents a bodies stack bodies′ stack′ (Halt k) = Halting n b contents a bodies stack bodies′ stack′ k

@@ -4,7 +4,7 @@ use native.Mathlib.Omega.{arith}
 use Rattle.bytecode.proofs.TestLaws.{true→T}
 use Rattle.readers.specs.Header.{flagOf, temporariesOf}
 use Rattle.objects.proofs.Bodies.{holds-entry, field-inside}
-use Rattle.activation.proofs.Activations.{holds-method, entries-room, answers-same, by-receiver, by-code, no-fields, no-field, the-field, performed, primitive-word, primitive-failed}
+use Rattle.activation.proofs.Activations.{holds-method, entries-room, answers-same, by-receiver, by-code, no-fields, no-field, the-field, performed, primitive-led}
 use borrow.Author.Needs.{needs}
 use Rattle.activation.proofs.activate.Statement.{statement}
 use Rattle.activation.proofs.activate.Tie as tie
@@ -154,11 +154,8 @@ try-primitive-requires c κs =
     let at-start = c .before .before .before .before .before .before .before .before .before .before .before .before .before .before .before .before .before in
     record { right = (at-start .pre .right); valid = (at-start .pre .valid) }
 
-enum-known-answer : tie.Need-enum-known-answer
-enum-known-answer c = search needs
-
-enum-told : tie.Need-enum-told
-enum-told c = search needs
+outcome-requires : tie.Need-outcome-requires
+outcome-requires c κs = search needs
 
 same-length-11 : tie.Need-same-length-11
 same-length-11 c = search needs
@@ -168,39 +165,16 @@ same-length-12 c = search needs
 
 returns-6 : tie.Need-returns-6
 returns-6 c =
-    let at-try-primitive = c .before .before .before .before .before .before .before in
+    let at-try-primitive = c .before .before .before .before .before in
     let at-argument-count = at-try-primitive .before .before .before in
     let at-primitive-number = at-argument-count .before .before .before in
     let at-if5 = at-primitive-number .before .before .before in
-    let at-if2 = at-if5 .before in
-    let at-if1 = at-if2 .before in
-    let at-flag = at-if1 .before in
+    let at-flag = at-if5 .before .before .before in
     let at-header = at-flag .before in
     let at-start = at-header .before .before .before .before .before in
-    λ arguments p q room s t. primitive-word (at-start .pre) _ room arguments _ (at-flag .flag .ensures ∙ ap flagOf (at-header .header .ensures))
-    (at-if1 .if1 .left) (at-if2 .if2 .left) (at-if5 .if5 .left) s t _ _ _ (performed (at-start .pre) _ arguments (at-primitive-number .primitive-number .ensures)
-    (at-argument-count .argument-count .ensures) p q (at-try-primitive .try-primitive .ensures)) _ (c .before .answer .given .1)
-
-same-length-13 : tie.Need-same-length-13
-same-length-13 c = search needs
-
-same-length-14 : tie.Need-same-length-14
-same-length-14 c = search needs
-
-returns-7 : tie.Need-returns-7
-returns-7 c =
-    let at-try-primitive = c .before .before .before .before .before .before in
-    let at-argument-count = at-try-primitive .before .before .before in
-    let at-primitive-number = at-argument-count .before .before .before in
-    let at-if5 = at-primitive-number .before .before .before in
-    let at-if2 = at-if5 .before in
-    let at-if1 = at-if2 .before in
-    let at-flag = at-if1 .before in
-    let at-header = at-flag .before in
-    let at-start = at-header .before .before .before .before .before in
-    λ arguments p q room s t. primitive-failed (at-start .pre) _ room arguments _ (at-flag .flag .ensures ∙ ap flagOf (at-header .header .ensures))
-    (at-if1 .if1 .left) (at-if2 .if2 .left) (at-if5 .if5 .left) s t _ _ _ (performed (at-start .pre) _ arguments (at-primitive-number .primitive-number .ensures)
-    (at-argument-count .argument-count .ensures) p q (at-try-primitive .try-primitive .ensures)) (c .enum-told .given .1)
+    λ arguments p q room s t. primitive-led (at-start .pre) _ room arguments _ (at-flag .flag .ensures ∙ ap flagOf (at-header .header .ensures))
+    (at-if5 .if5 .left) s t _ _ _ (performed (at-start .pre) _ arguments (at-primitive-number .primitive-number .ensures)
+    (at-argument-count .argument-count .ensures) p q (at-try-primitive .try-primitive .ensures)) _ (c .outcome .ensures)
 
 pub activate-spec : {M : Type 1} → statement M
 activate-spec =
@@ -231,11 +205,7 @@ activate-spec =
     primitive-number-requires
     argument-count-requires
     try-primitive-requires
-    enum-known-answer
-    enum-told
+    outcome-requires
     same-length-11
     same-length-12
-    returns-6
-    same-length-13
-    same-length-14
-    returns-7)
+    returns-6)

@@ -1,6 +1,6 @@
 use native.Mathlib.Omega.{arith}
 use lib.ListN.{length-set}
-use Rattle.cache.proofs.Caching.{entry-filled}
+use Rattle.cache.proofs.Caching.{entry-filled, entry-there}
 use borrow.Author.Needs.{needs}
 use Rattle.cache.proofs.fill.Statement.{statement}
 use Rattle.cache.proofs.fill.Tie as tie
@@ -10,6 +10,27 @@ entry-requires c κs = search needs
 
 mul-at : tie.Need-mul-at
 mul-at c = search needs
+
+mul-if1 : tie.Need-mul-if1
+mul-if1 c = search needs
+
+slice-read-if1 : tie.Need-slice-read-if1
+slice-read-if1 c = search needs
+
+add-if2 : tie.Need-add-if2
+add-if2 c = search needs
+
+mul-if2 : tie.Need-mul-if2
+mul-if2 c = search needs
+
+slice-read-if2 : tie.Need-slice-read-if2
+slice-read-if2 c = search needs
+
+returns : tie.Need-returns
+returns c =
+    let at-if1 = c .before .before .before in
+    let at-entry = at-if1 .before .before in
+    entry-there _ _ _ _ _ (at-entry .entry .ensures .0) (at-entry .before .before .pre .1) (at-if1 .if1 .taken) (c .if2 .taken)
 
 mul-cache : tie.Need-mul-cache
 mul-cache c = search needs
@@ -38,8 +59,8 @@ slice-write-cache-3 c = simp length-set (omega arith)
 same-length : tie.Need-same-length
 same-length c = search needs
 
-returns : tie.Need-returns
-returns c = entry-filled _ _ _ _ _ (c .entry .ensures .0)
+returns-2 : tie.Need-returns-2
+returns-2 c = entry-filled _ _ _ _ _ (c .before .before .entry .ensures .0)
 
 pub fill-spec : {M : Type 1} → statement M
 fill-spec =
@@ -47,6 +68,12 @@ fill-spec =
     (tie.spec
     entry-requires
     mul-at
+    mul-if1
+    slice-read-if1
+    add-if2
+    mul-if2
+    slice-read-if2
+    returns
     mul-cache
     slice-write-cache
     add-cache
@@ -56,4 +83,4 @@ fill-spec =
     mul-cache-3
     slice-write-cache-3
     same-length
-    returns)
+    returns-2)

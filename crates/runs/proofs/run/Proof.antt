@@ -1,21 +1,22 @@
-use borrow.Author.Needs.{needs}
 use native.Mathlib.Omega.{arith}
-use Prim.Native.Nat.{ℕ, _-_}
+use Prim.Native.Nat.{ℕ}
 use mathlib.Core.Path.{_≡_, _∙_}
 use Rattle.model.specs.Image.{accepted}
 use Rattle.plain.specs.Check.{check}
+use Rattle.frames.proofs.Standing.{holdable}
 use Rattle.runs.specs.Ends.{startOf}
-use Rattle.runs.proofs.Looping.{Loop, start-runs, loop-start, loop-holds-it, loop-active, loop-cached, held-small, held-lengths, held-leaves, loop-ends, loop-finished, loop-halted, loop-next-one, went-runs, loop-went, back-runs, loop-back}
+use Rattle.runs.proofs.Looping.{Loop, start-runs, loop-start, loop-holds-it, loop-active, loop-cached, held-small, held-lengths, held-leaves, loop-ends, loop-finished, loop-halted, loop-next-one, loop-answered, loop-entered, loop-back}
+use borrow.Author.Needs.{needs}
 use Rattle.runs.proofs.run.Statement.{statement}
 use Rattle.runs.proofs.run.Tie as tie
 
 abbrev Inv-loop : tie.InvT-loop
-Inv-loop contents₀ bodies₀ stack₀ cache₀ edition n b top grant objects₀ words₀ count₀ reach₀ active₀ contents bodies stack cache objects words count reach active =
+Inv-loop contents₀ bodies₀ stack₀ cache₀ edition n b top grant objects₀ words₀ left₀ reach₀ active₀ contents bodies stack cache objects words left reach active =
     (receiver selector : ℕ) → check (startOf edition receiver selector n b top contents₀ bodies₀ stack₀ cache₀) ≡ accepted
-    → Loop (startOf edition receiver selector n b top contents₀ bodies₀ stack₀ cache₀) grant edition receiver selector objects words active contents bodies stack cache count reach
+    → Loop (startOf edition receiver selector n b top contents₀ bodies₀ stack₀ cache₀) grant edition receiver selector objects words active contents bodies stack cache left reach
 
 abbrev μ-loop : tie.MeasureT-loop
-μ-loop contents₀ bodies₀ stack₀ cache₀ edition n b top grant objects₀ words₀ count₀ reach₀ active₀ contents bodies stack cache objects words count reach active = grant - count
+μ-loop contents₀ bodies₀ stack₀ cache₀ edition n b top grant objects₀ words₀ left₀ reach₀ active₀ contents bodies stack cache objects words left reach active = left
 
 frame-end-requires : tie.Need-frame-end-requires Inv-loop μ-loop
 frame-end-requires c κs =
@@ -29,7 +30,8 @@ hold-requires c κs =
     let at-start = c .before .before .before .before .before .before .before .before .before .before .before in
     let a = at-start .args in
     let w = at-start .pre in
-    start-runs (a .edition) (w .receiver) (w .selector) (a .n) (a .b) (a .top) (a .contents .now) (a .bodies .now) (a .stack .now) (a .cache .now) (w .checks)
+    holdable (start-runs (a .edition) (w .receiver) (w .selector) (a .n) (a .b) (a .top) (a .contents .now) (a .bodies .now) (a .stack .now) (a .cache .now) (w
+    .checks))
 
 loop-holds : tie.Need-loop-holds Inv-loop μ-loop
 loop-holds c =
@@ -51,14 +53,17 @@ advance-requires c κs =
 enum-known-position : tie.Need-enum-known-position Inv-loop μ-loop
 enum-known-position c = search needs
 
-add-count : tie.Need-add-count Inv-loop μ-loop
-add-count c =
+sub-left : tie.Need-sub-left Inv-loop μ-loop
+sub-left c =
     let at-loop-test = c .before .before .before .before .before .before .before .before .before .before .before .before .before .before .before .before in
-    let at-start = at-loop-test .before .before .before .before .before .before .before .before .before .before .before .before .before .before in
-    let t = at-loop-test .loop-test .taken in omega (arith, at-start .fits)
+    let t = at-loop-test .loop-test .taken in
+    omega arith
 
 loop-less : tie.Need-loop-less Inv-loop μ-loop
-loop-less c = let t = c .before .before .before .before .before .before .before .before .before .before .before .before .before .before .before .before .loop-test .taken in omega arith
+loop-less c =
+    let at-loop-test = c .before .before .before .before .before .before .before .before .before .before .before .before .before .before .before .before in
+    let t = at-loop-test .loop-test .taken in
+    omega arith
 
 loop-again : tie.Need-loop-again Inv-loop μ-loop
 loop-again c =
@@ -71,88 +76,82 @@ loop-again c =
 enum-known-grown : tie.Need-enum-known-grown Inv-loop μ-loop
 enum-known-grown c = search needs
 
-raised-requires : tie.Need-raised-requires Inv-loop μ-loop
-raised-requires c κs =
-    let at-grown = c .before .before .before .before in
-    let at-advance = at-grown .before .before .before .before .before .before .before .before .before .before in
-    let at-loop-test = at-advance .before .before .before .before .before in
-    let at-loop = at-loop-test .before in
-    let at-start = at-loop .before .before .before .before .before .before .before .before .before .before .before .before .before in
-    let w = at-start .pre in
-    let l = at-loop .loop .inv (w .receiver) (w .selector) (w .checks) in
-    (went-runs l (at-loop-test .loop-test .taken) _ _ _ _ (at-advance .advance .result) (at-advance .advance .ensures (w .receiver) (w .selector)) _ _ _ (at-grown .grown .given .1), l .at .low)
-
-hold-requires-2 : tie.Need-hold-requires-2 Inv-loop μ-loop
-hold-requires-2 c κs =
-    let at-grown = c .before .before .before .before .before .before .before .before in
-    let at-advance = at-grown .before .before .before .before .before .before .before .before .before .before in
-    let at-loop-test = at-advance .before .before .before .before .before in
-    let at-loop = at-loop-test .before in
-    let at-start = at-loop .before .before .before .before .before .before .before .before .before .before .before .before .before in
-    let w = at-start .pre in
-    let l = at-loop .loop .inv (w .receiver) (w .selector) (w .checks) in
-    went-runs l (at-loop-test .loop-test .taken) _ _ _ _ (at-advance .advance .result) (at-advance .advance .ensures (w .receiver) (w .selector)) _ _ _ (at-grown .grown .given .1)
-
-add-count-2 : tie.Need-add-count-2 Inv-loop μ-loop
-add-count-2 c =
-    let at-loop-test = c .before .before .before .before .before .before .before .before .before .before .before .before .before .before .before .before .before .before .before .before .before
-    .before .before .before in
-    let at-start = at-loop-test .before .before .before .before .before .before .before .before .before .before .before .before .before .before in
-    let t = at-loop-test .loop-test .taken in omega (arith, at-start .fits)
+sub-left-2 : tie.Need-sub-left-2 Inv-loop μ-loop
+sub-left-2 c =
+    let at-loop-test = c .before .before .before .before .before .before .before .before .before .before .before .before .before .before .before .before in
+    let t = at-loop-test .loop-test .taken in
+    omega arith
 
 loop-less-2 : tie.Need-loop-less-2 Inv-loop μ-loop
-loop-less-2 c = let t = c .before .before .before .before .before .before .before .before .before .before .before .before .before .before .before .before .before .before .before .before .before
-    .before .before .before .loop-test .taken in omega arith
+loop-less-2 c =
+    let at-loop-test = c .before .before .before .before .before .before .before .before .before .before .before .before .before .before .before .before in
+    let t = at-loop-test .loop-test .taken in
+    omega arith
 
 loop-again-2 : tie.Need-loop-again-2 Inv-loop μ-loop
 loop-again-2 c =
-    let at-raised = c .before .before .before .before in
-    let at-grown = at-raised .before .before .before .before .before in
-    let at-advance = at-grown .before .before .before .before .before .before .before .before .before .before in
+    let at-advance = c .before .before .before .before .before .before .before .before .before .before .before in
     let at-loop-test = at-advance .before .before .before .before .before in
     let at-loop = at-loop-test .before in
-    let end = at-raised .raised .ensures in
-    λ receiver selector e. loop-holds-it (loop-went (at-loop .loop .inv receiver selector e) (at-loop-test .loop-test .taken) _ _ _ _
-    (at-advance .advance .result) (at-advance .advance .ensures receiver selector) _ _ _ (at-grown .grown .given .1) _ (end .0) (end .1)) (c .hold2 .result) (c .hold2 .ensures)
+    λ receiver selector e. loop-answered (at-loop .loop .inv receiver selector e) (at-loop-test .loop-test .taken) _ _ _ _ (at-advance .advance .result)
+    (at-advance .advance .ensures receiver selector) _ _ _ _ (c .before .grown .given .1)
 
-enum-known-below : tie.Need-enum-known-below Inv-loop μ-loop
-enum-known-below c = search needs
+enum-known-frame : tie.Need-enum-known-frame Inv-loop μ-loop
+enum-known-frame c = search needs
 
-hold-requires-3 : tie.Need-hold-requires-3 Inv-loop μ-loop
-hold-requires-3 c κs =
-    let at-below = c .before .before .before .before in
-    let at-advance = at-below .before .before .before .before .before .before .before .before .before .before in
-    let at-loop-test = at-advance .before .before .before .before .before in
-    let at-loop = at-loop-test .before in
-    let at-start = at-loop .before .before .before .before .before .before .before .before .before .before .before .before .before in
-    let w = at-start .pre in
-    let l = at-loop .loop .inv (w .receiver) (w .selector) (w .checks) in
-    back-runs l (at-loop-test .loop-test .taken) _ _ _ _ (at-advance .advance .result) (at-advance .advance .ensures (w .receiver) (w .selector)) _ (at-below .below .given .1)
+higher-requires : tie.Need-higher-requires Inv-loop μ-loop
+higher-requires c κs = search needs
 
-add-count-3 : tie.Need-add-count-3 Inv-loop μ-loop
-add-count-3 c =
-    let at-loop-test = c .before .before .before .before .before .before .before .before .before .before .before .before .before .before .before .before .before .before .before .before in
-    let at-start = at-loop-test .before .before .before .before .before .before .before .before .before .before .before .before .before .before in
-    let t = at-loop-test .loop-test .taken in omega (arith, at-start .fits)
+sub-left-3 : tie.Need-sub-left-3 Inv-loop μ-loop
+sub-left-3 c =
+    let at-loop-test = c .before .before .before .before .before .before .before .before .before .before .before .before .before .before .before .before
+    .before in
+    let t = at-loop-test .loop-test .taken in
+    omega arith
 
 loop-less-3 : tie.Need-loop-less-3 Inv-loop μ-loop
-loop-less-3 c = let t = c .before .before .before .before .before .before .before .before .before .before .before .before .before .before .before .before .before .before .before .before
-    .loop-test .taken in omega arith
+loop-less-3 c =
+    let at-loop-test = c .before .before .before .before .before .before .before .before .before .before .before .before .before .before .before .before
+    .before in
+    let t = at-loop-test .loop-test .taken in
+    omega arith
 
 loop-again-3 : tie.Need-loop-again-3 Inv-loop μ-loop
 loop-again-3 c =
-    let at-below = c .before .before .before .before .before in
-    let at-advance = at-below .before .before .before .before .before .before .before .before .before .before in
+    let at-advance = c .before .before .before .before .before .before .before .before .before .before .before .before in
     let at-loop-test = at-advance .before .before .before .before .before in
     let at-loop = at-loop-test .before in
-    λ receiver selector e. loop-holds-it (loop-back (at-loop .loop .inv receiver selector e) (at-loop-test .loop-test .taken) _ _ _ _
-    (at-advance .advance .result) (at-advance .advance .ensures receiver selector) _ (at-below .below .given .1)) (c .hold3 .result) (c .hold3 .ensures)
+    λ receiver selector e. loop-entered (at-loop .loop .inv receiver selector e) (at-loop-test .loop-test .taken) _ _ _ _ (at-advance .advance .result)
+    (at-advance .advance .ensures receiver selector) _ _ (c .before .before .frame .given .1) _ (c .higher .ensures)
+
+enum-known-frame-2 : tie.Need-enum-known-frame-2 Inv-loop μ-loop
+enum-known-frame-2 c = search needs
+
+sub-left-4 : tie.Need-sub-left-4 Inv-loop μ-loop
+sub-left-4 c =
+    let at-loop-test = c .before .before .before .before .before .before .before .before .before .before .before .before .before .before .before .before in
+    let t = at-loop-test .loop-test .taken in
+    omega arith
+
+loop-less-4 : tie.Need-loop-less-4 Inv-loop μ-loop
+loop-less-4 c =
+    let at-loop-test = c .before .before .before .before .before .before .before .before .before .before .before .before .before .before .before .before in
+    let t = at-loop-test .loop-test .taken in
+    omega arith
+
+loop-again-4 : tie.Need-loop-again-4 Inv-loop μ-loop
+loop-again-4 c =
+    let at-advance = c .before .before .before .before .before .before .before .before .before .before .before in
+    let at-loop-test = at-advance .before .before .before .before .before in
+    let at-loop = at-loop-test .before in
+    λ receiver selector e. loop-back (at-loop .loop .inv receiver selector e) (at-loop-test .loop-test .taken) _ _ _ _ (at-advance .advance .result)
+    (at-advance .advance .ensures receiver selector) _ (c .before .frame2 .given .1)
 
 enum-known-w : tie.Need-enum-known-w Inv-loop μ-loop
 enum-known-w c = search needs
 
-cast-t64 : tie.Need-cast-t64 Inv-loop μ-loop
-cast-t64 c =
+cast-t49 : tie.Need-cast-t49 Inv-loop μ-loop
+cast-t49 c =
     let at-loop = c .before .before .before .before .before .before .before .before .before .before .before .before .before .before .before .before .before in
     let at-start = at-loop .before .before .before .before .before .before .before .before .before .before .before .before .before in
     let w = at-start .pre in
@@ -160,8 +159,8 @@ cast-t64 c =
     let k = held-small l in
     omega arith
 
-cast-t65 : tie.Need-cast-t65 Inv-loop μ-loop
-cast-t65 c =
+cast-t50 : tie.Need-cast-t50 Inv-loop μ-loop
+cast-t50 c =
     let at-loop = c .before .before .before .before .before .before .before .before .before .before .before .before .before .before .before .before .before in
     let at-start = at-loop .before .before .before .before .before .before .before .before .before .before .before .before .before in
     let w = at-start .pre in
@@ -169,11 +168,25 @@ cast-t65 c =
     let k = held-small l in
     omega arith
 
-add-t66 : tie.Need-add-t66 Inv-loop μ-loop
-add-t66 c =
+sub-t51 : tie.Need-sub-t51 Inv-loop μ-loop
+sub-t51 c =
+    let at-loop = c .before .before .before .before .before .before .before .before .before .before .before .before .before .before .before .before .before in
+    let at-start = at-loop .before .before .before .before .before .before .before .before .before .before .before .before .before in
+    let w = at-start .pre in
+    let l = at-loop .loop .inv (w .receiver) (w .selector) (w .checks) in
+    l .within
+
+add-t52 : tie.Need-add-t52 Inv-loop μ-loop
+add-t52 c =
     let at-loop-test = c .before .before .before .before .before .before .before .before .before .before .before .before .before .before .before .before in
-    let at-start = at-loop-test .before .before .before .before .before .before .before .before .before .before .before .before .before .before in
-    let t = at-loop-test .loop-test .taken in omega (arith, at-start .fits)
+    let at-loop = at-loop-test .before in
+    let at-start = at-loop .before .before .before .before .before .before .before .before .before .before .before .before .before in
+    let w = at-start .pre in
+    let l = at-loop .loop .inv (w .receiver) (w .selector) (w .checks) in
+    let g = l .within in
+    let t = at-loop-test .loop-test .taken in
+    let f = at-start .fits in
+    omega arith
 
 same-length : tie.Need-same-length Inv-loop μ-loop
 same-length c =
@@ -222,8 +235,8 @@ returns c =
 enum-known-k : tie.Need-enum-known-k Inv-loop μ-loop
 enum-known-k c = search needs
 
-cast-t67 : tie.Need-cast-t67 Inv-loop μ-loop
-cast-t67 c =
+cast-t53 : tie.Need-cast-t53 Inv-loop μ-loop
+cast-t53 c =
     let at-loop = c .before .before .before .before .before .before .before .before .before .before .before .before .before .before .before .before .before in
     let at-start = at-loop .before .before .before .before .before .before .before .before .before .before .before .before .before in
     let w = at-start .pre in
@@ -231,8 +244,8 @@ cast-t67 c =
     let k = held-small l in
     omega arith
 
-cast-t68 : tie.Need-cast-t68 Inv-loop μ-loop
-cast-t68 c =
+cast-t54 : tie.Need-cast-t54 Inv-loop μ-loop
+cast-t54 c =
     let at-loop = c .before .before .before .before .before .before .before .before .before .before .before .before .before .before .before .before .before in
     let at-start = at-loop .before .before .before .before .before .before .before .before .before .before .before .before .before in
     let w = at-start .pre in
@@ -240,14 +253,24 @@ cast-t68 c =
     let k = held-small l in
     omega arith
 
-cast-t69 : tie.Need-cast-t69 Inv-loop μ-loop
-cast-t69 c =
-    let at-loop = c .before .before .before .before .before .before .before .before .before .before .before .before .before .before .before .before .before .before in
+cast-t55 : tie.Need-cast-t55 Inv-loop μ-loop
+cast-t55 c =
+    let at-loop = c .before .before .before .before .before .before .before .before .before .before .before .before .before .before .before .before .before
+    .before in
     let at-start = at-loop .before .before .before .before .before .before .before .before .before .before .before .before .before in
     let w = at-start .pre in
     let l = at-loop .loop .inv (w .receiver) (w .selector) (w .checks) in
     let k = held-small l in
     omega arith
+
+sub-t56 : tie.Need-sub-t56 Inv-loop μ-loop
+sub-t56 c =
+    let at-loop = c .before .before .before .before .before .before .before .before .before .before .before .before .before .before .before .before .before
+    .before in
+    let at-start = at-loop .before .before .before .before .before .before .before .before .before .before .before .before .before in
+    let w = at-start .pre in
+    let l = at-loop .loop .inv (w .receiver) (w .selector) (w .checks) in
+    l .within
 
 same-length-5 : tie.Need-same-length-5 Inv-loop μ-loop
 same-length-5 c =
@@ -300,8 +323,8 @@ leave-requires c κs =
     let l = c .before .before .loop .inv (w .receiver) (w .selector) (w .checks) in
     held-leaves l
 
-cast-t73 : tie.Need-cast-t73 Inv-loop μ-loop
-cast-t73 c =
+cast-t60 : tie.Need-cast-t60 Inv-loop μ-loop
+cast-t60 c =
     let at-loop = c .before .before .before .before .before in
     let at-start = at-loop .before .before .before .before .before .before .before .before .before .before .before .before .before in
     let w = at-start .pre in
@@ -309,8 +332,8 @@ cast-t73 c =
     let k = held-small l in
     omega arith
 
-cast-t74 : tie.Need-cast-t74 Inv-loop μ-loop
-cast-t74 c =
+cast-t61 : tie.Need-cast-t61 Inv-loop μ-loop
+cast-t61 c =
     let at-loop = c .before .before .before .before .before in
     let at-start = at-loop .before .before .before .before .before .before .before .before .before .before .before .before .before in
     let w = at-start .pre in
@@ -318,8 +341,8 @@ cast-t74 c =
     let k = held-small l in
     omega arith
 
-cast-t75 : tie.Need-cast-t75 Inv-loop μ-loop
-cast-t75 c =
+cast-t62 : tie.Need-cast-t62 Inv-loop μ-loop
+cast-t62 c =
     let at-loop = c .before .before .before .before .before .before in
     let at-start = at-loop .before .before .before .before .before .before .before .before .before .before .before .before .before in
     let w = at-start .pre in
@@ -365,7 +388,8 @@ returns-3 c =
     let at-leave = c .before .before .before in
     let at-loop-test = at-leave .before .before in
     let at-loop = at-loop-test .before in
-    λ receiver selector e. loop-ends (at-loop .loop .inv receiver selector e) _ (at-leave .leave .ensures) (at-loop-test .loop-test .left)
+    λ receiver selector e. loop-ends (at-loop .loop .inv receiver selector e) _ (at-leave .leave .ensures) (let t = at-loop-test .loop-test .left in omega
+    arith)
 
 pub run-spec : {M : Type 1} → statement M
 run-spec =
@@ -378,42 +402,46 @@ run-spec =
     loop-holds
     advance-requires
     enum-known-position
-    add-count
+    sub-left
     loop-less
     loop-again
     enum-known-grown
-    raised-requires
-    hold-requires-2
-    add-count-2
+    sub-left-2
     loop-less-2
     loop-again-2
-    enum-known-below
-    hold-requires-3
-    add-count-3
+    enum-known-frame
+    higher-requires
+    sub-left-3
     loop-less-3
     loop-again-3
+    enum-known-frame-2
+    sub-left-4
+    loop-less-4
+    loop-again-4
     enum-known-w
-    cast-t64
-    cast-t65
-    add-t66
+    cast-t49
+    cast-t50
+    sub-t51
+    add-t52
     same-length
     same-length-2
     same-length-3
     same-length-4
     returns
     enum-known-k
-    cast-t67
-    cast-t68
-    cast-t69
+    cast-t53
+    cast-t54
+    cast-t55
+    sub-t56
     same-length-5
     same-length-6
     same-length-7
     same-length-8
     returns-2
     leave-requires
-    cast-t73
-    cast-t74
-    cast-t75
+    cast-t60
+    cast-t61
+    cast-t62
     same-length-9
     same-length-10
     same-length-11

@@ -1,6 +1,6 @@
 -- The selector is a literal of the method.
 use native.Mathlib.Omega.{arith}
-use Rattle.steps.proofs.ActiveLaws.{ends}
+use Rattle.frames.proofs.ActiveLaws.{ends}
 use Rattle.steps.proofs.DoingLaws.{send-literal, send-done}
 use borrow.Author.Needs.{needs}
 use Rattle.steps.proofs.send.Statement.{statement}

@@ -1,7 +1,7 @@
 -- By the number of the send.
 use native.Mathlib.Omega.{arith}
 use mathlib.Core.Path.{refl}
-use Rattle.steps.proofs.ActiveLaws.{ends}
+use Rattle.frames.proofs.ActiveLaws.{ends}
 use Rattle.steps.proofs.DoingLaws.{special-below, special-one, special-inside, special-valid, entries-room, same-two-there, same-done, class-done, special-done}
 use borrow.Author.Needs.{needs}
 use Rattle.steps.proofs.special_send.Statement.{statement}

@@ -1,89 +1,228 @@
--- By the row of the byte.
+-- By the instruction.
 use native.Mathlib.Omega.{arith}
 use mathlib.Core.Path.{refl}
-use Rattle.bytecode.proofs.Choice.{past}
-use Rattle.steps.proofs.DoingLaws.{storing-popped}
-use Rattle.steps.proofs.RowLaws.{first-below, position-small, fetched, row-field, row-temporary, row-literal, row-variable, row-pop-field, row-pop-temporary, row-special, row-send}
+use Rattle.bytecode.specs.declared.Instruction.the-variants.{Push, Store, PopStore, PushSelf, PushConstant, ReturnSelf, ReturnConstant, ReturnTop, Pop, Duplicate, Jump, JumpOn, Send, SuperSend, SpecialSend, Unused}
+use Rattle.frames.proofs.ActiveLaws.{ends}
+use Rattle.steps.proofs.DoingLaws.{told, storing-kept, storing-popped, store-one, self-pushing, self-done, constant-pushing, constant-done, duplicate-one, duplicate-pushing, duplicate-done, pop-one, pop-done, jump-small, jump-low, jump-done, self-returned, constant-returned, top-one, top-returned, never}
 use borrow.Author.Needs.{needs}
 use Rattle.steps.proofs.step.Statement.{statement}
 use Rattle.steps.proofs.step.Tie as tie
 
-code-byte-requires : tie.Need-code-byte-requires
-code-byte-requires c κs = (c .before .before .before .before .before .pre, first-below (c .before .before .before .before .before .pre))
+decoded-requires : tie.Need-decoded-requires
+decoded-requires c κs = search needs
 
-add-t14 : tie.Need-add-t14
-add-t14 c = let k = position-small (c .before .before .before .before .before .before .before .pre) in omega arith
-
-cast-t22 : tie.Need-cast-t22
-cast-t22 c = search needs
+enum-known-instruction : tie.Need-enum-known-instruction
+enum-known-instruction c = search needs
 
 push-requires : tie.Need-push-requires
 push-requires c κs =
-    let at-code-byte = c .before .before .before .before in
-    let at-start = at-code-byte .before .before .before .before .before .before in
-    row-field (fetched (at-start .pre) _ (at-code-byte .code-byte .ensures)) (c .before .before .match .keys1)
+    let at-instruction = c .before .before .before in
+    let at-decoded = at-instruction .before .before in
+    told (at-decoded .decoded .ensures) (Push _) (at-instruction .instruction .given .1)
 
-cast-t29 : tie.Need-cast-t29
-cast-t29 c = search needs
-
-push-requires-2 : tie.Need-push-requires-2
-push-requires-2 c κs =
-    let at-code-byte = c .before .before .before .before in
-    let at-start = at-code-byte .before .before .before .before .before .before in
-    row-temporary (fetched (at-start .pre) _ (at-code-byte .code-byte .ensures)) (c .before .before .match .keys2)
-
-cast-t36 : tie.Need-cast-t36
-cast-t36 c = search needs
-
-push-requires-3 : tie.Need-push-requires-3
-push-requires-3 c κs =
-    let at-match = c .before .before in
-    let at-code-byte = at-match .before .before in
-    let at-start = at-code-byte .before .before .before .before .before .before in
-    row-literal (fetched (at-start .pre) _ (at-code-byte .code-byte .ensures)) (omega (arith, at-match .match .keys3)) (omega (arith, at-match .match .keys3))
-
-cast-t43 : tie.Need-cast-t43
-cast-t43 c = search needs
-
-push-requires-4 : tie.Need-push-requires-4
-push-requires-4 c κs =
-    let at-match = c .before .before in
-    let at-code-byte = at-match .before .before in
-    let at-start = at-code-byte .before .before .before .before .before .before in
-    row-literal (fetched (at-start .pre) _ (at-code-byte .code-byte .ensures)) (omega (arith, at-match .match .keys4)) (omega (arith, at-match .match .keys4))
-
-cast-t50 : tie.Need-cast-t50
-cast-t50 c = search needs
-
-push-requires-5 : tie.Need-push-requires-5
-push-requires-5 c κs =
-    let at-match = c .before .before in
-    let at-code-byte = at-match .before .before in
-    let at-start = at-code-byte .before .before .before .before .before .before in
-    row-variable (fetched (at-start .pre) _ (at-code-byte .code-byte .ensures)) (omega (arith, at-match .match .keys5)) (omega (arith, at-match .match .keys5))
-
-cast-t57 : tie.Need-cast-t57
-cast-t57 c = search needs
-
-push-requires-6 : tie.Need-push-requires-6
-push-requires-6 c κs =
-    let at-match = c .before .before in
-    let at-code-byte = at-match .before .before in
-    let at-start = at-code-byte .before .before .before .before .before .before in
-    row-variable (fetched (at-start .pre) _ (at-code-byte .code-byte .ensures)) (omega (arith, at-match .match .keys6)) (omega (arith, at-match .match .keys6))
-
-sub-t59 : tie.Need-sub-t59
-sub-t59 c = search needs
-
-cast-t66 : tie.Need-cast-t66
-cast-t66 c = search needs
+enum-known-instruction-2 : tie.Need-enum-known-instruction-2
+enum-known-instruction-2 c = search needs
 
 store-requires : tie.Need-store-requires
 store-requires c κs =
-    let at-match = c .before .before .before .before in
-    let at-code-byte = at-match .before .before in
-    let at-start = at-code-byte .before .before .before .before .before .before in
-    storing-popped (row-pop-field (fetched (at-start .pre) _ (at-code-byte .code-byte .ensures)) (at-match .match .keys7) (c .before .before .if1 .taken)) _ refl
+    let at-instruction2 = c .before .before .before .before in
+    let at-decoded = at-instruction2 .before .before in
+    storing-kept (told (at-decoded .decoded .ensures) (Store _) (at-instruction2 .instruction2 .given .1)) _ refl
+
+enum-known-instruction-3 : tie.Need-enum-known-instruction-3
+enum-known-instruction-3 c = search needs
+
+sub-t45 : tie.Need-sub-t45
+sub-t45 c =
+    let at-decoded = c .before .before .before .before in
+    let k = store-one (storing-popped (told (at-decoded .decoded .ensures) (PopStore _) (c .before .before .instruction3 .given .1)) _ refl) in
+    omega arith
+
+store-requires-2 : tie.Need-store-requires-2
+store-requires-2 c κs =
+    let at-instruction3 = c .before .before .before .before in
+    let at-decoded = at-instruction3 .before .before in
+    storing-popped (told (at-decoded .decoded .ensures) (PopStore _) (at-instruction3 .instruction3 .given .1)) _ refl
+
+enum-told : tie.Need-enum-told
+enum-told c = search needs
+
+add-w : tie.Need-add-w
+add-w c =
+    let at-start = c .before .before .before .before .before .before .before .before in
+    let k = ends (at-start .pre) in
+    omega arith
+
+mul-w : tie.Need-mul-w
+mul-w c =
+    let at-start = c .before .before .before .before .before .before .before .before in
+    let k = ends (at-start .pre) in
+    omega arith
+
+slice-read-w : tie.Need-slice-read-w
+slice-read-w c =
+    let at-start = c .before .before .before .before .before .before .before .before .before in
+    let k = ends (at-start .pre) in
+    omega arith
+
+push-word-requires : tie.Need-push-word-requires
+push-word-requires c κs =
+    let at-decoded = c .before .before .before .before in
+    self-pushing (told (at-decoded .decoded .ensures) (PushSelf) (c .before .before .enum-told .given .1))
+
+enum-known-instruction-4 : tie.Need-enum-known-instruction-4
+enum-known-instruction-4 c = search needs
+
+push-word-requires-2 : tie.Need-push-word-requires-2
+push-word-requires-2 c κs =
+    let at-decoded = c .before .before .before .before in
+    constant-pushing (told (at-decoded .decoded .ensures) (PushConstant _) (c .before .before .instruction4 .given .1))
+
+enum-told-2 : tie.Need-enum-told-2
+enum-told-2 c = search needs
+
+add-t58 : tie.Need-add-t58
+add-t58 c =
+    let at-start = c .before .before .before .before .before .before .before .before in
+    let k = ends (at-start .pre) in
+    omega arith
+
+mul-t59 : tie.Need-mul-t59
+mul-t59 c =
+    let at-start = c .before .before .before .before .before .before .before .before in
+    let k = ends (at-start .pre) in
+    omega arith
+
+slice-read-t61 : tie.Need-slice-read-t61
+slice-read-t61 c =
+    let at-start = c .before .before .before .before .before .before .before .before .before in
+    let k = ends (at-start .pre) in
+    omega arith
+
+enum-known-instruction-5 : tie.Need-enum-known-instruction-5
+enum-known-instruction-5 c = search needs
+
+enum-told-3 : tie.Need-enum-told-3
+enum-told-3 c = search needs
+
+sub-at : tie.Need-sub-at
+sub-at c =
+    let at-decoded = c .before .before .before in
+    let k = top-one (told (at-decoded .decoded .ensures) (ReturnTop) (c .before .enum-told3 .given .1)) in
+    omega arith
+
+mul-t62 : tie.Need-mul-t62
+mul-t62 c =
+    let at-start = c .before .before .before .before .before .before .before .before .before in
+    let k = ends (at-start .pre) in
+    omega arith
+
+slice-read-t64 : tie.Need-slice-read-t64
+slice-read-t64 c =
+    let at-decoded = c .before .before .before .before in
+    let at-start = at-decoded .before .before .before .before .before .before in
+    let k = ends (at-start .pre) in
+    let o = top-one (told (at-decoded .decoded .ensures) (ReturnTop) (c .before .before .enum-told3 .given .1)) in
+    omega arith
+
+enum-told-4 : tie.Need-enum-told-4
+enum-told-4 c = search needs
+
+sub-t65 : tie.Need-sub-t65
+sub-t65 c =
+    let at-decoded = c .before .before .before in
+    let k = pop-one (told (at-decoded .decoded .ensures) (Pop) (c .before .enum-told4 .given .1)) in
+    omega arith
+
+enum-told-5 : tie.Need-enum-told-5
+enum-told-5 c = search needs
+
+sub-at-2 : tie.Need-sub-at-2
+sub-at-2 c =
+    let at-decoded = c .before .before .before in
+    let k = duplicate-one (told (at-decoded .decoded .ensures) (Duplicate) (c .before .enum-told5 .given .1)) in
+    omega arith
+
+mul-w-2 : tie.Need-mul-w-2
+mul-w-2 c =
+    let at-start = c .before .before .before .before .before .before .before .before .before in
+    let k = ends (at-start .pre) in
+    omega arith
+
+slice-read-w-2 : tie.Need-slice-read-w-2
+slice-read-w-2 c =
+    let at-decoded = c .before .before .before .before in
+    let at-start = at-decoded .before .before .before .before .before .before in
+    let k = ends (at-start .pre) in
+    let o = duplicate-one (told (at-decoded .decoded .ensures) (Duplicate) (c .before .before .enum-told5 .given .1)) in
+    omega arith
+
+push-word-requires-3 : tie.Need-push-word-requires-3
+push-word-requires-3 c κs =
+    let at-enum-told5 = c .before .before .before in
+    let at-decoded = at-enum-told5 .before .before in
+    duplicate-pushing (told (at-decoded .decoded .ensures) (Duplicate) (at-enum-told5 .enum-told5 .given .1))
+
+enum-known-instruction-6 : tie.Need-enum-known-instruction-6
+enum-known-instruction-6 c = search needs
+
+cast-t72 : tie.Need-cast-t72
+cast-t72 c = search needs
+
+add-t73 : tie.Need-add-t73
+add-t73 c =
+    let at-instruction6 = c .before .before .before in
+    let at-decoded = at-instruction6 .before .before in
+    let k = jump-small (told (at-decoded .decoded .ensures) (Jump _ _) (at-instruction6 .instruction6 .given .1)) in
+    omega arith
+
+cast-t74 : tie.Need-cast-t74
+cast-t74 c = search needs
+
+sub-t75 : tie.Need-sub-t75
+sub-t75 c =
+    let at-instruction6 = c .before .before .before in
+    let at-decoded = at-instruction6 .before .before in
+    jump-low (told (at-decoded .decoded .ensures) (Jump _ _) (at-instruction6 .instruction6 .given .1))
+
+enum-known-instruction-7 : tie.Need-enum-known-instruction-7
+enum-known-instruction-7 c = search needs
+
+cast-jump-on : tie.Need-cast-jump-on
+cast-jump-on c = search needs
+
+jump-on-requires : tie.Need-jump-on-requires
+jump-on-requires c κs =
+    let at-instruction7 = c .before .before .before in
+    let at-decoded = at-instruction7 .before .before in
+    told (at-decoded .decoded .ensures) (JumpOn _ _) (at-instruction7 .instruction7 .given .1)
+
+enum-known-instruction-8 : tie.Need-enum-known-instruction-8
+enum-known-instruction-8 c = search needs
+
+send-requires : tie.Need-send-requires
+send-requires c κs =
+    let at-instruction8 = c .before .before .before in
+    let at-decoded = at-instruction8 .before .before in
+    told (at-decoded .decoded .ensures) (Send _ _) (at-instruction8 .instruction8 .given .1)
+
+enum-known-instruction-9 : tie.Need-enum-known-instruction-9
+enum-known-instruction-9 c = search needs
+
+super-send-requires : tie.Need-super-send-requires
+super-send-requires c κs =
+    let at-instruction9 = c .before .before .before in
+    let at-decoded = at-instruction9 .before .before in
+    told (at-decoded .decoded .ensures) (SuperSend _ _) (at-instruction9 .instruction9 .given .1)
+
+enum-known-instruction-10 : tie.Need-enum-known-instruction-10
+enum-known-instruction-10 c = search needs
+
+arithmetic-send-requires : tie.Need-arithmetic-send-requires
+arithmetic-send-requires c κs =
+    let at-instruction10 = c .before .before .before .before in
+    let at-decoded = at-instruction10 .before .before in
+    (told (at-decoded .decoded .ensures) (SpecialSend _) (at-instruction10 .instruction10 .given .1), c .before .before .if1 .taken)
 
 same-length : tie.Need-same-length
 same-length c = search needs
@@ -94,83 +233,14 @@ same-length-2 c = search needs
 returns : tie.Need-returns
 returns c = search needs
 
-cast-t59 : tie.Need-cast-t59
-cast-t59 c = search needs
-
-store-requires-2 : tie.Need-store-requires-2
-store-requires-2 c κs =
-    let at-match = c .before .before .before .before in
-    let at-code-byte = at-match .before .before in
-    let at-start = at-code-byte .before .before .before .before .before .before in
-    storing-popped (row-pop-temporary (fetched (at-start .pre) _ (at-code-byte .code-byte .ensures)) (at-match .match .keys7) (c .before .before .if1 .left)) _ refl
-
-constant-requires : tie.Need-constant-requires
-constant-requires c κs =
-    let at-code-byte = c .before .before .before .before in
-    let at-start = at-code-byte .before .before .before .before .before .before in
-    ((fetched (at-start .pre) _ (at-code-byte .code-byte .ensures)), c .before .before .match .keys8, refl)
-
-extended-requires : tie.Need-extended-requires
-extended-requires c κs =
-    let at-code-byte = c .before .before .before .before in
-    let at-start = at-code-byte .before .before .before .before .before .before in
-    ((fetched (at-start .pre) _ (at-code-byte .code-byte .ensures)), c .before .before .match .keys9)
-
-near-requires : tie.Need-near-requires
-near-requires c κs =
-    let at-code-byte = c .before .before .before .before in
-    let at-start = at-code-byte .before .before .before .before .before .before in
-    ((fetched (at-start .pre) _ (at-code-byte .code-byte .ensures)), c .before .before .match .keys10)
-
-far-requires : tie.Need-far-requires
-far-requires c κs =
-    let at-code-byte = c .before .before .before .before in
-    let at-start = at-code-byte .before .before .before .before .before .before in
-    ((fetched (at-start .pre) _ (at-code-byte .code-byte .ensures)), c .before .before .match .keys11)
-
-sub-arithmetic-send : tie.Need-sub-arithmetic-send
-sub-arithmetic-send c = search needs
-
-arithmetic-send-requires : tie.Need-arithmetic-send-requires
-arithmetic-send-requires c κs =
-    let at-match = c .before .before in
-    let at-code-byte = at-match .before .before in
-    let at-start = at-code-byte .before .before .before .before .before .before in (
-      row-special (fetched (at-start .pre) _ (at-code-byte .code-byte .ensures)) (omega (arith, at-match .match .keys12))
-          (omega (arith, at-match .match .keys12)),
-      omega (arith, at-match .match .keys12),
-    )
-
-sub-special-send : tie.Need-sub-special-send
-sub-special-send c = search needs
-
 special-send-requires : tie.Need-special-send-requires
 special-send-requires c κs =
-    let at-match = c .before .before in
-    let at-code-byte = at-match .before .before in
-    let at-start = at-code-byte .before .before .before .before .before .before in (
-      row-special (fetched (at-start .pre) _ (at-code-byte .code-byte .ensures)) (omega (arith, at-match .match .keys13))
-          (omega (arith, at-match .match .keys13)),
-      omega (arith, at-match .match .keys13),
-    )
+    let at-instruction10 = c .before .before .before .before in
+    let at-decoded = at-instruction10 .before .before in
+    (told (at-decoded .decoded .ensures) (SpecialSend _) (at-instruction10 .instruction10 .given .1), let h = c .before .before .if1 .left in omega arith)
 
-send-requires : tie.Need-send-requires
-send-requires c κs =
-    let at-code-byte = c .before .before .before .before in
-    let at-start = at-code-byte .before .before .before .before .before .before in
-    row-send (fetched (at-start .pre) _ (at-code-byte .code-byte .ensures)) 0 (c .before .before .match .keys14)
-
-send-requires-2 : tie.Need-send-requires-2
-send-requires-2 c κs =
-    let at-code-byte = c .before .before .before .before in
-    let at-start = at-code-byte .before .before .before .before .before .before in
-    row-send (fetched (at-start .pre) _ (at-code-byte .code-byte .ensures)) 1 (c .before .before .match .keys15)
-
-send-requires-3 : tie.Need-send-requires-3
-send-requires-3 c κs =
-    let at-code-byte = c .before .before .before .before in
-    let at-start = at-code-byte .before .before .before .before .before .before in
-    let h = past 0 15 _ (omega arith) (c .before .before .match .rest) in row-send (fetched (at-start .pre) _ (at-code-byte .code-byte .ensures)) 2 (omega (arith, at-code-byte .code-byte .ensures))
+enum-told-6 : tie.Need-enum-told-6
+enum-told-6 c = search needs
 
 same-length-3 : tie.Need-same-length-3
 same-length-3 c = search needs
@@ -206,7 +276,10 @@ same-length-10 : tie.Need-same-length-10
 same-length-10 c = search needs
 
 returns-5 : tie.Need-returns-5
-returns-5 c = search needs
+returns-5 c =
+    let at-enum-told = c .before .before .before .before .before in
+    let at-decoded = at-enum-told .before .before in
+    self-done (told (at-decoded .decoded .ensures) (PushSelf) (at-enum-told .enum-told .given .1)) _ _ (c .before .before .push-word .ensures)
 
 same-length-11 : tie.Need-same-length-11
 same-length-11 c = search needs
@@ -215,7 +288,10 @@ same-length-12 : tie.Need-same-length-12
 same-length-12 c = search needs
 
 returns-6 : tie.Need-returns-6
-returns-6 c = search needs
+returns-6 c =
+    let at-instruction4 = c .before .before .before .before .before in
+    let at-decoded = at-instruction4 .before .before in
+    constant-done (told (at-decoded .decoded .ensures) (PushConstant _) (at-instruction4 .instruction4 .given .1)) _ _ (c .before .before .push-word2 .ensures)
 
 same-length-13 : tie.Need-same-length-13
 same-length-13 c = search needs
@@ -224,7 +300,9 @@ same-length-14 : tie.Need-same-length-14
 same-length-14 c = search needs
 
 returns-7 : tie.Need-returns-7
-returns-7 c = search needs
+returns-7 c =
+    let at-decoded = c .before .before .before in
+    self-returned (told (at-decoded .decoded .ensures) (ReturnSelf) (c .before .enum-told2 .given .1))
 
 same-length-15 : tie.Need-same-length-15
 same-length-15 c = search needs
@@ -233,7 +311,9 @@ same-length-16 : tie.Need-same-length-16
 same-length-16 c = search needs
 
 returns-8 : tie.Need-returns-8
-returns-8 c = search needs
+returns-8 c =
+    let at-decoded = c .before .before .before in
+    constant-returned (told (at-decoded .decoded .ensures) (ReturnConstant _) (c .before .instruction5 .given .1))
 
 same-length-17 : tie.Need-same-length-17
 same-length-17 c = search needs
@@ -242,7 +322,9 @@ same-length-18 : tie.Need-same-length-18
 same-length-18 c = search needs
 
 returns-9 : tie.Need-returns-9
-returns-9 c = search needs
+returns-9 c =
+    let at-decoded = c .before .before .before .before in
+    top-returned (told (at-decoded .decoded .ensures) (ReturnTop) (c .before .before .enum-told3 .given .1)) _ refl
 
 same-length-19 : tie.Need-same-length-19
 same-length-19 c = search needs
@@ -251,7 +333,9 @@ same-length-20 : tie.Need-same-length-20
 same-length-20 c = search needs
 
 returns-10 : tie.Need-returns-10
-returns-10 c = search needs
+returns-10 c =
+    let at-decoded = c .before .before .before in
+    pop-done (told (at-decoded .decoded .ensures) (Pop) (c .before .enum-told4 .given .1)) _ refl
 
 same-length-21 : tie.Need-same-length-21
 same-length-21 c = search needs
@@ -260,7 +344,10 @@ same-length-22 : tie.Need-same-length-22
 same-length-22 c = search needs
 
 returns-11 : tie.Need-returns-11
-returns-11 c = search needs
+returns-11 c =
+    let at-enum-told5 = c .before .before .before .before .before .before in
+    let at-decoded = at-enum-told5 .before .before in
+    duplicate-done (told (at-decoded .decoded .ensures) (Duplicate) (at-enum-told5 .enum-told5 .given .1)) _ _ _ refl (c .before .before .push-word3 .ensures)
 
 same-length-23 : tie.Need-same-length-23
 same-length-23 c = search needs
@@ -269,7 +356,10 @@ same-length-24 : tie.Need-same-length-24
 same-length-24 c = search needs
 
 returns-12 : tie.Need-returns-12
-returns-12 c = search needs
+returns-12 c =
+    let at-instruction6 = c .before .before .before in
+    let at-decoded = at-instruction6 .before .before in
+    jump-done (told (at-decoded .decoded .ensures) (Jump _ _) (at-instruction6 .instruction6 .given .1)) _ refl
 
 same-length-25 : tie.Need-same-length-25
 same-length-25 c = search needs
@@ -314,45 +404,62 @@ same-length-34 : tie.Need-same-length-34
 same-length-34 c = search needs
 
 returns-17 : tie.Need-returns-17
-returns-17 c = search needs
+returns-17 c = absurd (never (told (c .before .before .decoded .ensures) (Unused) (c .enum-told6 .given .1)))
 
 pub step-spec : {M : Type 1} → statement M
 step-spec =
     tie.close
     (tie.spec
-    code-byte-requires
-    add-t14
-    cast-t22
+    decoded-requires
+    enum-known-instruction
     push-requires
-    cast-t29
-    push-requires-2
-    cast-t36
-    push-requires-3
-    cast-t43
-    push-requires-4
-    cast-t50
-    push-requires-5
-    cast-t57
-    push-requires-6
-    sub-t59
-    cast-t66
+    enum-known-instruction-2
     store-requires
+    enum-known-instruction-3
+    sub-t45
+    store-requires-2
+    enum-told
+    add-w
+    mul-w
+    slice-read-w
+    push-word-requires
+    enum-known-instruction-4
+    push-word-requires-2
+    enum-told-2
+    add-t58
+    mul-t59
+    slice-read-t61
+    enum-known-instruction-5
+    enum-told-3
+    sub-at
+    mul-t62
+    slice-read-t64
+    enum-told-4
+    sub-t65
+    enum-told-5
+    sub-at-2
+    mul-w-2
+    slice-read-w-2
+    push-word-requires-3
+    enum-known-instruction-6
+    cast-t72
+    add-t73
+    cast-t74
+    sub-t75
+    enum-known-instruction-7
+    cast-jump-on
+    jump-on-requires
+    enum-known-instruction-8
+    send-requires
+    enum-known-instruction-9
+    super-send-requires
+    enum-known-instruction-10
+    arithmetic-send-requires
     same-length
     same-length-2
     returns
-    cast-t59
-    store-requires-2
-    constant-requires
-    extended-requires
-    near-requires
-    far-requires
-    sub-arithmetic-send
-    arithmetic-send-requires
-    sub-special-send
     special-send-requires
-    send-requires
-    send-requires-2
-    send-requires-3
+    enum-told-6
     same-length-3
     same-length-4
     returns-2

@@ -8,13 +8,24 @@ use Rattle.steps.proofs.store.Statement.{statement}
 use Rattle.steps.proofs.store.Tie as tie
 
 sub-at : tie.Need-sub-at
-sub-at c = let k = store-one (c .before .before .before .before .pre) in omega arith
+sub-at c =
+    let at-start = c .before .before .before .before in
+    let k = store-ends (at-start .pre) in
+    let o = store-one (at-start .pre) in
+    omega arith
 
 mul-w : tie.Need-mul-w
-mul-w c = let k = store-ends (c .before .before .before .before .pre) in omega arith
+mul-w c =
+    let at-start = c .before .before .before .before in
+    let k = store-ends (at-start .pre) in
+    omega arith
 
 slice-read-w : tie.Need-slice-read-w
-slice-read-w c = let k = store-ends (c .before .before .before .before .before .pre) in let o = store-one (c .before .before .before .before .before .pre) in omega arith
+slice-read-w c =
+    let at-start = c .before .before .before .before .before in
+    let k = store-ends (at-start .pre) in
+    let o = store-one (at-start .pre) in
+    omega arith
 
 enum-known-place : tie.Need-enum-known-place
 enum-known-place c = search needs
@@ -23,10 +34,16 @@ add-receiver : tie.Need-add-receiver
 add-receiver c = search needs
 
 mul-receiver : tie.Need-mul-receiver
-mul-receiver c = let k = store-ends (c .before .before .before .before .before .before .before .before .pre) in omega arith
+mul-receiver c =
+    let at-start = c .before .before .before .before .before .before .before .before in
+    let k = store-ends (at-start .pre) in
+    omega arith
 
 slice-read-receiver : tie.Need-slice-read-receiver
-slice-read-receiver c = let k = store-ends (c .before .before .before .before .before .before .before .before .before .pre) in omega arith
+slice-read-receiver c =
+    let at-start = c .before .before .before .before .before .before .before .before .before in
+    let k = store-ends (at-start .pre) in
+    omega arith
 
 store-word-requires : tie.Need-store-word-requires
 store-word-requires c κs =
@@ -37,17 +54,32 @@ store-word-requires c κs =
 enum-known-place-2 : tie.Need-enum-known-place-2
 enum-known-place-2 c = search needs
 
-add-stack : tie.Need-add-stack
-add-stack c = search needs
+first-temporary-requires : tie.Need-first-temporary-requires
+first-temporary-requires c κs =
+    let at-start = c .before .before .before .before .before .before .before .before in
+    let k = store-ends (at-start .pre) in
+    omega arith
 
-add-stack-2 : tie.Need-add-stack-2
-add-stack-2 c = let k = temporary-room (store-as (c .before .before .before .before .before .before .before .before .pre) (Temporary _) (c .before .place2 .given .1)) in omega arith
+add-to : tie.Need-add-to
+add-to c =
+    let at-start = c .before .before .before .before .before .before .before .before .before in
+    let k = temporary-room (store-as (at-start .pre) (Temporary _) (c .before .before .place2 .given .1)) in
+    let f = c .first-temporary .ensures in
+    omega arith
 
 mul-stack : tie.Need-mul-stack
-mul-stack c = let k = temporary-room (store-as (c .before .before .before .before .before .before .before .before .pre) (Temporary _) (c .before .place2 .given .1)) in omega arith
+mul-stack c =
+    let at-start = c .before .before .before .before .before .before .before .before .before in
+    let k = temporary-room (store-as (at-start .pre) (Temporary _) (c .before .before .place2 .given .1)) in
+    let f = c .first-temporary .ensures in
+    omega arith
 
 slice-write-stack : tie.Need-slice-write-stack
-slice-write-stack c = temporary-room (store-as (c .before .before .before .before .before .before .before .before .pre) (Temporary _) (c .before .place2 .given .1)) .0
+slice-write-stack c =
+    let at-start = c .before .before .before .before .before .before .before .before .before in
+    let k = temporary-room (store-as (at-start .pre) (Temporary _) (c .before .before .place2 .given .1)) in
+    let f = c .first-temporary .ensures in
+    omega arith
 
 enum-told : tie.Need-enum-told
 enum-told c = search needs
@@ -55,14 +87,20 @@ enum-told c = search needs
 enum-known-place-3 : tie.Need-enum-known-place-3
 enum-known-place-3 c = search needs
 
-add-t34 : tie.Need-add-t34
-add-t34 c = search needs
+add-t33 : tie.Need-add-t33
+add-t33 c = search needs
 
-mul-t35 : tie.Need-mul-t35
-mul-t35 c = let k = store-ends (c .before .before .before .before .before .before .before .before .pre) in omega arith
+mul-t34 : tie.Need-mul-t34
+mul-t34 c =
+    let at-start = c .before .before .before .before .before .before .before .before in
+    let k = store-ends (at-start .pre) in
+    omega arith
 
-slice-read-t37 : tie.Need-slice-read-t37
-slice-read-t37 c = let k = store-ends (c .before .before .before .before .before .before .before .before .before .pre) in omega arith
+slice-read-t36 : tie.Need-slice-read-t36
+slice-read-t36 c =
+    let at-start = c .before .before .before .before .before .before .before .before .before in
+    let k = store-ends (at-start .pre) in
+    omega arith
 
 literal-requires : tie.Need-literal-requires
 literal-requires c κs =
@@ -89,10 +127,15 @@ same-length-2 : tie.Need-same-length-2
 same-length-2 c = search needs
 
 returns-2 : tie.Need-returns-2
-returns-2 c = temporary-stored (store-as (c .before .before .before .before .before .before .before .before .pre) (Temporary _) (c .before .place2 .given .1)) _ _ refl refl
+returns-2 c =
+    let at-start = c .before .before .before .before .before .before .before .before .before in
+    temporary-stored (store-as (at-start .pre) (Temporary _) (c .before .before .place2 .given .1)) _ _ _ refl (let f = c .first-temporary .ensures in omega
+    arith) refl
 
 returns-3 : tie.Need-returns-3
-returns-3 c = absurd (literal-never (store-as (c .before .before .before .before .before .before .before .pre) (Literal _) (c .enum-told .given .1)))
+returns-3 c =
+    let at-start = c .before .before .before .before .before .before .before in
+    absurd (literal-never (store-as (at-start .pre) (Literal _) (c .enum-told .given .1)))
 
 same-length-3 : tie.Need-same-length-3
 same-length-3 c = search needs
@@ -102,7 +145,8 @@ returns-4 c =
     let at-literal = c .before .before .before .before in
     let at-place3 = at-literal .before .before .before .before in
     let at-start = at-place3 .before .before .before .before .before .before .before in
-    variable-stored (store-as (at-start .pre) (LiteralVariable _) (at-place3 .place3 .given .1)) _ _ _ refl (at-literal .literal .ensures) (c .before .before .store-word2 .ensures)
+    variable-stored (store-as (at-start .pre) (LiteralVariable _) (at-place3 .place3 .given .1)) _ _ _ refl (at-literal .literal .ensures) (c .before .before
+    .store-word2 .ensures)
 
 pub store-spec : {M : Type 1} → statement M
 store-spec =
@@ -117,15 +161,15 @@ store-spec =
     slice-read-receiver
     store-word-requires
     enum-known-place-2
-    add-stack
-    add-stack-2
+    first-temporary-requires
+    add-to
     mul-stack
     slice-write-stack
     enum-told
     enum-known-place-3
-    add-t34
-    mul-t35
-    slice-read-t37
+    add-t33
+    mul-t34
+    slice-read-t36
     literal-requires
     store-word-requires-2
     same-length

@@ -1,7 +1,7 @@
 -- The home of the running method is a class, and the own receiver's chain has it.
 use native.Mathlib.Omega.{arith}
 use mathlib.Core.Path.{refl}
-use Rattle.steps.proofs.ActiveLaws.{ends, active-method}
+use Rattle.frames.proofs.ActiveLaws.{ends, active-method}
 use Rattle.steps.proofs.DoingLaws.{super-one, super-literal, super-home, super-done}
 use borrow.Author.Needs.{needs}
 use Rattle.steps.proofs.super_send.Statement.{statement}

@@ -1,0 +1,3 @@
+pub mod Standing
+pub mod ActiveLaws
+pub mod FreshLaws
