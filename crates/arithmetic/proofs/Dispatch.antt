@@ -1,8 +1,10 @@
 -- `arithmetic` by its tests: of the two words, and of the primitive's number.
-use Prim.Native.Nat.{ℕ, _+_, _*_, _/_, _%_, _<_}
+use Prim.Native.Nat.{ℕ, _+_, _*_, _/_, _%_, _≤_, _<_}
 use mathlib.Core.Path.{_≡_, ap, ap₂, _∙_}
 use mathlib.Core.Bool.{Bool, true, false, _&&_}
 use native.Mathlib.Omega.{arith}
+use native.Mathlib.Decide.{ℕ-discrete}
+use native.Mathlib.Nat.{mul-le-mul-left, mul-le-mul-right}
 use borrow.Author.Tests.{eq-eqb, ne-eqb, lt-leb}
 use lib.Dec.{leb}
 use lib.Bits.{bitXor, differ, xor-step, xor-lt}
@@ -32,6 +34,25 @@ module _ (k v w : ℕ) (hv : v % 2 ≡ 1) where
     pub numbered : (j : ℕ) → k ≡ j → j < 14 → arithmetic k v w ≡ onIntegers j (valueOf v) (valueOf w)
     numbered j e h =
         not-bitwise (ap (λ (i : ℕ). leb 14 i && leb i 16) e ∙ ap (λ (t : Bool). t && leb j 16) (lt-leb 14 j h)) ∙ ap (λ (i : ℕ). onIntegers i (valueOf v) (valueOf w)) e
+
+-- ---- one test of both words: the product of their last bits is 1 exactly where each is
+
+pub product-most : (v w : ℕ) → (v % 2 * (w % 2) ≤ v % 2) × (v % 2 * (w % 2) ≤ w % 2)
+product-most v w =
+    let l : v % 2 * (w % 2) ≤ v % 2 * 1 = mul-le-mul-left (v % 2) (omega arith) in
+    let r : v % 2 * (w % 2) ≤ 1 * (w % 2) = mul-le-mul-right (w % 2) (omega arith) in
+    omega arith
+
+pub both-integers : (v w : ℕ) → v % 2 * (w % 2) ≡ 1 → (v % 2 ≡ 1) × (w % 2 ≡ 1)
+both-integers v w e = omega (arith, product-most v w)
+
+module _ (k v w : ℕ) (h : v % 2 * (w % 2) ≡ 1 → ⊥) where
+  by-receiver : Dec (v % 2 ≡ 1) → arithmetic k v w ≡ Failed
+  by-receiver (yes e) = argument-no-integer k v w e (λ f. h (ap₂ _*_ e f))
+  by-receiver (no n) = receiver-no-integer k v w n
+
+  pub not-both-integers : arithmetic k v w ≡ Failed
+  not-both-integers = by-receiver (ℕ-discrete (v % 2) 1)
 
 -- two odd words differ in an even number, so one more is a word
 pub xor-below : (v w : ℕ) → v < 65536 → w < 65536 → v % 2 ≡ 1 → w % 2 ≡ 1 → bitXor v w + 1 < 65536

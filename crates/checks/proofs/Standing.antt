@@ -73,26 +73,18 @@ module _ (o : Objects) (stack : List ℕ) (base : ℕ) where
   pub end-other : (x : Bool) → x ≡ isKind o methodKind (frameMethod stack base) → not x ≡ true → 0 ≡ frameEnd o stack base
   end-other x k q = end-none (λ s. failed (sym k ∙ not-true x q) (s .kinds))
 
-  -- its size by the method's header
-  module _ (h words : ℕ) (p : h ≡ header o (frameMethod stack base)) (q : words ≡ frameOf h) where
-    pub words-are : words ≡ frameWords o (frameMethod stack base)
-    words-are = q ∙ ap frameOf p ∙ frame-of o (frameMethod stack base)
+  -- where a frame of its method would end
+  module _ (end : ℕ) (e : end ≡ base + frameSize o (frameMethod stack base)) where
+    pub end-outside : length stack < end → 0 ≡ frameEnd o stack base
+    end-outside l = end-none (λ s. let i = s .inside in absurd (omega arith))
 
-    pub words-few : words ≤ largeFrameWords
-    words-few = let e = words-are in let l = frame-most o (frameMethod stack base) in omega arith
+    pub end-far : 65536 < end → 0 ≡ frameEnd o stack base
+    end-far l = end-none (λ s. let i = s .most in absurd (omega arith))
 
-    pub end-outside : length stack < base + (6 + words) → 0 ≡ frameEnd o stack base
-    end-outside l = let e = words-are in end-none (λ s. let i = s .inside in absurd (omega arith))
-
-    pub end-far : 65536 < base + (6 + words) → 0 ≡ frameEnd o stack base
-    end-far l = let e = words-are in end-none (λ s. let i = s .most in absurd (omega arith))
-
-    pub end-here : (x : Bool) → x ≡ isKind o methodKind (frameMethod stack base) → not x ≡ false
-        → base + (6 + words) ≤ length stack → base + (6 + words) ≤ 65536 → base + (6 + words) ≡ frameEnd o stack base
+    pub end-here : (x : Bool) → x ≡ isKind o methodKind (frameMethod stack base) → not x ≡ false → end ≤ length stack → end ≤ 65536 → end ≡ frameEnd o stack base
     end-here x k r l g =
-        let e = words-are in
         let f : Fits (length stack) base (frameSize o (frameMethod stack base)) = record { inside = omega arith; most = omega arith } in
-        ap (λ (w : ℕ). base + (6 + w)) e ∙ sym (end-some (stands (true→T (sym k ∙ not-false x r)) f))
+        e ∙ sym (end-some (stands (true→T (sym k ∙ not-false x r)) f))
 
   -- what an end says
   pub end-no : (e : ℕ) → e ≡ frameEnd o stack base → e ≡ 0 → standsAt o stack base ≡ false

@@ -37,13 +37,11 @@ fn frame_end(
     if stack.len() < base + 18 {
         return StackPosition(0);
     }
-    let m = stack[base + 3];
+    let m = stack[base + limits::FRAME_METHOD];
     if !readers::is_kind(contents, n, limits::METHOD, m) {
         return StackPosition(0);
     }
-    let end = base
-        + (limits::FRAME_HEADER
-            + readers::frame_words(objects::header(contents, bodies, n, b, Pointer(m))));
+    let end = frames::end_of(contents, bodies, n, b, at, Pointer(m));
     if stack.len() < end {
         return StackPosition(0);
     }
@@ -93,20 +91,20 @@ fn six_words_fine(
         (frameAt (objectsAt n b (now (contents .entry)) (now (bodies .entry))) (now (stack .entry)) (at .0)) ⌝ }
 {
     let base = at.0;
-    if stack[base + 4] != 0 {
+    if stack[base + limits::FRAME_ZERO] != 0 {
         return false;
     }
-    let receiver = stack[base + 5];
+    let receiver = stack[base + limits::FRAME_RECEIVER];
     if !readers::is_valid(n, receiver) {
         return false;
     }
-    let m = stack[base + 3];
+    let m = stack[base + limits::FRAME_METHOD];
     let home = objects::home(contents, bodies, n, b, Pointer(m));
     let class = objects::class_of(contents, n, receiver);
     if !objects::in_chain(contents, bodies, n, b, home, class) {
         return false;
     }
-    let p = stack[base + 1] as usize;
+    let p = stack[base + limits::FRAME_POSITION] as usize;
     let note = note_at(
         contents,
         bodies,
@@ -117,7 +115,7 @@ fn six_words_fine(
         Pointer(m),
         CodePosition(p),
     );
-    let depth = stack[base + 2] as usize;
+    let depth = stack[base + limits::FRAME_DEPTH] as usize;
     if uppermost {
         return note == depth + 1;
     }
@@ -144,8 +142,8 @@ fn frame_fine(
         return false;
     }
     let base = at.0;
-    let m = stack[base + 3];
-    let depth = stack[base + 2] as usize;
+    let m = stack[base + limits::FRAME_METHOD];
+    let depth = stack[base + limits::FRAME_DEPTH] as usize;
     let from = base + limits::FRAME_HEADER;
     let end = from
         + (readers::temporary_count(objects::header(contents, bodies, n, b, Pointer(m))) + depth);
@@ -187,7 +185,7 @@ pub fn frames_fine(
         ) {
             return false;
         }
-        let sender = stack[base] as usize;
+        let sender = stack[base] as usize; // its first word
         if base == 0 {
             return sender == 0;
         }
