@@ -1,11 +1,12 @@
--- Where a method's code lies, and its table by the walk and the pass behind it
-use Prim.Native.Nat.{ℕ, _+_, _-_, _*_, _/_, _≤_, _<_}
+-- Where a method's code lies, and its table by the walk
+use Prim.Native.Nat.{ℕ, zero, suc, _+_, _-_, _*_, _/_, _≤_, _<_}
 use mathlib.Core.Path.{_≡_, refl, sym, ap, ap₂, _∙_, subst}
 use mathlib.Core.Logic.{_⊎_, inl, inr}
-use mathlib.Core.Bool.{Bool, true, false}
-use mathlib.Core.List.{List, _++_}
+use mathlib.Core.Bool.{Bool}
+use mathlib.Core.List.{List, [], _∷_, _++_}
 use mathlib.Core.Option.{Option, none, some}
 use native.Mathlib.Omega.{arith}
+use native.Mathlib.Decide.{decLt}
 use lib.Dec.{T, leb→le}
 use lib.ListN.{length, getD, take, drop, replicate, getD-replicate, List·getD-append}
 use lib.Seq.{length-take-le, getD-take, getD-drop, getD-append-add}
@@ -13,48 +14,30 @@ use Rattle.bytecode.proofs.TestLaws.{rule}
 use Rattle.model.specs.Limits.{classKind, methodKind}
 use Rattle.model.specs.Objects.{Objects, objectsAt, isKind, start, size, bodyWords, bodyEnd, fieldsWord, fieldCount, sizedInBytes, part}
 use Rattle.model.specs.Method.{home, temporaryCount, literalCount, codeWords, codeSize, frameWords}
-use Rattle.model.specs.Depth.{depthTable, isSome, noteAt}
+use Rattle.model.specs.Depth.{depthTable, noteAt}
 use Rattle.model.specs.Rules.{methodTable}
 use Rattle.model.specs.Notes.{notesFrom}
 use Rattle.model.proofs.ChainLaws.{named}
 use Rattle.model.proofs.Facts.{in-bytes}
 use Rattle.model.proofs.Parts.{length-part, part-same}
-use Rattle.flow.specs.Index.{indexed}
-use Rattle.flow.specs.Linked.{allLinked}
 use Rattle.flow.specs.Walk.{Walked, notesOf}
-use Rattle.flow.proofs.MethodLaws.{indexTable, walked-yes, walked-no, method-none, method-some, method-fails}
+use Rattle.flow.proofs.RuleLaws.{table-split}
 use Rattle.rules.proofs.RuleFacts.{class-at}
 use Rattle.methods.specs.Passes.{shapeRules}
-use Rattle.code.specs.Asked.{Asked, CodeLent, MethodWalked}
+use Rattle.code.specs.Asked.{Asked, CodeLent, Blank, BlankFrom, ruleOf, MethodWalked}
 
-pub code-lent-by : {o : Objects} {m : ℕ} {words : List ℕ} {s s′ : ℕ} → s′ ≡ s → CodeLent o m words s → CodeLent o m words s′
-code-lent-by {o} {m} {words} e c = subst (CodeLent o m words) (sym e) c
-
-pub table-here : {o : Objects} {m : ℕ} {words : List ℕ} {size fields temporaries literals limit w : ℕ} → CodeLent o m words size
+-- the table by what is read of the method
+pub table-here : {o : Objects} {m : ℕ} {words : List ℕ} {size fields temporaries literals limit w : ℕ} (edition : ℕ) → CodeLent o m words size
     → fields ≡ fieldCount o w → w ≡ home o m → temporaries ≡ temporaryCount o m → literals ≡ literalCount o m → limit ≡ frameWords o m
-    → depthTable words size temporaries limit (indexed fields temporaries literals) ≡ indexTable o m
-table-here {o} {m} {fields = fields} {temporaries} {literals} {limit} c f h t l r =
-    ap₂ (λ (w : List ℕ) (s : ℕ). depthTable w s temporaries limit (indexed fields temporaries literals)) (c .isWords) (c .isSize)
-    ∙ ap₂ (λ (t l : ℕ). depthTable (codeWords o m) (codeSize o m) t l (indexed fields t literals)) t r
-    ∙ ap₂ (λ (f l : ℕ). depthTable (codeWords o m) (codeSize o m) (temporaryCount o m) (frameWords o m) (indexed f (temporaryCount o m) l)) (f ∙ ap (fieldCount o) h) l
+    → depthTable words size temporaries limit (ruleOf o m fields temporaries literals) ≡ methodTable edition o m
+table-here {o} {m} {fields = fields} {temporaries} {literals} {limit} edition c f h t l r =
+    ap₂ (λ (w : List ℕ) (s : ℕ). depthTable w s temporaries limit (ruleOf o m fields temporaries literals)) (c .isWords) (c .isSize)
+    ∙ ap₂ (λ (t l : ℕ). depthTable (codeWords o m) (codeSize o m) t l (ruleOf o m fields t literals)) t r
+    ∙ ap₂ (λ (f l : ℕ). depthTable (codeWords o m) (codeSize o m) (temporaryCount o m) (frameWords o m) (ruleOf o m f (temporaryCount o m) l)) (f ∙ ap (fieldCount o) h) l
+    ∙ sym (table-split o m edition)
 
-module _ (o : Objects) (m : ℕ) where
-  module _ (edition : ℕ) {found : Option (List ℕ)} (e : found ≡ indexTable o m) {size : ℕ} {notes : List ℕ} {r : Bool} (w : Walked found size notes r) where
-    pub notes-none : r ≡ false → Walked (methodTable edition o m) size notes false
-    notes-none h =
-        let k = walked-no found size notes r w h in
-        let q = method-none edition o m (sym e ∙ k .0) in
-        record { answer = sym (ap isSome q); noted = k .1 ∙ sym (ap (notesOf size) q) }
-
-    pub notes-some : r ≡ true → allLinked o m notes ≡ true → Walked (methodTable edition o m) size notes true
-    notes-some h a =
-        let q = method-some edition o m notes (sym e ∙ walked-yes found size notes r w h) a in
-        record { answer = sym (ap isSome q); noted = sym (ap (notesOf size) q) }
-
-    pub notes-fail : {cleared : List ℕ} → r ≡ true → allLinked o m notes ≡ false → cleared ≡ replicate size 0 → Walked (methodTable edition o m) size cleared false
-    notes-fail h a c =
-        let q = method-fails edition o m notes (sym e ∙ walked-yes found size notes r w h) a in
-        record { answer = sym (ap isSome q); noted = c ∙ sym (ap (notesOf size) q) }
+pub walked-as : {found found′ : Option (List ℕ)} {size : ℕ} {notes : List ℕ} {r : Bool} → found ≡ found′ → Walked found size notes r → Walked found′ size notes r
+walked-as {size = size} {notes} {r} e w = subst (λ (x : Option (List ℕ)). Walked x size notes r) e w
 
 module _ {table contents bodies counts : List ℕ} {n b m : ℕ} (a : Asked table n b contents bodies counts m) where
   abbrev here : Objects
@@ -76,6 +59,28 @@ module _ {table contents bodies counts : List ℕ} {n b m : ℕ} (a : Asked tabl
 
   pub body-inside : start here (m / 2) + bodyWords here (m / 2) ≤ b
   body-inside = let k = named here methodKind m (a .isMethod) in a .ready .laid .inside (m / 2) (k .least) (k .most)
+
+-- a list without notes
+pub blank-list : (t : List ℕ) → Blank t → t ≡ replicate (length t) 0
+blank-list [] h = refl
+blank-list (x ∷ xs) h = ap₂ (λ (y : ℕ) (ys : List ℕ). y ∷ ys) (h 0) (blank-list xs (λ i. h (suc i)))
+
+past : (t : List ℕ) (i : ℕ) → length t ≤ i → getD t i 0 ≡ 0
+past [] i h = refl
+past (x ∷ xs) zero h = absurd (omega arith)
+past (x ∷ xs) (suc i) h = past xs i (omega arith)
+
+take-short : (n : ℕ) (t : List ℕ) → length (take n t) ≤ n
+take-short zero t = omega arith
+take-short (suc n) [] = omega arith
+take-short (suc n) (x ∷ xs) = let h = take-short n xs in omega arith
+
+blank-part : (t : List ℕ) (from n : ℕ) → ((i : ℕ) → from ≤ i → getD t i 0 ≡ 0) → Blank (take n (drop from t))
+blank-part t from n h i = by (decLt i n)
+  where
+    by : Dec (i < n) → getD (take n (drop from t)) i 0 ≡ 0
+    by (yes l) = getD-take n (drop from t) i 0 l ∙ getD-drop from t i 0 ∙ h (from + i) (omega arith)
+    by (no l) = past (take n (drop from t)) i (let k = take-short n (drop from t) in omega arith)
 
 note-of : (found : Option (List ℕ)) (size p : ℕ) → p < size → getD (notesOf size found) p 0 ≡ noteAt found p
 note-of none size p h = getD-replicate size p 0 0 h
@@ -129,6 +134,9 @@ module _ {table contents bodies counts : List ℕ} {n b m : ℕ} (a : Asked tabl
     unfolding codeSize
     code-short =
         let k = code-starts a in let q = body-size a in let i = body-inside a in let y = part-long in omega arith
+
+    pub code-blank : BlankFrom (start there (m / 2)) notes → Blank (take (last - first) (drop first notes))
+    code-blank h = blank-part notes first (last - first) (λ i l. h i (omega arith))
 
     abbrev put : List ℕ → List ℕ
     put ys = take first notes ++ (ys ++ drop (last - first) (drop first notes))

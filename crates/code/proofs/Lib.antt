@@ -1,3 +1,4 @@
 pub mod LinkFine
+pub mod TurnLaws
 pub mod CodePlace
 pub mod PassLaws

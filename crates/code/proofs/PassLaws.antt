@@ -1,7 +1,7 @@
 -- The pass over all objects: what one turn needs, and what it leaves of the others' notes
-use Prim.Native.Nat.{ℕ, zero, suc, _+_, _-_, _/_, _≤_, _<_}
+use Prim.Native.Nat.{ℕ, zero, suc, _+_, _-_, _*_, _/_, _≤_, _<_}
 use mathlib.Core.Path.{_≡_, refl, sym, ap, ap₂, _∙_, subst}
-use mathlib.Core.Logic.{inl}
+use mathlib.Core.Logic.{inl, inr}
 use mathlib.Core.Bool.{Bool, true, false, not, _&&_}
 use mathlib.Core.List.{List}
 use native.Mathlib.Decide.{ℕ-discrete}
@@ -24,7 +24,7 @@ use Rattle.readers.proofs.Loops.{UpBefore, up-none, up-more, up-all, up-no, nev
 use Rattle.methods.specs.Passes.{shapeRules, shapeFine, codeFine, shapes, holders, codes}
 use Rattle.methods.specs.Counts.{Held, Counts}
 use Rattle.methods.proofs.PassLaws.{passes}
-use Rattle.code.specs.Asked.{Asked, MethodWalked, PassLent, ObjectNoted, CodesNoted, MethodsNoted}
+use Rattle.code.specs.Asked.{Asked, Blank, BlankFrom, MethodWalked, PassLent, ObjectNoted, CodesNoted, MethodsNoted}
 use Rattle.code.proofs.CodePlace.{code-starts, body-size}
 
 half : (k : ℕ) → pointer k / 2 ≡ k
@@ -95,8 +95,9 @@ module _ (edition : ℕ) (o : Objects) where
       go (yes e) = subst (λ (x : ℕ). kind o x ≡ methodKind → MethodNoted edition o ns (pointer x)) (sym e) g
       go (no e) = f j h (omega arith)
 
-  pub object-other : (k : ℕ) (ns : List ℕ) → (kind o k ≡ methodKind → ⊥) → ObjectNoted edition o k ns ns true
-  object-other k ns e = record { answer = sym (code-other k e); noted = λ f. one-more ns k f (λ q. absurd (e q)) }
+  pub object-other : (k : ℕ) (ns : List ℕ) → BlankFrom (start o k) ns → (kind o k ≡ methodKind → ⊥) → ObjectNoted edition o k ns ns true
+  object-other k ns h e =
+      record { answer = sym (code-other k e); noted = λ f. one-more ns k f (λ q. absurd (e q)); blank = λ i l. h i (omega arith) }
 
   pub codes-stop : (k : ℕ) (ns ns′ : List ℕ) (r : Bool) → 1 ≤ k → k ≤ o .n → ObjectNoted edition o k ns ns′ r → r ≡ false → CodesNoted edition o ns′ false
   unfolding codes
@@ -109,17 +110,27 @@ module _ (edition : ℕ) (o : Objects) where
     pub most : k ≤ suc (o .n)
     pub passed : UpBefore (codeFine edition o) k
     pub noted : NotedBefore edition o ns k
+    pub blank : k ≤ o .n → BlankFrom (start o k) ns
 
-  pub going-first : (ns : List ℕ) → Going 1 ns
-  going-first ns = record { least = omega arith; most = omega arith; passed = up-none (codeFine edition o); noted = λ j h l. absurd (omega arith) }
+  pub going-first : (ns : List ℕ) → Blank ns → Going 1 ns
+  going-first ns h =
+      record {
+        least = omega arith;
+        most = omega arith;
+        passed = up-none (codeFine edition o);
+        noted = λ j h l. absurd (omega arith);
+        blank = λ _ i _. h i;
+      }
 
-  pub going-on : (k : ℕ) (ns ns′ : List ℕ) (r : Bool) → Going k ns → k ≤ o .n → ObjectNoted edition o k ns ns′ r → r ≡ true → Going (k + 1) ns′
-  going-on k ns ns′ r g h w e =
+  pub going-on : (e₀ : ℕ) → T (rule4 e₀ o) → (k : ℕ) (ns ns′ : List ℕ) (r : Bool) → Going k ns → k ≤ o .n → ObjectNoted edition o k ns ns′ r → r ≡ true → Going (k + 1) ns′
+  going-on e₀ laid k ns ns′ r g h w e =
       record {
         least = omega arith;
         most = omega arith;
         passed = up-more (codeFine edition o) k (g .passed) (sym (w .answer) ∙ e);
         noted = subst (NotedBefore edition o ns′) (behind k) (w .noted (g .noted));
+        blank = λ l. subst (λ (x : ℕ). BlankFrom (start o x) ns′) (behind k)
+            (λ i x. let z = g .least in let y = next-start e₀ o (T→true _ laid) k z (omega arith) in w .blank i (omega arith));
       }
     where
       behind : (k : ℕ) → suc k ≡ k + 1
@@ -173,6 +184,9 @@ module _ {table contents bodies counts : List ℕ} {n b notes pending : ℕ} (l 
         shape = implied (eqb (kind o k) methodKind) (allOf (shapeRules o (pointer k))) (upTo-at n (shapeFine o) (l .shaped) k h g) (true→T (eq-eqb (kind o k) methodKind e));
       }
 
+  pub blank-method : (ns : List ℕ) (k : ℕ) → BlankFrom (start o k) ns → BlankFrom (start o (pointer k / 2)) ns
+  blank-method ns k h = subst (λ (x : ℕ). BlankFrom (start o x) ns) (sym (half k)) h
+
   -- the code of an earlier method ends before that of a later one begins
   apart : (j k : ℕ) → 1 ≤ j → j < k → k ≤ n → kind o j ≡ methodKind → notesFrom o (pointer j) + codeSize o (pointer j) ≤ notesFrom o (pointer k)
   unfolding codeSize
@@ -186,24 +200,40 @@ module _ {table contents bodies counts : List ℕ} {n b notes pending : ℕ} (l 
       moved : bodyEnd o j ≤ start o k → bodyEnd o (pointer j / 2) ≤ start o (pointer k / 2)
       moved r = subst (λ (x : ℕ). bodyEnd o x ≤ start o (pointer k / 2)) (sym (half j)) (subst (λ (x : ℕ). bodyEnd o j ≤ start o x) (sym (half k)) r)
 
-  module _ (edition : ℕ) (k : ℕ) (ns ns′ : List ℕ) (r : Bool) (h : 1 ≤ k) (g : k ≤ n) (e : kind o k ≡ methodKind) (w : MethodWalked edition o (pointer k) ns ns′ r) where
+  module _ (edition : ℕ) (k : ℕ) (ns ns′ : List ℕ) (r : Bool) (h : 1 ≤ k) (g : k ≤ n) (blank : BlankFrom (start o k) ns) (e : kind o k ≡ methodKind)
+      (w : MethodWalked edition o (pointer k) ns ns′ r) where
     walked-noted : NotedBefore edition o ns k → NotedBefore edition o ns′ (suc k)
     walked-noted f = one-more edition o ns′ k (λ j a b q p x. w .others (notesFrom o (pointer j) + p) (inl (near j a b q p x)) ∙ f j a b q p x) (λ q. w .noted)
       where
         near : (j : ℕ) → 1 ≤ j → j < k → kind o j ≡ methodKind → (p : ℕ) → p < codeSize o (pointer j) → notesFrom o (pointer j) + p < notesFrom o (pointer k)
         near j a b q p x = let z = apart j k a b g q in omega arith
 
+    walked-blank : BlankFrom (bodyEnd o k) ns′
+    unfolding codeSize
+    walked-blank i x =
+        let a = asked-at k h g e in
+        let s = code-starts a in
+        let z = body-size a in
+        let y : 2 * bodyEnd o (pointer k / 2) ≤ i = subst (λ (j : ℕ). 2 * bodyEnd o j ≤ i) (sym (half k)) x in
+        w .others i (inr (omega arith)) ∙ blank i (omega arith)
+
     pub object-sound : r ≡ true → ObjectNoted edition o k ns ns′ true
-    object-sound q = record { answer = sym (code-sound edition o k (sym (w .answer) ∙ q)); noted = walked-noted }
+    object-sound q = record { answer = sym (code-sound edition o k (sym (w .answer) ∙ q)); noted = walked-noted; blank = walked-blank }
 
     pub object-unsound : (x : Bool) → r ≡ false → x ≡ runsCode o (pointer k) → ObjectNoted edition o k ns ns′ (not x)
-    object-unsound x q c = record { answer = ap not c ∙ sym (code-unsound edition o k e (sym (w .answer) ∙ q)); noted = walked-noted }
+    object-unsound x q c =
+        record { answer = ap not c ∙ sym (code-unsound edition o k e (sym (w .answer) ∙ q)); noted = walked-noted; blank = walked-blank }
 
 -- lent again, with notes and pending positions of the same lengths
 pub lent-again : {table contents bodies counts : List ℕ} {n b s q s′ q′ : ℕ} → s′ ≡ s → q′ ≡ q → PassLent table n b contents bodies counts s q → PassLent table n b contents bodies counts s′ q′
 lent-again {table} {contents} {bodies} {counts} {n} {b} {s} {q} {s′} {q′} e f l =
     subst (λ (x : ℕ). PassLent table n b contents bodies counts x q′) (sym e) (subst (λ (x : ℕ). PassLent table n b contents bodies counts s x) (sym f) l)
 
+-- with more room for pending positions
+pub lent-room : {table contents bodies counts : List ℕ} {n b s q q′ : ℕ} → 2 * b ≤ q′ → PassLent table n b contents bodies counts s q → PassLent table n b contents bodies counts s q′
+lent-room h l = record { entries = l .entries; ready = l .ready; sends = l .sends; shaped = l .shaped; room = l .room; long = h }
+
+-- no notes in an array as it is made
 pub zeros-at : (n j : ℕ) → getD (replicate {A = ℕ} n 0) j 0 ≡ 0
 zeros-at zero j = refl
 zeros-at (suc n) zero = refl

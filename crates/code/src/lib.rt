@@ -2,19 +2,23 @@
 ghost use mathlib.Core.Path.{_≡_};
 ghost use Prim.Native.Nat.{_*_, _/_, _<_, _≤_};
 ghost use lib.ListN.{length};
-ghost use Rattle.bytecode.specs.Table.{placeIndex, IsTable};
+ghost use Rattle.bytecode.specs.Code.{byteAt, lengthOf, decodeAt};
+ghost use Rattle.bytecode.specs.Table.{placeIndex, alone, Entry as TableEntry, IsTable};
 ghost use Rattle.bytecode.specs.Effect.{specialCount};
-ghost use Rattle.model.specs.Objects.{objectsAt};
+ghost use Rattle.model.specs.Objects.{objectsAt, start};
 ghost use Rattle.model.proofs.Unchanged.{Small};
-ghost use Rattle.flow.specs.Linked.{placeLinked, linked, linkedAt, allLinked};
+ghost use Rattle.flow.specs.Linked.{placeLinked, linked};
 ghost use Rattle.model.specs.Method.{literal as literalOf};
 ghost use Rattle.model.specs.Rules.{sendFine, methodTable};
-ghost use Rattle.flow.specs.Walk.{Walked};
-ghost use Rattle.code.specs.Asked.{Asked, CodeLent, MethodWalked, PassLent, ObjectNoted, CodesNoted, MethodsNoted};
+ghost use Rattle.model.specs.Depth.{depthTable};
+ghost use Rattle.flow.specs.Walk.{Static, WalkingAt, tableBy, Answer, Lent, Walked};
+ghost use Rattle.code.specs.Asked.{Asked, CodeLent, Blank, BlankFrom, ruleOf, MethodWalked, PassLent, ObjectNoted, CodesNoted, MethodsNoted};
+ghost use Rattle.code.specs.Turn.{Queued, Last, NextAt};
 ghost use Rattle.methods.specs.Asked.{Ready};
 ghost use Rattle.readers.specs.Places.{Entry};
 use bytecode::Instruction;
 use bytecode::Place;
+use flow::Went;
 use model::Pointer;
 use model::limits;
 
@@ -171,8 +175,8 @@ fn instruction_fine(
     }
 }
 
-// One position, where it is noted.
-fn position_fine(
+// An instruction of one byte, by the byte: pushes of literal variables and sends ask something.
+fn short_fine(
     table: &[u16; 256],
     contents: &[u16],
     bodies: &[u16],
@@ -180,24 +184,49 @@ fn position_fine(
     b: usize,
     counts: &[u8],
     m: u16,
-    words: &[u16],
-    notes: &[u8],
-    p: usize,
+    op: u8,
 ) -> bool
-    requires { ⌜ Asked (now table) n b (now contents) (now bodies) (now counts) m
-        × CodeLent (objectsAt n b (now contents) (now bodies)) m (now words) (length (now notes))
-        × (p < length (now notes)) ⌝ }
-    ensures { λ r. ⌜ r ≡ linkedAt (objectsAt n b (now (contents .entry)) (now (bodies .entry))) m (now (notes .entry)) p ⌝ }
+    requires { ⌜ Asked (now table) n b (now contents) (now bodies) (now counts) m × (lengthOf op ≡ 1) ⌝ }
+    ensures { λ r. ⌜ r ≡ linked (objectsAt n b (now (contents .entry)) (now (bodies .entry))) m (alone op) ⌝ }
 {
-    if notes[p] == 0 {
+    if op < 64 {
         return true;
     }
-    let i = bytecode::decode(words, notes.len(), p);
-    instruction_fine(table, contents, bodies, n, b, counts, m, i)
+    if op < 96 {
+        let i = (op % 32) as usize;
+        return place_fine(
+            table,
+            contents,
+            bodies,
+            n,
+            b,
+            counts,
+            m,
+            Place::LiteralVariable(i),
+        );
+    }
+    if op < 176 {
+        return true;
+    }
+    if op < 208 {
+        return special_fine(table, contents, bodies, n, b, counts, m, op - 176);
+    }
+    selector_fine(
+        table,
+        contents,
+        bodies,
+        n,
+        b,
+        counts,
+        m,
+        op % 16,
+        (op - 208) / 16,
+    )
 }
 
-// All noted positions of a method's code.
-fn all_fine(
+// The instruction at a position. The tests of its byte's group are those of `flow::expand`, so that the compiler makes both at once; one with
+// further bytes is decoded.
+fn here_fine(
     table: &[u16; 256],
     contents: &[u16],
     bodies: &[u16],
@@ -206,22 +235,219 @@ fn all_fine(
     counts: &[u8],
     m: u16,
     words: &[u16],
-    notes: &[u8],
+    size: usize,
+    at: usize,
+    op: u8,
+    e: usize,
 ) -> bool
-    requires { ⌜ Asked (now table) n b (now contents) (now bodies) (now counts) m × CodeLent (objectsAt n b (now contents) (now bodies)) m (now words) (length (now notes)) ⌝ }
-    ensures { λ r. ⌜ r ≡ allLinked (objectsAt n b (now (contents .entry)) (now (bodies .entry))) m (now (notes .entry)) ⌝ }
+    requires { ⌜ Asked (now table) n b (now contents) (now bodies) (now counts) m × (at < size) × (op ≡ byteAt (now words) at) × TableEntry op e ⌝ }
+    ensures { λ r. ⌜ r ≡ linked (objectsAt n b (now (contents .entry)) (now (bodies .entry))) m (decodeAt (now (words .entry)) size at) ⌝ }
 {
-    let mut p = 0;
-    while p < notes.len() {
-        if !position_fine(table, contents, bodies, n, b, counts, m, words, notes, p) {
-            return false;
-        }
-        p += 1;
+    let group = bytecode::entry_group(e);
+    if group < 2 {
+        return short_fine(table, contents, bodies, n, b, counts, m, op);
+    }
+    if op < 135 {
+        let i = bytecode::decode(words, size, at);
+        return instruction_fine(table, contents, bodies, n, b, counts, m, i);
     }
     true
 }
 
-// The notes of a method's code: those of its depth table, all 0 where it has none.
+// Where the walk goes on: how many positions are pending, the last of them and its depth. Or it is over, or there is no depth table.
+enum Next {
+    At(usize, usize, usize),
+    Over,
+    Refused,
+}
+
+// The last of the pending positions.
+fn last_pending(notes: &[u8], pending: &[u16], waiting: usize) -> Next
+    requires { ⌜ Queued (now notes) (now pending) waiting ⌝ }
+    ensures { λ r. ⌜ Last (now (notes .entry)) (now (pending .entry)) waiting r ⌝ }
+{
+    if waiting == 0 {
+        return Next::Over;
+    }
+    let at = pending[waiting - 1] as usize;
+    let depth = notes[at] as usize - 1;
+    Next::At(waiting, at, depth)
+}
+
+// Deals with a pending position: the rules that need objects, then the others.
+fn turn(
+    table: &[u16; 256],
+    contents: &[u16],
+    bodies: &[u16],
+    n: usize,
+    b: usize,
+    counts: &[u8],
+    m: u16,
+    words: &[u16],
+    limits: &[u8; 4],
+    room: usize,
+    notes: &mut [u8],
+    pending: &mut [u16],
+    waiting: usize,
+    at: usize,
+    depth: usize,
+) -> Next
+    requires { ⌜ Asked (now table) n b (now contents) (now bodies) (now counts) m ⌝ }
+    requires { ⌜ Static (now table) (now limits) (now words) room (now notes) (now pending) ⌝ }
+    requires { ⌜ WalkingAt (now limits) (now words) (length (now notes)) room (linked (objectsAt n b (now contents) (now bodies)) m) (now notes) (now pending)
+        waiting at depth ⌝ }
+    ensures { λ r. ⌜ NextAt (now (limits .entry)) (now (words .entry)) (length (now (notes .entry))) room
+        (linked (objectsAt n b (now (contents .entry)) (now (bodies .entry))) m) (now (notes .entry)) waiting (now (notes .exit)) (now (pending .exit)) r ⌝ }
+{
+    let op = bytecode::fetch(words, at);
+    let e = bytecode::entry(table, op);
+    let size = notes.len();
+    if !here_fine(
+        table,
+        contents,
+        bodies,
+        n,
+        b,
+        counts,
+        m,
+        words,
+        size,
+        at,
+        op,
+        e,
+    ) {
+        return Next::Refused;
+    }
+    match flow::expand(
+        limits,
+        words,
+        room,
+        notes,
+        pending,
+        waiting - 1,
+        at,
+        depth,
+        op,
+        e,
+    ) {
+        Went::Fresh(k, p, d) => Next::At(k, p, d),
+        Went::Known(k, _, _) => last_pending(notes, pending, k),
+        Went::Stuck => Next::Refused,
+    }
+}
+
+// Deals with pending positions until none is left.
+fn drain(
+    table: &[u16; 256],
+    contents: &[u16],
+    bodies: &[u16],
+    n: usize,
+    b: usize,
+    counts: &[u8],
+    m: u16,
+    words: &[u16],
+    limits: &[u8; 4],
+    room: usize,
+    notes: &mut [u8],
+    pending: &mut [u16],
+) -> bool
+    requires { ⌜ Asked (now table) n b (now contents) (now bodies) (now counts) m ⌝ }
+    requires { ⌜ Static (now table) (now limits) (now words) room (now notes) (now pending) ⌝ }
+    requires { ⌜ WalkingAt (now limits) (now words) (length (now notes)) room (linked (objectsAt n b (now contents) (now bodies)) m) (now notes) (now pending) 1 0 0 ⌝ }
+    ensures { λ r. ⌜ Answer (tableBy (now (limits .entry)) (now (words .entry)) (length (now (notes .entry))) room
+        (linked (objectsAt n b (now (contents .entry)) (now (bodies .entry))) m)) (now (notes .exit)) r ⌝ }
+{
+    let mut waiting: usize = 1;
+    let mut at: usize = 0;
+    let mut depth: usize = 0;
+    loop {
+        match turn(
+            table,
+            contents,
+            bodies,
+            n,
+            b,
+            counts,
+            m,
+            words,
+            limits,
+            room,
+            notes,
+            pending,
+            waiting,
+            at,
+            depth,
+        ) {
+            Next::At(k, p, d) => {
+                waiting = k;
+                at = p;
+                depth = d;
+            }
+            Next::Over => {
+                return true;
+            }
+            Next::Refused => {
+                return false;
+            }
+        }
+    }
+}
+
+// The depth walk over the code of a method, which has as many bytes as there are notes. They are 0, and end as the depth table, 0 for a
+// position that is not reached and one more than the depth for any other; or all as 0, where there is none.
+fn walk(
+    table: &[u16; 256],
+    contents: &[u16],
+    bodies: &[u16],
+    n: usize,
+    b: usize,
+    counts: &[u8],
+    m: u16,
+    words: &[u16],
+    fields: u8,
+    temporaries: u8,
+    literals: u8,
+    limit: usize,
+    notes: &mut [u8],
+    pending: &mut [u16],
+) -> bool
+    requires { ⌜ Asked (now table) n b (now contents) (now bodies) (now counts) m ⌝ }
+    requires { ⌜ Lent (now table) (now words) limit (now notes) (now pending) ⌝ }
+    requires { ⌜ Blank (now notes) ⌝ }
+    ensures { λ r. ⌜ Walked (depthTable (now (words .entry)) (length (now (notes .entry))) temporaries limit
+        (ruleOf (objectsAt n b (now (contents .entry)) (now (bodies .entry))) m fields temporaries literals)) (length (now (notes .entry))) (now (notes .exit)) r ⌝ }
+{
+    if notes.len() == 0 {
+        return false;
+    }
+    let t = temporaries as usize;
+    if limit < t {
+        return false;
+    }
+    notes[0] = 1;
+    pending[0] = 0;
+    let limits = [1, fields, temporaries, literals];
+    if drain(
+        table,
+        contents,
+        bodies,
+        n,
+        b,
+        counts,
+        m,
+        words,
+        &limits,
+        limit - t,
+        notes,
+        pending,
+    ) {
+        return true;
+    }
+    flow::clear(notes);
+    false
+}
+
+// The notes of a method's code: those of its depth table, all 0 where it has none, as they were.
 fn code_notes(
     edition: u16,
     table: &[u16; 256],
@@ -237,7 +463,8 @@ fn code_notes(
 ) -> bool
     requires { ⌜ Asked (now table) n b (now contents) (now bodies) (now counts) m
         × CodeLent (objectsAt n b (now contents) (now bodies)) m (now words) (length (now notes))
-        × (length (now notes) ≤ length (now pending)) ⌝ }
+        × (length (now notes) ≤ length (now pending))
+        × Blank (now notes) ⌝ }
     ensures { λ r. ⌜ Walked (methodTable edition (objectsAt n b (now (contents .entry)) (now (bodies .entry))) m) (length (now (notes .entry))) (now (notes .exit)) r ⌝ }
 {
     let header = readers::word_of(contents, bodies, n, b, Pointer(m), limits::HEADER) as usize;
@@ -247,8 +474,14 @@ fn code_notes(
     let temporaries = readers::temporary_count(header) as u8;
     let literals = readers::literal_count(header) as u8;
     let limit = readers::frame_words(header);
-    if !flow::walk(
+    walk(
         table,
+        contents,
+        bodies,
+        n,
+        b,
+        counts,
+        m,
         words,
         fields,
         temporaries,
@@ -256,14 +489,7 @@ fn code_notes(
         limit,
         notes,
         pending,
-    ) {
-        return false;
-    }
-    if all_fine(table, contents, bodies, n, b, counts, m, words, notes) {
-        return true;
-    }
-    flow::clear(notes);
-    false
+    )
 }
 
 // The same in the table of all methods' notes.
@@ -279,7 +505,10 @@ fn method_notes(
     notes: &mut [u8],
     pending: &mut [u16],
 ) -> bool
-    requires { ⌜ Asked (now table) n b (now contents) (now bodies) (now counts) m × (2 * b ≤ length (now notes)) × (2 * b ≤ length (now pending)) ⌝ }
+    requires { ⌜ Asked (now table) n b (now contents) (now bodies) (now counts) m
+        × (2 * b ≤ length (now notes))
+        × (2 * b ≤ length (now pending))
+        × BlankFrom (start (objectsAt n b (now contents) (now bodies)) (m / 2)) (now notes) ⌝ }
     ensures { λ r. ⌜ MethodWalked edition (objectsAt n b (now (contents .entry)) (now (bodies .entry))) m (now (notes .entry)) (now (notes .exit)) r ⌝ }
 {
     let k = (m / 2) as usize;
@@ -317,7 +546,10 @@ fn code_object(
     notes: &mut [u8],
     pending: &mut [u16],
 ) -> bool
-    requires { ⌜ PassLent (now table) n b (now contents) (now bodies) (now counts) (length (now notes)) (length (now pending)) × (1 ≤ k) × (k ≤ n) ⌝ }
+    requires { ⌜ PassLent (now table) n b (now contents) (now bodies) (now counts) (length (now notes)) (length (now pending))
+        × (1 ≤ k)
+        × (k ≤ n)
+        × BlankFrom (start (objectsAt n b (now contents) (now bodies)) k) (now notes) ⌝ }
     ensures { λ r. ⌜ ObjectNoted edition (objectsAt n b (now (contents .entry)) (now (bodies .entry))) k (now (notes .entry)) (now (notes .exit)) r ⌝ }
 {
     if readers::kind(contents, n, k) != limits::METHOD {
@@ -354,7 +586,7 @@ fn codes_fine(
     notes: &mut [u8],
     pending: &mut [u16],
 ) -> bool
-    requires { ⌜ PassLent (now table) n b (now contents) (now bodies) (now counts) (length (now notes)) (length (now pending)) ⌝ }
+    requires { ⌜ PassLent (now table) n b (now contents) (now bodies) (now counts) (length (now notes)) (length (now pending)) × Blank (now notes) ⌝ }
     ensures { λ r. ⌜ CodesNoted edition (objectsAt n b (now (contents .entry)) (now (bodies .entry))) (now (notes .exit)) r ⌝ }
 {
     let mut k = 1;
@@ -378,6 +610,114 @@ fn codes_fine(
     true
 }
 
+// The same, with room for the positions that can be pending in a small image: less to clear. Each size has a function of its own, so that the
+// arrays share their place on the stack.
+fn few_pending(
+    edition: u16,
+    table: &[u16; 256],
+    contents: &[u16],
+    bodies: &[u16],
+    n: usize,
+    b: usize,
+    counts: &[u8],
+    notes: &mut [u8],
+) -> bool
+    requires { ⌜ PassLent (now table) n b (now contents) (now bodies) (now counts) (length (now notes)) (2 * b) × Blank (now notes) × (b ≤ 2000) ⌝ }
+    ensures { λ r. ⌜ CodesNoted edition (objectsAt n b (now (contents .entry)) (now (bodies .entry))) (now (notes .exit)) r ⌝ }
+{
+    let mut pending = [0; 4000];
+    codes_fine(
+        edition,
+        table,
+        contents,
+        bodies,
+        n,
+        b,
+        counts,
+        notes,
+        &mut pending,
+    )
+}
+
+// In a larger one.
+fn some_pending(
+    edition: u16,
+    table: &[u16; 256],
+    contents: &[u16],
+    bodies: &[u16],
+    n: usize,
+    b: usize,
+    counts: &[u8],
+    notes: &mut [u8],
+) -> bool
+    requires { ⌜ PassLent (now table) n b (now contents) (now bodies) (now counts) (length (now notes)) (2 * b) × Blank (now notes) × (b ≤ 8000) ⌝ }
+    ensures { λ r. ⌜ CodesNoted edition (objectsAt n b (now (contents .entry)) (now (bodies .entry))) (now (notes .exit)) r ⌝ }
+{
+    let mut pending = [0; 16000];
+    codes_fine(
+        edition,
+        table,
+        contents,
+        bodies,
+        n,
+        b,
+        counts,
+        notes,
+        &mut pending,
+    )
+}
+
+// In any image.
+fn most_pending(
+    edition: u16,
+    table: &[u16; 256],
+    contents: &[u16],
+    bodies: &[u16],
+    n: usize,
+    b: usize,
+    counts: &[u8],
+    notes: &mut [u8],
+) -> bool
+    requires { ⌜ PassLent (now table) n b (now contents) (now bodies) (now counts) (length (now notes)) (2 * b) × Blank (now notes) ⌝ }
+    ensures { λ r. ⌜ CodesNoted edition (objectsAt n b (now (contents .entry)) (now (bodies .entry))) (now (notes .exit)) r ⌝ }
+{
+    let mut pending = [0; limits::MOST_BODY_BYTES];
+    codes_fine(
+        edition,
+        table,
+        contents,
+        bodies,
+        n,
+        b,
+        counts,
+        notes,
+        &mut pending,
+    )
+}
+
+// By the size of the image.
+fn codes_noted(
+    edition: u16,
+    table: &[u16; 256],
+    contents: &[u16],
+    bodies: &[u16],
+    n: usize,
+    b: usize,
+    counts: &[u8],
+    notes: &mut [u8],
+) -> bool
+    requires { ⌜ PassLent (now table) n b (now contents) (now bodies) (now counts) (length (now notes)) (2 * b) × Blank (now notes) ⌝ }
+    ensures { λ r. ⌜ CodesNoted edition (objectsAt n b (now (contents .entry)) (now (bodies .entry))) (now (notes .exit)) r ⌝ }
+{
+    if b <= 2000 {
+        return few_pending(edition, table, contents, bodies, n, b, counts, notes);
+    }
+    if b <= 8000 {
+        return some_pending(edition, table, contents, bodies, n, b, counts, notes);
+    }
+    most_pending(edition, table, contents, bodies, n, b, counts, notes)
+}
+
 // Rule 7, and the notes of all methods.
 pub fn methods_fine(
     edition: u16,
@@ -387,7 +727,7 @@ pub fn methods_fine(
     b: usize,
     notes: &mut [u8],
 ) -> bool
-    requires { ⌜ Ready n b (now contents) (now bodies) × (2 * b ≤ length (now notes)) ⌝ }
+    requires { ⌜ Ready n b (now contents) (now bodies) × (2 * b ≤ length (now notes)) × Blank (now notes) ⌝ }
     ensures { λ r. ⌜ MethodsNoted edition (objectsAt n b (now (contents .entry)) (now (bodies .entry))) (now (notes .exit)) r ⌝ }
 {
     if !methods::shapes_fine(contents, bodies, n, b) {
@@ -398,31 +738,5 @@ pub fn methods_fine(
         return false;
     }
     let table = bytecode::table();
-    if b <= 2000 {
-        // few positions can be pending: less to clear
-        let mut few = [0; 4000];
-        return codes_fine(
-            edition,
-            &table,
-            contents,
-            bodies,
-            n,
-            b,
-            &counts,
-            notes,
-            &mut few,
-        );
-    }
-    let mut pending = [0; limits::MOST_BODY_BYTES];
-    codes_fine(
-        edition,
-        &table,
-        contents,
-        bodies,
-        n,
-        b,
-        &counts,
-        notes,
-        &mut pending,
-    )
+    codes_noted(edition, &table, contents, bodies, n, b, &counts, notes)
 }

@@ -13,10 +13,10 @@ use Rattle.bytecode.proofs.TestLaws.{true→T}
 use Rattle.model.specs.Depth.{Reached, first, onward, HasTable}
 use Rattle.model.proofs.Marks.{blanks, blank, zeros, zeros-blank}
 use Rattle.model.proofs.WalkLaws.{At, origin, further, at-reached, at-depth, Notes}
-use Rattle.flow.specs.Walk.{Noted, Visited, Refused, Visits, Step, Nobody, Pending, Done, Walk, Turn, mostCode, mostDepth}
+use Rattle.flow.specs.Walk.{Noted, Goes, Latest, Visited, Refused, Visits, Step, Nobody, Pending, Done, Walk, Turn, mostCode, mostDepth}
 use Rattle.flow.specs.declared.Went.{Went}
-use Rattle.flow.specs.declared.Went.the-variants.{On, Stuck}
-use Rattle.flow.proofs.StepLaws.{same-count, not-both}
+use Rattle.flow.specs.declared.Went.the-variants.{Stuck}
+use Rattle.flow.proofs.StepLaws.{same-count, not-both, step-latest}
 use Rattle.flow.proofs.VisitLaws.{visited-new}
 
 module _ (fine : ℕ → ℕ → Bool) (next : ℕ → List ℕ) (after : ℕ → ℕ → ℕ → ℕ) (room : ℕ) where
@@ -124,7 +124,7 @@ module _ (fine : ℕ → ℕ → Bool) (next : ℕ → List ℕ) (after : ℕ �
       all : (q : ℕ) → List·Memᴰ q qs → Noted t′ q (e q)
 
     abbrev Outcome : List ℕ → ℕ → List ℕ → (ℕ → ℕ) → List ℕ → List ℕ → (ℕ → Type 0) → Went → Type 0
-    Outcome t waiting qs e t′ s′ Busy r = ((r ≡ Stuck) × None) ⊎ ((waiting′ : ℕ) × (r ≡ On waiting′) × Passed t waiting qs e t′ s′ waiting′ Busy)
+    Outcome t waiting qs e t′ s′ Busy r = ((r ≡ Stuck) × None) ⊎ ((waiting′ : ℕ) × (Goes r waiting′) × Passed t waiting qs e t′ s′ waiting′ Busy)
 
     visits-come : (Busy : ℕ → Type 0) (qs : List ℕ) (e : ℕ → ℕ) (t s : List ℕ) (waiting : ℕ) (t′ s′ : List ℕ) (r : Went)
         → length t ≡ size → ((q : ℕ) → List·Memᴰ q qs → At next after q (e q)) → Inv t s waiting Busy
@@ -167,22 +167,27 @@ module _ (fine : ℕ → ℕ → Bool) (next : ℕ → List ℕ) (after : ℕ �
       path-here : At next after p d
       path-here = w .path p d noted
 
-      turned : (t′ s′ : List ℕ) (r : Went) → T (fine p d) → Outcome t m (next p) (λ q. after p q d) t′ s′ (λ q. q ≡ p) r → Turn fine next after room t s waiting t′ s′ r
-      turned t′ s′ r f (inl x) = record { goes = λ k e. not-both e (x .0); ends = λ _. x .1 }
-      turned t′ s′ r f (inr x) =
+      turned : (t′ s′ : List ℕ) (r : Went) → T (fine p d) → Latest t′ s′ r → Outcome t m (next p) (λ q. after p q d) t′ s′ (λ q. q ≡ p) r → Turn fine next after room t s waiting t′ s′ r
+      turned t′ s′ r f l (inl x) = record { goes = λ k e. not-both e (x .0); ends = λ _. x .1; latest = l }
+      turned t′ s′ r f l (inr x) =
           let y = x .2 in
           let c : x .0 + zeros t′ ≡ m + zeros t = y .count in
           let ended-here : Inv t′ s′ (x .0) Nobody = closed t′ s′ (x .0) p d (y .kept p d noted) (record { holds = f; along = λ q h. y .all q h }) (y .walk) in
           record {
             goes = λ k e. let same : x .0 ≡ k = same-count (x .1) e in (subst (λ (i : ℕ). Inv t′ s′ i Nobody) same ended-here, omega arith);
             ends = λ e. not-both (x .1) e;
+            latest = l;
           }
 
       turn-at : (t′ s′ : List ℕ) (r : Went) (b : Bool) → fine p d ≡ b → Step room b (next p) (λ q. after p q d) t s m t′ s′ r → Turn fine next after room t s waiting t′ s′ r
       turn-at t′ s′ r false e x =
-          record { goes = λ k z. not-both z (x .fails refl); ends = λ _. not-fine p d path-here (λ y. subst T e y) }
+          record {
+            goes = λ k z. not-both z (x .fails refl);
+            ends = λ _. not-fine p d path-here (λ y. subst T e y);
+            latest = step-latest room (λ q. after p q d) t′ s′ r false (next p) t s m x;
+          }
       turn-at t′ s′ r true e x =
-          turned t′ s′ r (true→T e)
+          turned t′ s′ r (true→T e) (step-latest room (λ q. after p q d) t′ s′ r true (next p) t s m x)
           (visits-come (λ q. q ≡ p) (next p) (λ q. after p q d) t s m t′ s′ r long (λ q h. further path-here h)
           (subst (λ (i : ℕ). Inv t s m (λ q. q ≡ i)) (sym place) (popped t s waiting m one-less w)) (x .holds refl))
 

@@ -6,4 +6,3 @@ pub mod RuleLaws
 pub mod InstructionLaws
 pub mod HereLaws
 pub mod CodeWalk
-pub mod MethodLaws

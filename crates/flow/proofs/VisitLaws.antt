@@ -10,10 +10,10 @@ use native.Mathlib.Decide.{ℕ-discrete}
 use lib.ListN.{length, getD, set, length-set}
 use lib.Seq.{getD-set-same, getD-set-other}
 use Rattle.model.proofs.Marks.{zeros-set}
-use Rattle.flow.specs.Walk.{Noted, Asks, Visited, Refused, Visit, Visits}
+use Rattle.flow.specs.Walk.{Noted, Goes, Asks, Visited, Refused, Visit, Visits}
 use Rattle.flow.specs.declared.Went.{Went}
-use Rattle.flow.specs.declared.Went.the-variants.{On, Stuck}
-use Rattle.flow.proofs.StepLaws.{same-count, not-both}
+use Rattle.flow.specs.declared.Went.the-variants.{Fresh, Known, Stuck}
+use Rattle.flow.proofs.StepLaws.{same-count, not-both, goes-fresh, goes-known, latest-fresh, latest-known, latest-stuck}
 
 module _ {room : ℕ} {t s : List ℕ} {waiting : ℕ} (p d : ℕ) (asks : Asks t s waiting room) (deep : d ≤ room) (in-t : p < length t) where
   -- a position without a note is left, so that there is room to push it
@@ -73,11 +73,24 @@ clash room t p d z h = clash-at room t p d (getD t p 0) refl z h
 
 -- what a visit answers
 module _ {room : ℕ} {t s : List ℕ} {waiting p d : ℕ} {t′ s′ : List ℕ} where
-  pub visit-on : {k : ℕ} → Visited room t s waiting p d t′ s′ k → Visit room t s waiting p d t′ s′ (On k)
-  visit-on v = record { goes = λ j e. subst (λ (i : ℕ). Visited room t s waiting p d t′ s′ i) (same-count refl e) v; ends = λ e. not-both refl e }
+  pub visit-fresh : Visited room t s waiting p d t′ s′ (waiting + 1) → Visit room t s waiting p d t′ s′ (Fresh (waiting + 1) p d)
+  visit-fresh v =
+      record {
+        goes = λ j e. subst (λ (i : ℕ). Visited room t s waiting p d t′ s′ i) (same-count (goes-fresh refl) e) v;
+        ends = λ e. not-both (goes-fresh refl) e;
+        latest = latest-fresh waiting p d (v .pushed waiting (omega arith) (omega arith)) (v .here);
+      }
+
+  pub visit-known : {q e : ℕ} → Visited room t s waiting p d t′ s′ waiting → Visit room t s waiting p d t′ s′ (Known waiting q e)
+  visit-known v =
+      record {
+        goes = λ j e. subst (λ (i : ℕ). Visited room t s waiting p d t′ s′ i) (same-count (goes-known refl) e) v;
+        ends = λ e. not-both (goes-known refl) e;
+        latest = latest-known;
+      }
 
   pub visit-stuck : Refused room t p d → Visit room t s waiting p d t′ s′ Stuck
-  visit-stuck v = record { goes = λ j e. not-both e refl; ends = λ _. v }
+  visit-stuck v = record { goes = λ j e. not-both e refl; ends = λ _. v; latest = latest-stuck }
 
   -- what a visit needs for the next one
   pub asks-again : {k : ℕ} → Asks t s waiting room → Visited room t s waiting p d t′ s′ k → Asks t′ s′ k room
@@ -90,11 +103,12 @@ module _ {room : ℕ} {t s : List ℕ} {waiting p : ℕ} (d : ℕ → ℕ) {t₁
   visits-one = by r₁ refl
     where
       by : (r : Went) → r₁ ≡ r → Visits room (p ∷ []) d t s waiting t₁ s₁ r₁
-      by (On k) e = inr (t₁, s₁, k, v .goes k e, (refl, refl, e))
+      by (Fresh k q e) h = inr (t₁, s₁, k, v .goes k (goes-fresh h), (refl, refl, goes-fresh h, v .latest))
+      by (Known k q e) h = inr (t₁, s₁, k, v .goes k (goes-known h), (refl, refl, goes-known h, v .latest))
       by Stuck e = inl (v .ends e, e)
 
   module _ (qs t′ s′ : List ℕ) where
-    pub visits-more : {k : ℕ} (r : Went) → r₁ ≡ On k → Visits room qs d t₁ s₁ k t′ s′ r → Visits room (p ∷ qs) d t s waiting t′ s′ r
+    pub visits-more : {k : ℕ} (r : Went) → Goes r₁ k → Visits room qs d t₁ s₁ k t′ s′ r → Visits room (p ∷ qs) d t s waiting t′ s′ r
     unfolding Visits
     visits-more {k} r e rest = inr (t₁, s₁, k, v .goes k e, rest)
 

@@ -2,18 +2,13 @@
 -- count. With specs/Index.antt they are all of `allowed` (proofs/RuleLaws.antt, `split`).
 use Prim.Native.Nat.{ℕ}
 use mathlib.Core.Bool.{Bool, true, _||_}
-use mathlib.Core.List.{List}
-use lib.Dec.{ltb}
-use lib.ListN.{getD}
-use Rattle.bytecode.specs.Test.{below, implies}
-use Rattle.bytecode.specs.Code.{decodeAt}
 use Rattle.bytecode.specs.Effect.{specialCount}
 use Rattle.bytecode.specs.declared.Place.{Place}
 use Rattle.bytecode.specs.declared.Place.the-variants.{Field, Temporary, Literal, LiteralVariable}
 use Rattle.bytecode.specs.declared.Instruction.{Instruction}
 use Rattle.bytecode.specs.declared.Instruction.the-variants.{Push, Store, PopStore, PushSelf, PushConstant, ReturnSelf, ReturnConstant, ReturnTop, Pop, Duplicate, Jump, JumpOn, Send, SuperSend, SpecialSend, Unused}
 use Rattle.model.specs.Objects.{Objects}
-use Rattle.model.specs.Method.{literal, codeWords, codeSize}
+use Rattle.model.specs.Method.{literal}
 use Rattle.model.specs.Rules.{variableFine, sendFine, isSame, isClass, specialSelector}
 
 unfoldable pub placeLinked : Objects → ℕ → Place → Bool
@@ -39,10 +34,3 @@ linked o m (Send l n) = sendFine o (literal o m l) n
 linked o m (SuperSend l n) = sendFine o (literal o m l) n
 linked o m (SpecialSend k) = isSame k || (isClass k || sendFine o (specialSelector o k) (specialCount k))
 linked o m Unused = true
-
--- The rules hold at each noted position of a method's code.
-unfoldable pub linkedAt : Objects → ℕ → List ℕ → ℕ → Bool
-linkedAt o m t p = implies (ltb 0 (getD t p 0)) (linked o m (decodeAt (codeWords o m) (codeSize o m) p))
-
-unfoldable pub allLinked : Objects → ℕ → List ℕ → Bool
-allLinked o m t = below (codeSize o m) (linkedAt o m t)

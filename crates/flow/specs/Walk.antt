@@ -1,20 +1,21 @@
 -- What the functions of the walk ask of and promise each other. `t` are the notes, `s` the pending positions, of which the first `waiting` count.
-use Prim.Native.Nat.{ℕ, suc, _+_, _*_, _<_, _≤_}
+use Prim.Native.Nat.{ℕ, suc, _+_, _-_, _*_, _<_, _≤_}
 use mathlib.Core.Path.{_≡_}
 use mathlib.Core.Logic.{_⊎_}
-use mathlib.Core.Bool.{Bool, true, false}
+use mathlib.Core.Bool.{Bool, true, false, _&&_}
 use mathlib.Core.List.{List, [], _∷_, List·Memᴰ}
 use mathlib.Core.Option.{Option, none, some}
 use lib.Dec.{T}
 use lib.ListN.{length, getD, replicate}
 use Rattle.bytecode.specs.Code.{byteAt}
 use Rattle.bytecode.specs.Table.{Entry, IsTable}
+use Rattle.bytecode.specs.declared.Instruction.{Instruction}
 use Rattle.model.specs.Depth.{HasTable, successorsAt, depthAfterAt, fineAt, depthTable, isSome}
 use Rattle.model.proofs.Marks.{zeros}
 use Rattle.model.proofs.WalkLaws.{At}
 use Rattle.flow.specs.Index.{indexedBy}
 use Rattle.flow.specs.declared.Went.{Went}
-use Rattle.flow.specs.declared.Went.the-variants.{On, Stuck}
+use Rattle.flow.specs.declared.Went.the-variants.{Fresh, Known, Stuck}
 
 -- the most code bytes that an image has room for, and the most words of a frame for temporaries and operands
 abbrev pub mostCode : ℕ
@@ -25,6 +26,20 @@ mostDepth = 32
 
 abbrev pub Noted : List ℕ → ℕ → ℕ → Type 0
 Noted t p d = getD t p 0 ≡ suc d
+
+-- one more than the positions that are pending, 0 where it is stuck
+unfoldable pub pendingAfter : Went → ℕ
+pendingAfter (Fresh k p d) = suc k
+pendingAfter (Known k p d) = suc k
+pendingAfter Stuck = 0
+
+-- it goes on with so many
+pub record Goes (r : Went) (k : ℕ) : Type 0 where
+  pub count : pendingAfter r ≡ suc k
+
+-- what it says of the last of them
+pub record Latest (t s : List ℕ) (r : Went) : Type 0 where
+  pub last : (k p d : ℕ) → r ≡ Fresh k p d → (0 < k) × (getD s (k - 1) 0 ≡ p) × Noted t p d
 
 -- The sum has two uses: each position is pushed once, so that there is room for it; and it falls with each turn.
 pub record Asks (t s : List ℕ) (waiting room : ℕ) : Type 0 where
@@ -50,12 +65,13 @@ abbrev pub Refused : ℕ → List ℕ → ℕ → ℕ → Type 0
 Refused room t p d = (room < d) ⊎ ((length t ≤ p) ⊎ ((e : ℕ) × Noted t p e × (e ≡ d → ⊥)))
 
 pub record Visit (room : ℕ) (t s : List ℕ) (waiting p d : ℕ) (t′ s′ : List ℕ) (r : Went) : Type 0 where
-  pub goes : (k : ℕ) → r ≡ On k → Visited room t s waiting p d t′ s′ k
+  pub goes : (k : ℕ) → Goes r k → Visited room t s waiting p d t′ s′ k
   pub ends : r ≡ Stuck → Refused room t p d
+  pub latest : Latest t′ s′ r
 
 -- all positions of a list, in turn, position q with depth d q
 unfoldable pub Visits : ℕ → List ℕ → (ℕ → ℕ) → List ℕ → List ℕ → ℕ → List ℕ → List ℕ → Went → Type 0
-Visits room [] d t s waiting t′ s′ r = (t′ ≡ t) × (s′ ≡ s) × (r ≡ On waiting)
+Visits room [] d t s waiting t′ s′ r = (t′ ≡ t) × (s′ ≡ s) × Goes r waiting × Latest t s r
 Visits room (q ∷ qs) d t s waiting t′ s′ r =
     (Refused room t q (d q) × (r ≡ Stuck))
     ⊎ ((t₁ : List ℕ) × (s₁ : List ℕ) × (waiting₁ : ℕ) × Visited room t s waiting q (d q) t₁ s₁ waiting₁ × Visits room qs d t₁ s₁ waiting₁ t′ s′ r)
@@ -94,16 +110,18 @@ module _ (fine : ℕ → ℕ → Bool) (next : ℕ → List ℕ) (after : ℕ �
 
   -- a turn keeps it and uses something up, or shows that there is no table
   pub record Turn (t s : List ℕ) (waiting : ℕ) (t′ s′ : List ℕ) (r : Went) : Type 0 where
-    pub goes : (k : ℕ) → r ≡ On k → Walk t′ s′ k Nobody × (k + zeros t′ < waiting + zeros t)
+    pub goes : (k : ℕ) → Goes r k → Walk t′ s′ k Nobody × (k + zeros t′ < waiting + zeros t)
     pub ends : r ≡ Stuck → HasTable fine next after → ⊥
+    pub latest : Latest t′ s′ r
+
+-- the rules of an instruction: those on its index, and more
+abbrev pub ruleBy : List ℕ → (Instruction → Bool) → Instruction → Bool
+ruleBy counts more i = indexedBy counts i && more i
 
 -- The walk over code of `size` bytes, by counts of which number 2 is the temporaries; with room for so many operands beside them
 module _ (counts words : List ℕ) (size room : ℕ) where
   abbrev pub fineIn : ℕ → ℕ → Bool
   fineIn = fineAt words size (getD counts 2 0) (getD counts 2 0 + room) (indexedBy counts)
-
-  abbrev pub tableBy : Option (List ℕ)
-  tableBy = depthTable words size (getD counts 2 0) (getD counts 2 0 + room) (indexedBy counts)
 
   -- b is the byte at p, and e its entry
   pub record Here (p d b e : ℕ) : Type 0 where
@@ -117,12 +135,28 @@ module _ (counts words : List ℕ) (size room : ℕ) where
   abbrev pub Expand : ℕ → ℕ → List ℕ → List ℕ → ℕ → List ℕ → List ℕ → Went → Type 0
   Expand p d t s waiting t′ s′ r = Step room (fineIn p d) (successorsAt words size p) (λ q. depthAfterAt words size p q d) t s waiting t′ s′ r
 
-  pub record WalkingAt (t s : List ℕ) (waiting : ℕ) : Type 0 where
-    pub walk : Walk fineIn (successorsAt words size) (depthAfterAt words size) room t s waiting Nobody
+  -- with further rules of an instruction
+  module _ (more : Instruction → Bool) where
+    abbrev pub fineBy : ℕ → ℕ → Bool
+    fineBy = fineAt words size (getD counts 2 0) (getD counts 2 0 + room) (ruleBy counts more)
 
-  pub record TurnAt (t s : List ℕ) (waiting : ℕ) (t′ s′ : List ℕ) (r : Went) : Type 0 where
-    pub goes : (k : ℕ) → r ≡ On k → WalkingAt t′ s′ k × (k + zeros t′ < waiting + zeros t)
-    pub ends : r ≡ Stuck → tableBy ≡ none
+    abbrev pub tableBy : Option (List ℕ)
+    tableBy = depthTable words size (getD counts 2 0) (getD counts 2 0 + room) (ruleBy counts more)
+
+    pub record Walking (t s : List ℕ) (waiting : ℕ) : Type 0 where
+      pub walk : Walk fineBy (successorsAt words size) (depthAfterAt words size) room t s waiting Nobody
+
+    -- at p, the last of the pending positions, with its depth
+    pub record WalkingAt (t s : List ℕ) (waiting p d : ℕ) : Type 0 where
+      pub walking : Walking t s waiting
+      pub left : 0 < waiting
+      pub last : getD s (waiting - 1) 0 ≡ p
+      pub noted : Noted t p d
+
+    pub record TurnAt (t s : List ℕ) (waiting : ℕ) (t′ s′ : List ℕ) (r : Went) : Type 0 where
+      pub goes : (k : ℕ) → Goes r k → Walking t′ s′ k × (k + zeros t′ < waiting + zeros t)
+      pub ends : r ≡ Stuck → tableBy ≡ none
+      pub latest : Latest t′ s′ r
 
 -- what does not change on the way
 pub record Static (table counts words : List ℕ) (room : ℕ) (t s : List ℕ) : Type 0 where

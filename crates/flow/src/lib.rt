@@ -1,4 +1,5 @@
-// The depth walk over a method's code: which positions are reached, and how many operands stand there.
+// The step of the depth walk over a method's code, by the rules that need no objects: which positions are reached from one, and how many operands
+// stand there. The walk itself is code's, which asks the objects too.
 ghost use mathlib.Core.Path.{_≡_};
 ghost use mathlib.Core.Bool.{_&&_};
 ghost use mathlib.Core.List.{[], _∷_};
@@ -7,14 +8,15 @@ ghost use lib.Dec.{ltb, leb};
 ghost use lib.ListN.{length, getD, replicate};
 ghost use Rattle.bytecode.specs.Code.{placeOf, instructionOf};
 ghost use Rattle.bytecode.specs.Table.{groupPart, lengthPart, needPart, leavesPart, boundPart, indexPart};
-ghost use Rattle.model.specs.Depth.{depthTable};
 ghost use Rattle.model.specs.Rules.{isWritable};
-ghost use Rattle.flow.specs.Index.{indexed, placeIndexedBy, indexedBy};
-ghost use Rattle.flow.specs.Walk.{Asks, Visit, Visits, Step, alike, Here, Expand, Static, WalkingAt, TurnAt, Answer, Lent, Walked, tableBy};
+ghost use Rattle.flow.specs.Index.{placeIndexedBy, indexedBy};
+ghost use Rattle.flow.specs.Walk.{Asks, Visit, Visits, Step, alike, Here, Expand};
 
-// How many positions are pending after a step; or that there is no depth table.
-enum Went {
-    On(usize),
+// After a step: how many positions are pending; or that there is no depth table. `Fresh` has the last of them too, with its depth: it was
+// noted just now. `Known` holds two zeros for these: variants of equal fields stay in registers, others go through memory.
+pub enum Went {
+    Fresh(usize, usize, usize),
+    Known(usize, usize, usize),
     Stuck,
 }
 
@@ -40,10 +42,10 @@ fn visit(
     if old == 0 {
         notes[at] = (depth + 1) as u8;
         pending[waiting] = at as u16;
-        return Went::On(waiting + 1);
+        return Went::Fresh(waiting + 1, at, depth);
     }
     if old == depth + 1 {
-        return Went::On(waiting);
+        return Went::Known(waiting, 0, 0);
     }
     Went::Stuck
 }
@@ -62,7 +64,8 @@ fn both(
     ensures { λ r. ⌜ Visits room (a ∷ b ∷ []) (alike depth) (now (notes .entry)) (now (pending .entry)) waiting (now (notes .exit)) (now (pending .exit)) r ⌝ }
 {
     match visit(notes, pending, waiting, a, depth, room) {
-        Went::On(k) => visit(notes, pending, k, b, depth, room),
+        Went::Fresh(k, _, _) => visit(notes, pending, k, b, depth, room),
+        Went::Known(k, _, _) => visit(notes, pending, k, b, depth, room),
         Went::Stuck => Went::Stuck,
     }
 }
@@ -336,8 +339,8 @@ fn far(
     )
 }
 
-// Examines the instruction at a position, and visits what follows it.
-fn expand(
+// Examines the instruction at a position by the rules that need no objects, and visits what follows it.
+pub fn expand(
     limits: &[u8; 4],
     words: &[u16],
     room: usize,
@@ -363,7 +366,7 @@ fn expand(
         if depth < bytecode::entry_need(e) {
             return Went::Stuck;
         }
-        return Went::On(waiting);
+        return Went::Known(waiting, 0, 0);
     }
     if 2 < group {
         return Went::Stuck;
@@ -382,57 +385,6 @@ fn expand(
     )
 }
 
-// Deals with the last pending position.
-fn turn(
-    table: &[u16; 256],
-    limits: &[u8; 4],
-    words: &[u16],
-    room: usize,
-    notes: &mut [u8],
-    pending: &mut [u16],
-    waiting: usize,
-) -> Went
-    requires { ⌜ Static (now table) (now limits) (now words) room (now notes) (now pending) ⌝ }
-    requires { ⌜ 0 < waiting ⌝ }
-    requires { ⌜ WalkingAt (now limits) (now words) (length (now notes)) room (now notes) (now pending) waiting ⌝ }
-    ensures { λ r. ⌜ TurnAt (now (limits .entry)) (now (words .entry)) (length (now (notes .entry))) room (now (notes .entry)) (now (pending .entry)) waiting
-        (now (notes .exit)) (now (pending .exit)) r ⌝ }
-{
-    let last = waiting - 1;
-    let at = pending[last] as usize;
-    let depth = notes[at] as usize - 1;
-    let b = bytecode::fetch(words, at);
-    let e = bytecode::entry(table, b);
-    expand(limits, words, room, notes, pending, last, at, depth, b, e)
-}
-
-// Deals with pending positions until none is left.
-fn drain(
-    table: &[u16; 256],
-    limits: &[u8; 4],
-    words: &[u16],
-    room: usize,
-    notes: &mut [u8],
-    pending: &mut [u16],
-) -> bool
-    requires { ⌜ Static (now table) (now limits) (now words) room (now notes) (now pending) ⌝ }
-    requires { ⌜ WalkingAt (now limits) (now words) (length (now notes)) room (now notes) (now pending) 1 ⌝ }
-    ensures { λ r. ⌜ Answer (tableBy (now (limits .entry)) (now (words .entry)) (length (now (notes .entry))) room) (now (notes .exit)) r ⌝ }
-{
-    let mut waiting: usize = 1;
-    while 0 < waiting {
-        match turn(table, limits, words, room, notes, pending, waiting) {
-            Went::On(k) => {
-                waiting = k;
-            }
-            Went::Stuck => {
-                return false;
-            }
-        }
-    }
-    true
-}
-
 // No note.
 pub fn clear(notes: &mut [u8])
     ensures { λ _. ⌜ now (notes .exit) ≡ replicate (length (now (notes .entry))) 0 ⌝ }
@@ -442,38 +394,4 @@ pub fn clear(notes: &mut [u8])
         notes[i] = 0;
         i += 1;
     }
-}
-
-// Whether the code has a depth table, by the rules that need no objects. The code has as many bytes as there are notes. They end as the
-// table, 0 for a position that is not reached and one more than the depth for any other; or all as 0, where there is none.
-pub fn walk(
-    table: &[u16; 256],
-    words: &[u16],
-    fields: u8,
-    temporaries: u8,
-    literals: u8,
-    limit: usize,
-    notes: &mut [u8],
-    pending: &mut [u16],
-) -> bool
-    requires { ⌜ Lent (now table) (now words) limit (now notes) (now pending) ⌝ }
-    ensures { λ r. ⌜ Walked (depthTable (now (words .entry)) (length (now (notes .entry))) temporaries limit (indexed fields temporaries literals))
-        (length (now (notes .entry))) (now (notes .exit)) r ⌝ }
-{
-    clear(notes);
-    if notes.len() == 0 {
-        return false;
-    }
-    let t = temporaries as usize;
-    if limit < t {
-        return false;
-    }
-    notes[0] = 1;
-    pending[0] = 0;
-    let limits = [1, fields, temporaries, literals];
-    if drain(table, &limits, words, limit - t, notes, pending) {
-        return true;
-    }
-    clear(notes);
-    false
 }

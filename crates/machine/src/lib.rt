@@ -1,11 +1,15 @@
 // The calls. Each promise is an equation with the flat calls of plain's specs/FlatCalls.antt, through the definitions of specs/State.antt.
 ghost use mathlib.Core.Path.{_≡_};
+ghost use Prim.Native.Nat.{_*_, _≤_};
 ghost use lib.Dec.{T};
+ghost use lib.ListN.{length};
 ghost use Rattle.model.specs.Image.{buffersFine};
+ghost use Rattle.code.specs.Asked.{Blank};
 ghost use Rattle.plain.specs.Running.{roomAt};
 ghost use Rattle.plain.specs.Registers as R;
 ghost use Rattle.plain.specs.Check as K;
 ghost use Rattle.plain.specs.FlatCalls.{flatBegin, flatDrop, flatForget, flatSave};
+ghost use Rattle.machine.specs.Parts.{FirstParts};
 ghost use Rattle.machine.specs.State.{registersOf, state, PromisedLoad, checkGives, beginGives, PromisedRun, dropGives, forgetGives, saveGives};
 use begins::Beginning;
 use image::Header;
@@ -95,6 +99,101 @@ pub enum Saved {
     Refused(u32),
 }
 
+// The image's rules, the frames and the cache of a state whose buffers are long enough and whose counts and registers are right. The notes
+// are 0.
+fn noted_fine(
+    registers: Registers,
+    contents: &[u16],
+    bodies: &[u16],
+    stack: &[u16],
+    cache: &[u16],
+    notes: &mut [u8],
+) -> bool
+    requires { ⌜ T (buffersFine (roomAt (now contents) (now bodies) (now stack) (now cache)) (registers .n) (registers .b)) ⌝ }
+    requires { ⌜ FirstParts (registersOf registers) × (2 * registers .b ≤ length (now notes)) × Blank (now notes) ⌝ }
+    ensures { λ r. ⌜ r ≡ K.stateFine (state registers (now (contents .entry)) (now (bodies .entry)) (now (stack .entry)) (now (cache .entry))) ⌝ }
+{
+    let edition = registers.edition;
+    let n = registers.n as usize;
+    let b = registers.b as usize;
+    if store::judge(
+        edition,
+        contents,
+        bodies,
+        n,
+        b,
+        registers.receiver,
+        registers.selector,
+        notes,
+    )
+        != 0
+    {
+        return false;
+    }
+    if !state::standing_fine(
+        contents,
+        bodies,
+        stack,
+        notes,
+        edition,
+        n,
+        b,
+        registers.phase,
+        registers.top,
+    ) {
+        return false;
+    }
+    cache::cache_fine(contents, bodies, cache, n, b)
+}
+
+// With notes for a small image: less to clear. Each size has a function of its own, so that the arrays share their place on the stack.
+fn few_noted(
+    registers: Registers,
+    contents: &[u16],
+    bodies: &[u16],
+    stack: &[u16],
+    cache: &[u16],
+) -> bool
+    requires { ⌜ T (buffersFine (roomAt (now contents) (now bodies) (now stack) (now cache)) (registers .n) (registers .b)) ⌝ }
+    requires { ⌜ FirstParts (registersOf registers) × (registers .b ≤ 2000) ⌝ }
+    ensures { λ r. ⌜ r ≡ K.stateFine (state registers (now (contents .entry)) (now (bodies .entry)) (now (stack .entry)) (now (cache .entry))) ⌝ }
+{
+    let mut notes = [0u8; 4000];
+    noted_fine(registers, contents, bodies, stack, cache, &mut notes)
+}
+
+// For a larger one.
+fn some_noted(
+    registers: Registers,
+    contents: &[u16],
+    bodies: &[u16],
+    stack: &[u16],
+    cache: &[u16],
+) -> bool
+    requires { ⌜ T (buffersFine (roomAt (now contents) (now bodies) (now stack) (now cache)) (registers .n) (registers .b)) ⌝ }
+    requires { ⌜ FirstParts (registersOf registers) × (registers .b ≤ 8000) ⌝ }
+    ensures { λ r. ⌜ r ≡ K.stateFine (state registers (now (contents .entry)) (now (bodies .entry)) (now (stack .entry)) (now (cache .entry))) ⌝ }
+{
+    let mut notes = [0u8; 16000];
+    noted_fine(registers, contents, bodies, stack, cache, &mut notes)
+}
+
+// For any image.
+fn most_noted(
+    registers: Registers,
+    contents: &[u16],
+    bodies: &[u16],
+    stack: &[u16],
+    cache: &[u16],
+) -> bool
+    requires { ⌜ T (buffersFine (roomAt (now contents) (now bodies) (now stack) (now cache)) (registers .n) (registers .b)) ⌝ }
+    requires { ⌜ FirstParts (registersOf registers) ⌝ }
+    ensures { λ r. ⌜ r ≡ K.stateFine (state registers (now (contents .entry)) (now (bodies .entry)) (now (stack .entry)) (now (cache .entry))) ⌝ }
+{
+    let mut notes = [0u8; limits::MOST_BODY_BYTES];
+    noted_fine(registers, contents, bodies, stack, cache, &mut notes)
+}
+
 // The image's rules, the registers, the frames and the cache of a state whose buffers are long enough.
 fn state_fine(
     registers: Registers,
@@ -110,40 +209,17 @@ fn state_fine(
     if !store::header_fine(edition, registers.n, registers.b) {
         return false;
     }
-    let n = registers.n as usize;
-    let b = registers.b as usize;
-    if !state::registers_fine(n, registers.phase, registers.value) {
+    if !state::registers_fine(registers.n as usize, registers.phase, registers.value) {
         return false;
     }
-    let mut notes = [0u8; limits::MOST_BODY_BYTES];
-    if store::judge(
-        edition,
-        contents,
-        bodies,
-        n,
-        b,
-        registers.receiver,
-        registers.selector,
-        &mut notes,
-    )
-        != 0
-    {
-        return false;
+    let b = registers.b;
+    if b <= 2000 {
+        return few_noted(registers, contents, bodies, stack, cache);
     }
-    if !state::standing_fine(
-        contents,
-        bodies,
-        stack,
-        &notes,
-        edition,
-        n,
-        b,
-        registers.phase,
-        registers.top,
-    ) {
-        return false;
+    if b <= 8000 {
+        return some_noted(registers, contents, bodies, stack, cache);
     }
-    cache::cache_fine(contents, bodies, cache, n, b)
+    most_noted(registers, contents, bodies, stack, cache)
 }
 
 // 3, then 11.

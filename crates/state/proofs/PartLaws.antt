@@ -144,8 +144,8 @@ module _ (r : Registers) (contents bodies stack cache : List ℕ) where
       pub rights : Right edition o
       rights = image-right edition o (r .startReceiver) (r .startSelector) (length-take-le (entryWords * r .n) contents (lent .entries)) (length-take-le (r .b) bodies (lent .words)) (true→T yes) .0
 
-      pub all-noted : 48000 ≤ length notes → Noted edition (r .n) (r .b) contents bodies notes
-      all-noted h = record { right = rights; noted = j .noted zero; room = let l = notes-room in omega arith }
+      pub all-noted : 2 * r .b ≤ length notes → Noted edition (r .n) (r .b) contents bodies notes
+      all-noted h = record { right = rights; noted = j .noted zero; room = h }
 
       module _ (regs : registersFine (r .n) (r .phase) (r .value) ≡ true) where
         unpack : (a b c d : Bool) → a ≡ true → (b && c) ≡ true → (a && (b && (c && d))) ≡ d

@@ -8,6 +8,7 @@ ghost use Rattle.model.specs.Objects.{objectsAt};
 ghost use Rattle.model.specs.Rules.{headerFine, rule8};
 ghost use Rattle.model.specs.Image.{imageHeader, imageObjects, buffersFine, objectsVerdict, loadVerdict};
 ghost use Rattle.rules.specs.Lent.{Lent};
+ghost use Rattle.code.specs.Asked.{Blank};
 ghost use Rattle.store.specs.Judged.{Judged};
 ghost use Rattle.store.specs.Answer.{roomFor, stored, storedBy, Passed};
 ghost use Rattle.store.specs.Readings.{readingNumber, readingOf};
@@ -68,8 +69,8 @@ pub fn buffers_fine(contents: usize, bodies: usize, cache: usize, n: u16, b: u16
     cache == CACHE_WORDS
 }
 
-// Rules 4 to 8, each over all objects before the next: 0, or the number of the first that does not hold. Accepted, the notes are those of
-// the depth tables.
+// Rules 4 to 8, each over all objects before the next: 0, or the number of the first that does not hold. The notes are 0; accepted, they
+// are those of the depth tables.
 pub fn judge(
     edition: u16,
     contents: &[u16],
@@ -80,7 +81,7 @@ pub fn judge(
     selector: u16,
     notes: &mut [u8],
 ) -> u32
-    requires { ⌜ Lent edition n b (now contents) (now bodies) × (2 * b ≤ length (now notes)) ⌝ }
+    requires { ⌜ Lent edition n b (now contents) (now bodies) × (2 * b ≤ length (now notes)) × Blank (now notes) ⌝ }
     ensures { λ r. ⌜ Judged edition (objectsAt n b (now (contents .entry)) (now (bodies .entry))) receiver selector (now (notes .exit)) r ⌝ }
 {
     if !rules::layout(edition, contents, bodies, n, b) {

@@ -2,7 +2,7 @@ use mathlib.Core.Path.{sym, ap, _∙_}
 use native.Mathlib.Omega.{arith}
 use Rattle.readers.specs.Header.{runsOf}
 use Rattle.code.proofs.LinkFine.{method-word}
-use Rattle.code.proofs.PassLaws.{object-other, object-sound, object-unsound, asked-at}
+use Rattle.code.proofs.PassLaws.{blank-method, object-other, object-sound, object-unsound, asked-at}
 use borrow.Author.Needs.{needs}
 use Rattle.code.proofs.code_object.Statement.{statement}
 use Rattle.code.proofs.code_object.Tie as tie
@@ -11,7 +11,9 @@ kind-requires : tie.Need-kind-requires
 kind-requires c κs = search needs
 
 returns : tie.Need-returns
-returns c = object-other _ _ (c .before .before .before .before .before .before .before .args .k) _ (λ e. c .if1 .taken (c .before .kind .ensures ∙ e))
+returns c =
+    let at-start = c .before .before .before .before .before .before .before in
+    object-other _ _ (at-start .args .k) _ ((at-start .pre) .3) (λ e. c .if1 .taken (c .before .kind .ensures ∙ e))
 
 mul-m : tie.Need-mul-m
 mul-m c = search needs
@@ -26,6 +28,7 @@ method-notes-requires c κs =
           ∙ c .before .before .if1 .left),
       (at-start .pre) .0 .room,
       (at-start .pre) .0 .long,
+      blank-method ((at-start .pre) .0) (at-start .args .notes .now) (at-start .args .k) ((at-start .pre) .3),
     )
 
 same-length : tie.Need-same-length
@@ -40,8 +43,8 @@ returns-2 c =
     let at-if1 = at-method-notes .before .before .before in
     let at-kind = at-if1 .before in
     let at-start = at-kind .before .before .before .before .before .before in
-    object-sound ((at-start .pre) .0) _ (at-start .args .k) _ _ _ ((at-start .pre) .1) ((at-start .pre) .2) (sym (at-kind .kind .ensures) ∙ at-if1 .if1 .left)
-    (at-method-notes .method-notes .ensures) (c .if2 .taken)
+    object-sound ((at-start .pre) .0) _ (at-start .args .k) _ _ _ ((at-start .pre) .1) ((at-start .pre) .2) ((at-start .pre) .3)
+    (sym (at-kind .kind .ensures) ∙ at-if1 .if1 .left) (at-method-notes .method-notes .ensures) (c .if2 .taken)
 
 word-of-requires : tie.Need-word-of-requires
 word-of-requires c κs =
@@ -70,8 +73,8 @@ returns-3 c =
     let at-kind = at-if1 .before in
     let at-start = at-kind .before .before .before .before .before .before in
     let args = at-start .args in
-    object-unsound ((at-start .pre) .0) _ (args .k) _ _ _ ((at-start .pre) .1) ((at-start .pre) .2) (sym (at-kind .kind .ensures) ∙ at-if1 .if1 .left)
-    (at-method-notes .method-notes .ensures) (c .runs-code .result) (c .before .before .if2 .left)
+    object-unsound ((at-start .pre) .0) _ (args .k) _ _ _ ((at-start .pre) .1) ((at-start .pre) .2) ((at-start .pre) .3)
+    (sym (at-kind .kind .ensures) ∙ at-if1 .if1 .left) (at-method-notes .method-notes .ensures) (c .runs-code .result) (c .before .before .if2 .left)
     (c .runs-code .ensures ∙ ap runsOf (c .before .word-of .ensures))
 
 pub code-object-spec : {M : Type 1} → statement M

@@ -16,13 +16,17 @@ abbrev μ-loop : tie.MeasureT-loop
 μ-loop edition table contents bodies n b counts notes₀ pending₀ k₀ notes pending k = suc n - k
 
 loop-holds : tie.Need-loop-holds Inv-loop μ-loop
-loop-holds c = (going-first _ _ _, refl, refl)
+loop-holds c = (going-first _ _ _ ((c .before .before .before .before .before .pre) .1), refl, refl)
 
 code-object-requires : tie.Need-code-object-requires Inv-loop μ-loop
 code-object-requires c κs =
     let at-loop = c .before .before .before in
-    let at-start = at-loop .before .before .before .before .before .before in
-    (lent-again (at-loop .loop .inv .1) (at-loop .loop .inv .2) (at-start .pre), at-loop .loop .inv .0 .least, c .before .before .loop-test .taken)
+    let at-start = at-loop .before .before .before .before .before .before in (
+      lent-again (at-loop .loop .inv .1) (at-loop .loop .inv .2) ((at-start .pre) .0),
+      at-loop .loop .inv .0 .least,
+      c .before .before .loop-test .taken,
+      at-loop .loop .inv .0 .blank (c .before .before .loop-test .taken),
+    )
 
 same-length : tie.Need-same-length Inv-loop μ-loop
 same-length c =
@@ -47,7 +51,7 @@ add-k : tie.Need-add-k Inv-loop μ-loop
 add-k c =
     let at-loop-test = c .before .before .before .before .before .before .before .before in
     let at-start = at-loop-test .before .before .before .before .before .before .before in
-    let q = (at-start .pre) .ready .laid .most in let l = at-loop-test .loop-test .taken in omega arith
+    let q = (at-start .pre) .0 .ready .laid .most in let l = at-loop-test .loop-test .taken in omega arith
 
 loop-less : tie.Need-loop-less Inv-loop μ-loop
 loop-less c = let l = c .before .before .before .before .before .before .before .before .loop-test .taken in omega arith
@@ -56,8 +60,9 @@ loop-again : tie.Need-loop-again Inv-loop μ-loop
 loop-again c =
     let at-code-object = c .before .before .before .before .before in
     let at-loop-test = at-code-object .before .before .before in
-    let at-loop = at-loop-test .before in (
-      going-on _ _ (at-loop .loop .k) _ _ _ (at-loop .loop .inv .0) (at-loop-test .loop-test .taken) (at-code-object .code-object .ensures)
+    let at-loop = at-loop-test .before in
+    let at-start = at-loop .before .before .before .before .before .before in (
+      going-on _ _ _ ((at-start .pre) .0 .ready .layout) (at-loop .loop .k) _ _ _ (at-loop .loop .inv .0) (at-loop-test .loop-test .taken) (at-code-object .code-object .ensures)
           (not-false _ (c .if1 .left)),
       at-code-object .code-object .kept .1 .1 .1 .1 .1 .1 .1 .1 .0 ∙ at-loop .loop .inv .1,
       at-code-object .code-object .kept .1 .1 .1 .1 .1 .1 .1 .1 .1 .0 ∙ at-loop .loop .inv .2,

@@ -1,4 +1,4 @@
-use Rattle.code.proofs.CodePlace.{code-lent, code-short, walked-put}
+use Rattle.code.proofs.CodePlace.{code-lent, code-short, code-blank, walked-put}
 use native.Mathlib.Omega.{arith}
 use mathlib.Core.Path.{ap, _∙_}
 use Rattle.readers.specs.Header.{literalsOf}
@@ -114,8 +114,12 @@ code-notes-requires c κs =
     let l = at-literal-count .literal-count .ensures ∙ ap literalsOf (at-word-of .word-of .ensures) in
     let e = at-body-end .body-end .ensures (args .b) (args .bodies .now) in
     let k = code-lent (p .0) (args .notes .now) l (at-start .start .ensures) e (at-size .size .ensures) (p .1) in
-    let s = code-short (p .0) (args .notes .now) l (at-start .start .ensures) e (at-size .size .ensures) (p .1) in
-    (p .0, k, let t = p .2 in omega arith)
+    let s = code-short (p .0) (args .notes .now) l (at-start .start .ensures) e (at-size .size .ensures) (p .1) in (
+      p .0,
+      k,
+      let t = p .2 in omega arith,
+      code-blank (p .0) (args .notes .now) l (at-start .start .ensures) e (at-size .size .ensures) (p .1) (p .3),
+    )
 
 same-length : tie.Need-same-length
 same-length c = search needs

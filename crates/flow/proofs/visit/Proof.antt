@@ -2,7 +2,7 @@
 use mathlib.Core.Logic.{inl, inr}
 use native.Mathlib.Omega.{arith}
 use borrow.Author.Needs.{needs}
-use Rattle.flow.proofs.VisitLaws.{visit-on, visit-stuck, has-room, visited-new, visited-same, clash}
+use Rattle.flow.proofs.VisitLaws.{visit-fresh, visit-known, visit-stuck, has-room, visited-new, visited-same, clash}
 use Rattle.flow.proofs.visit.Statement.{statement}
 use Rattle.flow.proofs.visit.Tie as tie
 
@@ -46,7 +46,7 @@ same-length-2 : tie.Need-same-length-2
 same-length-2 c = search needs
 
 returns-3 : tie.Need-returns-3
-returns-3 c = visit-on (visited-new _ _ (c .before .before .before .before .pre) (c .before .before .before .if1 .left) (c .before .before .if2 .left) (c .if3 .taken))
+returns-3 c = visit-fresh (visited-new _ _ (c .before .before .before .before .pre) (c .before .before .before .if1 .left) (c .before .before .if2 .left) (c .if3 .taken))
 
 add-if4 : tie.Need-add-if4
 add-if4 c = search needs
@@ -56,7 +56,7 @@ returns-4 c =
     let at-if2 = c .before .before .before in
     let at-if1 = at-if2 .before in
     let at-start = at-if1 .before in
-    visit-on (visited-same _ _ (at-start .pre) (at-if1 .if1 .left) (at-if2 .if2 .left) (c .if4 .taken))
+    visit-known (visited-same _ _ (at-start .pre) (at-if1 .if1 .left) (at-if2 .if2 .left) (c .if4 .taken))
 
 returns-5 : tie.Need-returns-5
 returns-5 c =

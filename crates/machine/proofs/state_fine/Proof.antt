@@ -1,6 +1,6 @@
 use mathlib.Core.Path.{sym, _∙_}
 use borrow.Author.Tests.{not-true, not-false}
-use Rattle.state.proofs.PartLaws.{header-no, registers-no, judged-no, lent, cache-long, notes-room, rights, all-noted, standing-no, cache-left}
+use Rattle.state.proofs.PartLaws.{header-no, registers-no}
 use Rattle.machine.specs.State.{registersOf}
 use borrow.Author.Needs.{needs}
 use Rattle.machine.proofs.state_fine.Statement.{statement}
@@ -12,107 +12,50 @@ header-fine-requires c κs = search needs
 returns : tie.Need-returns
 returns c =
     let at-start = c .before .before .before .before .before .before in
-    let args = at-start .args in
-    header-no (registersOf (args .registers)) (args .contents .now) (args .bodies .now)
-    (args .stack .now) (args .cache .now) (sym (c .before .header-fine .ensures) ∙ not-true _ (c .if1 .taken))
+    header-no (registersOf (at-start .args .registers)) _ _ _ _ (sym (c .before .header-fine .ensures) ∙ not-true _ (c .if1 .taken))
 
-cast-n : tie.Need-cast-n
-cast-n c = search needs
-
-cast-b : tie.Need-cast-b
-cast-b c = search needs
+cast-registers-fine : tie.Need-cast-registers-fine
+cast-registers-fine c = search needs
 
 registers-fine-requires : tie.Need-registers-fine-requires
 registers-fine-requires c κs = search needs
 
 returns-2 : tie.Need-returns-2
 returns-2 c =
-    let at-start = c .before .before .before .before .before .before .before .before .before .before in
-    let args = at-start .args in
-    registers-no (registersOf (args .registers)) (args .contents .now) (args .bodies .now)
-    (args .stack .now) (args .cache .now) (sym (c .before .registers-fine .ensures) ∙ not-true _ (c .if2 .taken))
+    let at-start = c .before .before .before .before .before .before .before .before .before in
+    registers-no (registersOf (at-start .args .registers)) _ _ _ _ (sym (c .before .registers-fine .ensures) ∙ not-true _ (c .if2 .taken))
 
-slice-aggregate-judge : tie.Need-slice-aggregate-judge
-slice-aggregate-judge c = search needs
-
-judge-requires : tie.Need-judge-requires
-judge-requires c κs =
-    let at-if1 = c .before .before .before .before .before in
+few-noted-requires : tie.Need-few-noted-requires
+few-noted-requires c κs =
+    let at-if1 = c .before .before .before .before in
     let at-header-fine = at-if1 .before in
     let at-start = at-header-fine .before .before .before .before .before in
-    let args = at-start .args in (
-      lent (registersOf (args .registers)) (args .contents .now) (args .bodies .now)
-          (args .stack .now) (args .cache .now) (sym (at-header-fine .header-fine .ensures) ∙ not-false _ (at-if1 .if1 .left)) (at-start .pre),
-      let h = notes-room
-          (registersOf (args .registers)) (args .contents .now) (args .bodies .now) (args .stack .now)
-          (args .cache .now) (sym (at-header-fine .header-fine .ensures) ∙ not-false _ (at-if1 .if1 .left)) (at-start .pre) in search needs,
-    )
+    ((at-start .pre), (record { header = sym (at-header-fine .header-fine .ensures) ∙ not-false _ (at-if1 .if1 .left); registers = sym (c .before .before .registers-fine .ensures) ∙ not-false _ (c .before .if2 .left) }, c .if3 .taken))
 
 returns-3 : tie.Need-returns-3
-returns-3 c =
-    let at-start = c .before .before .before .before .before .before .before .before .before .before .before .before .before .before in
-    let args = at-start .args in
-    judged-no (registersOf (args .registers)) (args .contents .now) (args .bodies .now)
-    (args .stack .now) (args .cache .now) _ _ (c .before .before .judge .ensures) (c .if3 .taken)
+returns-3 c = search needs
 
-slice-aggregate-standing-fine : tie.Need-slice-aggregate-standing-fine
-slice-aggregate-standing-fine c = search needs
-
-standing-fine-requires : tie.Need-standing-fine-requires
-standing-fine-requires c κs =
-    let at-if1 = c .before .before .before .before .before .before .before .before .before in
+some-noted-requires : tie.Need-some-noted-requires
+some-noted-requires c κs =
+    let at-registers-fine = c .before .before .before in
+    let at-if1 = at-registers-fine .before .before in
     let at-header-fine = at-if1 .before in
     let at-start = at-header-fine .before .before .before .before .before in
-    let args = at-start .args in
-    all-noted (registersOf (args .registers)) (args .contents .now) (args .bodies .now)
-    (args .stack .now) (args .cache .now) (sym (at-header-fine .header-fine .ensures) ∙ not-false _ (at-if1 .if1 .left)) (at-start .pre) _ _
-    (c .before .before .before .judge .ensures) (c .before .if3 .left) (search needs)
+    ((at-start .pre), (record { header = sym (at-header-fine .header-fine .ensures) ∙ not-false _ (at-if1 .if1 .left); registers = sym (at-registers-fine .registers-fine .ensures) ∙ not-false _ (c .before .before .if2 .left) }, c .if4 .taken))
 
 returns-4 : tie.Need-returns-4
-returns-4 c =
-    let at-judge = c .before .before .before .before .before in
-    let at-if2 = at-judge .before .before in
-    let at-registers-fine = at-if2 .before in
-    let at-if1 = at-registers-fine .before .before .before in
-    let at-header-fine = at-if1 .before in
-    let at-start = at-header-fine .before .before .before .before .before in
-    let args = at-start .args in
-    standing-no (registersOf (args .registers)) (args .contents .now) (args .bodies .now)
-    (args .stack .now) (args .cache .now) (sym (at-header-fine .header-fine .ensures) ∙ not-false _ (at-if1 .if1 .left)) (at-start .pre) _ _
-    (at-judge .judge .ensures) (c .before .before .before .if3 .left) (sym (at-registers-fine .registers-fine .ensures) ∙ not-false _ (at-if2 .if2 .left))
-    (sym (c .before .standing-fine .ensures) ∙ not-true _ (c .if4 .taken))
+returns-4 c = search needs
 
-cache-fine-requires : tie.Need-cache-fine-requires
-cache-fine-requires c κs =
-    let at-judge = c .before .before .before .before .before in
-    let at-if1 = at-judge .before .before .before .before .before .before in
+most-noted-requires : tie.Need-most-noted-requires
+most-noted-requires c κs =
+    let at-registers-fine = c .before .before .before in
+    let at-if1 = at-registers-fine .before .before in
     let at-header-fine = at-if1 .before in
     let at-start = at-header-fine .before .before .before .before .before in
-    let args = at-start .args in (
-      (
-        _,
-        rights (registersOf (args .registers)) (args .contents .now) (args .bodies .now)
-            (args .stack .now) (args .cache .now) (sym (at-header-fine .header-fine .ensures) ∙ not-false _ (at-if1 .if1 .left)) (at-start .pre) _ _
-            (at-judge .judge .ensures) (c .before .before .before .if3 .left),
-      ),
-      cache-long (registersOf (args .registers)) (args .contents .now) (args .bodies .now) (args .stack .now) (args .cache .now) (sym (at-header-fine .header-fine .ensures)
-          ∙ not-false _ (at-if1 .if1 .left)) (at-start .pre),
-    )
+    ((at-start .pre), record { header = sym (at-header-fine .header-fine .ensures) ∙ not-false _ (at-if1 .if1 .left); registers = sym (at-registers-fine .registers-fine .ensures) ∙ not-false _ (c .before .before .if2 .left) })
 
 returns-5 : tie.Need-returns-5
-returns-5 c =
-    let at-if3 = c .before .before .before .before in
-    let at-judge = at-if3 .before .before in
-    let at-if2 = at-judge .before .before in
-    let at-registers-fine = at-if2 .before in
-    let at-if1 = at-registers-fine .before .before .before in
-    let at-header-fine = at-if1 .before in
-    let at-start = at-header-fine .before .before .before .before .before in
-    let args = at-start .args in
-    cache-left (registersOf (args .registers)) (args .contents .now) (args .bodies .now)
-    (args .stack .now) (args .cache .now) (sym (at-header-fine .header-fine .ensures) ∙ not-false _ (at-if1 .if1 .left)) (at-start .pre) _ _
-    (at-judge .judge .ensures) (at-if3 .if3 .left) (sym (at-registers-fine .registers-fine .ensures) ∙ not-false _ (at-if2 .if2 .left)) _
-    (sym (c .before .before .standing-fine .ensures) ∙ not-false _ (c .before .if4 .left)) (c .cache-fine .ensures)
+returns-5 c = search needs
 
 pub state-fine-spec : {M : Type 1} → statement M
 state-fine-spec =
@@ -120,15 +63,12 @@ state-fine-spec =
     (tie.spec
     header-fine-requires
     returns
-    cast-n
-    cast-b
+    cast-registers-fine
     registers-fine-requires
     returns-2
-    slice-aggregate-judge
-    judge-requires
+    few-noted-requires
     returns-3
-    slice-aggregate-standing-fine
-    standing-fine-requires
+    some-noted-requires
     returns-4
-    cache-fine-requires
+    most-noted-requires
     returns-5)

@@ -65,6 +65,7 @@ methods-fine-requires c κs =
             ∙ not-false _ (c .before .if3 .left));
       },
       at-start .pre .1,
+      at-start .pre .2,
     )
 
 same-length : tie.Need-same-length

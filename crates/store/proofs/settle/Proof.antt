@@ -1,5 +1,6 @@
 -- The objects in place are the image's, so the verdict on them is that on the image.
 use mathlib.Core.Path.{sym, _∙_}
+use Rattle.code.proofs.PassLaws.{zeros-at}
 use Rattle.store.proofs.Settled.{settled-yes, settled-no}
 use borrow.Author.Needs.{needs}
 use Rattle.store.proofs.settle.Statement.{statement}
@@ -12,7 +13,7 @@ slice-aggregate-judge : tie.Need-slice-aggregate-judge
 slice-aggregate-judge c = search needs
 
 judge-requires : tie.Need-judge-requires
-judge-requires c κs = search needs
+judge-requires c κs = (search needs, search needs, zeros-at 48000)
 
 zero-requires : tie.Need-zero-requires
 zero-requires c κs = search needs
