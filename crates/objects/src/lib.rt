@@ -5,7 +5,7 @@ ghost use mathlib.Core.List.{List};
 ghost use Prim.Native.Nat.{ℕ, _+_, _-_, _*_, _/_, _<_, _≤_};
 ghost use lib.Dec.{T};
 ghost use lib.ListN.{length, take, drop};
-ghost use Rattle.bytecode.specs.Code.{byteAt};
+ghost use Rattle.bytecode.specs.Code.{byteAt, bytesAfter, instructionOf, nextAt};
 ghost use Rattle.model.specs.Limits.{entryWords, classKind, listKind, methodKind, primitiveFlag};
 ghost use Rattle.model.specs.Word.{isValid, objectNumber};
 ghost use Rattle.model.specs.Objects.{objectsAt, classOf, isNilOr, superclassWord, dictionaryWord, fieldCount, form, atFront};
@@ -15,6 +15,7 @@ ghost use Rattle.model.specs.Rules.{IsRight};
 ghost use Rattle.model.specs.Primitive.{storeWord, objectByte, storeByte};
 ghost use Rattle.readers.specs.Places.{Inside};
 ghost use Rattle.objects.specs.Lent.{Holds, CodeAt};
+use bytecode::Decoded;
 use model::Found;
 use model::Pointer;
 use model::limits;
@@ -181,12 +182,16 @@ pub fn code_of(contents: &[u16], bodies: &[u16], n: usize, b: usize, m: Pointer)
     }
 }
 
-// A byte of the code whose words stand from `from` up to `end`. The run loop knows both, and reads no method to fetch.
-pub fn code_byte(bodies: &[u16], from: usize, end: usize, at: usize) -> u8
-    requires { ⌜ (end ≤ length (now bodies)) × (from + at / 2 < end) ⌝ }
-    ensures { λ r. ⌜ r ≡ byteAt (take (end - from) (drop from (now (bodies .entry)))) at ⌝ }
+// The instruction at a position of the code whose words stand from `from` up to `end`. The run loop knows both, and reads no method to decode.
+pub fn instruction_at(bodies: &[u16], from: usize, end: usize, at: usize) -> Decoded
+    requires { ⌜ (from ≤ end) × (end ≤ length (now bodies))
+        × (nextAt (take (end - from) (drop from (now bodies))) at ≤ 2 * length (take (end - from) (drop from (now bodies))))
+        × (at < 65536) ⌝ }
+    ensures { λ r. ⌜ (r .instruction
+        ≡ instructionOf (byteAt (take (end - from) (drop from (now (bodies .entry)))) at) (bytesAfter (take (end - from) (drop from (now (bodies .entry)))) at))
+        × (r .next ≡ nextAt (take (end - from) (drop from (now (bodies .entry)))) at) ⌝ }
 {
-    bytecode::fetch(&bodies[from..end], at)
+    bytecode::instruction_at(&bodies[from..end], at)
 }
 
 // The method under a selector in a dictionary.

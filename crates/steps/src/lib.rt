@@ -48,7 +48,7 @@ fn decoded(
     let from = active.code;
     let end = active.limit;
     let at = active.position.0;
-    bytecode::instruction_at(&bodies[from..end], at)
+    objects::instruction_at(bodies, from, end, at)
 }
 
 // The word of a place.
