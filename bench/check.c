@@ -112,7 +112,7 @@ static void fill_cache(machine *m) {
 static int rising(const void *a, const void *b) { return *(const double *)a < *(const double *)b ? -1 : *(const double *)a > *(const double *)b; }
 
 // The median of our times, or a negative number where the runs go wrong.
-static double measure(const char *name, machine *m, int runs, FILE *goals) {
+static double measure(const char *name, machine *m, int runs, double goal, FILE *goals) {
     static double times[RUNS];
     double a = 1e18, b = 1e18;
     unsigned filled = 0;
@@ -135,18 +135,18 @@ static double measure(const char *name, machine *m, int runs, FILE *goals) {
     printf("check %-8s %5u words, %4zu frames, %2u lookups   ours %9.2f us   C %9.2f us   speed relative to C: %.2f\n", name, m->registers[B],
            frames, filled, a / 1e3, b / 1e3, b / a);
     if (goals != NULL)
-        fprintf(goals, "goal: check %s at 0.66 of C's speed: %.2f, %s\n", name, b / a, b >= 0.66 * a ? "reached" : "missed");
+        fprintf(goals, "goal: check %s at %.2f of C's speed: %.2f, %s\n", name, goal, b / a, b >= goal * a ? "reached" : "missed");
     qsort(times, runs, sizeof *times, rising);
     return times[runs / 2];
 }
 
 // An ordinary image of so many body words, a handler begun, the cache full.
-static double measure_ordinary(const char *name, size_t size, int runs, FILE *goals) {
+static double measure_ordinary(const char *name, size_t size, int runs, double goal, FILE *goals) {
     memset(words[0], 0, sizeof words[0]);
     machine m = on(words[0], CONTENTS, BODIES, 4096);
     if (sofaduck_state_load(&m, image, ordinary(image, size, size)) != 0 || !begin_any(&m, 4)) return printf("%s: no handler\n", name), -1;
     fill_cache(&m);
-    return measure(name, &m, runs, goals);
+    return measure(name, &m, runs, goal, goals);
 }
 
 // A chain of 2,000 classes, as many frames as fit, a full cache.
@@ -163,7 +163,7 @@ static bool measure_deep(FILE *goals) {
     fine = fine && sofaduck_state_run(&m, count, &count, &reach) == 0 && m.registers[PHASE] == 1;
     if (!fine) return printf("the deep image is refused, or does not fill the stack\n"), false;
     fill_cache(&m);
-    return measure("hostile", &m, 10, goals) >= 0;
+    return measure("hostile", &m, 10, 0.66, goals) >= 0;
 }
 
 // One word of a state changed: the register, or the word of a buffer.
@@ -239,8 +239,8 @@ static bool differential(void) {
 int main(int count, char **arguments) {
     FILE *goals = count > 1 ? fopen(arguments[1], "a") : NULL;
     bench_table(entries);
-    const double small = measure_ordinary("1000", 1000, RUNS, goals), middle = measure_ordinary("6000", 6000, 300, goals);
-    const double large = measure_ordinary("24000", 24000, 200, goals);
+    const double small = measure_ordinary("1000", 1000, RUNS, 1, goals), middle = measure_ordinary("6000", 6000, 300, 1.3, goals);
+    const double large = measure_ordinary("24000", 24000, 200, 1.3, goals);
     const bool fine = small >= 0 && middle >= 0 && large >= 0 && measure_deep(goals) && differential();
     if (fine && goals != NULL)
         fprintf(goals, "a call's check takes %.0f us for 1,000 words of bodies, %.0f us for 6,000, %.0f us for 24,000\n", small / 1e3, middle / 1e3,

@@ -113,9 +113,9 @@ static bool measure(const program *p, const char *lua, FILE *goals) {
                l[k] / 1e6, l[k] / a[0]);
     }
     if (goals == NULL) return true;
-    fprintf(goals, "goal: run %s at 0.70 of C's speed: %.2f, %s\n", p->name, b[0] / a[0], verdict(b[0] >= 0.7 * a[0]));
+    fprintf(goals, "goal: run %s at C's speed: %.2f, %s\n", p->name, b[0] / a[0], verdict(b[0] >= a[0]));
     if (l[0] != FAILED && p->make == fib_image)
-        fprintf(goals, "goal: run %s ahead of Lua: %.2f of Lua's speed, %s\n", p->name, l[0] / a[0], verdict(l[0] > a[0]));
+        fprintf(goals, "goal: run %s level with Lua: %.2f of Lua's speed, %s\n", p->name, l[0] / a[0], verdict(l[0] >= a[0]));
     return true;
 }
 

@@ -1,6 +1,6 @@
 -- Where a frame stands, by the tests of the code.
 use Prim.Native.Nat.{ℕ, zero, suc, _+_, _≤_, _<_}
-use mathlib.Core.Path.{_≡_, refl, sym, ap, _∙_}
+use mathlib.Core.Path.{_≡_, refl, sym, _∙_}
 use mathlib.Core.Bool.{Bool, true, false, not}
 use mathlib.Core.List.{List}
 use native.Mathlib.Omega.{arith}
@@ -13,8 +13,6 @@ use Rattle.model.specs.Limits.{methodKind, mostStackWords, largeFrameWords, sma
 use Rattle.model.specs.Objects.{Objects, isKind}
 use Rattle.model.specs.Method.{header, isLarge, frameWords, frameSize}
 use Rattle.readers.proofs.Loops.{never, failed}
-use Rattle.readers.specs.Header.{frameOf}
-use Rattle.readers.proofs.HeaderLaws.{frame-of}
 use Rattle.plain.specs.State.{fitsStack}
 use Rattle.plain.specs.Flat.{frameMethod}
 use Rattle.plain.proofs.FrameLaws.{Fits, fits, fitting}
@@ -27,10 +25,6 @@ positive (suc k) h = omega arith
 pub frame-least : (o : Objects) (m : ℕ) → smallFrameWords ≤ frameWords o m
 unfolding frameWords
 frame-least o m = if-either (λ (x : ℕ). smallFrameWords ≤ x) (isLarge o m) largeFrameWords smallFrameWords (omega arith) (omega arith)
-
-pub frame-most : (o : Objects) (m : ℕ) → frameWords o m ≤ largeFrameWords
-unfolding frameWords
-frame-most o m = if-either (λ (x : ℕ). x ≤ largeFrameWords) (isLarge o m) largeFrameWords smallFrameWords (omega arith) (omega arith)
 
 module _ (o : Objects) (stack : List ℕ) (base : ℕ) where
   pub record Standing : Type 0 where

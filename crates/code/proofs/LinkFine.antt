@@ -1,24 +1,19 @@
 -- What an instruction asks of the objects, as code tests it
-use Prim.Native.Nat.{ℕ, _+_, _-_, _/_, _%_, _≤_, _<_}
+use Prim.Native.Nat.{ℕ, _+_, _-_, _/_, _<_}
 use mathlib.Core.Path.{_≡_, refl, sym, ap, ap₂, _∙_, subst}
-use mathlib.Core.Bool.{Bool, true, false, _||_}
-use mathlib.Core.Logic.{_⊎_, inl, inr}
+use mathlib.Core.Bool.{Bool, true, _||_}
 use mathlib.Core.List.{List}
 use native.Mathlib.Omega.{arith}
-use native.Mathlib.Decide.{ℕ-discrete, decLt}
 use borrow.Author.Tests.{ne-eqb}
-use Rattle.bytecode.specs.Test.{if_then_else_}
-use Rattle.bytecode.specs.Code.{byteAt, constantOf, extendedOf, jumpOf, sendOf, instructionOf, lengthOf, decodeAt}
+use Rattle.bytecode.specs.Code.{sendOf, decodeAt}
 use Rattle.bytecode.specs.Effect.{specialCount, need}
-use Rattle.bytecode.specs.Table.{placeIndex, alone, groupOf, groupPart, lengthPart, needPart, Entry as TableEntry}
+use Rattle.bytecode.specs.Table.{placeIndex, needPart, Entry as TableEntry}
 use Rattle.bytecode.specs.declared.Instruction.{Instruction}
 use Rattle.bytecode.specs.declared.Place.{Place}
 use Rattle.bytecode.specs.declared.Place.the-variants.{LiteralVariable}
-use Rattle.bytecode.specs.declared.Instruction.the-variants.{SpecialSend, Unused}
-use Rattle.bytecode.proofs.Choice.{if-lt, if-ge, if-ne, if-either}
-use Rattle.bytecode.proofs.CodeLaws.{length-extended, length-double, push-field, push-temporary, push-literal, push-variable, pop-field, pop-temporary, is-constant, is-extended, is-jump, is-send}
-use Rattle.bytecode.proofs.EntryLaws.{group-of}
-use Rattle.bytecode.proofs.PositionLaws.{decoded-alone, unused-at, short-at, whole-at}
+use Rattle.bytecode.specs.declared.Instruction.the-variants.{SpecialSend}
+use Rattle.bytecode.proofs.Choice.{if-lt}
+use Rattle.bytecode.proofs.CodeLaws.{is-send}
 use Rattle.model.specs.Limits.{methodKind, selectorsObject, specialSelectors}
 use Rattle.model.specs.Word.{pointer}
 use Rattle.model.specs.Objects.{Objects, bodyWord}
@@ -26,7 +21,6 @@ use Rattle.model.specs.Method.{literal}
 use Rattle.model.proofs.Unchanged.{Small, small-at}
 use Rattle.model.specs.Rules.{variableFine, sendFine, specialSelector}
 use Rattle.flow.specs.Linked.{placeLinked, linked}
-use Rattle.flow.proofs.InstructionLaws.{far-low, far-high}
 use Rattle.readers.specs.Places.{Entry, Inside}
 use Rattle.readers.proofs.InsideLaws.{entry-here, method-inside, selectors-inside}
 use Rattle.rules.proofs.RuleFacts.{known-at}
@@ -94,111 +88,3 @@ told-small e s = subst Small e s
 pub variable-small : {p : Place} {i : ℕ} → p ≡ LiteralVariable i → placeIndex p < 64 → i < 64
 unfolding placeIndex
 variable-small e s = subst (λ (q : Place). placeIndex q < 64) e s
-
-pub variable-index : (i : ℕ) → i < 64 → placeIndex (LiteralVariable i) < 64
-unfolding placeIndex
-variable-index i h = h
-
--- 128 to 134 have further bytes
-pub not-extended : (b : ℕ) → lengthOf b ≡ 1 → (b < 128) ⊎ (135 ≤ b)
-not-extended b e = by (decLt b 128) (decLt b 135)
-  where
-    longer : 128 ≤ b → b < 135 → Dec (b ≡ 132) → Dec (b ≡ 134) → ⊥
-    longer l h (yes k) d = let x : lengthOf b ≡ 3 = length-double b (omega arith) (omega arith) (λ q. omega arith) in omega arith
-    longer l h (no k) (yes d) = let x : lengthOf b ≡ 3 = length-double b (omega arith) (omega arith) (λ q. omega arith) in omega arith
-    longer l h (no k) (no d) = let x : lengthOf b ≡ 2 = length-extended b l (omega arith) k in omega arith
-
-    by : Dec (b < 128) → Dec (b < 135) → (b < 128) ⊎ (135 ≤ b)
-    by (yes l) d = inl l
-    by (no l) (no d) = inr (omega arith)
-    by (no l) (yes d) = absurd (longer (omega arith) d (ℕ-discrete b 132) (ℕ-discrete b 134))
-
--- groups 0 and 1 have one byte
-pub group-alone : {b e : ℕ} → TableEntry b e → groupPart e < 2 → lengthOf b ≡ 1
-group-alone {b} entry g = group-of b (λ q. let v = entry .group in omega arith) .0
-
--- which instructions ask nothing of the objects, and which bytes begin them
-module _ (o : Objects) (m : ℕ) where
-  abbrev Quiet : Instruction → Type 0
-  Quiet i = true ≡ linked o m i
-
-  quiet-if : (t : Bool) (i j : Instruction) → Quiet i → Quiet j → Quiet (if t then i else j)
-  quiet-if t i j p q = if-either Quiet t i j p q
-
-  quiet-constant : (b : ℕ) → Quiet (constantOf b)
-  unfolding constantOf linked
-  quiet-constant b = quiet-if _ _ _ refl (quiet-if _ _ _ refl (quiet-if _ _ _ refl (quiet-if _ _ _ refl (quiet-if _ _ _ refl refl))))
-
-  quiet-jump : (b x : ℕ) → Quiet (jumpOf b x)
-  unfolding jumpOf linked
-  quiet-jump b x = quiet-if _ _ _ refl (quiet-if _ _ _ refl (quiet-if _ _ _ refl (quiet-if _ _ _ refl refl)))
-
-  quiet-rest : (b : ℕ) (f : ℕ → ℕ) → 135 ≤ b → Quiet (extendedOf b f)
-  unfolding extendedOf linked
-  quiet-rest b f l =
-      let other : (k : ℕ) → k < 135 → b ≡ k → ⊥ = λ k h e. omega arith in
-      subst Quiet (sym (if-ne b 128 _ _ (other 128 (omega arith)) ∙ if-ne b 129 _ _ (other 129 (omega arith)) ∙ if-ne b 130 _ _ (other 130 (omega arith))
-      ∙ if-ne b 131 _ _ (other 131 (omega arith)) ∙ if-ne b 132 _ _ (other 132 (omega arith)) ∙ if-ne b 133 _ _ (other 133 (omega arith))
-      ∙ if-ne b 134 _ _ (other 134 (omega arith)))) (quiet-if _ _ _ refl (quiet-if _ _ _ refl refl))
-
-  module _ (b : ℕ) (f : ℕ → ℕ) where
-    pub quiet-low : b < 64 → Quiet (instructionOf b f)
-    unfolding linked placeLinked
-    quiet-low h = by (decLt b 16) (decLt b 32)
-      where
-        by : Dec (b < 16) → Dec (b < 32) → Quiet (instructionOf b f)
-        by (yes k) l = sym (ap (linked o m) (push-field b f k))
-        by (no k) (yes l) = sym (ap (linked o m) (push-temporary b f (omega arith) l))
-        by (no k) (no l) = sym (ap (linked o m) (push-literal b f (omega arith) h))
-
-    -- from 96 to 175, but for 128 to 134
-    pub quiet-middle : 96 ≤ b → b < 176 → (b < 128) ⊎ (135 ≤ b) → Quiet (instructionOf b f)
-    unfolding linked placeLinked
-    quiet-middle l h (inl k) = by (decLt b 104) (decLt b 112)
-      where
-        by : Dec (b < 104) → Dec (b < 112) → Quiet (instructionOf b f)
-        by (yes u) v = sym (ap (linked o m) (pop-field b f l u))
-        by (no u) (yes v) = sym (ap (linked o m) (pop-temporary b f (omega arith) v))
-        by (no u) (no v) = subst Quiet (sym (is-constant b f (omega arith) k)) (quiet-constant b)
-    quiet-middle l h (inr k) = by (decLt b 144)
-      where
-        by : Dec (b < 144) → Quiet (instructionOf b f)
-        by (yes u) = subst Quiet (sym (is-extended b f (omega arith) u)) (quiet-rest b f k)
-        by (no u) = subst Quiet (sym (is-jump b f (omega arith) h)) (quiet-jump b (f 1))
-
-  -- a byte alone
-  module _ (b : ℕ) where
-    pub alone-variable : {r : Bool} → 64 ≤ b → b < 96 → r ≡ placeLinked o m (LiteralVariable (b % 32)) → r ≡ linked o m (alone b)
-    unfolding linked
-    alone-variable l h e = e ∙ sym (ap (linked o m) (push-variable b (λ k. 0) l h))
-
-    pub alone-special : {r : Bool} → 176 ≤ b → b < 208 → r ≡ linked o m (SpecialSend (b - 176)) → r ≡ linked o m (alone b)
-    unfolding sendOf
-    alone-special l h e = e ∙ sym (ap (linked o m) (is-send b (λ k. 0) l ∙ if-lt b 208 _ _ h))
-
-    pub alone-send : {r : Bool} → 208 ≤ b → r ≡ sendFine o (literal o m (b % 16)) ((b - 208) / 16) → r ≡ linked o m (alone b)
-    unfolding sendOf linked
-    alone-send l e = e ∙ sym (ap (linked o m) (is-send b (λ k. 0) (omega arith) ∙ if-ge b 208 _ _ l))
-
-  -- the byte at a position
-  module _ (words : List ℕ) (size p : ℕ) {b e : ℕ} (inside : p < size) (here : b ≡ byteAt words p) (entry : TableEntry b e) (small : b < 256) where
-    pub here-short : {r : Bool} → groupPart e < 2 → r ≡ linked o m (alone b) → r ≡ linked o m (decodeAt words size p)
-    here-short g h = h ∙ sym (ap (linked o m) (decoded-alone words size p b e inside here entry (group-alone entry g)))
-
-    pub here-far : 2 ≤ groupPart e → 135 ≤ b → Quiet (decodeAt words size p)
-    here-far g l = by (decLt size (p + lengthPart e)) (decLt 2 (groupPart e))
-      where
-        unused : decodeAt words size p ≡ Unused → Quiet (decodeAt words size p)
-        unused e = subst Quiet (sym e) (unfold linked in refl)
-
-        by : Dec (size < p + lengthPart e) → Dec (2 < groupPart e) → Quiet (decodeAt words size p)
-        by (yes k) d = unused (short-at words size p b e inside here entry k)
-        by (no k) (yes d) = unused (unused-at words size p b e inside here entry d)
-        by (no k) (no d) =
-            let q : groupOf b ≡ 2 = sym (entry .group) ∙ omega arith in
-            let far : 144 ≤ b = high q (decLt b 144) in
-            subst Quiet (sym (whole-at words size p b e inside here entry small (omega arith) .decoded)) (quiet-middle b _ (omega arith) (far-high b small q far) (inr l))
-          where
-            high : groupOf b ≡ 2 → Dec (b < 144) → 144 ≤ b
-            high q (yes d) = let x = far-low b small q d in absurd (omega arith)
-            high q (no d) = omega arith

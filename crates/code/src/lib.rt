@@ -2,8 +2,8 @@
 ghost use mathlib.Core.Path.{_≡_};
 ghost use Prim.Native.Nat.{_*_, _/_, _<_, _≤_};
 ghost use lib.ListN.{length};
-ghost use Rattle.bytecode.specs.Code.{byteAt, lengthOf, decodeAt};
-ghost use Rattle.bytecode.specs.Table.{placeIndex, alone, Entry as TableEntry, IsTable};
+ghost use Rattle.bytecode.specs.Code.{decodeAt};
+ghost use Rattle.bytecode.specs.Table.{placeIndex, IsTable};
 ghost use Rattle.bytecode.specs.Effect.{specialCount};
 ghost use Rattle.model.specs.Objects.{objectsAt, start};
 ghost use Rattle.model.proofs.Unchanged.{Small};
@@ -175,57 +175,7 @@ fn instruction_fine(
     }
 }
 
-// An instruction of one byte, by the byte: pushes of literal variables and sends ask something.
-fn short_fine(
-    table: &[u16; 256],
-    contents: &[u16],
-    bodies: &[u16],
-    n: usize,
-    b: usize,
-    counts: &[u8],
-    m: u16,
-    op: u8,
-) -> bool
-    requires { ⌜ Asked (now table) n b (now contents) (now bodies) (now counts) m × (lengthOf op ≡ 1) ⌝ }
-    ensures { λ r. ⌜ r ≡ linked (objectsAt n b (now (contents .entry)) (now (bodies .entry))) m (alone op) ⌝ }
-{
-    if op < 64 {
-        return true;
-    }
-    if op < 96 {
-        let i = (op % 32) as usize;
-        return place_fine(
-            table,
-            contents,
-            bodies,
-            n,
-            b,
-            counts,
-            m,
-            Place::LiteralVariable(i),
-        );
-    }
-    if op < 176 {
-        return true;
-    }
-    if op < 208 {
-        return special_fine(table, contents, bodies, n, b, counts, m, op - 176);
-    }
-    selector_fine(
-        table,
-        contents,
-        bodies,
-        n,
-        b,
-        counts,
-        m,
-        op % 16,
-        (op - 208) / 16,
-    )
-}
-
-// The instruction at a position. The tests of its byte's group are those of `flow::expand`, so that the compiler makes both at once; one with
-// further bytes is decoded.
+// What the instruction at a position asks of the objects.
 fn here_fine(
     table: &[u16; 256],
     contents: &[u16],
@@ -237,21 +187,12 @@ fn here_fine(
     words: &[u16],
     size: usize,
     at: usize,
-    op: u8,
-    e: usize,
 ) -> bool
-    requires { ⌜ Asked (now table) n b (now contents) (now bodies) (now counts) m × (at < size) × (op ≡ byteAt (now words) at) × TableEntry op e ⌝ }
+    requires { ⌜ Asked (now table) n b (now contents) (now bodies) (now counts) m ⌝ }
     ensures { λ r. ⌜ r ≡ linked (objectsAt n b (now (contents .entry)) (now (bodies .entry))) m (decodeAt (now (words .entry)) size at) ⌝ }
 {
-    let group = bytecode::entry_group(e);
-    if group < 2 {
-        return short_fine(table, contents, bodies, n, b, counts, m, op);
-    }
-    if op < 135 {
-        let i = bytecode::decode(words, size, at);
-        return instruction_fine(table, contents, bodies, n, b, counts, m, i);
-    }
-    true
+    let i = bytecode::decode(words, size, at);
+    instruction_fine(table, contents, bodies, n, b, counts, m, i)
 }
 
 // Where the walk goes on: how many positions are pending, the last of them and its depth. Or it is over, or there is no depth table.
@@ -302,20 +243,7 @@ fn turn(
     let op = bytecode::fetch(words, at);
     let e = bytecode::entry(table, op);
     let size = notes.len();
-    if !here_fine(
-        table,
-        contents,
-        bodies,
-        n,
-        b,
-        counts,
-        m,
-        words,
-        size,
-        at,
-        op,
-        e,
-    ) {
+    if !here_fine(table, contents, bodies, n, b, counts, m, words, size, at) {
         return Next::Refused;
     }
     match flow::expand(

@@ -1,17 +1,16 @@
 -- There is at most one table of notes, whatever the rules; so a walk with some of the rules and a second pass with the others come to the
 -- walk with all.
 use Prim.Native.Nat.{ℕ, zero, suc, pred}
-use mathlib.Core.Path.{_≡_, refl, sym, ap, _∙_, subst}
-use mathlib.Core.Bool.{Bool, true, false, _&&_}
+use mathlib.Core.Path.{_≡_, refl, sym, ap, _∙_}
+use mathlib.Core.Bool.{Bool}
 use mathlib.Core.List.{List}
-use mathlib.Core.Option.{Option, none, some, Option·some-injective, Option·none-ne-some}
+use mathlib.Core.Option.{Option, none, some}
 use lib.Dec.{T}
 use lib.ListN.{getD}
 use lib.Seq.{ext-getD}
-use Rattle.bytecode.specs.Code.{decodeAt}
 use Rattle.bytecode.specs.declared.Instruction.{Instruction}
-use Rattle.bytecode.proofs.TestLaws.{true→T, and-left, and-right, rule, rules}
-use Rattle.model.specs.Depth.{HasTable, successorsAt, depthAfterAt, rulesAt, fineAt, depthTable, isSome}
+use Rattle.bytecode.proofs.TestLaws.{rules}
+use Rattle.model.specs.Depth.{HasTable, successorsAt, depthAfterAt, fineAt, depthTable, isSome}
 use Rattle.model.proofs.WalkLaws.{at-reached, at-depth, Notes}
 use Rattle.model.proofs.DepthLaws.{decides, table-notes}
 

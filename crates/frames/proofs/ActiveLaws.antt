@@ -1,5 +1,5 @@
 -- The frame that the run loop holds: what the stack stands for, its numbers, its code.
-use Prim.Native.Nat.{ℕ, zero, suc, _+_, _-_, _*_, _/_, _≤_, _<_}
+use Prim.Native.Nat.{ℕ, zero, suc, _+_, _-_, _/_, _≤_, _<_}
 use mathlib.Core.Path.{_≡_, refl, sym, ap, ap₂, _∙_, subst}
 use mathlib.Core.Logic.{_≢_}
 use mathlib.Core.List.{List, [], _∷_}
@@ -10,13 +10,12 @@ use lib.Seq.{getD-set-same, getD-set-other, drop-set-lt}
 use Rattle.model.specs.Limits.{methodKind}
 use Rattle.model.specs.Word.{objectNumber}
 use Rattle.model.specs.Objects.{Objects, objectsAt, start, bodyWords, part, isKind}
-use Rattle.model.specs.Method.{header, temporaryCount, literalCount, codeWords, codeSize}
+use Rattle.model.specs.Method.{header, literalCount, codeWords, codeSize}
 use Rattle.model.proofs.ChainLaws.{named}
 use Rattle.model.proofs.Extends.{Extends, words-same, temporaries-same, literal-count-same}
 use Rattle.model.specs.declared.CodePosition.{CodePosition}
 use Rattle.model.specs.declared.StackPosition.{StackPosition}
 use Rattle.plain.specs.Flat.{frameDepth, frameMethod, framePosition, frameReceiver, operandsStart}
-use Rattle.plain.specs.Running.{Runs}
 use Rattle.plain.proofs.RunningLaws.{top-bounds}
 use Rattle.readers.specs.Header.{temporariesOf}
 use Rattle.objects.specs.Lent.{Holds, CodeAt}

@@ -3,7 +3,7 @@ use Prim.Native.Nat.{ℕ, suc, _+_, _-_, _≤_, _<_}
 use mathlib.Core.Path.{_≡_, refl, sym, ap, _∙_, subst}
 use mathlib.Core.List.{List}
 use native.Mathlib.Omega.{arith}
-use lib.ListN.{length, set}
+use lib.ListN.{set}
 use lib.Seq.{getD-set-other}
 use Rattle.model.specs.Objects.{objectsAt}
 use Rattle.model.specs.Method.{temporaryCount, frameSize}
@@ -16,7 +16,7 @@ use Rattle.plain.proofs.MadeLaws.{moved-made, made-as}
 use Rattle.plain.proofs.ReturnLaws.{sender-bounds, bottom-returns, sender-returns}
 use Rattle.frames.specs.declared.Active.{Active}
 use Rattle.frames.specs.declared.Message.{Message}
-use Rattle.frames.specs.Active.{IsActive, Leaving, Stands, Onward, Held, frameEnd, written, movedOn}
+use Rattle.frames.specs.Active.{IsActive, Leaving, frameEnd, written, movedOn}
 use Rattle.frames.proofs.Standing.{noted-small}
 use Rattle.frames.proofs.ActiveLaws.{depth-read, leaving}
 use Rattle.cache.specs.Caches.{Caches}
@@ -25,7 +25,7 @@ use Rattle.steps.specs.declared.Event.the-variants.{Next, Send, Return, Halt}
 use Rattle.steps.specs.Events.{Says, Becomes, Halting}
 use Rattle.sends.specs.declared.Sent.{Sent}
 use Rattle.sends.specs.declared.Sent.the-variants.{Answered, Entered, Halted}
-use Rattle.sends.specs.Sends.{Halts, Sends, SentIs, behindSend}
+use Rattle.sends.specs.Sends.{Halts, Sends, SentIs}
 use Rattle.interpreter.specs.Advances.{Returned, pushedOn, AdvancedIs, stepOf}
 use Rattle.interpreter.specs.declared.Advanced.the-variants as A
 

@@ -1,6 +1,6 @@
 -- A frame that is taken from its words, with a word pushed on it.
 use Prim.Native.Nat.{ℕ, suc, _+_, _-_, _≤_, _<_}
-use mathlib.Core.Path.{_≡_, refl, sym, ap, ap₂, _∙_, subst}
+use mathlib.Core.Path.{_≡_, sym, ap, ap₂, _∙_, subst}
 use mathlib.Core.List.{List}
 use native.Mathlib.Omega.{arith}
 use lib.ListN.{length, getD, set}
@@ -12,9 +12,9 @@ use Rattle.plain.specs.Flat.{frameSender, frameDepth, frameMethod, operandsStar
 use Rattle.plain.specs.Running.{Runs}
 use Rattle.plain.proofs.ReturnLaws.{SenderBounds, sender-bounds}
 use Rattle.frames.specs.declared.Active.{Active}
-use Rattle.frames.specs.Active.{written, movedOn, Holdable, Held, Stands}
+use Rattle.frames.specs.Active.{movedOn, Holdable, Held}
 use Rattle.frames.proofs.ActiveLaws.{set-same, put-method, depth-taken, position-taken}
-use Rattle.interpreter.specs.Advances.{Returned, pushedOn}
+use Rattle.interpreter.specs.Advances.{Returned}
 
 -- its base by another name
 pub holdable-at : {n b t : ℕ} {contents bodies stack : List ℕ} (s : ℕ) → s ≡ t → Holdable n b t contents bodies stack → Holdable n b s contents bodies stack

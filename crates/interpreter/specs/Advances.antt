@@ -5,10 +5,9 @@ use mathlib.Core.List.{List}
 use lib.ListN.{set}
 use Rattle.model.specs.Objects.{objectsAt}
 use Rattle.model.specs.Method.{temporaryCount}
-use Rattle.plain.specs.Registers.{Cause, phaseOf}
 use Rattle.plain.specs.Flat.{frameSender, frameDepth, frameMethod}
-use Rattle.plain.specs.Step.{Stepped, halts, step}
-use Rattle.plain.specs.Running.{runningWith, runningAt, roomAt, finishedWith, Made, Stays}
+use Rattle.plain.specs.Step.{Stepped, step}
+use Rattle.plain.specs.Running.{runningWith, runningAt, roomAt, finishedWith, Made}
 use Rattle.frames.specs.declared.Active.{Active}
 use Rattle.frames.specs.Active.{written, movedOn, Stands, Onward, Held, frameEnd}
 use Rattle.sends.specs.Sends.{Halts}

@@ -1,5 +1,4 @@
 // A bytecode of a running handler, whole: the step, and the sends and returns that it leaves to be made.
-ghost use mathlib.Core.Path.{_≡_};
 ghost use Prim.Native.Nat.{ℕ, _<_};
 ghost use Rattle.plain.specs.Running.{Runs};
 ghost use Rattle.cache.specs.Caches.{Caches};

@@ -1,15 +1,14 @@
 -- What the code writes in the buffers is what the definitions write in the objects there.
 use Prim.Native.Nat.{ℕ, _+_, _*_, _-_, _/_, _%_, _≤_, _<_}
-use mathlib.Core.Path.{_≡_, refl, sym, ap, ap₂, _∙_}
+use mathlib.Core.Path.{_≡_, sym, ap, ap₂, _∙_}
 use mathlib.Core.List.{List, _++_}
 use native.Mathlib.Omega.{arith}
 use lib.ListN.{length, take, drop, set, length-set, take-append-drop}
-use lib.Seq.{length-take-le, take-at, set-append-left}
+use lib.Seq.{length-take-le, set-append-left}
 use borrow.Author.Tests.{eq-eqb, ne-eqb}
 use Rattle.bytecode.proofs.Choice.{if-yes, if-no}
 use Rattle.model.specs.Objects.{Objects, objectsAt, classWord, start, bodyWord, classOf, atFront}
 use Rattle.model.specs.Primitive.{storeWord, storeByte}
-use Rattle.model.proofs.Lent.{objects-eq}
 pub use Rattle.model.proofs.Lent.{contents-room, bodies-room, front-same}
 
 module _ (n b : ℕ) (contents bodies : List ℕ) where
@@ -31,14 +30,6 @@ module _ (n b : ℕ) (contents bodies : List ℕ) where
       ap (λ (x : List ℕ). set x at w) (sym (take-append-drop b bodies))
       ∙ set-append-left (take b bodies) (drop b bodies) at w (omega arith)
       ∙ ap₂ (λ (x y : ℕ). set (take b bodies) x w ++ drop y bodies) e (sym (length-set (take b bodies) (start (objectsAt n b contents bodies) k + i) w ∙ t))
-
--- what a store leaves is what is defined
-pub stored-objects : (n b : ℕ) (contents bodies : List ℕ) (k i w : ℕ) → b ≤ length bodies
-    → objectsAt n b contents (atFront (storeWord (objectsAt n b contents bodies) k i w .bodies) bodies) ≡ storeWord (objectsAt n b contents bodies) k i w
-unfolding storeWord
-stored-objects n b contents bodies k i w h =
-    let at = start (objectsAt n b contents bodies) k + i in
-    objects-eq refl refl refl (take-at (set (take b bodies) at w) _ b (length-set (take b bodies) at w ∙ length-take-le b bodies h))
 
 -- a byte stored, by the half of the word that it is
 pub byte-high : (o : Objects) (k i v w : ℕ) → i % 2 ≡ 0 → w ≡ bodyWord o k (i / 2) → storeWord o k (i / 2) (v * 256 + w % 256) ≡ storeByte o k i v

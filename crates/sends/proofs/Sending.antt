@@ -16,7 +16,7 @@ use Rattle.model.specs.Lookup.{found, lookup, inChain}
 use Rattle.model.specs.declared.Found.the-variants.{Nothing}
 use Rattle.model.specs.Image.{Room}
 use Rattle.plain.specs.Registers.{notUnderstood, noStackRoom}
-use Rattle.plain.specs.Step.{looked, Stepped, halts, Activation, entered, unfit, entering, activate}
+use Rattle.plain.specs.Step.{looked, Stepped, Activation, entered, unfit, entering, activate}
 use Rattle.plain.specs.Flat.{frameDepth, frameMethod, operandsStart}
 use Rattle.plain.specs.Cache.{filled}
 use Rattle.plain.specs.Running.{runningWith, roomAt, Made, Sending, sentReceiver, sendStep}

@@ -1,5 +1,5 @@
 -- What each bytecode is to the run loop, by the words that the code reads and writes.
-use Prim.Native.Nat.{ℕ, suc, _+_, _-_, _*_, _/_, _≤_, _<_}
+use Prim.Native.Nat.{ℕ, suc, _+_, _-_, _*_, _≤_, _<_}
 use mathlib.Core.Path.{_≡_, refl, sym, ap, ap₂, _∙_, subst}
 use mathlib.Core.Bool.{Bool, true, false}
 use mathlib.Core.Logic.{_⊎_, inl, inr, _≢_}
@@ -8,17 +8,16 @@ use mathlib.Core.Option.{some}
 use native.Mathlib.Omega.{arith}
 use lib.Dec.{T, eqb}
 use lib.ListN.{length, getD, set}
-use Rattle.bytecode.specs.Code.{bytesAfter, instructionOf, lengthOf}
 use Rattle.bytecode.specs.Effect.{specialCount}
 use Rattle.bytecode.specs.declared.Place.{Place}
 use Rattle.bytecode.specs.declared.Place.the-variants.{Field, Temporary, Literal, LiteralVariable}
 use Rattle.bytecode.specs.declared.Instruction.{Instruction}
 use Rattle.bytecode.specs.declared.Instruction.the-variants.{Push, Store, PopStore, PushSelf, PushConstant, ReturnSelf, ReturnConstant, ReturnTop, Pop, Duplicate, Jump, JumpOn, Send, SuperSend, SpecialSend, Unused}
-use Rattle.model.specs.Limits.{entryWords, fieldsKind, methodKind, classKind}
+use Rattle.model.specs.Limits.{entryWords, classKind}
 use Rattle.model.specs.Word.{isValid, objectNumber, booleanWord}
-use Rattle.model.specs.Objects.{Objects, objectsAt, bodyWord, isKind, classOf, start, superclassWord}
-use Rattle.model.specs.Method.{home, literal, literalCount, codeWords}
-use Rattle.model.specs.Rules.{Right, specialSelector}
+use Rattle.model.specs.Objects.{Objects, objectsAt, bodyWord, classOf, superclassWord}
+use Rattle.model.specs.Method.{home, literal}
+use Rattle.model.specs.Rules.{specialSelector}
 use Rattle.model.specs.Arithmetic.{arithmetic}
 use Rattle.model.specs.Primitive.{storeWord}
 use Rattle.model.specs.Image.{Room}
@@ -26,18 +25,14 @@ use Rattle.model.specs.declared.StackPosition.{StackPosition}
 use Rattle.model.specs.declared.Pointer.{Pointer}
 use Rattle.model.specs.declared.Computed.{Computed}
 use Rattle.model.specs.declared.Computed.the-variants.{Word, Failed}
-use Rattle.model.proofs.ChainLaws.{Named, named}
-use Rattle.model.proofs.Extends.{Extends, temporaries-same, literal-count-same}
-use Rattle.model.proofs.StoreLaws.{stored-extends}
 use Rattle.plain.specs.Registers.{noBoolean}
 use Rattle.plain.specs.Step.{Stepped, read, triedPrimitive}
-use Rattle.plain.specs.Flat.{frameMethod, frameReceiver, operandsStart}
+use Rattle.plain.specs.Flat.{frameMethod, frameReceiver}
 use Rattle.plain.specs.FlatCalls.{atFront}
 use Rattle.plain.specs.Running.{topFrame}
-use Rattle.plain.proofs.RunningLaws.{is-method}
 use Rattle.readers.specs.Places.{Inside}
 use Rattle.objects.specs.Lent.{Holds}
-use Rattle.objects.proofs.Buffers.{contents-room, bodies-room, stored-objects}
+use Rattle.objects.proofs.Buffers.{contents-room}
 use Rattle.frames.specs.declared.Active.{Active}
 use Rattle.frames.specs.Active.{written, movedOn, Onward}
 use Rattle.frames.proofs.ActiveLaws.{active-method, length-written, word-written, moves-on, puts, put-method, Ends, ends, method-read, receiver-read}
@@ -47,7 +42,7 @@ use Rattle.steps.specs.Events.{StepIs, Becomes, Doing, Computing, Pushin
 use Rattle.steps.proofs.HereLaws.{bounds, operand-valid}
 use Rattle.steps.proofs.MoveLaws.{Answers, same-two, same-three}
 use Rattle.steps.proofs.ActiveLaws.{here, says-moved, says-answered, says-pushed}
-use Rattle.steps.proofs.PlaceLaws.{HasField, ReadsLiteral, literal-there, own-field, own-inside, own-read, temporary-inside, temporary-read, literal-below, literal-read, variable-below, variable-field, variable-inside, variable-read, push-place, store-place, store-writable, store-needs}
+use Rattle.steps.proofs.PlaceLaws.{ReadsLiteral, literal-there, own-inside, own-read, temporary-inside, temporary-read, literal-below, literal-read, variable-below, variable-inside, variable-read, push-place, store-place, store-writable, store-needs}
 use Rattle.steps.proofs.StoreLaws.{store-field, store-temporary, store-variable}
 use Rattle.steps.proofs.SayLaws.{push-room, push-says, self-room, self-says, constant-room, constant-says, duplicate-needs, duplicate-room, duplicate-says, pop-needs, pop-says, jump-back, jump-says, on-needs, on-small, on-jumps, on-stays, on-halts, self-returns, constant-returns, top-needs, top-returns, unused-never}
 use Rattle.steps.proofs.SendLaws.{sent-depth, sent-valid, sent-says, send-below, send-sends, super-below, super-needs, holds-home, super-says}

@@ -1,38 +1,25 @@
 -- Where a running frame stands: numbers, its instruction, its operands.
-use Prim.Native.Nat.{ℕ, zero, suc, _+_, _-_, _*_, _≤_, _<_}
+use Prim.Native.Nat.{ℕ, zero, suc, _+_, _-_, _≤_, _<_}
 use mathlib.Core.Path.{_≡_, refl, sym, ap, _∙_, subst}
 use mathlib.Core.Bool.{true}
 use mathlib.Core.List.{List, [], _∷_}
 use mathlib.Core.Option.{none, some}
 use native.Mathlib.Omega.{arith}
-use native.Mathlib.Decide.{decLt}
 use borrow.Author.Tests.{lt-ltb}
 use lib.Dec.{T}
 use lib.ListN.{length, getD, getElem?}
-use Rattle.bytecode.specs.Code.{byteAt, bytesAfter, instructionOf, nextAt, decodeAt}
-use Rattle.bytecode.specs.Effect.{usable}
 use Rattle.bytecode.specs.declared.Instruction.{Instruction}
-use Rattle.bytecode.specs.declared.Instruction.the-variants.{Unused}
 use Rattle.bytecode.proofs.Choice.{if-yes}
-use Rattle.bytecode.proofs.TestLaws.{rule, every-at}
-use Rattle.bytecode.proofs.DecodeLaws.{decode-short, decode-whole}
-use Rattle.model.specs.Limits.{methodKind}
-use Rattle.model.specs.Word.{isValid, objectNumber}
-use Rattle.model.specs.Objects.{Objects, objectsAt, start, bodyWords}
-use Rattle.model.specs.Method.{temporaryCount, literalCount, codeWords, codeSize, frameWords}
-use Rattle.model.specs.Depth.{noteAt, rulesAt, fineAt}
-use Rattle.model.specs.Rules.{allowed, methodTable}
-use Rattle.model.proofs.ChainLaws.{named}
-use Rattle.model.proofs.Facts.{inside, most-words, method-facts, method-words}
-use Rattle.model.proofs.DepthLaws.{Spot, spot, fine-inside}
+use Rattle.bytecode.proofs.TestLaws.{every-at}
+use Rattle.model.specs.Word.{isValid}
+use Rattle.model.specs.Objects.{Objects, objectsAt}
+use Rattle.model.proofs.Facts.{inside}
 use Rattle.plain.specs.State.{Frame}
 use Rattle.plain.specs.Step.{operand}
-use Rattle.plain.specs.Flat.{frameDepth, frameMethod, framePosition, frameAt}
-use Rattle.plain.specs.Running.{Runs, topFrame}
-use Rattle.plain.proofs.FrameLaws.{frame-spot}
-use Rattle.plain.proofs.RunningLaws.{top-right, is-method, top-bounds}
+use Rattle.plain.specs.Flat.{frameAt}
+use Rattle.plain.specs.Running.{topFrame}
+use Rattle.plain.proofs.RunningLaws.{top-right, top-bounds}
 use Rattle.plain.proofs.WriteLaws.{operand-here}
-use Rattle.objects.specs.Lent.{Holds}
 use Rattle.frames.proofs.Standing.{coded, next-inside}
 use Rattle.steps.specs.Events.{Here, HereAt}
 

@@ -2,7 +2,7 @@ use mathlib.Core.Path.{refl, sym, _∙_}
 use native.Mathlib.Omega.{arith}
 use borrow.Author.Tests.{not-true, not-false}
 use Rattle.flow.proofs.StepLaws.{goes-known}
-use Rattle.flow.proofs.CodeWalk.{at-inside, at-asks, at-fetch, at-here, turn-refused, turn-expanded}
+use Rattle.flow.proofs.CodeWalk.{at-asks, at-fetch, at-here, turn-refused, turn-expanded}
 use Rattle.code.proofs.TurnLaws.{queued, next-refused, next-fresh, next-known}
 use borrow.Author.Needs.{needs}
 use Rattle.code.proofs.turn.Statement.{statement}
@@ -19,7 +19,7 @@ entry-requires c κs = search needs
 here-fine-requires : tie.Need-here-fine-requires
 here-fine-requires c κs =
     let at-start = c .before .before .before .before .before .before .before .before in
-    (at-start .pre .0, at-inside (at-start .pre .1 .0) (at-start .pre .1 .1), c .before .fetch .ensures, c .entry .ensures)
+    at-start .pre .0
 
 returns : tie.Need-returns
 returns c =

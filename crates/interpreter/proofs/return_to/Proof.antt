@@ -1,5 +1,4 @@
 use native.Mathlib.Omega.{arith}
-use mathlib.Core.Path.{_∙_}
 use Rattle.plain.proofs.RunningLaws.{top-bounds}
 use Rattle.plain.proofs.ReturnLaws.{sender-bounds}
 use Rattle.frames.proofs.Standing.{sender-holdable}

@@ -1,6 +1,5 @@
 use native.Mathlib.Omega.{arith}
 use Rattle.plain.proofs.RunningLaws.{top-bounds, is-method}
-use borrow.Author.Needs.{needs}
 use Rattle.runs.proofs.frame_end.Statement.{statement}
 use Rattle.runs.proofs.frame_end.Tie as tie
 

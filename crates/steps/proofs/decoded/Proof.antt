@@ -1,7 +1,6 @@
 -- The code is where the frame has it.
 use Rattle.frames.proofs.ActiveLaws.{lends}
 use Rattle.steps.proofs.ActiveLaws.{whole, doing}
-use borrow.Author.Needs.{needs}
 use Rattle.steps.proofs.decoded.Statement.{statement}
 use Rattle.steps.proofs.decoded.Tie as tie
 
