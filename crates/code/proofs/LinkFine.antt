@@ -1,7 +1,7 @@
 -- What an instruction asks of the objects, as code tests it
 use Prim.Native.Nat.{ℕ, _+_, _-_, _/_, _%_, _≤_, _<_}
 use mathlib.Core.Path.{_≡_, refl, sym, ap, ap₂, _∙_, subst}
-use mathlib.Core.Bool.{Bool, true, false, _||_}
+use mathlib.Core.Bool.{Bool, true, _||_}
 use mathlib.Core.Logic.{_⊎_, inl, inr}
 use mathlib.Core.List.{List}
 use native.Mathlib.Omega.{arith}
@@ -16,7 +16,7 @@ use Rattle.bytecode.specs.declared.Place.{Place}
 use Rattle.bytecode.specs.declared.Place.the-variants.{LiteralVariable}
 use Rattle.bytecode.specs.declared.Instruction.the-variants.{SpecialSend, Unused}
 use Rattle.bytecode.proofs.Choice.{if-lt, if-ge, if-ne, if-either}
-use Rattle.bytecode.proofs.CodeLaws.{length-extended, length-double, push-field, push-temporary, push-literal, push-variable, pop-field, pop-temporary, is-constant, is-extended, is-jump, is-send}
+use Rattle.bytecode.proofs.CodeLaws.{length-extended, length-double, length-jump, push-field, push-temporary, push-literal, push-variable, pop-field, pop-temporary, is-constant, is-extended, is-jump, is-send}
 use Rattle.bytecode.proofs.EntryLaws.{group-of}
 use Rattle.bytecode.proofs.PositionLaws.{decoded-alone, unused-at, short-at, whole-at}
 use Rattle.model.specs.Limits.{methodKind, selectorsObject, specialSelectors}
@@ -112,6 +112,14 @@ not-extended b e = by (decLt b 128) (decLt b 135)
     by (yes l) d = inl l
     by (no l) (no d) = inr (omega arith)
     by (no l) (yes d) = absurd (longer (omega arith) d (ℕ-discrete b 132) (ℕ-discrete b 134))
+
+-- so have 160 to 175
+pub not-long : (b : ℕ) → lengthOf b ≡ 1 → 160 ≤ b → 176 ≤ b
+not-long b e l = by (decLt b 176)
+  where
+    by : Dec (b < 176) → 176 ≤ b
+    by (yes h) = let x = length-jump b (omega arith) l h in absurd (omega arith)
+    by (no h) = omega arith
 
 -- groups 0 and 1 have one byte
 pub group-alone : {b e : ℕ} → TableEntry b e → groupPart e < 2 → lengthOf b ≡ 1

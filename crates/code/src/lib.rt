@@ -175,8 +175,8 @@ fn instruction_fine(
     }
 }
 
-// An instruction of one byte, by the byte: pushes of literal variables and sends ask something.
-fn short_fine(
+// 64 to 95, a literal variable, and 176 to 255, sends.
+fn asking_fine(
     table: &[u16; 256],
     contents: &[u16],
     bodies: &[u16],
@@ -186,12 +186,9 @@ fn short_fine(
     m: u16,
     op: u8,
 ) -> bool
-    requires { ⌜ Asked (now table) n b (now contents) (now bodies) (now counts) m × (lengthOf op ≡ 1) ⌝ }
+    requires { ⌜ Asked (now table) n b (now contents) (now bodies) (now counts) m × (64 ≤ op) × ((96 ≤ op) → (176 ≤ op)) ⌝ }
     ensures { λ r. ⌜ r ≡ linked (objectsAt n b (now (contents .entry)) (now (bodies .entry))) m (alone op) ⌝ }
 {
-    if op < 64 {
-        return true;
-    }
     if op < 96 {
         let i = (op % 32) as usize;
         return place_fine(
@@ -204,9 +201,6 @@ fn short_fine(
             m,
             Place::LiteralVariable(i),
         );
-    }
-    if op < 176 {
-        return true;
     }
     if op < 208 {
         return special_fine(table, contents, bodies, n, b, counts, m, op - 176);
@@ -222,6 +216,29 @@ fn short_fine(
         op % 16,
         (op - 208) / 16,
     )
+}
+
+// An instruction of one byte, by the byte. Rows of 32, so that one test tells those that ask nothing.
+fn short_fine(
+    table: &[u16; 256],
+    contents: &[u16],
+    bodies: &[u16],
+    n: usize,
+    b: usize,
+    counts: &[u8],
+    m: u16,
+    op: u8,
+) -> bool
+    requires { ⌜ Asked (now table) n b (now contents) (now bodies) (now counts) m × (lengthOf op ≡ 1) ⌝ }
+    ensures { λ r. ⌜ r ≡ linked (objectsAt n b (now (contents .entry)) (now (bodies .entry))) m (alone op) ⌝ }
+{
+    match op / 32 {
+        0 => true,
+        1 => true,
+        3 => true,
+        4 => true,
+        _ => asking_fine(table, contents, bodies, n, b, counts, m, op),
+    }
 }
 
 // The instruction at a position. The tests of its byte's group are those of `flow::expand`, so that the compiler makes both at once; one with

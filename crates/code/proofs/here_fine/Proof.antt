@@ -17,7 +17,8 @@ short-fine-requires c κs =
 returns : tie.Need-returns
 returns c =
     let at-start = c .before .before .before .before .before .before .before in
-    let g = c .before .before .entry-group .ensures in here-short _ _ _ _ _ (at-start .pre .1) (at-start .pre .2) (at-start .pre .3) (omega arith) (omega (arith, c .before .if1 .taken)) (c .short-fine .ensures)
+    let g = c .before .before .entry-group .ensures in
+    here-short _ _ _ _ _ (at-start .pre .1) (at-start .pre .2) (at-start .pre .3) (omega arith) (omega (arith, c .before .if1 .taken)) (c .short-fine .ensures)
 
 decode-requires : tie.Need-decode-requires
 decode-requires c κs = search needs
