@@ -68,7 +68,8 @@ returns-3 c =
     let at-count-methods = at-if2 .before .before in
     let at-if1 = at-count-methods .before .before in
     let at-shapes-fine = at-if1 .before in
-    seven-codes _ _ _ _ (sym (at-shapes-fine .shapes-fine .ensures) ∙ not-false _ (at-if1 .if1 .left)) (held-counts _ _ _ (at-count-methods .count-methods .ensures) (not-false _ (at-if2 .if2 .left)) .0) (c .before .before .codes-noted .ensures)
+    let held = held-counts _ _ _ (at-count-methods .count-methods .ensures) (not-false _ (at-if2 .if2 .left)) in
+    seven-codes _ _ _ _ (sym (at-shapes-fine .shapes-fine .ensures) ∙ not-false _ (at-if1 .if1 .left)) (held .0) (c .before .before .codes-noted .ensures)
 
 pub methods-fine-spec : {M : Type 1} → statement M
 methods-fine-spec =

@@ -68,7 +68,8 @@ returns-2 c =
     let at-if1 = at-expand .before .before .before in
     let at-here-fine = at-if1 .before in
     let at-start = at-here-fine .before .before .before .before .before .before .before .before .before in
-    next-fresh (turn-expanded (at-start .pre .1 .0) (at-start .pre .1 .1) (sym (at-here-fine .here-fine .ensures) ∙ not-false _ (at-if1 .if1 .left)) (at-expand .expand .ensures)) (c .before .k .given .1)
+    let T = turn-expanded (at-start .pre .1 .0) (at-start .pre .1 .1) (sym (at-here-fine .here-fine .ensures) ∙ not-false _ (at-if1 .if1 .left)) (at-expand .expand .ensures) in
+    next-fresh T (c .before .k .given .1)
 
 same-length-3 : tie.Need-same-length-3
 same-length-3 c = search needs
@@ -98,7 +99,8 @@ returns-4 c =
     let at-if1 = at-expand .before .before .before in
     let at-here-fine = at-if1 .before in
     let at-start = at-here-fine .before .before .before .before .before .before .before .before .before in
-    next-refused (turn-expanded (at-start .pre .1 .0) (at-start .pre .1 .1) (sym (at-here-fine .here-fine .ensures) ∙ not-false _ (at-if1 .if1 .left)) (at-expand .expand .ensures)) (c .enum-told .given .1)
+    let T = turn-expanded (at-start .pre .1 .0) (at-start .pre .1 .1) (sym (at-here-fine .here-fine .ensures) ∙ not-false _ (at-if1 .if1 .left)) (at-expand .expand .ensures) in
+    next-refused T (c .enum-told .given .1)
 
 pub turn-spec : {M : Type 1} → statement M
 turn-spec =

@@ -27,11 +27,13 @@ drain-requires : tie.Need-drain-requires
 drain-requires c κs =
     let at-if1 = c .before .before .before .before in
     let at-start = at-if1 .before .before .before .before .before .before .before in
-    let a = at-start .pre .1 .0 in (
+    let a = at-start .pre .1 .0 in
+    let notes = at-start .args .notes .now in
+    let blank = blank-list _ (at-start .pre .1 .1) in (
       at-start .pre .0,
       (
-        static-start (at-start .args .notes .now) a refl,
-        starts _ _ _ _ (at-start .args .notes .now) (at-start .args .pending .now) _ (blank-list _ (at-start .pre .1 .1)) (omega (arith, at-if1 .if1 .left)) (a .long) (a .small) (omega (arith, a .shallow)),
+        static-start notes a refl,
+        starts _ _ _ _ notes (at-start .args .pending .now) _ blank (omega (arith, at-if1 .if1 .left)) (a .long) (a .small) (omega (arith, a .shallow)),
       ),
     )
 
@@ -71,8 +73,10 @@ returns-4 c =
     let at-drain = at-if3 .before .before .before .before .before in
     let at-if2 = at-drain .before .before .before .before in
     let at-start = at-if2 .before .before .before .before .before .before .before .before in
-    walked-none (table-as _ _ _ _ _ _ _ (at-start .args .notes .now) (at-if2 .if2 .left) refl ∙ answered-none _ _ _ (at-if3 .if3 .left) (at-drain .drain .ensures))
-    (cleared-as (at-start .args .notes .now) (at-drain .drain .last .1 .1 .1 .1 .1 .1 .1 .1 .1 .1 .0) _ _ refl (at-drain .drain .kept .1 .1 .1 .1 .1 .1 .1 .1 .1 .1 .0) (c .before .before .clear .ensures))
+    let notes = at-start .args .notes .now in
+    let same = at-drain .drain .kept .1 .1 .1 .1 .1 .1 .1 .1 .1 .1 .0 in
+    walked-none (table-as _ _ _ _ _ _ _ notes (at-if2 .if2 .left) refl ∙ answered-none _ _ _ (at-if3 .if3 .left) (at-drain .drain .ensures))
+    (cleared-as notes (at-drain .drain .last .1 .1 .1 .1 .1 .1 .1 .1 .1 .1 .0) _ _ refl same (c .before .before .clear .ensures))
 
 pub walk-spec : {M : Type 1} → statement M
 walk-spec =

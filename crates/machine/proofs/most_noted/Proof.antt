@@ -14,7 +14,9 @@ slice-aggregate-noted-fine c = search needs
 noted-fine-requires : tie.Need-noted-fine-requires
 noted-fine-requires c κs =
     let at-start = c .before .before .before .before .before in
-    let q = length-replicate {A = ℕ} 48000 0 in let l = notes-room (registersOf (at-start .args .registers)) (at-start .args .contents .now) (at-start .args .bodies .now) (at-start .args .stack .now) (at-start .args .cache .now) (at-start .pre .1 .header) (at-start .pre .0) in
+    let args = (at-start .args) in
+    let q = length-replicate {A = ℕ} 48000 0 in
+    let l = notes-room (registersOf (args .registers)) (args .contents .now) (args .bodies .now) (args .stack .now) (args .cache .now) (at-start .pre .1 .header) (at-start .pre .0) in
     (at-start .pre .0, (at-start .pre .1, omega arith, zeros-at 48000))
 
 returns : tie.Need-returns

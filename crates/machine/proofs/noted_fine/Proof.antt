@@ -16,7 +16,8 @@ cast-b c = search needs
 judge-requires : tie.Need-judge-requires
 judge-requires c κs =
     let at-start = c .before .before .before .before .before .before .before .before in
-    (lent (registersOf (at-start .args .registers)) _ _ (at-start .args .stack .now) (at-start .args .cache .now) (at-start .pre .1 .0 .header) (at-start .pre .0), at-start .pre .1 .1, at-start .pre .1 .2)
+    let args = (at-start .args) in
+    (lent (registersOf (args .registers)) _ _ (args .stack .now) (args .cache .now) (at-start .pre .1 .0 .header) (at-start .pre .0), at-start .pre .1 .1, at-start .pre .1 .2)
 
 same-length : tie.Need-same-length
 same-length c = search needs
@@ -31,8 +32,9 @@ standing-fine-requires : tie.Need-standing-fine-requires
 standing-fine-requires c κs =
     let at-judge = c .before .before .before .before in
     let at-start = at-judge .before .before .before .before .before .before .before .before .before in
-    let h = at-start .pre .1 .1 in
-    all-noted (registersOf (at-start .args .registers)) _ _ (at-start .args .stack .now) (at-start .args .cache .now) (at-start .pre .1 .0 .header) (at-start .pre .0) _ _ (at-judge .judge .ensures) (c .before .if1 .left)
+    let args = (at-start .args) in
+    let room = at-start .pre .1 .1 in
+    all-noted (registersOf (args .registers)) _ _ (args .stack .now) (args .cache .now) (at-start .pre .1 .0 .header) (at-start .pre .0) _ _ (at-judge .judge .ensures) (c .before .if1 .left)
     (omega (arith, at-judge .judge .kept .1 .1 .1 .1 .1 .1 .1 .0))
 
 same-length-2 : tie.Need-same-length-2
@@ -51,9 +53,11 @@ cache-fine-requires c κs =
     let at-if1 = c .before .before .before in
     let at-judge = at-if1 .before .before .before in
     let at-start = at-judge .before .before .before .before .before .before .before .before .before in
-    let regs = registersOf (at-start .args .registers) in (
-      (_, rights regs _ _ (at-start .args .stack .now) (at-start .args .cache .now) (at-start .pre .1 .0 .header) (at-start .pre .0) _ _ (at-judge .judge .ensures) (at-if1 .if1 .left)),
-      cache-long regs (at-start .args .contents .now) (at-start .args .bodies .now) (at-start .args .stack .now) (at-start .args .cache .now) (at-start .pre .1 .0 .header) (at-start .pre .0),
+    let args = (at-start .args) in
+    let regs = registersOf (args .registers) in
+    let header = at-start .pre .1 .0 .header in (
+      (_, rights regs _ _ (args .stack .now) (args .cache .now) header (at-start .pre .0) _ _ (at-judge .judge .ensures) (at-if1 .if1 .left)),
+      cache-long regs (args .contents .now) (args .bodies .now) (args .stack .now) (args .cache .now) header (at-start .pre .0),
     )
 
 same-length-3 : tie.Need-same-length-3

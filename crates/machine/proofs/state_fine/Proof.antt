@@ -30,7 +30,9 @@ few-noted-requires c κs =
     let at-if1 = c .before .before .before .before in
     let at-header-fine = at-if1 .before in
     let at-start = at-header-fine .before .before .before .before .before in
-    ((at-start .pre), (record { header = sym (at-header-fine .header-fine .ensures) ∙ not-false _ (at-if1 .if1 .left); registers = sym (c .before .before .registers-fine .ensures) ∙ not-false _ (c .before .if2 .left) }, c .if3 .taken))
+    let header = sym (at-header-fine .header-fine .ensures) ∙ not-false _ (at-if1 .if1 .left) in
+    let registers = sym (c .before .before .registers-fine .ensures) ∙ not-false _ (c .before .if2 .left) in
+    ((at-start .pre), (record { header = header; registers = registers }, c .if3 .taken))
 
 returns-3 : tie.Need-returns-3
 returns-3 c = search needs
@@ -41,7 +43,9 @@ some-noted-requires c κs =
     let at-if1 = at-registers-fine .before .before in
     let at-header-fine = at-if1 .before in
     let at-start = at-header-fine .before .before .before .before .before in
-    ((at-start .pre), (record { header = sym (at-header-fine .header-fine .ensures) ∙ not-false _ (at-if1 .if1 .left); registers = sym (at-registers-fine .registers-fine .ensures) ∙ not-false _ (c .before .before .if2 .left) }, c .if4 .taken))
+    let header = sym (at-header-fine .header-fine .ensures) ∙ not-false _ (at-if1 .if1 .left) in
+    let registers = sym (at-registers-fine .registers-fine .ensures) ∙ not-false _ (c .before .before .if2 .left) in
+    ((at-start .pre), (record { header = header; registers = registers }, c .if4 .taken))
 
 returns-4 : tie.Need-returns-4
 returns-4 c = search needs
@@ -52,7 +56,9 @@ most-noted-requires c κs =
     let at-if1 = at-registers-fine .before .before in
     let at-header-fine = at-if1 .before in
     let at-start = at-header-fine .before .before .before .before .before in
-    ((at-start .pre), record { header = sym (at-header-fine .header-fine .ensures) ∙ not-false _ (at-if1 .if1 .left); registers = sym (at-registers-fine .registers-fine .ensures) ∙ not-false _ (c .before .before .if2 .left) })
+    let header = sym (at-header-fine .header-fine .ensures) ∙ not-false _ (at-if1 .if1 .left) in
+    let registers = sym (at-registers-fine .registers-fine .ensures) ∙ not-false _ (c .before .before .if2 .left) in
+    ((at-start .pre), record { header = header; registers = registers })
 
 returns-5 : tie.Need-returns-5
 returns-5 c = search needs
