@@ -4,6 +4,7 @@ use mathlib.Core.Bool.{Bool, _&&_}
 use mathlib.Core.List.{List}
 use lib.Dec.{T, eqb}
 use lib.ListN.{length}
+use Rattle.bytecode.specs.Test.{if_then_else_}
 use Rattle.model.specs.Limits.{methodKind}
 use Rattle.model.specs.Word.{isValid}
 use Rattle.model.specs.Objects.{Objects, objectsAt, classOf, isKind}

@@ -9,6 +9,7 @@ use native.Mathlib.Omega.{arith}
 use borrow.Author.Tests.{eq-eqb, ne-eqb}
 use lib.Dec.{T, leb, eqb, leb→le}
 use lib.ListN.{getD, set}
+use Rattle.bytecode.specs.Test.{if_then_else_}
 use Rattle.bytecode.specs.Constant.{trueWord, falseWord}
 use Rattle.bytecode.specs.Effect.{need, leaves, usable, successors}
 use Rattle.bytecode.specs.declared.Place.{Place}

@@ -4,6 +4,7 @@ use mathlib.Core.Path.{_≡_}
 use mathlib.Core.List.{List, _++_}
 use lib.Dec.{T, leb}
 use lib.ListN.{drop, replicate}
+use Rattle.bytecode.specs.Test.{if_then_else_}
 use Rattle.model.specs.Limits.{entryWords}
 use Rattle.model.specs.Image.{Room, Verdict, accepted, refused, imageHeader, imageObjects, lengthFine}
 use Rattle.rules.specs.Lent.{Lent}
