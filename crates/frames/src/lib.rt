@@ -27,7 +27,8 @@ pub struct Active {
 }
 
 // A send by the running frame: its selector and argument count, the class where the search starts, the position behind it. `sure` says that
-// a method that is found can run on the receiver. The large fields come first: they lie where an event's others do (docs/DECISIONS.md).
+// a method that is found can run on the receiver. The large fields come first, so that the small ones share no place with the positions of
+// another event: those would be put together with masks at each bytecode.
 pub struct Message {
     pub count: usize,
     pub next: CodePosition,

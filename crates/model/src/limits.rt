@@ -1,4 +1,5 @@
-// The numbers that 01 fixes, as specs/Limits.antt names them. What depends on the edition is in `readers::edition`.
+// The numbers that 01 fixes, as specs/Limits.antt names them; the places of a frame's words and the phases of a halt are those of plain's specs/Flat.antt
+// and Registers.antt. What depends on the edition is in `readers::edition`.
 
 // Words and bytes of an image's header; most objects, body words and body bytes.
 pub const HEADER_WORDS: usize = 5;
