@@ -4,3 +4,4 @@ pub mod Answers
 pub mod Beginning
 pub mod RunCalls
 pub mod SavedLoaded
+pub mod Replying

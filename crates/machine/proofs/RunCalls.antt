@@ -1,4 +1,4 @@
--- Run, after a check.
+-- Run, from a checked state.
 use Prim.Native.Nat.{ℕ, _≤_}
 use mathlib.Core.Path.{_≡_, sym, ap, _∙_}
 use mathlib.Core.Bool.{Bool, true, false}
@@ -7,7 +7,7 @@ use borrow.Author.Tests.{eq-eqb, ne-eqb}
 use native.Mathlib.Omega.{arith}
 use lib.Dec.{eqb}
 use lib.ListN.{length}
-use Rattle.model.specs.Image.{Verdict, accepted}
+use Rattle.model.specs.Image.{Verdict, accepted, refused}
 use Rattle.plain.specs.Registers as R
 use Rattle.plain.specs.Registers.{running, withPhase, withSizes}
 use Rattle.plain.specs.Flat.{Flat, flat, plainOf}
@@ -20,12 +20,9 @@ use Rattle.plain.proofs.FlatLaws.{FlatRight, check-right}
 use Rattle.plain.proofs.TurnLaws.{whole-run}
 use Rattle.plain.proofs.ReachLaws.{reach-fine}
 use Rattle.machine.specs.declared.Registers.{Registers}
-use Rattle.machine.specs.declared.Checked.{Checked}
 use Rattle.runs.specs.declared.Ended.{Ended}
 use Rattle.runs.specs.Ends.{startOf, endedWith, Goes, RunsTo, RunsOn}
-use Rattle.machine.specs.State.{registersOf, state, checkGives, runGives, ReachIs}
-use Rattle.machine.proofs.Answers.{was-refused, was-right}
-use Rattle.machine.specs.declared.Checked.the-variants as C
+use Rattle.machine.specs.State.{registersOf, state, runGives, ReachIs}
 use Rattle.machine.specs.declared.Ran.the-variants as N
 
 value-none : (s : Flat) → FlatRight s → s .registers .phase ≡ running → s .registers .value ≡ 0
@@ -38,21 +35,18 @@ value-none s r e = go (r .plain .stands)
     go (rests a v t f) = absurd (omega arith)
     go (waits a c v f) = absurd (omega arith)
 
-module _ (r : Registers) (contents bodies stack cache : List ℕ) (n : ℕ) (x : Checked) (e : checkGives x ≡ check (state r contents bodies stack cache)) where
+module _ (r : Registers) (contents bodies stack cache : List ℕ) (n : ℕ) where
   abbrev s : Flat
   s = state r contents bodies stack cache
 
-  pub runs-not : (k : ℕ) → x ≡ C.Refused k → (runGives (N.Refused k r) contents bodies stack cache ≡ flatRun s n) × ReachIs s n (N.Refused k r)
+  pub runs-not : (k : ℕ) → refused k ≡ check s → (runGives (N.Refused k r) contents bodies stack cache ≡ flatRun s n) × ReachIs s n (N.Refused k r)
   unfolding runGives flatRun
-  runs-not k q = (ap (λ (v : Verdict). checked s v (flatRunIf s n (eqb (r .phase) running))) (was-refused r contents bodies stack cache x e k q), tt)
+  runs-not k q = (ap (λ (v : Verdict). checked s v (flatRunIf s n (eqb (r .phase) running))) q, tt)
 
-  module _ (q : x ≡ C.Right) where
-    yes : accepted ≡ check s
-    yes = was-right r contents bodies stack cache x e q
-
+  module _ (yes : check s ≡ accepted) where
     passes : (b : Bool) → eqb (r .phase) running ≡ b → flatRunIf s n b ≡ flatRun s n
     unfolding flatRun
-    passes b p = ap (flatRunIf s n) (sym p) ∙ ap (λ (v : Verdict). checked s v (flatRunIf s n (eqb (r .phase) running))) yes
+    passes b p = ap (flatRunIf s n) (sym p) ∙ ap (λ (v : Verdict). checked s v (flatRunIf s n (eqb (r .phase) running))) (sym yes)
 
     pub runs-12 : (r .phase ≡ 1 → ⊥) → (runGives (N.Refused 12 r) contents bodies stack cache ≡ flatRun s n) × ReachIs s n (N.Refused 12 r)
     unfolding runGives
@@ -62,11 +56,11 @@ module _ (r : Registers) (contents bodies stack cache : List ℕ) (n : ℕ) (x :
       -- in phase 1 value is 0
       start-is : s ≡ startOf (r .edition) (r .receiver) (r .selector) (r .n) (r .b) (r .top) contents bodies stack cache
       start-is =
-          let v = value-none s (check-right s (sym yes)) p in
+          let v = value-none s (check-right s yes) p in
           λ i. flat (record { n = r .n; b = r .b; startReceiver = r .receiver; startSelector = r .selector; phase = p i; top = r .top; value = v i; edition = r .edition }) contents bodies stack cache
 
       goes-checked : check (startOf (r .edition) (r .receiver) (r .selector) (r .n) (r .b) (r .top) contents bodies stack cache) ≡ accepted
-      goes-checked = sym (ap check start-is) ∙ sym yes
+      goes-checked = sym (ap check start-is) ∙ yes
 
       pub runs-goes : Goes (r .edition) (r .n) (r .b) (r .top) contents bodies stack cache
       runs-goes = record { receiver = r .receiver; selector = r .selector; checks = goes-checked }
@@ -85,5 +79,5 @@ module _ (r : Registers) (contents bodies stack cache : List ℕ) (n : ℕ) (x :
             let e : registersOf r₂ ≡ endedWith (r .edition) (r .receiver) (r .selector) z = f ∙ ap (λ (x : R.Registers). withPhase x (z .phase) (z .top) (z .value)) d in (
               (λ i. gives (result (e i .phase) (z .count) (e i .value)) (flat (e i) contents′ bodies′ stack′ cache′))
                   ∙ ran .gave ∙ ap (runsFrom n 0) (sym start-is) ∙ whole-run n s ∙ passes true (eq-eqb (r .phase) running p),
-              reach-fine s n (z .reach) (sym yes) (ran .ends ∙ ap (endsFrom n 0) (sym start-is)),
+              reach-fine s n (z .reach) yes (ran .ends ∙ ap (endsFrom n 0) (sym start-is)),
             )

@@ -1,3 +1,4 @@
 pub mod State
 pub mod SaveLoad
 pub mod Parts
+pub mod Lists

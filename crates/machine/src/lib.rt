@@ -1,17 +1,23 @@
-// The calls. Each promise is an equation with the flat calls of plain's specs/FlatCalls.antt, through the definitions of specs/State.antt.
+// The calls. Each promise is an equation with the flat calls of plain's specs/FlatCalls.antt, through the definitions of specs/State.antt. What
+// is named `.._checked` takes a state that check accepts and does not look at it again.
 ghost use mathlib.Core.Path.{_≡_};
-ghost use Prim.Native.Nat.{_*_, _≤_};
+ghost use Prim.Native.Nat.{_+_, _*_, _≤_};
 ghost use lib.Dec.{T};
 ghost use lib.ListN.{length};
-ghost use Rattle.model.specs.Image.{buffersFine};
+ghost use lib.Seq.{sets};
+ghost use Rattle.model.specs.Image.{accepted, buffersFine};
 ghost use Rattle.code.specs.Asked.{Blank};
 ghost use Rattle.plain.specs.Running.{roomAt};
 ghost use Rattle.plain.specs.Registers as R;
 ghost use Rattle.plain.specs.Check as K;
-ghost use Rattle.plain.specs.FlatCalls.{flatBegin, flatDrop, flatForget, flatSave};
+ghost use Rattle.plain.specs.FlatCalls.{flatBegin, flatDrop, flatForget, flatCall, flatSave};
+ghost use Rattle.calls.specs.Encoding.{sizeAt, callAt, answerWords};
+ghost use Rattle.calls.specs.Plays.{Plays};
 ghost use Rattle.machine.specs.Parts.{FirstParts};
 ghost use Rattle.machine.specs.State.{registersOf, state, PromisedLoad, checkGives, beginGives, PromisedRun, dropGives, forgetGives, saveGives};
+ghost use Rattle.machine.specs.Lists.{registersIn, answerIn, replyGives, PromisedPlay};
 use begins::Beginning;
+use calls::Listed;
 use image::Header;
 use model::limits;
 use store::Reading;
@@ -97,6 +103,25 @@ pub enum Forgotten {
 pub enum Saved {
     Wrote(u32),
     Refused(u32),
+}
+
+// The answer of play: the registers after a list of calls, and how many were made; or the list is refused.
+pub enum Played {
+    Made { registers: Registers, calls: u32 },
+    Refused(u32, Registers),
+}
+
+// What calls of a list left: the registers, and how many were made.
+pub struct Made {
+    pub registers: Registers,
+    pub calls: u32,
+}
+
+// A call of a list that was made: its answer, and the registers that it left. Phase and value of a run are those of the registers.
+enum Reply {
+    Done(Registers),
+    Refused(u32, Registers),
+    Ran(u32, Registers),
 }
 
 // The image's rules, the frames and the cache of a state whose buffers are long enough and whose counts and registers are right. The notes
@@ -300,6 +325,34 @@ pub fn save(
     }
 }
 
+// The answer of a call written down; its registers.
+fn note(reply: Reply, answers: &mut [u32], at: usize) -> Registers
+    requires { ⌜ at + 4 ≤ length (now answers) ⌝ }
+    ensures { λ r. ⌜ (r ≡ registersIn reply) × (now (answers .exit) ≡ sets (now (answers .entry)) at (answerWords (answerIn reply))) ⌝ }
+{
+    match reply {
+        Reply::Done(registers) => {
+            calls::write_answer(answers, at, 0, 0, 0, 0);
+            registers
+        }
+        Reply::Refused(k, registers) => {
+            calls::write_answer(answers, at, k, 0, 0, 0);
+            registers
+        }
+        Reply::Ran(count, registers) => {
+            calls::write_answer(
+                answers,
+                at,
+                0,
+                registers.phase as u32,
+                count,
+                registers.value as u32,
+            );
+            registers
+        }
+    }
+}
+
 impl Registers {
     // Of no image.
     fn none() -> Registers
@@ -349,7 +402,45 @@ impl Registers {
         }
     }
 
-    // A send from no frame, all frames removed: 12 in phase 1, then 8, 9, 10, 13.
+    // A send from no frame, all frames removed: 12 in phase 1, then 8, 9, 10, 13. The cache stays as it is and belongs to the state.
+    fn begin_checked(
+        self,
+        contents: &mut [u16],
+        bodies: &mut [u16],
+        stack: &mut [u16],
+        cache: &[u16],
+        receiver: u16,
+        selector: u16,
+        arguments: &[u16],
+    ) -> Begun
+        requires { ⌜ K.check (state self (now contents) (now bodies) (now stack) (now cache)) ≡ accepted ⌝ }
+        ensures { λ r. ⌜ beginGives r (now (contents .exit)) (now (bodies .exit)) (now (stack .exit)) (now (cache .entry))
+            ≡ flatBegin (state self (now (contents .entry)) (now (bodies .entry)) (now (stack .entry)) (now (cache .entry))) receiver selector
+            (now (arguments .entry)) ⌝ }
+    {
+        if self.phase == 1 {
+            return Begun::Refused(12, self);
+        }
+        match begins::begin(
+            contents,
+            bodies,
+            stack,
+            self.edition,
+            self.n as usize,
+            self.b as usize,
+            receiver,
+            selector,
+            arguments,
+        ) {
+            Beginning::Answered { word, n, b } => {
+                let grown = self.with_sizes(n as u16, b as u16);
+                Begun::Started(grown.with_phase(2, 0, word))
+            }
+            Beginning::Entered => Begun::Started(self.with_phase(1, 0, 0)),
+            Beginning::Refused(k) => Begun::Refused(k, self),
+        }
+    }
+
     pub fn begin(
         self,
         contents: &mut [u16],
@@ -366,33 +457,54 @@ impl Registers {
     {
         match check(self, contents, bodies, stack, cache) {
             Checked::Refused(k) => Begun::Refused(k, self),
-            Checked::Right => {
-                if self.phase == 1 {
-                    return Begun::Refused(12, self);
-                }
-                match begins::begin(
-                    contents,
-                    bodies,
-                    stack,
-                    self.edition,
-                    self.n as usize,
-                    self.b as usize,
-                    receiver,
-                    selector,
-                    arguments,
-                ) {
-                    Beginning::Answered { word, n, b } => {
-                        let grown = self.with_sizes(n as u16, b as u16);
-                        Begun::Started(grown.with_phase(2, 0, word))
-                    }
-                    Beginning::Entered => Begun::Started(self.with_phase(1, 0, 0)),
-                    Beginning::Refused(k) => Begun::Refused(k, self),
-                }
-            }
+            Checked::Right => self.begin_checked(
+                contents,
+                bodies,
+                stack,
+                cache,
+                receiver,
+                selector,
+                arguments,
+            ),
         }
     }
 
-    // At most `grant` bytecodes; 12 outside phase 1.
+    // At most `grant` bytecodes; 12 outside phase 1. The only caller of `runs::run`, whose loop then has one place in the program.
+    fn run_checked(
+        self,
+        contents: &mut [u16],
+        bodies: &mut [u16],
+        stack: &mut [u16],
+        cache: &mut [u16],
+        grant: u32,
+    ) -> Ran
+        requires { ⌜ K.check (state self (now contents) (now bodies) (now stack) (now cache)) ≡ accepted ⌝ }
+        ensures { λ r. ⌜ PromisedRun (state self (now (contents .entry)) (now (bodies .entry)) (now (stack .entry)) (now (cache .entry))) grant r
+            (now (contents .exit)) (now (bodies .exit)) (now (stack .exit)) (now (cache .exit)) ⌝ }
+    {
+        if self.phase != 1 {
+            return Ran::Refused(12, self);
+        }
+        let ended = runs::run(
+            contents,
+            bodies,
+            stack,
+            cache,
+            self.edition,
+            self.n as usize,
+            self.b as usize,
+            self.top as usize,
+            grant,
+        );
+        let grown = self.with_sizes(ended.n, ended.b);
+        let registers = grown.with_phase(ended.phase, ended.top, ended.value);
+        Ran::Done {
+            registers: registers,
+            count: ended.count,
+            reach: ended.reach as u32,
+        }
+    }
+
     pub fn run(
         self,
         contents: &mut [u16],
@@ -406,29 +518,7 @@ impl Registers {
     {
         match check(self, contents, bodies, stack, cache) {
             Checked::Refused(k) => Ran::Refused(k, self),
-            Checked::Right => {
-                if self.phase != 1 {
-                    return Ran::Refused(12, self);
-                }
-                let ended = runs::run(
-                    contents,
-                    bodies,
-                    stack,
-                    cache,
-                    self.edition,
-                    self.n as usize,
-                    self.b as usize,
-                    self.top as usize,
-                    grant,
-                );
-                let grown = self.with_sizes(ended.n, ended.b);
-                let registers = grown.with_phase(ended.phase, ended.top, ended.value);
-                Ran::Done {
-                    registers: registers,
-                    count: ended.count,
-                    reach: ended.reach as u32,
-                }
-            }
+            Checked::Right => self.run_checked(contents, bodies, stack, cache, grant),
         }
     }
 
@@ -440,6 +530,125 @@ impl Registers {
         match check(self, contents, bodies, stack, cache) {
             Checked::Refused(k) => Dropped::Refused(k, self),
             Checked::Right => Dropped::Dropped(self.with_phase(0, 0, 0)),
+        }
+    }
+
+    // The call at i of a list, which stands there whole.
+    fn call_checked(
+        self,
+        contents: &mut [u16],
+        bodies: &mut [u16],
+        stack: &mut [u16],
+        cache: &mut [u16],
+        calls: &[u16],
+        i: usize,
+    ) -> Reply
+        requires { ⌜ 1 ≤ sizeAt (now calls) i ⌝ }
+        requires { ⌜ K.check (state self (now contents) (now bodies) (now stack) (now cache)) ≡ accepted ⌝ }
+        ensures { λ r. ⌜ replyGives r (now (contents .exit)) (now (bodies .exit)) (now (stack .exit)) (now (cache .exit))
+            ≡ flatCall (state self (now (contents .entry)) (now (bodies .entry)) (now (stack .entry)) (now (cache .entry)))
+            (callAt (now (calls .entry)) i) ⌝ }
+    {
+        match calls::call_at(calls, i) {
+            Listed::Begin {
+                receiver,
+                selector,
+                from,
+                end,
+            } => {
+                let arguments = &calls[from..end];
+                match self.begin_checked(
+                    contents,
+                    bodies,
+                    stack,
+                    cache,
+                    receiver,
+                    selector,
+                    arguments,
+                ) {
+                    Begun::Started(next) => Reply::Done(next),
+                    Begun::Refused(k, next) => Reply::Refused(k, next),
+                }
+            }
+            Listed::Run(grant) => match self.run_checked(contents, bodies, stack, cache, grant) {
+                Ran::Done {
+                    registers: next,
+                    count,
+                    reach: _,
+                } => Reply::Ran(count, next),
+                Ran::Refused(k, next) => Reply::Refused(k, next),
+            },
+            Listed::Drop => Reply::Done(self.with_phase(0, 0, 0)),
+            Listed::Forget => {
+                words::fill(cache, 0, cache.len(), 0);
+                Reply::Done(self)
+            }
+        }
+    }
+
+    // The calls of a list one after another, as long as there is room for an answer.
+    pub fn play_checked(
+        self,
+        contents: &mut [u16],
+        bodies: &mut [u16],
+        stack: &mut [u16],
+        cache: &mut [u16],
+        calls: &[u16],
+        answers: &mut [u32],
+    ) -> Made
+        requires { ⌜ K.check (state self (now contents) (now bodies) (now stack) (now cache)) ≡ accepted ⌝ }
+        ensures { λ r. ⌜ Plays (now (calls .entry)) (now (answers .entry))
+            (state self (now (contents .entry)) (now (bodies .entry)) (now (stack .entry)) (now (cache .entry))) (r .calls)
+            (state (r .registers) (now (contents .exit)) (now (bodies .exit)) (now (stack .exit)) (now (cache .exit))) (now (answers .exit)) ⌝ }
+    {
+        let room = calls::answer_room(answers.len());
+        let mut registers = self;
+        let mut i = 0;
+        let mut made = 0;
+        while made < room {
+            let size = calls::size_at(calls, i);
+            if size == 0 {
+                return Made {
+                    registers: registers,
+                    calls: made,
+                };
+            }
+            let reply = registers.call_checked(contents, bodies, stack, cache, calls, i);
+            registers = note(reply, answers, 4 * made as usize);
+            i += size;
+            made += 1;
+        }
+        Made {
+            registers: registers,
+            calls: made,
+        }
+    }
+
+    // A list of calls as `calls` has it in words: the state is looked at once, 3 or 11 refuses them all.
+    pub fn play(
+        self,
+        contents: &mut [u16],
+        bodies: &mut [u16],
+        stack: &mut [u16],
+        cache: &mut [u16],
+        calls: &[u16],
+        answers: &mut [u32],
+    ) -> Played
+        ensures { λ r. ⌜ PromisedPlay (state self (now (contents .entry)) (now (bodies .entry)) (now (stack .entry)) (now (cache .entry)))
+            (now (calls .entry)) (now (answers .entry)) r (now (contents .exit)) (now (bodies .exit)) (now (stack .exit)) (now (cache .exit))
+            (now (answers .exit)) ⌝ }
+    {
+        match check(self, contents, bodies, stack, cache) {
+            Checked::Refused(k) => Played::Refused(k, self),
+            Checked::Right => {
+                let made = self.play_checked(contents, bodies, stack, cache, calls, answers);
+                let registers = made.registers;
+                let count = made.calls;
+                Played::Made {
+                    registers: registers,
+                    calls: count,
+                }
+            }
         }
     }
 }

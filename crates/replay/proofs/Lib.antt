@@ -1,3 +1,1 @@
-pub mod Lists
-pub mod Replying
-pub mod Playing
+pub mod Replaying

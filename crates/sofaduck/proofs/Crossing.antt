@@ -18,8 +18,11 @@ use Rattle.machine.specs.declared.Dropped.{Dropped}
 use Rattle.machine.specs.declared.Forgotten.{Forgotten}
 use Rattle.machine.specs.declared.Checked.{Checked}
 use Rattle.machine.specs.declared.Saved.{Saved}
+use Rattle.machine.specs.declared.Played.{Played}
 use Rattle.machine.specs.State.{registersOf, state, loadGives, beginGives, runGives, ReachIs, dropGives, forgetGives, checkGives, saveGives}
-use Rattle.sofaduck.specs.Border.{seven, sevenWords, stateOf, sees, seen, answerOf, verdictOf, runAnswer, RunWrites, saveAnswer, SaveWrites}
+use Rattle.machine.specs.Lists.{playGives, PromisedPlay}
+use Rattle.calls.specs.Plays.{flatPlay}
+use Rattle.sofaduck.specs.Border.{seven, sevenWords, stateOf, sees, seen, answerOf, verdictOf, runAnswer, RunWrites, saveAnswer, SaveWrites, seesPlay, seenPlay}
 use Rattle.plain.specs.Registers as R
 use Rattle.machine.specs.declared.Loaded.the-variants as L
 use Rattle.machine.specs.declared.Begun.the-variants as B
@@ -28,6 +31,7 @@ use Rattle.machine.specs.declared.Dropped.the-variants as D
 use Rattle.machine.specs.declared.Forgotten.the-variants as F
 use Rattle.machine.specs.declared.Checked.the-variants as C
 use Rattle.machine.specs.declared.Saved.the-variants as S
+use Rattle.machine.specs.declared.Played.the-variants as M
 
 pub take-seven : (l : List ℕ)
     → registersOf (record { n = getD l 0 0; b = getD l 1 0; receiver = getD l 2 0; selector = getD l 3 0; phase = getD l 4 0; top = getD l 5 0; value = getD l 6 0; edition = 1 }) ≡ sevenWords l
@@ -164,3 +168,22 @@ module _ (words contents bodies stack cache : List ℕ) (b : Registers) (t : reg
             × RunWrites k (stateOf words contents bodies stack cache) n count reach count reach
         go zero g = absurd (let h : 1 ≤ 0 = subst NumberedIn (sym g) (run-number (stateOf words contents bodies stack cache) n) in omega arith)
         go (suc k) g = (shown r contents′ bodies′ stack′ cache′ p g, (refl, refl))
+
+  module _ (calls answers contents′ bodies′ stack′ cache′ answers′ words′ : List ℕ) (x : Played)
+      (e : PromisedPlay (state b contents bodies stack cache) calls answers x contents′ bodies′ stack′ cache′ answers′) (before : ℕ) where
+    e₁ : playGives x contents′ bodies′ stack′ cache′ answers′ ≡ flatPlay (stateOf words contents bodies stack cache) calls answers
+    e₁ = e .0 ∙ ap (λ (s : Flat). flatPlay s calls answers) same
+
+    pub play-done : (r : Registers) (k : ℕ) → x ≡ M.Made r k → words′ ≡ seven (registersOf r)
+        → seesPlay 0 k words′ contents′ bodies′ stack′ cache′ answers′ ≡ seenPlay before (flatPlay (stateOf words contents bodies stack cache) calls answers)
+    unfolding playGives
+    play-done r k q p =
+        (λ i. seesPlay 0 k (p i) contents′ bodies′ stack′ cache′ answers′)
+        ∙ ap (seenPlay before) (ap (λ (y : Played). playGives y contents′ bodies′ stack′ cache′ answers′) (sym q) ∙ e₁)
+
+    pub play-refused : (k : ℕ) (r : Registers) → x ≡ M.Refused k r → words′ ≡ seven (registersOf r)
+        → seesPlay k before words′ contents′ bodies′ stack′ cache′ answers′ ≡ seenPlay before (flatPlay (stateOf words contents bodies stack cache) calls answers)
+    unfolding playGives
+    play-refused k r q p =
+        (λ i. seesPlay k before (p i) contents′ bodies′ stack′ cache′ answers′)
+        ∙ ap (seenPlay before) (ap (λ (y : Played). playGives y contents′ bodies′ stack′ cache′ answers′) (sym q) ∙ e₁)

@@ -9,6 +9,7 @@ use Rattle.plain.specs.Registers.{Registers}
 use Rattle.plain.specs.Flat.{Flat, flat}
 use Rattle.plain.specs.Calls.{Answer, done, refusedBy, result, wrote}
 use Rattle.plain.specs.FlatCalls.{Given, gives, noAnswer, reachFine}
+use Rattle.calls.specs.Plays.{Played, played, unplayed}
 
 -- N, B, start receiver, start selector, phase, top, value. The edition is not among them while there is but one.
 abbrev pub seven : Registers → List ℕ
@@ -56,3 +57,11 @@ saveAnswer (suc k) length = refusedBy (suc k)
 abbrev pub SaveWrites : ℕ → ℕ → ℕ → Type 0
 SaveWrites zero length length′ = Unit {0}
 SaveWrites (suc k) length length′ = length′ ≡ length
+
+-- Play: the number, the calls made, the seven words, the lent words. Where it is refused the count of calls stays as it was.
+pub data SeenPlay : Type 0 where
+  seesPlay : (number made : ℕ) (words contents bodies stack cache answers : List ℕ) → SeenPlay
+
+abbrev pub seenPlay : ℕ → Played → SeenPlay
+seenPlay made (played k s answers) = seesPlay 0 k (seven (s .registers)) (s .contents) (s .bodies) (s .stack) (s .cache) answers
+seenPlay made (unplayed k s answers) = seesPlay k made (seven (s .registers)) (s .contents) (s .bodies) (s .stack) (s .cache) answers

@@ -7,13 +7,15 @@ ghost use Rattle.plain.specs.Registers as R;
 ghost use Rattle.plain.specs.Flat.{flat};
 ghost use Rattle.plain.specs.Check as K;
 ghost use Rattle.plain.specs.FlatCalls.{gives, saved, flatLoad, flatBegin, flatRun, flatDrop, flatForget, flatSave};
+ghost use Rattle.calls.specs.Plays.{flatPlay};
 ghost use Rattle.machine.specs.State.{registersOf};
-ghost use Rattle.sofaduck.specs.Border.{seven, sevenWords, stateOf, sees, seen, answerOf, verdictOf, runAnswer, RunWrites, saveAnswer, SaveWrites};
+ghost use Rattle.sofaduck.specs.Border.{seven, sevenWords, stateOf, sees, seen, answerOf, verdictOf, runAnswer, RunWrites, saveAnswer, SaveWrites, seesPlay, seenPlay};
 use machine::Begun;
 use machine::Checked;
 use machine::Dropped;
 use machine::Forgotten;
 use machine::Loaded;
+use machine::Played;
 use machine::Ran;
 use machine::Registers;
 use machine::Saved;
@@ -156,6 +158,39 @@ pub extern "C" fn sofaduck_drop(
             0
         }
         Dropped::Refused(k, r) => {
+            write_registers(registers, r);
+            k
+        }
+    }
+}
+
+#[no_mangle]
+pub extern "C" fn sofaduck_play(
+    contents: &mut [u16],
+    bodies: &mut [u16],
+    stack: &mut [u16],
+    cache: &mut [u16],
+    registers: &mut [u16; 7],
+    calls: &[u16],
+    answers: &mut [u32],
+    made: &mut u32,
+) -> u32
+    ensures { λ r. ⌜ seesPlay r (now (made .exit)) (now (registers .exit)) (now (contents .exit)) (now (bodies .exit)) (now (stack .exit))
+        (now (cache .exit)) (now (answers .exit))
+        ≡ seenPlay (now (made .entry)) (flatPlay (stateOf (now (registers .entry)) (now (contents .entry)) (now (bodies .entry)) (now (stack .entry))
+        (now (cache .entry))) (now (calls .entry)) (now (answers .entry))) ⌝ }
+{
+    let before = read_registers(registers);
+    match before.play(contents, bodies, stack, cache, calls, answers) {
+        Played::Made {
+            registers: r,
+            calls: count,
+        } => {
+            write_registers(registers, r);
+            *made = count;
+            0
+        }
+        Played::Refused(k, r) => {
             write_registers(registers, r);
             k
         }

@@ -1,4 +1,5 @@
-use Rattle.replay.proofs.Playing.{declines, makes}
+use Rattle.replay.proofs.Replaying.{declines, start-checks, makes}
+use Rattle.plain.specs.Registers.{noRegisters}
 use borrow.Author.Needs.{needs}
 use Rattle.replay.proofs.replay.Statement.{statement}
 use Rattle.replay.proofs.replay.Tie as tie
@@ -9,8 +10,15 @@ load-requires c κs = search needs
 enum-known-start : tie.Need-enum-known-start
 enum-known-start c = search needs
 
-play-requires : tie.Need-play-requires
-play-requires c κs = search needs
+play-checked-requires : tie.Need-play-checked-requires
+play-checked-requires c κs =
+    let at-start = c .before .before .before .before .before .before in
+    let at-load = at-start .before .before .before .before .before .before .before .before in
+    let at-start′ = at-load .before .before .before .before .before .before .before .before .before .before .before in
+    let a = at-start′ .args in
+    let g = noRegisters in
+    start-checks g (a .image .now) (a .calls .now) (a .answers .now) (a .contents .now) (a .bodies .now) (a .stack .now) (a .cache .now) _ _ _
+    (at-load .load .result) (at-load .load .ensures g (a .stack .now)) _ (at-start .start .given .1)
 
 enum-known-k : tie.Need-enum-known-k
 enum-known-k c = search needs
@@ -32,14 +40,13 @@ same-length-5 c = search needs
 
 returns : tie.Need-returns
 returns c =
-    let at-play = c .before .before .before .before .before .before .before .before .before .before .before in
-    let at-start = at-play .before .before .before .before .before .before .before in
+    let at-play-checked = c .before .before .before .before .before .before .before .before .before .before .before in
+    let at-start = at-play-checked .before .before .before .before .before .before .before in
     let at-load = at-start .before .before .before .before .before .before .before .before in
     let at-start′ = at-load .before .before .before .before .before .before .before .before .before .before .before in
     let a = at-start′ .args in
-    let load = at-load .load in
-    λ g. makes g (a .image .now) (a .calls .now) (a .answers .now) (a .contents .now) (a .bodies .now) (a .stack .now) (a .cache .now) _ _ _ (load .result)
-    (load .ensures g (a .stack .now)) _ (at-start .start .given .1) _ _ _ (at-play .play .ensures)
+    λ g. makes g (a .image .now) (a .calls .now) (a .answers .now) (a .contents .now) (a .bodies .now) (a .stack .now) (a .cache .now) _ _ _
+    (at-load .load .result) (at-load .load .ensures g (a .stack .now)) _ (at-start .start .given .1) _ _ _ (at-play-checked .play-checked .ensures)
 
 same-length-6 : tie.Need-same-length-6
 same-length-6 c = search needs
@@ -55,9 +62,8 @@ returns-2 c =
     let at-load = c .before .before .before .before .before .before .before .before .before in
     let at-start = at-load .before .before .before .before .before .before .before .before .before .before .before in
     let a = at-start .args in
-    let load = at-load .load in
-    λ g. declines g (a .image .now) (a .calls .now) (a .answers .now) (a .contents .now) (a .bodies .now) (a .stack .now) (a .cache .now) _ _ _ (load .result)
-    (load .ensures g (a .stack .now)) _ _ (c .before .k .given .1)
+    λ g. declines g (a .image .now) (a .calls .now) (a .answers .now) (a .contents .now) (a .bodies .now) (a .stack .now) (a .cache .now) _ _ _
+    (at-load .load .result) (at-load .load .ensures g (a .stack .now)) _ _ (c .before .k .given .1)
 
 pub replay-spec : {M : Type 1} → statement M
 replay-spec =
@@ -65,7 +71,7 @@ replay-spec =
     (tie.spec
     load-requires
     enum-known-start
-    play-requires
+    play-checked-requires
     enum-known-k
     same-length
     same-length-2

@@ -1,0 +1,123 @@
+// A list of calls in words, and the words of their answers: specs/Encoding.antt has both.
+ghost use mathlib.Core.Path.{_≡_};
+ghost use mathlib.Core.List.{[], _∷_};
+ghost use Prim.Native.Nat.{_+_, _/_, _≤_, min};
+ghost use lib.ListN.{length, getD};
+ghost use lib.Seq.{sets};
+ghost use Rattle.plain.specs.Calls.{runCall};
+ghost use Rattle.calls.specs.Encoding.{sizeAt, beginAt, runLength, callAt};
+ghost use Rattle.calls.specs.Plays.{mostCalls};
+ghost use Rattle.calls.specs.Listing.{listed, Inside};
+
+// A call of a list. The arguments of a begin are the list's words from `from` to `end`.
+pub enum Listed {
+    Begin {
+        receiver: u16,
+        selector: u16,
+        from: usize,
+        end: usize,
+    },
+    Run(u32),
+    Drop,
+    Forget,
+}
+
+// The number of words of the call at i, 0 where none stands there whole.
+pub fn size_at(calls: &[u16], i: usize) -> usize
+    ensures { λ r. ⌜ r ≡ sizeAt (now (calls .entry)) i ⌝ }
+{
+    if calls.len() <= i {
+        return 0;
+    }
+    let left = calls.len() - i;
+    let kind = calls[i];
+    if kind == 0 {
+        if left < 4 {
+            return 0;
+        }
+        let size = 4 + calls[i + 3] as usize;
+        if left < size {
+            return 0;
+        }
+        return size;
+    }
+    if kind == 1 {
+        if left < 3 {
+            return 0;
+        }
+        return 3;
+    }
+    if kind == 2 {
+        return 1;
+    }
+    if kind == 3 {
+        return 1;
+    }
+    0
+}
+
+fn begin_at(calls: &[u16], i: usize) -> Listed
+    requires { ⌜ i + (4 + getD (now calls) (i + 3) 0) ≤ length (now calls) ⌝ }
+    ensures { λ r. ⌜ (listed r (now (calls .entry)) ≡ beginAt (now (calls .entry)) i) × Inside r (length (now (calls .entry))) ⌝ }
+{
+    let receiver = calls[i + 1];
+    let selector = calls[i + 2];
+    let from = i + 4;
+    let end = from + calls[i + 3] as usize;
+    Listed::Begin {
+        receiver: receiver,
+        selector: selector,
+        from: from,
+        end: end,
+    }
+}
+
+fn run_at(calls: &[u16], i: usize) -> Listed
+    requires { ⌜ i + 3 ≤ length (now calls) ⌝ }
+    ensures { λ r. ⌜ (listed r (now (calls .entry)) ≡ runCall (runLength (now (calls .entry)) i)) × Inside r (length (now (calls .entry))) ⌝ }
+{
+    let high = calls[i + 1] as u32;
+    let low = calls[i + 2] as u32;
+    let grant = 65536 * high + low;
+    Listed::Run(grant)
+}
+
+// The call at i, which stands there whole.
+pub fn call_at(calls: &[u16], i: usize) -> Listed
+    requires { ⌜ 1 ≤ sizeAt (now calls) i ⌝ }
+    ensures { λ r. ⌜ (listed r (now (calls .entry)) ≡ callAt (now (calls .entry)) i) × Inside r (length (now (calls .entry))) ⌝ }
+{
+    let kind = calls[i];
+    if kind == 0 {
+        return begin_at(calls, i);
+    }
+    if kind == 1 {
+        return run_at(calls, i);
+    }
+    if kind == 2 {
+        return Listed::Drop;
+    }
+    Listed::Forget
+}
+
+// How many calls are made at most where there are so many words for answers: 4 for each, and no more calls than 32 bits count.
+pub fn answer_room(words: usize) -> u32
+    ensures { λ r. ⌜ r ≡ min (words / 4) mostCalls ⌝ }
+{
+    let room = words / 4;
+    if 4294967295 < room {
+        return 4294967295;
+    }
+    room as u32
+}
+
+// The four words of an answer.
+pub fn write_answer(answers: &mut [u32], at: usize, number: u32, phase: u32, count: u32, value: u32)
+    requires { ⌜ at + 4 ≤ length (now answers) ⌝ }
+    ensures { λ r. ⌜ now (answers .exit) ≡ sets (now (answers .entry)) at (number ∷ phase ∷ count ∷ value ∷ []) ⌝ }
+{
+    answers[at] = number;
+    answers[at + 1] = phase;
+    answers[at + 2] = count;
+    answers[at + 3] = value;
+}
