@@ -15,8 +15,9 @@ enum-known-receiver c = search needs
 mul-arguments : tie.Need-mul-arguments
 mul-arguments c =
     let at-call-at = c .before .before .before in
+    let at-start = at-call-at .before .before .before .before .before .before in
     let k = begin-inside (at-call-at .call-at .result) _ _ _ _ _ (at-call-at .call-at .ensures .1) (c .before .receiver .given .1) in
-    omega arith
+    omega (arith, at-start .good)
 
 sub-arguments : tie.Need-sub-arguments
 sub-arguments c =
