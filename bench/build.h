@@ -1,4 +1,6 @@
 // An image that is being built: objects by their numbers, and their bodies in order. There is one at a time.
+#ifndef BUILD_H
+#define BUILD_H
 #include "objects.h"
 
 enum { MOST_IMAGE = 10 + 8 * 2047 + 2 * 24000 };
@@ -19,3 +21,4 @@ unsigned new_method(unsigned home, unsigned flag, unsigned temporaries, unsigned
                     const uint8_t *code, size_t size);
 // The bytes of the image, and their number.
 size_t written(uint8_t *image, unsigned receiver, unsigned selector);
+#endif

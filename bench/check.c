@@ -135,7 +135,7 @@ static double measure(const char *name, machine *m, int runs, double goal, FILE 
     printf("check %-8s %5u words, %4zu frames, %2u lookups   ours %9.2f us   C %9.2f us   speed relative to C: %.2f\n", name, m->registers[B],
            frames, filled, a / 1e3, b / 1e3, b / a);
     if (goals != NULL)
-        fprintf(goals, "goal: check %s at %.2f of C's speed: %.2f, %s\n", name, goal, b / a, b >= goal * a ? "reached" : "missed");
+        fprintf(goals, "goal: check %s at %.2f of C's speed: %.2f, %s\n", name, goal, b / a, verdict(b >= goal * a));
     qsort(times, runs, sizeof *times, rising);
     return times[runs / 2];
 }

@@ -52,10 +52,6 @@ typedef struct {
     double ours[2], c[2];
 } times;
 
-static void least(double *of, double t) {
-    if (t < *of) *of = t;
-}
-
 // `number` is what both loads have to answer; check has one number for all of these.
 static bool measure(const char *name, size_t length, uint32_t number, int runs, times *t) {
     for (int k = 0; k < 2; k++) t->ours[k] = t->c[k] = 1e18;

@@ -64,17 +64,11 @@ static double lua_time(const char *lua, const char *name) {
     return fine ? seconds * 1e9 : FAILED;
 }
 
-static void least(double *of, double t) {
-    if (t < *of) *of = t;
-}
-
 typedef struct {
     const char *name;
     size_t (*make)(uint8_t *);
     const char *lua[2]; // what Lua does for it, named by the first
 } program;
-
-static const char *verdict(bool reached) { return reached ? "reached" : "missed"; }
 
 static bool measure(const program *p, const char *lua, FILE *goals) {
     static const uint32_t grants[2] = {1000000, 1000};

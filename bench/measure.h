@@ -1,4 +1,5 @@
-// What the benchmarks share: a clock, and random numbers that are the same from the same seed.
+// What the benchmarks share: a clock, the least time, the verdict on a goal, and random numbers that are the same from the same seed.
+#include <stdbool.h>
 #include <stdint.h>
 #include <time.h>
 
@@ -7,6 +8,12 @@ static inline double nanoseconds(clockid_t clock) {
     clock_gettime(clock, &t);
     return t.tv_sec * 1e9 + t.tv_nsec;
 }
+
+static inline void least(double *of, double t) {
+    if (t < *of) *of = t;
+}
+
+static inline const char *verdict(bool reached) { return reached ? "reached" : "missed"; }
 
 static inline unsigned random_below(uint64_t *seed, unsigned n) {
     *seed = *seed * 6364136223846793005u + 1442695040888963407u;

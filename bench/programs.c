@@ -1,4 +1,4 @@
-// The programs that the run is timed on. loops.lua has the same work in Lua.
+// The programs that the run is timed on, and a contact's handler. loops.lua has the same work as the first three in Lua.
 #include "programs.h"
 
 // Bytecodes by their names; a number or count in brackets is added to the first of its range.
@@ -119,4 +119,28 @@ size_t arithmetic_image(uint8_t *image) {
     const unsigned method = new_method(class, 0, 3, 0, literals, 4, code, sizeof code);
     understands(class, 1, (const unsigned[][2]){{start, method}});
     return written(image, 2 * new_object(class, FIELDS, 0), 2 * start);
+}
+
+// Field: sum.
+// hit: x     1 to: 2 do: [:i | self add: x]. ^sum
+// add: x     sum := sum + x bitAnd: 1023
+size_t with_contact(uint8_t *image) {
+    const unsigned hit = selector("hit:"), add = selector("add:"), class = new_class(NIL, EMPTY, 1, 0);
+    static const uint8_t hit_code[] = {
+        PUSH_1, POP_TEMPORARY + 1,                         // i := 1
+        TEMPORARY + 1, PUSH_2, AT_MOST, LONG_JUMP_FALSE, 10, // i <= 2
+        PUSH_SELF, TEMPORARY + 0, SEND_1 + 0, POP,         // self add: x
+        TEMPORARY + 1, PUSH_1, PLUS, POP_TEMPORARY + 1,    // i := i + 1
+        BACK(15),
+        FIELD + 0, RETURN_TOP,
+    };
+    const uint16_t hit_literals[] = {2 * add};
+    const unsigned hit_method = new_method(class, 1, 2, 0, hit_literals, 1, hit_code, sizeof hit_code);
+    static const uint8_t add_code[] = {FIELD + 0, TEMPORARY + 0, PLUS, LITERAL + 0, BIT_AND, POP_FIELD + 0, RETURN_SELF};
+    const uint16_t add_literals[] = {INTEGER(1023)};
+    const unsigned add_method = new_method(class, 1, 1, 0, add_literals, 1, add_code, sizeof add_code);
+    understands(class, 2, (const unsigned[][2]){{hit, hit_method}, {add, add_method}});
+    const unsigned receiver = new_object(class, FIELDS, 1);
+    body_of(receiver)[0] = INTEGER(0);
+    return written(image, 2 * receiver, 2 * hit);
 }

@@ -1,6 +1,6 @@
-/* A small collision engine over the library. It plays a scene of a wooden crate, whose contact handlers are in crate.source: each frame has time for
- * a few bytecodes, a handler that needs more goes on in the next frame, and contacts wait for it. One handler halts, and where it stands is
- * reported. Then it saves the objects, loads them into a second state, and plays both on, side by side.
+/* A small collision engine over the library. It plays a scene of a wooden crate, whose contact handlers are in crate.source: the contacts of a frame
+ * are one list, played by one call; each handler gets a few bytecodes a frame, one that needs more goes on in the next frame, and contacts wait for
+ * it. One handler halts, and where it stands is reported. Then it saves the objects, loads them into a second state, and plays both on, side by side.
  *
  *     engine IMAGE
  */
@@ -11,7 +11,8 @@
 #include <stdlib.h>
 #include <string.h>
 
-enum { STACK = 256, GRANT = 40 }; /* words of stack; bytecodes a frame */
+enum { STACK = 256, GRANT = 40, CONTACTS = 4 }; /* words of stack; bytecodes that a handler gets in a frame; contacts in a list */
+enum { CALLS = 1 + 2 * CONTACTS, WORDS = 3 + (6 + 3) * CONTACTS, ANSWERS = SOFADUCK_ANSWER * CALLS }; /* a run; for each contact begin and run */
 
 /* A state with buffers of its own. */
 typedef struct {
@@ -29,6 +30,10 @@ static uint16_t handler; /* the selector that a contact sends */
 
 static void quit(const char *what, uint32_t number) {
     fprintf(stderr, "engine: %s is refused by %u: %s\n", what, (unsigned)number, sofaduck_refusal_text(number));
+    exit(1);
+}
+static void fail(const char *what) {
+    fprintf(stderr, "engine: %s\n", what);
     exit(1);
 }
 
@@ -94,46 +99,104 @@ static void show_halt(const sofaduck_state *s) {
     } while (sofaduck_next_frame(s, &at));
 }
 
-/* One frame: the next contact is begun if nothing is running and it has happened, then the handler gets its grant. Returns whether it was begun. */
-static bool frame(sofaduck_state *s, int now, const contact *next, bool shown) {
-    uint16_t *const r = s->registers;
-    const bool begun = next != NULL && next->frame <= now && r[SOFADUCK_PHASE] != SOFADUCK_RUNNING;
-    if (begun) {
-        const uint16_t arguments[] = {sofaduck_word(next->impulse), next->other};
-        made("begin", sofaduck_state_begin(s, OBJECT_crate, handler, arguments, 2));
-        if (shown) printf("frame %2d: the crate meets %s, impulse %d\n", now, next->name, next->impulse);
+/* What came of a handler that was run; `met` is null where it goes on from the frame before. */
+static void show_run(int now, const contact *met, sofaduck_answer run) {
+    printf("frame %2d: ", now);
+    if (met == NULL) printf("the handler goes on: ");
+    else printf("the crate meets %s, impulse %d: ", met->name, met->impulse);
+    if (run.number != 0) printf("answered at once\n");
+    else if (run.phase != SOFADUCK_FINISHED) printf("%s, %u bytecodes\n", sofaduck_phase_text(run.phase), (unsigned)run.count);
+    else printf("finished, %u bytecodes, value %d\n", (unsigned)run.count, sofaduck_integer(run.value));
+}
+
+/* A frame's list: a run if a handler goes on, then a begin and a run for each contact. */
+static sofaduck_calls listed(uint16_t words[WORDS], bool goes_on, const contact *contacts, size_t count) {
+    sofaduck_calls calls = {words, WORDS, 0, 0};
+    bool fits = !goes_on || sofaduck_put_run(&calls, GRANT);
+    for (size_t i = 0; i < count; i++) {
+        const uint16_t arguments[] = {sofaduck_word(contacts[i].impulse), contacts[i].other};
+        fits = fits && sofaduck_put_begin(&calls, OBJECT_crate, handler, arguments, 2) && sofaduck_put_run(&calls, GRANT);
     }
-    if (r[SOFADUCK_PHASE] != SOFADUCK_RUNNING) return begun;
-    uint32_t count = 0, reach = 0;
-    made("run", sofaduck_state_run(s, GRANT, &count, &reach));
-    const unsigned phase = r[SOFADUCK_PHASE];
-    if (shown) printf("frame %2d: %s, %u bytecodes, reach %u", now, sofaduck_phase_text(phase), (unsigned)count, (unsigned)reach);
-    if (shown && phase == SOFADUCK_FINISHED) printf(", value %d", sofaduck_integer(r[SOFADUCK_VALUE]));
-    if (shown) printf("\n");
-    if (phase == SOFADUCK_RUNNING) return begun;
-    if (phase != SOFADUCK_FINISHED) { /* a handler that halted is given up, the game goes on */
-        if (shown) show_halt(s);
-        made("drop", sofaduck_state_drop(s));
+    if (!fits) fail("a list does not fit in its words");
+    return calls;
+}
+
+/* The first calls of a list, as many as there is room for their answers. */
+static void play_first(sofaduck_state *s, const sofaduck_calls *calls, uint32_t count, uint32_t *answers) {
+    uint32_t length = 0;
+    made("play", sofaduck_state_play(s, calls, answers, SOFADUCK_ANSWER * count, &length));
+    if (length != count) fail("a call of a list was not made");
+}
+
+/* A begin that was made, whose answer has no phase; a run that finished; or one that had nothing to run, since begin answered at once. */
+static bool done(sofaduck_answer a) {
+    return a.number == 0 ? a.phase == SOFADUCK_IDLE || a.phase == SOFADUCK_FINISHED : a.number == SOFADUCK_BAD_PHASE;
+}
+
+/* Plays a list up to and with the first call that is not done. Returns how many calls these are.
+ *
+ * A list does not stop there by itself. Behind a handler that is still running the next begin is refused, and the run that was meant for it goes on
+ * with the old handler, so that contacts would change places; behind a halt the next begin removes the frames that say where it was. So the world
+ * is copied first. Most lists are done to their end, and that is all. Where one is not, the copy is put back and the list is played once more, with
+ * room for the answers up to that call: it comes to the same words again, and stops there.
+ *
+ * An engine that would rather give up a handler than have it go on puts a drop before each begin, and needs no copy. */
+static uint32_t play_list(world *w, const sofaduck_calls *calls, uint32_t *answers) {
+    static world before; /* all of it, to be simple; sofaduck.h says how much of a state is enough */
+    before = *w;
+    play_first(&w->state, calls, calls->count, answers);
+    uint32_t count = 1;
+    while (count < calls->count && done(sofaduck_answer_at(answers, count - 1))) count++;
+    if (count < calls->count) {
+        *w = before;
+        play_first(&w->state, calls, count, answers);
     }
+    return count;
+}
+
+static bool running(const sofaduck_state *s) { return s->registers[SOFADUCK_PHASE] == SOFADUCK_RUNNING; }
+
+/* One frame, in which so many contacts wait. They are handled in their order, until a handler has used up its grant: it goes on in the next frame,
+ * and the contacts behind it wait. A handler that halts is given up, and the contacts behind it are another list. Returns how many were begun. */
+static size_t frame(world *w, int now, const contact *contacts, size_t waiting, bool shown) {
+    sofaduck_state *const s = &w->state;
+    uint16_t words[WORDS];
+    uint32_t answers[ANSWERS];
+    size_t begun = 0;
+    do {
+        const bool goes_on = running(s);
+        const sofaduck_calls calls = listed(words, goes_on, contacts + begun, waiting - begun < CONTACTS ? waiting - begun : CONTACTS);
+        const uint32_t count = play_list(w, &calls, answers);
+        for (uint32_t k = 0; k < count; k++) {
+            const contact *const met = goes_on && k == 0 ? NULL : contacts + begun++;
+            if (met != NULL) made("begin", sofaduck_answer_at(answers, k++).number); /* the next answer is its run's */
+            if (shown) show_run(now, met, sofaduck_answer_at(answers, k));
+        }
+        if (s->registers[SOFADUCK_PHASE] > SOFADUCK_FINISHED) {
+            if (shown) show_halt(s);
+            made("drop", sofaduck_state_drop(s));
+        }
+    } while (begun < waiting && !running(s));
     if (shown) show_crate(s);
     return begun;
 }
 
-/* Frames from `first` on, until all contacts are handled. Returns the frame after the last. */
-static int play(sofaduck_state *s, int first, const contact *contacts, size_t length, bool shown) {
-    size_t next = 0;
-    while (next < length || s->registers[SOFADUCK_PHASE] == SOFADUCK_RUNNING) {
-        if (frame(s, first, next < length ? contacts + next : NULL, shown)) next++;
-        first++;
+/* Frames from `now` on, until all contacts are handled. Returns the frame after the last. */
+static int play(world *w, int now, const contact *contacts, size_t length, bool shown) {
+    for (size_t next = 0; next < length || running(&w->state); now++) {
+        size_t waiting = 0;
+        while (next + waiting < length && contacts[next + waiting].frame <= now) waiting++;
+        if (waiting > 0 || running(&w->state)) next += frame(w, now, contacts + next, waiting, shown);
     }
-    return first;
+    return now;
 }
 
 /* Calls that a careful engine never makes. They answer a number and leave the state as it was. */
 static void mistakes(world *w) {
     static world before;
     sofaduck_state *const s = &w->state;
-    uint32_t count = 0, reach = 0;
+    uint32_t count = 0, reach = 0, answers[ANSWERS];
+    uint16_t words[WORDS];
     const uint16_t impulse = sofaduck_word(5);
     before = *w;
     const struct {
@@ -148,15 +211,24 @@ static void mistakes(world *w) {
         if (tried[i].number != tried[i].wanted) quit(tried[i].what, tried[i].number);
         printf("%s: refused by %u: %s\n", tried[i].what, (unsigned)tried[i].number, sofaduck_refusal_text(tried[i].number));
     }
-    if (memcmp(&before, w, sizeof before) != 0) {
-        fprintf(stderr, "engine: a refused call changed the state\n");
-        exit(1);
-    }
+    sofaduck_calls calls = {words, WORDS, 0, 0};
+    sofaduck_put_run(&calls, GRANT);
+    sofaduck_put_begin(&calls, OBJECT_crate, handler, &impulse, 1);
+    calls.length--; /* the begin lacks its argument: it is not made, nor what would come behind it */
+    made("play", sofaduck_state_play(s, &calls, answers, ANSWERS, &count));
+    printf("a list whose last call is cut short: %u of %u calls are made\n", (unsigned)count, (unsigned)calls.count);
+    if (memcmp(&before, w, sizeof before) != 0) fail("a refused call changed the state");
 }
 
 int main(int argc, char **argv) {
-    static const contact before[] = {{1, 25, OBJECT_floor, "the floor"}, {2, 8, OBJECT_hammer, "the hammer"}, {7, 4, SOFADUCK_NIL, "nothing"}};
-    static const contact after[] = {{20, 4, OBJECT_floor, "the floor"}, {21, 20, OBJECT_hammer, "the hammer"}};
+    static const contact before[] = {
+        {1, 4, OBJECT_floor, "the floor"}, {1, 25, OBJECT_floor, "the floor"}, {1, 8, OBJECT_hammer, "the hammer"},
+        {7, 3, OBJECT_hammer, "the hammer"}, {7, 4, SOFADUCK_NIL, "nothing"}, {7, 5, OBJECT_floor, "the floor"},
+    };
+    static const contact after[] = {
+        {20, 1, OBJECT_floor, "the floor"}, {20, 2, OBJECT_floor, "the floor"}, {20, 3, OBJECT_floor, "the floor"},
+        {20, 4, OBJECT_floor, "the floor"}, {20, 5, OBJECT_floor, "the floor"}, {21, 20, OBJECT_hammer, "the hammer"},
+    };
     static uint8_t image[SOFADUCK_IMAGE + 1]; /* one more, so that a longer file is refused by its length */
     static world scene, second;
     if (argc != 2) {
@@ -177,25 +249,20 @@ int main(int argc, char **argv) {
     sofaduck_state *const s = load(&scene, image, length);
     printf("loaded: %d objects, %d words of bodies\n", s->registers[SOFADUCK_N], s->registers[SOFADUCK_B]);
     handler = sofaduck_find_selector(s, "contact:with:", strlen("contact:with:"));
-    if (handler == 0) {
-        fprintf(stderr, "engine: no class of the image has a method contact:with:\n");
-        return 1;
-    }
-    play(s, 1, before, sizeof before / sizeof *before, true);
+    if (handler == 0) fail("no class of the image has a method contact:with:");
+    play(&scene, 1, before, sizeof before / sizeof *before, true);
     mistakes(&scene);
 
     uint32_t saved = 0;
     made("save", sofaduck_state_save(s, image, sizeof image, &saved));
     sofaduck_state *const other = load(&second, image, saved);
     printf("saved and loaded: %u bytes\n", (unsigned)saved);
-    const int end = play(s, 20, after, sizeof after / sizeof *after, true);
-    if (play(other, 20, after, sizeof after / sizeof *after, false) != end
+    const int end = play(&scene, 20, after, sizeof after / sizeof *after, true);
+    if (play(&second, 20, after, sizeof after / sizeof *after, false) != end
         || memcmp(s->registers, other->registers, sizeof s->registers) != 0
         || memcmp(s->contents, other->contents, 4 * s->registers[SOFADUCK_N] * sizeof(uint16_t)) != 0
-        || memcmp(s->bodies, other->bodies, s->registers[SOFADUCK_B] * sizeof(uint16_t)) != 0) {
-        fprintf(stderr, "engine: the two states differ\n");
-        return 1;
-    }
+        || memcmp(s->bodies, other->bodies, s->registers[SOFADUCK_B] * sizeof(uint16_t)) != 0)
+        fail("the two states differ");
     made("check", sofaduck_state_check(other));
     printf("both states are the same\n");
     return 0;

@@ -7,18 +7,20 @@
  * in all of it.
  *
  * Order of use: load once; for each contact begin, then run until the phase is no longer SOFADUCK_RUNNING; save whenever the objects are to be kept.
- * A state runs one handler at a time: another contact waits, or has the handler dropped first, or goes to a state of its own.
+ * A state runs one handler at a time: another contact waits, or has the handler dropped first, or goes to a state of its own. Play makes the calls
+ * for all contacts of a frame in one, and in far less time.
  *
  * There are the functions of the library, which take buffers, lengths and registers one by one, and behind them a struct that holds these, with
- * the same calls on it, and readers of objects and frames. What is behind the functions is inline: the library knows nothing of it.
+ * the same calls on it, a list of calls for play, and readers of objects and frames. What is behind the functions is inline: the library knows
+ * nothing of it.
  *
  * The library is libsofaduck.a, for x86-64 with the System V calling convention. It calls memcpy and memset and nothing else: it allocates nothing
  * and has no global state. Threads may call at once, each on a state of its own; calls on one state come one after the other. No call takes
  * SOFADUCK_CALL_STACK bytes of the C stack, whatever the image and the handler do.
  *
- * Buffers are the caller's. A length counts elements: words of 16 bits, or an image's bytes. The library trusts that behind every pointer there are
- * as many elements as its length says, that no two buffers of a call overlap, and that `registers`, `count`, `reach` and `length` are not null.
- * Everything else it checks. A null pointer is fine where the length is 0.
+ * Buffers are the caller's. A length counts elements: words of 16 bits, of 32 for `answers`, or an image's bytes. The library trusts that behind
+ * every pointer there are as many elements as its length says, that no two buffers of a call overlap, and that `registers`, `count`, `reach`, `made`
+ * and `length` are not null. Everything else it checks. A null pointer is fine where the length is 0.
  */
 #ifndef SOFADUCK_H
 #define SOFADUCK_H
@@ -32,7 +34,7 @@ extern "C" {
 
 /* The version of header and library, and the edition of the images that load accepts. */
 #define SOFADUCK_VERSION_MAJOR 1
-#define SOFADUCK_VERSION_MINOR 0
+#define SOFADUCK_VERSION_MINOR 1
 #define SOFADUCK_VERSION_PATCH 0
 #define SOFADUCK_EDITION 1
 
@@ -137,9 +139,11 @@ uint32_t sofaduck_load(const uint8_t *image, size_t image_length,
  *
  * Each call checks all of it first, so a spoiled state does no harm. It is refused by 3 where contents have less than 4 * N words, bodies less than
  * B, or the cache other than 192, and by 11 where objects, cache, registers or frames break a rule that every call keeps. The time for that grows
- * with the image and the frames, and is spent once a call: one run of a thousand bytecodes takes far less than a thousand runs of one. On a shared
- * two-core x86-64 machine it took about 7, 100 and 450 microseconds for images of 1,000, 6,000 and 24,000 words of bodies with one frame, and 40
- * milliseconds for a state made to be slow, a chain of 2,000 classes and 3,640 frames (bench/run prints it).
+ * with the image and the frames, and is spent once a call: one run of a thousand bytecodes takes far less than a thousand runs of one, and one play
+ * far less than its calls made singly. On a shared two-core x86-64 machine it took about 4, 21 and 195 microseconds for images of 1,000, 6,000 and
+ * 24,000 words of bodies with one frame, and 30 milliseconds for a state made to be slow, a chain of 2,000 classes and 3,640 frames. Of 100 contacts
+ * in a frame, with handlers of about 50 bytecodes and 6,000 words of bodies, each took 43 microseconds singly and half of one by play (bench/run
+ * prints it).
  *
  * What an engine may write itself, between calls and in any phase: into a field of an object of kind SOFADUCK_FIELDS, any integer and any word that
  * names an object; into an object of kind SOFADUCK_BYTES, any bytes, but for the one behind an odd number of them, which stays 0. Check accepts it.
@@ -201,6 +205,48 @@ uint32_t sofaduck_forget(const uint16_t *contents, size_t contents_length,
                          uint16_t *cache, size_t cache_length,
                          const uint16_t registers[SOFADUCK_REGISTERS]);
 
+/* What play is given, the first word of each call in a list; and what it answers, so many words for each call. Those behind the number are 0, but
+ * for a run that was not refused. */
+enum { SOFADUCK_PLAY_BEGIN, SOFADUCK_PLAY_RUN, SOFADUCK_PLAY_DROP, SOFADUCK_PLAY_FORGET };
+enum {
+    SOFADUCK_ANSWER_NUMBER, /* 0, or the number of the refusal */
+    SOFADUCK_ANSWER_PHASE,  /* the register phase after the run */
+    SOFADUCK_ANSWER_COUNT,  /* the bytecodes that it made */
+    SOFADUCK_ANSWER_VALUE,  /* the register value after it */
+    SOFADUCK_ANSWER         /* how many words that are */
+};
+
+/* Play makes a list of begin, run, drop and forget calls, one after the other, and checks the state once for all of them. Made singly, a call whose
+ * handler is short spends nearly all its time on its check: so an engine plays the contacts of a frame. What a call of the list does, its answer, the
+ * registers and every word after it are those of the same call made singly.
+ *
+ *   calls       one call after another, each told by its first word, with what it is given behind it:
+ *                 SOFADUCK_PLAY_BEGIN, receiver, selector, the number of arguments, the arguments
+ *                 SOFADUCK_PLAY_RUN, the high word of the grant, its low word
+ *                 SOFADUCK_PLAY_DROP
+ *                 SOFADUCK_PLAY_FORGET
+ *   answers     written: SOFADUCK_ANSWER words for each call made, in order; what is behind them stays unwritten
+ *   made        written: how many calls were made
+ *
+ * The list ends with its words; or before a call that is not whole, or has another first word, or for whose answer there is no room (and after
+ * 4,294,967,295 calls). That is no refusal: the calls before it were made. An engine notices a bad list by `made`, which is less than the number of
+ * calls that it put in; and it plays the front of a list by giving room for so many answers.
+ *
+ * A list does not stop at a call that is refused, which changes nothing, nor at a handler that is not done. Where a run leaves its handler running,
+ * the begin behind it is refused by 12, and the run behind that goes on with the OLD handler. An engine that wants every contact handled on its own
+ * puts a drop before each begin, and gives up what is not done by then; or it looks at the answers, and puts the rest of the contacts into the next
+ * list. Where a run halts, the begin behind it removes the frames that say where (examples/engine.c shows how to see them). Where begin answers at
+ * once, the run behind it is refused by 12, and the value is in no answer: the register has it, until the next begin or drop.
+ *
+ * Returns 0; or 3 or 11, and then no call is made, and answers and made stay unwritten. The runs' reach is not told. */
+uint32_t sofaduck_play(uint16_t *contents, size_t contents_length,
+                       uint16_t *bodies, size_t bodies_length,
+                       uint16_t *stack, size_t stack_length,
+                       uint16_t *cache, size_t cache_length,
+                       uint16_t registers[SOFADUCK_REGISTERS],
+                       const uint16_t *calls, size_t calls_length,
+                       uint32_t *answers, size_t answers_length, uint32_t *made);
+
 /* Check says whether the state is right, as every call but load asks first, and writes nothing. Returns 0, or 3 or 11. */
 uint32_t sofaduck_check(const uint16_t *contents, size_t contents_length,
                         const uint16_t *bodies, size_t bodies_length,
@@ -256,6 +302,62 @@ static inline uint32_t sofaduck_state_forget(sofaduck_state *state) { return sof
 static inline uint32_t sofaduck_state_check(const sofaduck_state *state) { return sofaduck_check(SOFADUCK_STATE(state)); }
 static inline uint32_t sofaduck_state_save(const sofaduck_state *state, uint8_t *output, size_t output_length, uint32_t *length) {
     return sofaduck_save(SOFADUCK_STATE(state), output, output_length, length);
+}
+
+/* A list of calls for play, as it is put together. The engine sets words and room, and for each new list length and count to 0. */
+typedef struct sofaduck_calls {
+    uint16_t *words;
+    size_t room;    /* how many words there are */
+    size_t length;  /* the words of the calls so far */
+    uint32_t count; /* the calls so far */
+} sofaduck_calls;
+
+/* For the four below: the words of one more call, the first of them written; null where there is no room. */
+static inline uint16_t *sofaduck_put(sofaduck_calls *calls, uint16_t first, size_t length) {
+    if (calls->room - calls->length < length) return NULL;
+    uint16_t *const words = calls->words + calls->length;
+    words[0] = first;
+    calls->length += length;
+    calls->count++;
+    return words;
+}
+
+/* One more call behind those so far, with what the function of its name takes. Each returns 1; or 0, and writes nothing, where there is no room, or
+ * begin has more than 65,535 arguments. */
+static inline int sofaduck_put_begin(sofaduck_calls *calls, uint16_t receiver, uint16_t selector, const uint16_t *arguments,
+                                     size_t arguments_length) {
+    uint16_t *const words = arguments_length > 65535 ? NULL : sofaduck_put(calls, SOFADUCK_PLAY_BEGIN, 4 + arguments_length);
+    if (words == NULL) return 0;
+    words[1] = receiver;
+    words[2] = selector;
+    words[3] = (uint16_t)arguments_length;
+    for (size_t k = 0; k < arguments_length; k++) words[4 + k] = arguments[k];
+    return 1;
+}
+static inline int sofaduck_put_run(sofaduck_calls *calls, uint32_t grant) {
+    uint16_t *const words = sofaduck_put(calls, SOFADUCK_PLAY_RUN, 3);
+    if (words == NULL) return 0;
+    words[1] = (uint16_t)(grant >> 16);
+    words[2] = (uint16_t)grant;
+    return 1;
+}
+static inline int sofaduck_put_drop(sofaduck_calls *calls) { return sofaduck_put(calls, SOFADUCK_PLAY_DROP, 1) != NULL; }
+static inline int sofaduck_put_forget(sofaduck_calls *calls) { return sofaduck_put(calls, SOFADUCK_PLAY_FORGET, 1) != NULL; }
+
+/* Play on a state; and answer k, from 0, of the calls that were made. */
+static inline uint32_t sofaduck_state_play(sofaduck_state *state, const sofaduck_calls *calls, uint32_t *answers, size_t answers_length,
+                                           uint32_t *made) {
+    return sofaduck_play(SOFADUCK_STATE(state), calls->words, calls->length, answers, answers_length, made);
+}
+typedef struct sofaduck_answer {
+    uint32_t number, phase, count;
+    uint16_t value;
+} sofaduck_answer;
+static inline sofaduck_answer sofaduck_answer_at(const uint32_t *answers, size_t k) {
+    const uint32_t *const words = answers + SOFADUCK_ANSWER * k;
+    const sofaduck_answer answer = {words[SOFADUCK_ANSWER_NUMBER], words[SOFADUCK_ANSWER_PHASE], words[SOFADUCK_ANSWER_COUNT],
+                                    (uint16_t)words[SOFADUCK_ANSWER_VALUE]};
+    return answer;
 }
 
 /* A refusal and a phase in words; any number has some. */

@@ -1,5 +1,5 @@
-/* The functions for C from outside: every call, every refusal, what is written and what is not, null pointers, what an engine may write
- * itself, small C stacks, two threads.
+/* The functions for C from outside: every call, every refusal, what is written and what is not, null pointers, lists of calls against the same calls
+ * made singly, what an engine may write itself, small C stacks, two threads.
  * A line for each test; the exit status says whether all passed. Usage: border IMAGE, of border.source. */
 #define _DEFAULT_SOURCE /* MAP_ANONYMOUS */
 #include "sofaduck.h"
@@ -11,7 +11,7 @@
 #include <string.h>
 #include <sys/mman.h>
 
-enum { STACK = 1024, GUARD = 65536, OWN_STACK = 32768, PAINT = 0x5c, ROUNDS = 2000 };
+enum { STACK = 1024, GUARD = 65536, OWN_STACK = 32768, PAINT = 0x5c, ROUNDS = 2000, ANSWERS = 200 };
 
 /* The words that a state lends. */
 typedef struct {
@@ -70,6 +70,12 @@ static bool all(const uint16_t *words, size_t count, uint16_t word) {
     for (size_t i = 0; i < count; i++)
         if (words[i] != word) return false;
     return true;
+}
+
+static unsigned below(unsigned n) {
+    static uint64_t seed = 1;
+    seed = seed * 6364136223846793005u + 1442695040888963407u;
+    return (unsigned)(seed >> 33) % n;
 }
 
 static bool all_bytes(const uint8_t *bytes, size_t count, uint8_t byte) {
@@ -152,9 +158,15 @@ static void loads(void) {
     test("load: buffers that just fit", sofaduck_state_load(&s, image, length) == 0);
 }
 
+/* A list with each of the calls, and room for answers. */
+static const uint16_t four_calls[] = {
+    SOFADUCK_PLAY_BEGIN, OBJECT_box, SELECTOR_deeper, 0, SOFADUCK_PLAY_RUN, 0, 500, SOFADUCK_PLAY_DROP, SOFADUCK_PLAY_FORGET};
+enum { FOUR_CALLS = sizeof four_calls / sizeof *four_calls };
+static uint32_t answers[ANSWERS];
+
 /* Every call but load on this state: refused by the number, results unwritten. */
 static void all_refused(const char *why, uint32_t wanted) {
-    uint32_t count = 77, reach = 78, bytes = 79;
+    uint32_t count = 77, reach = 78, bytes = 79, made = 80;
     char line[100];
     note();
 #define ONE(name, call) snprintf(line, sizeof line, name ": %s", why), refused(line, wanted, call)
@@ -162,12 +174,16 @@ static void all_refused(const char *why, uint32_t wanted) {
     ONE("run", sofaduck_run(SOFADUCK_STATE(&s), 1, &count, &reach));
     ONE("drop", sofaduck_drop(SOFADUCK_STATE(&s)));
     ONE("forget", sofaduck_forget(SOFADUCK_STATE(&s)));
+    memset(answers, 0x5a, sizeof answers);
+    ONE("play", sofaduck_play(SOFADUCK_STATE(&s), four_calls, FOUR_CALLS, answers, ANSWERS, &made));
+    ONE("play without calls", sofaduck_play(SOFADUCK_STATE(&s), NULL, 0, NULL, 0, &made));
     ONE("check", sofaduck_check(SOFADUCK_STATE(&s)));
     memset(output, 0x5a, sizeof output);
     ONE("save", sofaduck_save(SOFADUCK_STATE(&s), output, sizeof output, &bytes));
 #undef ONE
-    snprintf(line, sizeof line, "count, reach, length and output stay unwritten: %s", why);
-    test(line, count == 77 && reach == 78 && bytes == 79 && all_bytes(output, sizeof output, 0x5a));
+    snprintf(line, sizeof line, "results stay unwritten: %s", why);
+    test(line, count == 77 && reach == 78 && bytes == 79 && all_bytes(output, sizeof output, 0x5a) && made == 80
+                   && all_bytes((const uint8_t *)answers, sizeof answers, 0x5a));
 }
 
 static void states(void) {
@@ -282,6 +298,191 @@ static void runs(void) {
     test("words of integers and back", kept && sofaduck_word(-1) == 65535 && sofaduck_word(-16384) == 32769 && !sofaduck_is_integer(SOFADUCK_NIL));
 }
 
+/* A list's calls made singly, with the answers that play has to write. Returns how many were made. */
+static uint32_t singly(sofaduck_state *t, const uint16_t *calls, size_t calls_length, uint32_t *to, size_t room) {
+    uint32_t made = 0;
+    for (size_t at = 0, size; at < calls_length && made < room / SOFADUCK_ANSWER; at += size, made++) {
+        const uint16_t *const c = calls + at;
+        const size_t left = calls_length - at;
+        uint32_t number, count = 0, reach = 0;
+        size = c[0] == SOFADUCK_PLAY_BEGIN ? 4 : c[0] == SOFADUCK_PLAY_RUN ? 3 : 1;
+        if (c[0] == SOFADUCK_PLAY_BEGIN && left >= 4) size += c[3];
+        if (size > left || c[0] > SOFADUCK_PLAY_FORGET) break;
+        if (c[0] == SOFADUCK_PLAY_BEGIN) number = sofaduck_begin(SOFADUCK_STATE(t), c[1], c[2], c + 4, c[3]);
+        else if (c[0] == SOFADUCK_PLAY_RUN) number = sofaduck_run(SOFADUCK_STATE(t), 65536u * c[1] + c[2], &count, &reach);
+        else if (c[0] == SOFADUCK_PLAY_DROP) number = sofaduck_drop(SOFADUCK_STATE(t));
+        else number = sofaduck_forget(SOFADUCK_STATE(t));
+        const bool ran = c[0] == SOFADUCK_PLAY_RUN && number == 0;
+        const uint32_t answer[] = {number, ran ? t->registers[SOFADUCK_PHASE] : 0u, count, ran ? t->registers[SOFADUCK_VALUE] : 0u};
+        memcpy(to + SOFADUCK_ANSWER * made, answer, sizeof answer);
+    }
+    return made;
+}
+
+/* A list played on the state, and its calls made singly on a copy. Returns how many were made, where registers, every word and all answers are the
+ * same, those behind the calls made too; else DIFFERENT. */
+static const uint32_t DIFFERENT = 4294967295u;
+static uint32_t plays(const uint16_t *calls, size_t calls_length, size_t answers_length) {
+    static uint32_t expected[ANSWERS];
+    static words lent_copy;
+    uint32_t made = 80;
+    sofaduck_state copy = s;
+    copy.contents = lent_copy.contents, copy.bodies = lent_copy.bodies, copy.stack = lent_copy.stack, copy.cache = lent_copy.cache;
+    lent_copy = lent;
+    memset(answers, 0x5a, sizeof answers);
+    memset(expected, 0x5a, sizeof expected);
+    const uint32_t count = singly(&copy, calls, calls_length, expected, answers_length);
+    const uint32_t number = sofaduck_play(SOFADUCK_STATE(&s), calls, calls_length, answers, answers_length, &made);
+    const bool same = number == 0 && made == count && memcmp(answers, expected, sizeof answers) == 0
+        && memcmp(&lent, &lent_copy, sizeof lent) == 0 && memcmp(s.registers, copy.registers, sizeof s.registers) == 0;
+    return same ? made : DIFFERENT;
+}
+
+/* Every call, every refusal of one and every phase, on a stack that holds two frames and no large one. */
+static void every_call(void) {
+    static const uint16_t list[] = {
+        SOFADUCK_PLAY_RUN, 0, 0,
+        SOFADUCK_PLAY_BEGIN, 0, SELECTOR_a, 0,
+        SOFADUCK_PLAY_BEGIN, SOFADUCK_TRUE, SELECTOR_a, 0,
+        SOFADUCK_PLAY_BEGIN, OBJECT_box, SELECTOR_a_b_, 1, 3,
+        SOFADUCK_PLAY_BEGIN, OBJECT_box, SELECTOR_wide, 0,
+        SOFADUCK_PLAY_BEGIN, OBJECT_box, SELECTOR_a, 0,
+        SOFADUCK_PLAY_RUN, 0, 1,
+        SOFADUCK_PLAY_BEGIN, OBJECT_box, SELECTOR_a_b_, 2, 1, 5,
+        SOFADUCK_PLAY_RUN, 0, 6,
+        SOFADUCK_PLAY_BEGIN, OBJECT_box, SELECTOR_a, 0,
+        SOFADUCK_PLAY_RUN, 0, 6,
+        SOFADUCK_PLAY_BEGIN, OBJECT_box, SELECTOR_more, 0,
+        SOFADUCK_PLAY_RUN, 0, 5,
+        SOFADUCK_PLAY_FORGET,
+        SOFADUCK_PLAY_BEGIN, OBJECT_box, SELECTOR_lost, 0,
+        SOFADUCK_PLAY_RUN, 0, 9,
+        SOFADUCK_PLAY_BEGIN, OBJECT_box, SELECTOR_undecided, 0,
+        SOFADUCK_PLAY_RUN, 0, 9,
+        SOFADUCK_PLAY_DROP,
+        SOFADUCK_PLAY_BEGIN, OBJECT_box, SELECTOR_deeper, 0,
+        SOFADUCK_PLAY_RUN, 0, 9,
+        SOFADUCK_PLAY_RUN, 0, 9,
+        SOFADUCK_PLAY_BEGIN, OBJECT_box, SELECTOR_forever, 0,
+        SOFADUCK_PLAY_RUN, 1, 2,
+        SOFADUCK_PLAY_DROP,
+        SOFADUCK_PLAY_DROP,
+    };
+    const uint32_t expected[][SOFADUCK_ANSWER] = {
+        {12, 0, 0, 0}, {8, 0, 0, 0}, {9, 0, 0, 0}, {10, 0, 0, 0}, {13, 0, 0, 0},  /* refused, and nothing is running behind them */
+        {0, 0, 0, 0}, {12, 0, 0, 0},                                              /* answered at once: nothing to run */
+        {0, 0, 0, 0}, {0, SOFADUCK_RUNNING, 6, 0},
+        {12, 0, 0, 0}, {0, SOFADUCK_FINISHED, 2, sofaduck_word(-2)},              /* no begin: the run goes on with the old handler */
+        {0, 0, 0, 0}, {0, SOFADUCK_FINISHED, 5, 2 * get(1) + 2}, {0, 0, 0, 0},
+        {0, 0, 0, 0}, {0, SOFADUCK_NOT_UNDERSTOOD, 1, 0},
+        {0, 0, 0, 0}, {0, SOFADUCK_NO_BOOLEAN, 1, 0}, {0, 0, 0, 0},               /* a begin after a halt */
+        {0, 0, 0, 0}, {0, SOFADUCK_NO_STACK_ROOM, 3, 0}, {12, 0, 0, 0},
+        {0, 0, 0, 0}, {0, SOFADUCK_RUNNING, 65538, 0}, {0, 0, 0, 0}, {0, 0, 0, 0}, /* the high word of a grant is its first */
+    };
+    loaded();
+    s.stack_length = SOFADUCK_LARGE_FRAME - 1;
+    test("play: every call, every refusal and every phase, as the same calls singly",
+         plays(list, sizeof list / sizeof *list, ANSWERS) == sizeof expected / sizeof *expected && memcmp(answers, expected, sizeof expected) == 0);
+}
+
+/* What a list ends at, behind a begin and a run that make an object. */
+static void ends(void) {
+    enum { FRONT = 7 };
+    static const struct {
+        const char *what;
+        uint16_t words[5];
+        size_t length, room;
+        uint32_t made;
+    } tails[] = {
+        {"its words", {0}, 0, ANSWERS, 2},
+        {"a begin alone", {SOFADUCK_PLAY_BEGIN}, 1, ANSWERS, 2},
+        {"a begin without a count", {SOFADUCK_PLAY_BEGIN, OBJECT_box, SELECTOR_a}, 3, ANSWERS, 2},
+        {"a begin that lacks an argument", {SOFADUCK_PLAY_BEGIN, OBJECT_box, SELECTOR_a_b_, 2, 1}, 5, ANSWERS, 2},
+        {"a begin that lacks 65,534", {SOFADUCK_PLAY_BEGIN, OBJECT_box, SELECTOR_a, 65535, 1}, 5, ANSWERS, 2},
+        {"a run alone", {SOFADUCK_PLAY_RUN}, 1, ANSWERS, 2},
+        {"a run without its low word", {SOFADUCK_PLAY_RUN, 0}, 2, ANSWERS, 2},
+        {"first word 4", {4, SOFADUCK_PLAY_DROP}, 2, ANSWERS, 2},
+        {"first word 65,535", {65535, SOFADUCK_PLAY_DROP}, 2, ANSWERS, 2},
+        {"first word 256", {256, SOFADUCK_PLAY_DROP}, 2, ANSWERS, 2},
+        {"room for no word of an answer", {SOFADUCK_PLAY_DROP}, 1, 0, 0},
+        {"room for 3 words of answers", {SOFADUCK_PLAY_DROP}, 1, 3, 0},
+        {"room for 4", {SOFADUCK_PLAY_DROP}, 1, 4, 1},
+        {"room for 7", {SOFADUCK_PLAY_DROP}, 1, 7, 1},
+        {"room for 11", {SOFADUCK_PLAY_DROP}, 1, 11, 2},
+        {"room for 12", {SOFADUCK_PLAY_DROP}, 1, 12, 3},
+    };
+    uint16_t list[FRONT + 5] = {SOFADUCK_PLAY_BEGIN, OBJECT_box, SELECTOR_more, 0, SOFADUCK_PLAY_RUN, 0, 9};
+    for (size_t i = 0; i < sizeof tails / sizeof *tails; i++) {
+        char line[100];
+        loaded();
+        memcpy(list + FRONT, tails[i].words, sizeof tails[i].words);
+        snprintf(line, sizeof line, "play: a list ends at %s", tails[i].what);
+        test(line, plays(list, FRONT + tails[i].length, tails[i].room) == tails[i].made);
+    }
+}
+
+/* Lists of random calls, some of them cut, with room for all or some of the answers. */
+static void random_lists(void) {
+    static const uint16_t selectors[] = {SELECTOR_a,      SELECTOR_a_b_, SELECTOR_forever, SELECTOR_lost, SELECTOR_undecided,
+                                         SELECTOR_deeper, SELECTOR_wide, SELECTOR_more,    SOFADUCK_NIL,  SELECTOR_found};
+    const uint16_t values[] = {OBJECT_box, OBJECT_box, OBJECT_box, sofaduck_word(7), SOFADUCK_TRUE, 0};
+    unsigned numbers = 0, phases = 0; /* a bit for each that was answered */
+    bool same = true;
+    for (unsigned i = 0; i < ROUNDS && same; i++) {
+        uint16_t list[200];
+        size_t length = 0;
+        if (i % 50 == 0) {
+            loaded();
+            s.stack_length = 20 + below(80);
+        }
+        for (unsigned calls = below(20); calls > 0; calls--) {
+            const unsigned which = below(41), given = below(3);
+            if (which < 16) {
+                list[length++] = SOFADUCK_PLAY_BEGIN;
+                list[length++] = values[below(6)];
+                list[length++] = selectors[below(10)];
+                list[length++] = (uint16_t)given;
+                for (unsigned k = 0; k < given; k++) list[length++] = values[below(6)];
+            } else if (which < 32) {
+                list[length++] = SOFADUCK_PLAY_RUN;
+                list[length++] = below(20) == 0;
+                list[length++] = (uint16_t)below(30);
+            } else list[length++] = (uint16_t)(which < 36 ? SOFADUCK_PLAY_DROP : which < 40 ? SOFADUCK_PLAY_FORGET : 4 + below(65532));
+        }
+        if (below(3) == 0) length = below((unsigned)length + 1);
+        const uint32_t made = plays(list, length, below(3) == 0 ? below(60) : ANSWERS);
+        same = made != DIFFERENT;
+        for (uint32_t k = 0; same && k < made; k++) {
+            numbers |= 1u << answers[SOFADUCK_ANSWER * k + SOFADUCK_ANSWER_NUMBER];
+            phases |= 1u << answers[SOFADUCK_ANSWER * k + SOFADUCK_ANSWER_PHASE];
+        }
+    }
+    test("play: random lists, as the same calls singly", same);
+    test("play: random lists answer every number and phase",
+         numbers == (1u << 0 | 1u << 8 | 1u << 9 | 1u << 10 | 1u << 12 | 1u << 13) && phases == 63);
+}
+
+static void lists(void) {
+    static uint16_t most[4 + 65535 + 1] = {SOFADUCK_PLAY_BEGIN, OBJECT_box, SELECTOR_a, 65535};
+    uint32_t made = 80;
+    loaded();
+    begin(&s, OBJECT_box, SELECTOR_forever);
+    note();
+    test("play: no calls and no room for answers, null pointers",
+         sofaduck_play(SOFADUCK_STATE(&s), NULL, 0, NULL, 0, &made) == 0 && made == 0 && unchanged());
+    made = 80;
+    test("play: calls and no room, a null pointer",
+         sofaduck_play(SOFADUCK_STATE(&s), four_calls, FOUR_CALLS, NULL, 0, &made) == 0 && made == 0 && unchanged());
+    test("play: no calls, a null pointer, and room", plays(NULL, 0, ANSWERS) == 0 && unchanged());
+    every_call();
+    ends();
+    for (size_t i = 4; i < 4 + 65535; i++) most[i] = 1;
+    most[4 + 65535] = SOFADUCK_PLAY_DROP;
+    test("play: a begin of 65,535 arguments is refused by 10, and the list goes on",
+         plays(most, sizeof most / sizeof *most, ANSWERS) == 2 && answers[0] == 10 && answers[SOFADUCK_ANSWER] == 0);
+    random_lists();
+}
+
 static void saves(void) {
     uint32_t bytes = 79;
     loaded();
@@ -297,12 +498,6 @@ static void saves(void) {
     test("save: the state is untouched", unchanged());
     begin(&s, OBJECT_box, SELECTOR_forever);
     test("save: while a handler runs", sofaduck_save(SOFADUCK_STATE(&s), output, sizeof output, &bytes) == 0 && bytes == length);
-}
-
-static unsigned below(unsigned n) {
-    static uint64_t seed = 1;
-    seed = seed * 6364136223846793005u + 1442695040888963407u;
-    return (unsigned)(seed >> 33) % n;
 }
 
 /* What an engine may write itself: valid words into fields, bytes into objects of bytes, while a handler runs. */
@@ -347,6 +542,9 @@ static uint32_t call_begin(void) { return begin(&s, OBJECT_box, SELECTOR_deeper)
 static uint32_t call_run(void) { return sofaduck_run(SOFADUCK_STATE(&s), 500, &count_made, &reach_made); }
 static uint32_t call_drop(void) { return sofaduck_drop(SOFADUCK_STATE(&s)); }
 static uint32_t call_forget(void) { return sofaduck_forget(SOFADUCK_STATE(&s)); }
+static uint32_t call_play(void) {
+    return sofaduck_play(SOFADUCK_STATE(&s), four_calls, FOUR_CALLS, answers, ANSWERS, &count_made);
+}
 static uint32_t call_check(void) { return sofaduck_check(SOFADUCK_STATE(&s)); }
 static uint32_t call_save(void) { return sofaduck_save(SOFADUCK_STATE(&s), output, sizeof output, &bytes_made); }
 
@@ -393,12 +591,13 @@ static void small_stacks(void) {
     small_stack("run", call_run);
     small_stack("drop", call_drop);
     small_stack("forget", call_forget);
+    small_stack("play", call_play);
     small_stack("check", call_check);
     small_stack("save", call_save);
 }
 
 /* The same calls on two states at once. */
-static void *play(void *state) {
+static void *many_calls(void *state) {
     sofaduck_state *const t = state;
     static const uint16_t selectors[] = {SELECTOR_more, SELECTOR_deeper, SELECTOR_a, SELECTOR_lost};
     uint32_t count, reach;
@@ -416,9 +615,9 @@ static void threads(void) {
     static words of_one, of_two, of_alone;
     pthread_t first, second;
     fresh(&one, &of_one), fresh(&two, &of_two), fresh(&alone, &of_alone);
-    const bool started = pthread_create(&first, NULL, play, &one) == 0 && pthread_create(&second, NULL, play, &two) == 0;
+    const bool started = pthread_create(&first, NULL, many_calls, &one) == 0 && pthread_create(&second, NULL, many_calls, &two) == 0;
     test("two states on two threads come to the same words, and to those of one alone",
-         started && pthread_join(first, NULL) == 0 && pthread_join(second, NULL) == 0 && play(&alone) == NULL
+         started && pthread_join(first, NULL) == 0 && pthread_join(second, NULL) == 0 && many_calls(&alone) == NULL
              && memcmp(&of_one, &of_two, sizeof of_one) == 0 && memcmp(&of_one, &of_alone, sizeof of_one) == 0
              && memcmp(one.registers, two.registers, sizeof one.registers) == 0
              && memcmp(one.registers, alone.registers, sizeof one.registers) == 0 && one.registers[SOFADUCK_N] > get(1));
@@ -436,6 +635,7 @@ int main(int argc, char **argv) {
     states();
     begins();
     runs();
+    lists();
     saves();
     writes();
     threads();

@@ -1,6 +1,6 @@
 /* The library with every buffer at the end of its memory: a page that nobody may touch lies behind each. Images are edited at random, what is
- * accepted is begun and run, states are spoiled and read. An access past a buffer ends the program; otherwise it fails where check refuses a state
- * that the calls left. Usage: guard IMAGE... */
+ * accepted is begun and run, lists of calls are played, states are spoiled and read. An access past a buffer ends the program; otherwise it fails
+ * where check refuses a state that the calls left. Usage: guard IMAGE... */
 #define _DEFAULT_SOURCE /* MAP_ANONYMOUS */
 #include "sofaduck.h"
 #include <stdbool.h>
@@ -9,7 +9,7 @@
 #include <string.h>
 #include <sys/mman.h>
 
-enum { EDITS = 100000, ROOM = 1 << 18, PAGE = 4096, IMAGES = 8 };
+enum { EDITS = 100000, ROOM = 1 << 18, PAGE = 4096, IMAGES = 8, LIST = 50 };
 
 static uint64_t seed = 1;
 static unsigned below(size_t n) {
@@ -19,7 +19,7 @@ static unsigned below(size_t n) {
 
 /* The last bytes before a guard, for each of the buffers. */
 static void *last(int buffer, size_t bytes) {
-    static uint8_t *ends[8];
+    static uint8_t *ends[10];
     if (ends[buffer] == NULL) {
         uint8_t *const low = mmap(NULL, ROOM + PAGE, PROT_READ | PROT_WRITE, MAP_PRIVATE | MAP_ANONYMOUS, -1, 0);
         if (low == MAP_FAILED || mprotect(low + ROOM, PAGE, PROT_NONE) != 0) {
@@ -32,7 +32,7 @@ static void *last(int buffer, size_t bytes) {
 }
 
 static sofaduck_state *s;
-static uint32_t *count, *reach;
+static uint32_t *count, *reach, *made;
 static unsigned long answers[SOFADUCK_NO_FIRST_FRAME + 1];
 
 static uint32_t counted(uint32_t answer) {
@@ -77,6 +77,34 @@ static bool handled(bool start) {
     return counted(sofaduck_state_check(s)) == 0 && fine;
 }
 
+/* A list of calls played, with room for so many words of answers. */
+static uint32_t played(const uint16_t *words, size_t length, size_t room) {
+    uint16_t *const calls = last(7, 2 * length);
+    uint32_t *const told = last(8, 4 * room);
+    memcpy(calls, words, 2 * length);
+    const uint32_t number = counted(sofaduck_play(SOFADUCK_STATE(s), calls, length, told, room, made));
+    for (uint32_t k = 0; number == 0 && k < *made; k++) counted(sofaduck_answer_at(told, k).number);
+    return number;
+}
+
+/* Random calls in a list, which may be cut, or have a first word that is no call's. Returns as handled does. */
+static bool listed(void) {
+    uint16_t words[LIST];
+    sofaduck_calls calls = {words, LIST, 0, 0};
+    for (unsigned k = below(9); k > 0; k--) {
+        const uint16_t arguments[] = {any_word(), any_word()};
+        const unsigned which = below(24);
+        if (which < 12) sofaduck_put_begin(&calls, any_word(), any_selector(), arguments, below(3));
+        else if (which < 20) sofaduck_put_run(&calls, below(60));
+        else if (which < 22) sofaduck_put_drop(&calls);
+        else if (which < 23) sofaduck_put_forget(&calls);
+        else sofaduck_put(&calls, (uint16_t)below(65536), 1);
+    }
+    const size_t length = below(4) == 0 ? below(calls.length + 1) : calls.length, room = below(40);
+    const bool fine = played(words, length, room) == 0 && *made <= length && *made <= room / SOFADUCK_ANSWER;
+    return counted(sofaduck_state_check(s)) == 0 && fine;
+}
+
 /* The header's readers, whatever the words are. Adding up keeps the compiler from leaving them out. */
 static void readers(void) {
     static volatile unsigned long sum;
@@ -97,6 +125,7 @@ static void spoiled(void) {
     const size_t lengths[] = {s->contents_length, s->bodies_length, s->stack_length, SOFADUCK_CACHE, SOFADUCK_REGISTERS};
     const size_t output_length = 10 + 8 * (size_t)s->registers[SOFADUCK_N] + 2 * (size_t)s->registers[SOFADUCK_B];
     const unsigned which = below(5);
+    static const uint16_t list[] = {SOFADUCK_PLAY_RUN, 0, 100, SOFADUCK_PLAY_DROP, SOFADUCK_PLAY_BEGIN, SOFADUCK_NIL, SOFADUCK_NIL, 0};
     uint32_t length;
     if (lengths[which] > 0) buffers[which][below(lengths[which])] ^= (uint16_t)(1u << below(16));
     readers();
@@ -104,6 +133,7 @@ static void spoiled(void) {
     counted(sofaduck_state_forget(s));
     counted(sofaduck_state_save(s, last(7, output_length), output_length, &length));
     counted(sofaduck_state_begin(s, SOFADUCK_NIL, SOFADUCK_NIL, NULL, 0));
+    played(list, sizeof list / sizeof *list, 3 * SOFADUCK_ANSWER);
     counted(sofaduck_state_drop(s));
 }
 
@@ -128,6 +158,7 @@ int main(int argc, char **argv) {
     s->cache_length = SOFADUCK_CACHE;
     count = last(6, 8);
     reach = count + 1;
+    made = last(9, 4);
     for (int k = 0; k < EDITS; k++) {
         const unsigned which = below(given);
         const size_t length = below(50) == 0 ? below(lengths[which]) : lengths[which];
@@ -141,8 +172,8 @@ int main(int argc, char **argv) {
         s->bodies = last(2, 2 * s->bodies_length);
         s->stack = last(3, 2 * s->stack_length);
         if (counted(sofaduck_state_load(s, image, length)) != 0) continue;
-        for (int turn = 0; turn < 4; turn++)
-            if (!handled(turn == 0)) {
+        for (int turn = 0; turn < 5; turn++)
+            if (!(turn == 3 ? listed() : handled(turn == 0))) {
                 printf("FAILED: edit %d: the calls left a state that check refuses\n", k);
                 return 1;
             }

@@ -1,5 +1,5 @@
-/* The header's inline part: texts, the state, readers of objects and frames, snapshots. In C99 and in C++11; every buffer is an allocation of its
- * own, so that a sanitizer sees an access past it. Usage: readers BORDER READERS, the images of border.source and readers.source. */
+/* The header's inline part: texts, the state, lists of calls, readers of objects and frames, snapshots. In C99 and in C++11; every buffer is an
+ * allocation of its own, so that a sanitizer sees an access past it. Usage: readers BORDER READERS, images of border.source and readers.source. */
 #include "second.h"
 #include "border.h"
 #include <stdio.h>
@@ -75,6 +75,79 @@ static void texts(void) {
         for (unsigned j = 0; j < i; j++) fine = fine && strcmp(sofaduck_phase_text(i), sofaduck_phase_text(j)) != 0;
     test("every phase has a text of its own", fine && strcmp(sofaduck_phase_text(SOFADUCK_NO_BOOLEAN), "no boolean") == 0);
     test("so have other numbers", strcmp(sofaduck_refusal_text(4294967295u), none) == 0 && strcmp(sofaduck_phase_text(65535), no_phase) == 0);
+}
+
+/* A list with so much room, its words an allocation of their own. */
+static sofaduck_calls list(size_t room) {
+    sofaduck_calls calls;
+    memset(&calls, 0, sizeof calls);
+    calls.words = words(room), calls.room = room;
+    return calls;
+}
+
+/* Every call put into a list with this much room, one after the other: a bit for each that fits. */
+static unsigned put(sofaduck_calls *calls) {
+    const uint16_t arguments[] = {sofaduck_word(-3), sofaduck_word(39)};
+    unsigned fits = (unsigned)sofaduck_put_begin(calls, OBJECT_box, SELECTOR_a_b_, arguments, 2);
+    fits |= (unsigned)sofaduck_put_run(calls, 65536 * 7 + 9) << 1;
+    fits |= (unsigned)sofaduck_put_drop(calls) << 2;
+    fits |= (unsigned)sofaduck_put_forget(calls) << 3;
+    return fits | (unsigned)sofaduck_put_begin(calls, OBJECT_box, SELECTOR_a, NULL, 0) << 4;
+}
+
+static void lists(void) {
+    static const uint16_t whole[] = {0, OBJECT_box, SELECTOR_a_b_, 2, 65531, 79, 1, 7, 9, 2, 3, 0, OBJECT_box, SELECTOR_a, 0};
+    enum { WHOLE = sizeof whole / sizeof *whole };
+    sofaduck_calls calls = list(WHOLE);
+    test("calls are put into a list as play reads them",
+         put(&calls) == 31 && calls.count == 5 && calls.length == WHOLE && memcmp(calls.words, whole, sizeof whole) == 0);
+    test("nothing is put into a list that is full", put(&calls) == 0 && calls.count == 5 && calls.length == WHOLE && calls.room == WHOLE
+                                                        && memcmp(calls.words, whole, sizeof whole) == 0);
+    free(calls.words);
+    calls = list(0);
+    test("nor into one without words, a null pointer", put(&calls) == 0 && calls.count == 0 && calls.length == 0);
+
+    static const unsigned sizes[] = {6, 3, 1, 1, 4};
+    int fine = 1;
+    for (size_t room = 0; room < WHOLE; room++) {
+        size_t length = 0;
+        unsigned fits = 0, count = 0;
+        for (unsigned k = 0; k < 5; k++)
+            if (length + sizes[k] <= room) fits |= 1u << k, length += sizes[k], count++;
+        calls = list(room);
+        fine = fine && put(&calls) == fits && calls.count == count && calls.length == length;
+        for (size_t k = length; k < room; k++) fine = fine && calls.words[k] == 0xa5a5;
+        free(calls.words);
+    }
+    test("a call that does not fit is not put, and writes nothing", fine);
+
+    uint16_t *const arguments = words(65536);
+    calls = list(4 + 65536);
+    test("nor is a begin of 65,536 arguments", !sofaduck_put_begin(&calls, OBJECT_box, SELECTOR_a, arguments, 65536) && calls.count == 0
+                                                   && calls.length == 0 && calls.words[0] == 0xa5a5);
+    arguments[65534] = 77;
+    test("one of 65,535 is", sofaduck_put_begin(&calls, OBJECT_box, SELECTOR_a, arguments, 65535) && calls.count == 1 && calls.length == 4 + 65535
+                                 && calls.words[3] == 65535 && calls.words[4 + 65534] == 77 && calls.words[4 + 65535] == 0xa5a5);
+    free(arguments), free(calls.words);
+
+    enum { ANSWERS = 5 * SOFADUCK_ANSWER };
+    sofaduck_state s = loaded(border, border_length, STACK);
+    uint32_t *const answers = (uint32_t *)malloc(ANSWERS * sizeof *answers);
+    uint32_t made = 80;
+    if (answers == NULL) exit(2);
+    calls = list(WHOLE);
+    put(&calls);
+    test("a list is played on a state", sofaduck_state_play(&s, &calls, answers, ANSWERS, &made) == 0 && made == 5
+                                            && sofaduck_integer(s.registers[SOFADUCK_VALUE]) == -3);
+    const sofaduck_answer begin = sofaduck_answer_at(answers, 0), run = sofaduck_answer_at(answers, 1);
+    test("its answers are read", begin.number == 0 && begin.phase == SOFADUCK_IDLE && begin.count == 0 && begin.value == 0 && run.number == 0
+                                     && run.phase == SOFADUCK_FINISHED && run.count == 8 && sofaduck_integer(run.value) == -42);
+    calls.length = calls.count = 0;
+    test("a new list is put into the same words",
+         sofaduck_put_run(&calls, 1) && sofaduck_state_play(&s, &calls, answers, ANSWERS, &made) == 0 && made == 1
+             && sofaduck_answer_at(answers, 0).number == SOFADUCK_BAD_PHASE);
+    free(answers), free(calls.words);
+    end(&s);
 }
 
 /* What the text of an object is. */
@@ -303,6 +376,7 @@ int main(int argc, char **argv) {
         return 2;
     }
     texts();
+    lists();
     selectors();
     frames();
     every_send();
