@@ -124,7 +124,7 @@ module _ (r : Registers) (contents bodies stack cache calls answers : List ℕ) 
 
   pub plays-all : (m : Made) (contents′ bodies′ stack′ cache′ answers′ : List ℕ) → accepted ≡ check s
       → Plays calls answers s (m .calls) (state (m .registers) contents′ bodies′ stack′ cache′) answers′
-      → PromisedPlay s calls answers (M.Made (m .registers) (m .calls)) contents′ bodies′ stack′ cache′ answers′
+      → PromisedPlay s calls answers (M.Made m) contents′ bodies′ stack′ cache′ answers′
   unfolding playGives
   plays-all m contents′ bodies′ stack′ cache′ answers′ e p =
       (play-made s calls answers (m .calls) (state (m .registers) contents′ bodies′ stack′ cache′) answers′ e p, plays-alike s calls answers)

@@ -30,7 +30,7 @@ replyGives p contents bodies stack cache = gives (answerIn p) (state (registersI
 
 -- Play: the registers come back, those after the calls or as they were.
 unfoldable pub playGives : Played → List ℕ → List ℕ → List ℕ → List ℕ → List ℕ → C.Played
-playGives (M.Made r k) contents bodies stack cache answers = played k (state r contents bodies stack cache) answers
+playGives (M.Made m) contents bodies stack cache answers = played (m .calls) (state (m .registers) contents bodies stack cache) answers
 playGives (M.Refused k r) contents bodies stack cache answers = unplayed k (state r contents bodies stack cache) answers
 
 -- What play promises of its answer and the buffers afterwards: they are those of the calls made singly, on which the two machines agree.

@@ -105,16 +105,16 @@ pub enum Saved {
     Refused(u32),
 }
 
-// The answer of play: the registers after a list of calls, and how many were made; or the list is refused.
-pub enum Played {
-    Made { registers: Registers, calls: u32 },
-    Refused(u32, Registers),
-}
-
-// What calls of a list left: the registers, and how many were made.
+// What the calls of a list left: the registers, and how many were made.
 pub struct Made {
     pub registers: Registers,
     pub calls: u32,
+}
+
+// The answer of play.
+pub enum Played {
+    Made(Made),
+    Refused(u32, Registers),
 }
 
 // A call of a list that was made: its answer, and the registers that it left. Phase and value of a run are those of the registers.
@@ -402,7 +402,7 @@ impl Registers {
         }
     }
 
-    // A send from no frame, all frames removed: 12 in phase 1, then 8, 9, 10, 13. The cache stays as it is and belongs to the state.
+    // A send from no frame, all frames removed: 12 in phase 1, then 8, 9, 10, 13. The cache is not touched: it belongs to the state that was checked.
     fn begin_checked(
         self,
         contents: &mut [u16],
@@ -441,6 +441,7 @@ impl Registers {
         }
     }
 
+    // The same behind a check.
     pub fn begin(
         self,
         contents: &mut [u16],
@@ -469,7 +470,7 @@ impl Registers {
         }
     }
 
-    // At most `grant` bytecodes; 12 outside phase 1. The only caller of `runs::run`, whose loop then has one place in the program.
+    // At most `grant` bytecodes; 12 outside phase 1. It alone calls `runs::run`, so that the loop is compiled once.
     fn run_checked(
         self,
         contents: &mut [u16],
@@ -505,6 +506,7 @@ impl Registers {
         }
     }
 
+    // The same behind a check.
     pub fn run(
         self,
         contents: &mut [u16],
@@ -586,7 +588,7 @@ impl Registers {
         }
     }
 
-    // The calls of a list one after another, as long as there is room for an answer.
+    // The calls of a list one after another, as long as there is room for an answer. Check accepts the state after each, as the theorem says.
     pub fn play_checked(
         self,
         contents: &mut [u16],
@@ -624,7 +626,7 @@ impl Registers {
         }
     }
 
-    // A list of calls as `calls` has it in words: the state is looked at once, 3 or 11 refuses them all.
+    // The same behind one check: 3 or 11 refuses the whole list.
     pub fn play(
         self,
         contents: &mut [u16],
@@ -642,12 +644,7 @@ impl Registers {
             Checked::Refused(k) => Played::Refused(k, self),
             Checked::Right => {
                 let made = self.play_checked(contents, bodies, stack, cache, calls, answers);
-                let registers = made.registers;
-                let count = made.calls;
-                Played::Made {
-                    registers: registers,
-                    calls: count,
-                }
+                Played::Made(made)
             }
         }
     }

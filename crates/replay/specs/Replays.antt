@@ -34,5 +34,5 @@ pub record Declines (s : Flat) (image answers : List ℕ) (k : ℕ) (s′ : Flat
   pub unwritten : answers′ ≡ answers
 
 abbrev pub Replays : Flat → List ℕ → List ℕ → List ℕ → List ℕ → List ℕ → List ℕ → List ℕ → List ℕ → Replayed → Type 0
-Replays s image calls answers contents bodies stack cache answers′ (M.Made r k) = Makes s image calls answers k (state r contents bodies stack cache) answers′
+Replays s image calls answers contents bodies stack cache answers′ (M.Made m) = Makes s image calls answers (m .calls) (state (m .registers) contents bodies stack cache) answers′
 Replays s image calls answers contents bodies stack cache answers′ (M.Refused k) = Declines s image answers k (flat R.noRegisters contents bodies stack cache) answers′

@@ -3,11 +3,11 @@ ghost use Rattle.plain.specs.Registers as R;
 ghost use Rattle.plain.specs.Flat.{flat};
 ghost use Rattle.replay.specs.Replays.{Replays};
 use machine::Loaded;
-use machine::Registers;
+use machine::Made;
 
 // The calls were made, or the image is refused and nothing else is done.
 pub enum Replayed {
-    Made { registers: Registers, calls: u32 },
+    Made(Made),
     Refused(u32),
 }
 
@@ -29,12 +29,7 @@ pub fn replay(
     match machine::load(image, contents, bodies, cache) {
         Loaded::Accepted(start) => {
             let made = start.play_checked(contents, bodies, stack, cache, calls, answers);
-            let registers = made.registers;
-            let count = made.calls;
-            Replayed::Made {
-                registers: registers,
-                calls: count,
-            }
+            Replayed::Made(made)
         }
         Loaded::Refused(k, _) => Replayed::Refused(k),
     }

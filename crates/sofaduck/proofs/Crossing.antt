@@ -18,6 +18,7 @@ use Rattle.machine.specs.declared.Dropped.{Dropped}
 use Rattle.machine.specs.declared.Forgotten.{Forgotten}
 use Rattle.machine.specs.declared.Checked.{Checked}
 use Rattle.machine.specs.declared.Saved.{Saved}
+use Rattle.machine.specs.declared.Made.{Made}
 use Rattle.machine.specs.declared.Played.{Played}
 use Rattle.machine.specs.State.{registersOf, state, loadGives, beginGives, runGives, ReachIs, dropGives, forgetGives, checkGives, saveGives}
 use Rattle.machine.specs.Lists.{playGives, PromisedPlay}
@@ -174,11 +175,11 @@ module _ (words contents bodies stack cache : List ℕ) (b : Registers) (t : reg
     e₁ : playGives x contents′ bodies′ stack′ cache′ answers′ ≡ flatPlay (stateOf words contents bodies stack cache) calls answers
     e₁ = e .0 ∙ ap (λ (s : Flat). flatPlay s calls answers) same
 
-    pub play-done : (r : Registers) (k : ℕ) → x ≡ M.Made r k → words′ ≡ seven (registersOf r)
-        → seesPlay 0 k words′ contents′ bodies′ stack′ cache′ answers′ ≡ seenPlay before (flatPlay (stateOf words contents bodies stack cache) calls answers)
+    pub play-done : (m : Made) → x ≡ M.Made m → words′ ≡ seven (registersOf (m .registers))
+        → seesPlay 0 (m .calls) words′ contents′ bodies′ stack′ cache′ answers′ ≡ seenPlay before (flatPlay (stateOf words contents bodies stack cache) calls answers)
     unfolding playGives
-    play-done r k q p =
-        (λ i. seesPlay 0 k (p i) contents′ bodies′ stack′ cache′ answers′)
+    play-done m q p =
+        (λ i. seesPlay 0 (m .calls) (p i) contents′ bodies′ stack′ cache′ answers′)
         ∙ ap (seenPlay before) (ap (λ (y : Played). playGives y contents′ bodies′ stack′ cache′ answers′) (sym q) ∙ e₁)
 
     pub play-refused : (k : ℕ) (r : Registers) → x ≡ M.Refused k r → words′ ≡ seven (registersOf r)

@@ -182,12 +182,9 @@ pub extern "C" fn sofaduck_play(
 {
     let before = read_registers(registers);
     match before.play(contents, bodies, stack, cache, calls, answers) {
-        Played::Made {
-            registers: r,
-            calls: count,
-        } => {
-            write_registers(registers, r);
-            *made = count;
+        Played::Made(played) => {
+            write_registers(registers, played.registers);
+            *made = played.calls;
             0
         }
         Played::Refused(k, r) => {

@@ -40,7 +40,7 @@ same-length-5 c = search needs
 
 returns : tie.Need-returns
 returns c =
-    let at-play-checked = c .before .before .before .before .before .before .before .before .before .before .before in
+    let at-play-checked = c .before .before .before .before .before .before .before .before .before .before in
     let at-start = at-play-checked .before .before .before .before .before .before .before in
     let at-load = at-start .before .before .before .before .before .before .before .before in
     let at-start′ = at-load .before .before .before .before .before .before .before .before .before .before .before in

@@ -9,8 +9,8 @@ read-registers-requires c κs = search needs
 play-requires : tie.Need-play-requires
 play-requires c κs = search needs
 
-enum-known-r : tie.Need-enum-known-r
-enum-known-r c = search needs
+enum-known-played : tie.Need-enum-known-played
+enum-known-played c = search needs
 
 write-registers-requires : tie.Need-write-registers-requires
 write-registers-requires c κs = search needs
@@ -38,14 +38,14 @@ same-length-5 c = search needs
 
 returns : tie.Need-returns
 returns c =
-    let at-r = c .before .before .before in
-    let at-play = at-r .before .before .before .before .before .before .before .before .before .before .before .before in
+    let at-played = c .before .before .before in
+    let at-play = at-played .before .before .before .before .before .before .before .before .before .before .before .before in
     let at-read-registers = at-play .before .before .before .before .before .before in
     let at-start = at-read-registers .before .before .before .before .before .before .before .before in
     let args = at-start .args in
     play-done (args .registers .now) (args .contents .now) (args .bodies .now) (args .stack .now) (args .cache .now)
     (at-read-registers .read-registers .result) (at-read-registers .read-registers .ensures) (args .calls .now) (args .answers .now) _ _ _ _ _ _
-    (at-play .play .result) (at-play .play .ensures) (args .made .now) _ _ (at-r .r .given .1) (c .write-registers .ensures)
+    (at-play .play .result) (at-play .play .ensures) (args .made .now) _ (at-played .played .given .1) (c .write-registers .ensures)
 
 same-length-6 : tie.Need-same-length-6
 same-length-6 c = search needs
@@ -79,7 +79,7 @@ sofaduck-play-spec =
     (tie.spec
     read-registers-requires
     play-requires
-    enum-known-r
+    enum-known-played
     write-registers-requires
     enum-known-k
     write-registers-requires-2

@@ -60,7 +60,7 @@ same-length-9 c = search needs
 
 returns-2 : tie.Need-returns-2
 returns-2 c =
-    let at-play-checked = c .before .before .before .before .before .before .before .before .before .before .before in
+    let at-play-checked = c .before .before .before .before .before .before .before .before .before .before in
     let at-enum-told = at-play-checked .before .before .before .before .before .before in
     let at-check = at-enum-told .before .before in
     let at-start = at-check .before .before .before .before .before .before .before .before .before .before .before in
