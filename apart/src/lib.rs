@@ -8,6 +8,7 @@ pub mod image;
 pub mod listing;
 pub mod machine;
 pub mod objects;
+pub mod play;
 pub mod primitives;
 pub mod refusal;
 pub mod rules;

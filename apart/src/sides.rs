@@ -3,6 +3,7 @@
 use apart::calls::{self, Lent, Registers};
 use apart::counts::Counts;
 use apart::machine::{Unwatched, Watch};
+use apart::play::{self, Listed, ANSWER_WORDS};
 use apart::refusal::Refusal;
 
 extern "C" {
@@ -93,6 +94,22 @@ extern "C" {
         output_length: usize,
         length: *mut u32,
     ) -> u32;
+    fn sofaduck_play(
+        contents: *mut u16,
+        contents_length: usize,
+        bodies: *mut u16,
+        bodies_length: usize,
+        stack: *mut u16,
+        stack_length: usize,
+        cache: *mut u16,
+        cache_length: usize,
+        registers: *mut Registers,
+        calls: *const u16,
+        calls_length: usize,
+        answers: *mut u32,
+        answers_length: usize,
+        made: *mut u32,
+    ) -> u32;
 }
 
 #[derive(Clone, Debug, PartialEq)]
@@ -109,6 +126,11 @@ pub enum Call {
     Check,
     /// With an output of so many bytes.
     Save(usize),
+    /// A list of calls in words, with room for so many words of answers.
+    Play {
+        words: Vec<u16>,
+        room: usize,
+    },
     /// A word changed from outside: contents, bodies, stack, cache or registers.
     Write {
         buffer: usize,
@@ -119,7 +141,7 @@ pub enum Call {
     Lengths([usize; 4]),
 }
 
-pub const CALLS: [&str; 7] = ["load", "begin", "run", "drop", "forget", "check", "save"];
+pub const CALLS: [&str; 8] = ["load", "begin", "run", "drop", "forget", "check", "save", "play"];
 
 impl Call {
     /// Its place in `CALLS`.
@@ -132,6 +154,7 @@ impl Call {
             Call::Forget => Some(4),
             Call::Check => Some(5),
             Call::Save(_) => Some(6),
+            Call::Play { .. } => Some(7),
             _ => None,
         }
     }
@@ -139,9 +162,47 @@ impl Call {
     pub fn text(&self) -> String {
         match self {
             Call::Load(image) => format!("load {} bytes", image.len()),
+            Call::Play { words, room } => {
+                let (calls, rest) = listed(words);
+                let lines: String = calls.iter().map(|call| format!("\n    {}", call.text())).collect();
+                let behind = if rest.is_empty() { String::new() } else { format!("\n    {rest:?}, no call") };
+                format!("Play with {room} words for answers{lines}{behind}")
+            }
             other => format!("{other:?}"),
         }
     }
+
+    /// Its words in a list; none for a call that no list can have.
+    pub fn words(&self) -> Vec<u16> {
+        match self {
+            Call::Begin { receiver, selector, arguments } => [&[0, *receiver, *selector, arguments.len() as u16], &arguments[..]].concat(),
+            Call::Run(n) => vec![1, (n >> 16) as u16, *n as u16],
+            Call::Drop => vec![2],
+            Call::Forget => vec![3],
+            _ => vec![],
+        }
+    }
+}
+
+impl From<Listed<'_>> for Call {
+    fn from(call: Listed) -> Call {
+        match call {
+            Listed::Begin { receiver, selector, arguments } => Call::Begin { receiver, selector, arguments: arguments.to_vec() },
+            Listed::Run(n) => Call::Run(n),
+            Listed::Drop => Call::Drop,
+            Listed::Forget => Call::Forget,
+        }
+    }
+}
+
+/// The calls of a list, and the words behind them that are none.
+pub fn listed(words: &[u16]) -> (Vec<Call>, &[u16]) {
+    let (mut calls, mut words) = (vec![], words);
+    while let Ok((call, rest)) = play::first(words) {
+        calls.push(call.into());
+        words = rest;
+    }
+    (calls, words)
 }
 
 /// Words behind each buffer that no call may touch.
@@ -165,12 +226,24 @@ pub struct Outcome {
     pub reach: u32,
     pub length: u32,
     pub output: Vec<u8>,
+    pub made: u32,
+    pub answers: Vec<u32>,
     pub refusal: Option<Refusal>,
 }
 
 fn outcome(call: &Call) -> Outcome {
     let bytes = if let Call::Save(bytes) = call { bytes + GUARD } else { 0 };
-    Outcome { number: 0, count: UNWRITTEN, reach: UNWRITTEN, length: UNWRITTEN, output: vec![0xA5; bytes], refusal: None }
+    let words = if let Call::Play { room, .. } = call { room + GUARD } else { 0 };
+    Outcome {
+        number: 0,
+        count: UNWRITTEN,
+        reach: UNWRITTEN,
+        length: UNWRITTEN,
+        output: vec![0xA5; bytes],
+        made: UNWRITTEN,
+        answers: vec![UNWRITTEN; words],
+        refusal: None,
+    }
 }
 
 /// A word changed from outside, or other lengths: the same on both sides.
@@ -211,6 +284,7 @@ pub fn plain_watched<W: Watch>(call: &Call, buffers: &mut Buffers, counts: &mut 
         Call::Forget => calls::forget(&mut lent),
         Call::Check => calls::check(&lent),
         Call::Save(bytes) => calls::save(&lent, &mut outcome.output[..*bytes]).map(|length| outcome.length = length),
+        Call::Play { words, room } => play::play(&mut lent, words, &mut outcome.answers[..*room], counts).map(|made| outcome.made = made),
         Call::Write { .. } | Call::Lengths(_) => Ok(()),
     };
     if let Err(refusal) = answer {
@@ -241,10 +315,43 @@ pub fn library(call: &Call, buffers: &mut Buffers) -> Outcome {
             Call::Save(bytes) => {
                 sofaduck_save(contents, a, bodies, b, stack, c, cache, d, registers, outcome.output.as_mut_ptr(), *bytes, &mut outcome.length)
             }
+            Call::Play { words, room } => {
+                let (list, length, answers) = (words.as_ptr(), words.len(), outcome.answers.as_mut_ptr());
+                sofaduck_play(contents, a, bodies, b, stack, c, cache, d, registers, list, length, answers, *room, &mut outcome.made)
+            }
             Call::Write { .. } | Call::Lengths(_) => 0,
         }
     };
     outcome
+}
+
+/// What the library's other calls come to when a list is made by them, one after the other: play has to come to the same.
+pub fn library_singly(call: &Call, before: &Buffers) -> Option<(Outcome, Buffers)> {
+    let (words, room) = match call {
+        Call::Play { words, room } => (words, *room),
+        _ => return None,
+    };
+    let (mut outcome, mut buffers) = (outcome(call), before.clone());
+    outcome.number = library(&Call::Check, &mut buffers).number;
+    if outcome.number == 0 {
+        outcome.made = 0;
+        for (call, answer) in listed(words).0.iter().zip(outcome.answers[..room].chunks_exact_mut(ANSWER_WORDS)) {
+            let single = library(call, &mut buffers);
+            let ran = matches!(call, Call::Run(_)) && single.number == 0;
+            let [.., phase, _, value] = buffers.registers.map(u32::from);
+            answer.copy_from_slice(&if ran { [0, phase, single.count, value] } else { [single.number, 0, 0, 0] });
+            outcome.made += 1;
+        }
+    }
+    Some((outcome, buffers))
+}
+
+/// The first place where two differ.
+fn first_other<T: PartialEq>(left: &[T], right: &[T]) -> Option<usize> {
+    if left == right {
+        return None;
+    }
+    (0..left.len()).find(|index| left[*index] != right[*index])
 }
 
 /// What differs after a call, in words.
@@ -259,6 +366,13 @@ pub fn difference(plain: &Outcome, proved: &Outcome, ours: &Buffers, theirs: &Bu
     if plain.length != proved.length || plain.output != proved.output {
         return Some(format!("output: plain length {}, library {}", plain.length, proved.length));
     }
+    if plain.made != proved.made {
+        return Some(format!("calls made: plain {}, library {}", plain.made, proved.made));
+    }
+    if let Some(index) = first_other(&plain.answers, &proved.answers) {
+        let (call, word) = (index / ANSWER_WORDS, ["number", "phase", "count", "value"][index % ANSWER_WORDS]);
+        return Some(format!("answers, call {call} from 0, {word}: plain {}, library {}", plain.answers[index], proved.answers[index]));
+    }
     let reach_right =
         if plain.reach == UNWRITTEN { proved.reach == UNWRITTEN } else { proved.reach >= plain.reach && proved.reach as usize <= ours.lengths[2] };
     if !reach_right {
@@ -269,10 +383,7 @@ pub fn difference(plain: &Outcome, proved: &Outcome, ours: &Buffers, theirs: &Bu
     }
     for (buffer, name) in ["contents", "bodies", "stack", "cache"].iter().enumerate() {
         let (left, right) = (&ours.words[buffer], &theirs.words[buffer]);
-        if left == right {
-            continue;
-        }
-        if let Some(index) = (0..left.len()).find(|index| left[*index] != right[*index]) {
+        if let Some(index) = first_other(left, right) {
             return Some(format!("{name} word {index}: plain {}, library {}", left[index], right[index]));
         }
     }

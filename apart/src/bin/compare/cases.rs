@@ -8,6 +8,7 @@ use crate::report::Report;
 use crate::sides::*;
 use apart::machine::RUNNING;
 use apart::objects::*;
+use apart::play::ANSWER_WORDS;
 use apart::rules::{judge, World};
 use apart::words::*;
 
@@ -32,11 +33,15 @@ impl<'a> Pair<'a> {
         self.calls.push(call);
         let call = self.calls.last().unwrap();
         let ours = plain(call, &mut self.ours, &mut self.report.counts);
+        let singly = library_singly(call, &self.theirs);
         let theirs = library(call, &mut self.theirs);
         self.report.note(call, &ours, &self.ours);
-        match difference(&ours, &theirs, &self.ours, &self.theirs) {
+        if let Some(what) = difference(&ours, &theirs, &self.ours, &self.theirs) {
+            return Err(what);
+        }
+        match singly.and_then(|(theirs, buffers)| difference(&ours, &theirs, &self.ours, &buffers)) {
             None => Ok(ours),
-            Some(what) => Err(what),
+            Some(what) => Err(format!("play agrees, but not the library's single calls: {what}")),
         }
     }
 
@@ -114,10 +119,15 @@ fn recurse(random: &mut Random, draft: &mut Draft) -> bool {
 fn deep_case(random: &mut Random, pair: &mut Pair, draft: &Draft) -> Compared<()> {
     pair.make(Call::Load(draft.image()))?;
     for receiver in [NIL, draft.receiver, 3] {
-        pair.make(Call::Begin { receiver, selector: draft.selector, arguments: vec![] })?;
-        pair.make(Call::Run(random.from(3_000, 7_000) as u32))?;
-        pair.make(Call::Run(10_000))?;
-        pair.make(Call::Drop)?;
+        let begin = Call::Begin { receiver, selector: draft.selector, arguments: vec![] };
+        let calls = [begin, Call::Run(random.from(3_000, 7_000) as u32), Call::Run(10_000), Call::Drop];
+        if random.percent(50) {
+            pair.make(play(random, &calls))?;
+            continue;
+        }
+        for call in calls {
+            pair.make(call)?;
+        }
     }
     Ok(())
 }
@@ -199,14 +209,27 @@ fn primitive_case(random: &mut Random, pair: &mut Pair, image: Vec<u8>) -> Compa
             None => return Ok(()),
         };
         let left = pair.ours.lengths[1].min(MOST_BODY_WORDS) as i64 - pair.ours.registers[1] as i64;
+        if random.percent(5) {
+            let calls: Vec<Call> = (0..random.from(1, 8)).flat_map(|_| [primitive_message(random, &world, left), run_or_drop(random)]).collect();
+            pair.make(play(random, &calls))?;
+            continue;
+        }
         let call = primitive_message(random, &world, left);
         pair.make(call)?;
         if pair.ours.registers[4] == RUNNING {
-            let call = if random.percent(50) { run(random) } else { Call::Drop };
+            let call = run_or_drop(random);
             pair.make(call)?;
         }
     }
     Ok(())
+}
+
+fn run_or_drop(random: &mut Random) -> Call {
+    if random.percent(50) {
+        run(random)
+    } else {
+        Call::Drop
+    }
 }
 
 /// Pairs of a selector and a method with a primitive, in all dictionaries.
@@ -281,11 +304,49 @@ fn some_call(random: &mut Random, pair: &Pair) -> Call {
         1 => Call::Forget,
         2 => Call::Drop,
         3 => Call::Save(image_length(pair) + random.pick(&[0, 0, 1, 100]) - random.pick(&[0, 0, 0, 1])),
-        4..=11 => message(random, pair),
+        4..=7 => list(random, pair),
+        8..=11 => message(random, pair.world().as_ref()),
         12..=16 => run(random),
         _ if running => run(random),
-        _ => message(random, pair),
+        _ => message(random, pair.world().as_ref()),
     }
+}
+
+/// Calls of all kinds for play, refused ones among them.
+fn list(random: &mut Random, pair: &Pair) -> Call {
+    let world = pair.world();
+    let mut calls: Vec<Call> = vec![];
+    for _ in 0..random.pick(&[0, 1, 2, 3, 5, 8, 12, 20]) {
+        let begun = matches!(calls.last(), Some(Call::Begin { .. }));
+        calls.push(match random.below(20) {
+            0 => Call::Forget,
+            1 | 2 => Call::Drop,
+            3..=5 => message(random, world.as_ref()),
+            6..=8 => run(random),
+            _ if begun => run(random),
+            _ => message(random, world.as_ref()),
+        });
+    }
+    play(random, &calls)
+}
+
+/// A list of these calls, cut in some cases or with another first word in between, and with too little room for answers in some.
+fn play(random: &mut Random, calls: &[Call]) -> Call {
+    let mut words: Vec<Vec<u16>> = calls.iter().map(Call::words).collect();
+    match random.below(8) {
+        0 => {
+            if let Some(last) = words.last_mut() {
+                last.truncate(1 + random.below(last.len()));
+            }
+        }
+        // A begin whose arguments are not there.
+        1 => words.push(vec![0, NIL, NIL, random.pick(&[1, 2, 32_768, 65_535])]),
+        2 => words.insert(random.below(calls.len() + 1), vec![random.pick(&[4, 5, 256, 65_535])]),
+        _ => {}
+    }
+    let most = ANSWER_WORDS * calls.len();
+    let room = if random.percent(20) { random.below(most + 1) } else { most + random.below(9) };
+    Call::Play { words: words.concat(), room }
 }
 
 fn image_length(pair: &Pair) -> usize {
@@ -300,6 +361,8 @@ fn run(random: &mut Random) -> Call {
         7..=9 => random.from(1, 400) as u32,
         10 => random.from(1, 2_000) as u32,
         _ if random.percent(5) => random.from(1, 60_000) as u32,
+        // In a list two words, the low one small.
+        _ if random.percent(25) => (65_536 * random.from(1, 2) + random.below(4)) as u32,
         _ => 500,
     })
 }
@@ -316,8 +379,8 @@ fn argument(random: &mut Random, n: usize) -> u16 {
 }
 
 /// A begin, most often of a method that is there.
-fn message(random: &mut Random, pair: &Pair) -> Call {
-    let world = match pair.world() {
+fn message(random: &mut Random, world: Option<&World>) -> Call {
+    let world = match world {
         Some(world) => world,
         None => return Call::Begin { receiver: NIL, selector: NIL, arguments: vec![] },
     };
@@ -357,6 +420,8 @@ fn message(random: &mut Random, pair: &Pair) -> Call {
             arguments.pop();
         }
         5 => receiver = argument(random, n),
+        // Up to as many as a list can say.
+        6 if random.percent(5) => arguments.resize(random.pick(&[256, 65_535]), NIL),
         _ => {}
     }
     Call::Begin { receiver, selector, arguments }
@@ -390,12 +455,13 @@ fn shortened(random: &mut Random, pair: &mut Pair) -> Compared<()> {
 
 /// Each of the calls but load as often as the others.
 fn any_call(random: &mut Random, pair: &Pair) -> Call {
-    match random.below(6) {
+    match random.below(7) {
         0 => Call::Drop,
         1 => Call::Forget,
         2 => Call::Save(image_length(pair).min(600_000)),
-        3 => message(random, pair),
+        3 => message(random, pair.world().as_ref()),
         4 => run(random),
+        5 => list(random, pair),
         _ => Call::Check,
     }
 }

@@ -26,9 +26,10 @@ const HELP: &str = "usage: compare [SEED [SECONDS]]
        compare SEED --case NUMBER
 
 Makes the same calls on the machine written apart and on the proved library, and compares what each gives: answers, registers, every word of
-contents, bodies, stack and cache, and the bytes that save writes. Without SECONDS it makes a fixed number of cases and asks that all of the
-machine was covered; with SECONDS it goes on for so long. A difference is printed with the calls that show it, its image is written to
-target/apart/difference.image, and the status is 1. --case makes one case again.";
+contents, bodies, stack and cache, the bytes that save writes, and the answers of play. What play comes to has also to be what the library's
+single calls come to. Without SECONDS it makes a fixed number of cases and asks that all of the machine was covered; with SECONDS it goes on
+for so long. A difference is printed with the calls that show it, its image is written to target/apart/difference.image, and the status is 1.
+--case makes one case again.";
 
 enum Extent {
     Fixed,

@@ -2,23 +2,34 @@
 
 use crate::sides::*;
 use apart::counts::Counts;
+use apart::play::{ANSWER_WORDS, ENDS};
 use std::collections::BTreeMap;
+use std::ops::Range;
 
 #[derive(Default)]
 pub struct Report {
     pub counts: Counts,
     pub cases: u64,
     /// By call and refusal number; 0 is accepted.
-    answers: BTreeMap<(usize, u32), u64>,
+    answers: Tally,
     /// By refusal number of load and what was wrong.
     reasons: BTreeMap<(u32, &'static str), u64>,
     /// By number of the call, begin or run, and the phase it left.
-    phases: BTreeMap<(usize, u16), u64>,
+    phases: Tally,
+    /// The same of the calls that play made. There a begin's answer has no phase.
+    listed_answers: Tally,
+    listed_phases: Tally,
 }
 
+/// How often each number came, by call.
+type Tally = BTreeMap<(usize, u32), u64>;
+
 /// The refusals that a call can give.
-const POSSIBLE: [&[u32]; 7] =
-    [&[0, 1, 2, 3, 4, 5, 6, 7, 8], &[0, 3, 8, 9, 10, 11, 12, 13], &[0, 3, 11, 12], &[0, 3, 11], &[0, 3, 11], &[0, 3, 11], &[0, 3, 11]];
+const POSSIBLE: [&[u32]; 8] =
+    [&[0, 1, 2, 3, 4, 5, 6, 7, 8], &[0, 3, 8, 9, 10, 11, 12, 13], &[0, 3, 11, 12], &[0, 3, 11], &[0, 3, 11], &[0, 3, 11], &[0, 3, 11], &[0, 3, 11]];
+
+/// The calls that a list can have: begin, run, drop, forget.
+const LISTED: Range<usize> = 1..5;
 
 /// Ranges of bytecodes, by their first and last.
 const RANGES: [(usize, usize); 28] = [
@@ -54,18 +65,50 @@ const RANGES: [(usize, usize); 28] = [
 
 const PRIMITIVES: [u16; 24] = [1, 2, 3, 4, 5, 6, 7, 8, 9, 10, 11, 12, 13, 14, 15, 16, 17, 60, 61, 62, 70, 71, 110, 111];
 
+fn count(tally: &mut Tally, call: usize, number: u32) {
+    *tally.entry((call, number)).or_insert(0) += 1;
+}
+
+/// Those of the numbers that a call did not come to.
+fn unmet<'a>(tally: &'a Tally, call: usize, numbers: &'a [u32]) -> impl Iterator<Item = &'a u32> {
+    numbers.iter().filter(move |number| !tally.contains_key(&(call, **number)))
+}
+
+fn print_tally(tally: &Tally, calls: Range<usize>) {
+    for call in calls {
+        let of_call = tally.iter().filter(|((of, _), _)| *of == call);
+        let texts: Vec<String> = of_call.map(|((_, number), count)| format!("{number}: {count}")).collect();
+        println!("  {:7}{}", CALLS[call], texts.join(", "));
+    }
+}
+
 impl Report {
     pub fn note(&mut self, call: &Call, outcome: &Outcome, after: &Buffers) {
         let index = match call.index() {
             Some(index) => index,
             None => return,
         };
-        *self.answers.entry((index, outcome.number)).or_insert(0) += 1;
+        count(&mut self.answers, index, outcome.number);
         if let Some(refusal) = outcome.refusal {
             *self.reasons.entry((refusal.number, refusal.why)).or_insert(0) += 1;
         }
         if outcome.number == 0 && (index == 1 || index == 2) {
-            *self.phases.entry((index, after.registers[4])).or_insert(0) += 1;
+            count(&mut self.phases, index, after.registers[4] as u32);
+        }
+        if let (0, Call::Play { words, .. }) = (outcome.number, call) {
+            let answers = outcome.answers.chunks(ANSWER_WORDS).take(outcome.made as usize);
+            for (call, answer) in listed(words).0.iter().zip(answers) {
+                self.note_listed(call, answer[0], answer[1]);
+            }
+        }
+    }
+
+    fn note_listed(&mut self, call: &Call, number: u32, phase: u32) {
+        if let Some(index) = call.index() {
+            count(&mut self.listed_answers, index, number);
+            if number == 0 && index == 2 {
+                count(&mut self.listed_phases, index, phase);
+            }
         }
     }
 
@@ -73,15 +116,20 @@ impl Report {
     pub fn missing(&self) -> Vec<String> {
         let mut missing = vec![];
         for (index, numbers) in POSSIBLE.iter().enumerate() {
-            for number in numbers.iter().filter(|number| !self.answers.contains_key(&(index, **number))) {
-                missing.push(format!("{} answering {number}", CALLS[index]));
-            }
+            missing.extend(unmet(&self.answers, index, numbers).map(|number| format!("{} answering {number}", CALLS[index])));
         }
-        for (call, phases) in [(1, &[1, 2][..]), (2, &[1, 2, 3, 4, 5][..])] {
-            for phase in phases.iter().filter(|phase| !self.phases.contains_key(&(call, **phase))) {
-                missing.push(format!("phase {phase} after {}", CALLS[call]));
-            }
+        for index in LISTED {
+            // A state that is not right refuses the whole list.
+            let numbers = unmet(&self.listed_answers, index, POSSIBLE[index]).filter(|number| ![3, 11].contains(*number));
+            missing.extend(numbers.map(|number| format!("{} in a list answering {number}", CALLS[index])));
         }
+        let halts_too = &[1, 2, 3, 4, 5][..];
+        for (tally, call, phases, place) in
+            [(&self.phases, 1, &[1, 2][..], ""), (&self.phases, 2, halts_too, ""), (&self.listed_phases, 2, halts_too, " in a list")]
+        {
+            missing.extend(unmet(tally, call, phases).map(|phase| format!("phase {phase} after {}{place}", CALLS[call])));
+        }
+        missing.extend(ENDS.iter().filter(|end| !self.counts.events.contains_key(*end)).map(|end| end.to_string()));
         for byte in (0..256).filter(|byte| !(125..128).contains(byte) && !(137..144).contains(byte)) {
             if self.counts.bytecodes[byte] == 0 {
                 missing.push(format!("bytecode {byte}"));
@@ -101,17 +149,13 @@ impl Report {
 
     pub fn print(&self) {
         println!("answers (0 is accepted, else the refusal):");
-        for (index, name) in CALLS.iter().enumerate() {
-            let of_call = self.answers.iter().filter(|((call, _), _)| *call == index);
-            let texts: Vec<String> = of_call.map(|((_, number), count)| format!("{number}: {count}")).collect();
-            println!("  {name:7}{}", texts.join(", "));
-        }
+        print_tally(&self.answers, 0..CALLS.len());
         println!("phases:");
-        for call in [1, 2] {
-            let of_call = self.phases.iter().filter(|((of, _), _)| *of == call);
-            let texts: Vec<String> = of_call.map(|((_, phase), count)| format!("{phase}: {count}")).collect();
-            println!("  {:7}{}", CALLS[call], texts.join(", "));
-        }
+        print_tally(&self.phases, 1..3);
+        println!("answers within the lists of play:");
+        print_tally(&self.listed_answers, LISTED);
+        println!("phases within the lists of play:");
+        print_tally(&self.listed_phases, 2..3);
         println!("bytecodes made:");
         for (first, last) in RANGES {
             let made = &self.counts.bytecodes[first..=last];

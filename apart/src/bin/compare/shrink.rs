@@ -3,6 +3,7 @@
 use crate::cases::Pair;
 use crate::report::Report;
 use crate::sides::*;
+use apart::play;
 
 /// What differs when these calls are made, and how many were made until then.
 fn differs(first: &Buffers, calls: &[Call]) -> Option<(usize, String)> {
@@ -28,6 +29,32 @@ pub fn shrink(first: &Buffers, calls: Vec<Call>, what: String) -> (Vec<Call>, St
     }
 }
 
+fn less_of(call: &Call) -> Vec<Call> {
+    match call {
+        Call::Run(n) => [n / 2, n.saturating_sub(1)].into_iter().filter(|less| less < n).map(Call::Run).collect(),
+        Call::Play { words, room } => shorter_lists(words).into_iter().map(|words| Call::Play { words, room: *room }).collect(),
+        _ => vec![],
+    }
+}
+
+/// A list without one of its calls, with less granted by one, or without the words behind them.
+fn shorter_lists(words: &[u16]) -> Vec<Vec<u16>> {
+    let mut lists = vec![];
+    let mut rest = words;
+    while let Ok((_, behind)) = play::first(rest) {
+        let before = &words[..words.len() - rest.len()];
+        lists.push([before, behind].concat());
+        if let [1, high, low, ..] = *rest {
+            let less = [[1, high / 2, low], [1, high, low / 2], [1, high, low.saturating_sub(1)]];
+            lists.extend(less.iter().map(|run| [before, run, behind].concat()));
+        }
+        rest = behind;
+    }
+    lists.push(words[..words.len() - rest.len()].to_vec());
+    lists.retain(|list| list != words);
+    lists
+}
+
 fn smaller(first: &Buffers, calls: &[Call]) -> Option<(Vec<Call>, String)> {
     let mut tries: Vec<Vec<Call>> = vec![];
     for index in 0..calls.len() {
@@ -36,12 +63,10 @@ fn smaller(first: &Buffers, calls: &[Call]) -> Option<(Vec<Call>, String)> {
         tries.push(fewer);
     }
     for index in 0..calls.len() {
-        if let Call::Run(n) = calls[index] {
-            for less in [n / 2, n.saturating_sub(1)].into_iter().filter(|less| *less < n) {
-                let mut shorter = calls.to_vec();
-                shorter[index] = Call::Run(less);
-                tries.push(shorter);
-            }
+        for less in less_of(&calls[index]) {
+            let mut shorter = calls.to_vec();
+            shorter[index] = less;
+            tries.push(shorter);
         }
     }
     for mut tried in tries {

@@ -1,0 +1,73 @@
+//! Lists of calls in words, and the call that makes a whole one.
+
+use crate::calls::*;
+use crate::counts::Counts;
+use crate::refusal::Refusal;
+
+/// A call as a list can have it.
+pub enum Listed<'a> {
+    Begin { receiver: u16, selector: u16, arguments: &'a [u16] },
+    Run(u32),
+    Drop,
+    Forget,
+}
+
+// Why a list ends.
+const WITH_ITS_WORDS: &str = "a list ended with its words";
+const CALL_NOT_WHOLE: &str = "a list ended at a call that is not whole";
+const OTHER_FIRST_WORD: &str = "a list ended at another first word";
+const NO_ROOM: &str = "a list ended with the room for answers";
+pub const ENDS: [&str; 4] = [WITH_ITS_WORDS, CALL_NOT_WHOLE, OTHER_FIRST_WORD, NO_ROOM];
+
+/// The first call of a list and the words behind it; or why the list ends here.
+pub fn first(list: &[u16]) -> Result<(Listed<'_>, &[u16]), &'static str> {
+    match *list {
+        [0, receiver, selector, count, ref rest @ ..] if rest.len() >= count as usize => {
+            let (arguments, rest) = rest.split_at(count as usize);
+            Ok((Listed::Begin { receiver, selector, arguments }, rest))
+        }
+        [1, high, low, ref rest @ ..] => Ok((Listed::Run((high as u32) << 16 | low as u32), rest)),
+        [2, ref rest @ ..] => Ok((Listed::Drop, rest)),
+        [3, ref rest @ ..] => Ok((Listed::Forget, rest)),
+        [] => Err(WITH_ITS_WORDS),
+        [0..=3, ..] => Err(CALL_NOT_WHOLE),
+        _ => Err(OTHER_FIRST_WORD),
+    }
+}
+
+/// Number, phase, count and value.
+pub const ANSWER_WORDS: usize = 4;
+
+/// Makes the calls of a list, each as if it came by itself; gives how many.
+pub fn play(lent: &mut Lent, list: &[u16], answers: &mut [u32], counts: &mut Counts) -> Result<u32, Refusal> {
+    check(lent)?;
+    let mut list = list;
+    let mut room = answers.chunks_exact_mut(ANSWER_WORDS);
+    let mut made = 0;
+    let end = loop {
+        let (call, rest) = match first(list) {
+            Ok(found) => found,
+            Err(end) => break end,
+        };
+        let answer = match room.next() {
+            Some(answer) => answer,
+            None => break NO_ROOM,
+        };
+        answer.copy_from_slice(&single(lent, call, counts));
+        list = rest;
+        made += 1;
+    };
+    counts.event(end);
+    Ok(made)
+}
+
+/// One call of a list, and its answer.
+fn single(lent: &mut Lent, call: Listed, counts: &mut Counts) -> [u32; ANSWER_WORDS] {
+    let answer = match call {
+        Listed::Begin { receiver, selector, arguments } => begin(lent, receiver, selector, arguments, counts).map(|()| [0; ANSWER_WORDS]),
+        Listed::Run(n) => run(lent, n, counts).map(|ran| [0, lent.registers[PHASE] as u32, ran.count, lent.registers[VALUE] as u32]),
+        Listed::Drop => drop(lent).map(|()| [0; ANSWER_WORDS]),
+        Listed::Forget => forget(lent).map(|()| [0; ANSWER_WORDS]),
+    };
+    answer.unwrap_or_else(|refusal| [refusal.number, 0, 0, 0])
+}
