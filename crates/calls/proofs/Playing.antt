@@ -1,5 +1,5 @@
 -- The loop over the calls of a list.
-use Prim.Native.Nat.{ℕ, suc, _+_, _-_, _*_, _/_, _≤_, _<_, min}
+use Prim.Native.Nat.{ℕ, suc, _+_, _-_, _*_, _≤_, _<_}
 use mathlib.Core.Path.{_≡_, refl, sym, ap, ap₂, _∙_, subst}
 use mathlib.Core.List.{List, [], _∷_, _++_, append-assoc, append-nil}
 use native.Mathlib.Omega.{arith}
@@ -14,7 +14,7 @@ use Rattle.plain.specs.FlatCalls.{gives, flatCall}
 use Rattle.plain.specs.CallLists.{lastState}
 use Rattle.plain.proofs.Theorem.{from-checked}
 use Rattle.calls.specs.Encoding.{sizeAt, callAt, callsOf, answerWords, allWords}
-use Rattle.calls.specs.Plays.{answersOf, answerRoom, callsMade, Plays, Played, played, unplayed, playIf, flatPlay, PlaysAlike}
+use Rattle.calls.specs.Plays.{answersOf, answerRoom, callsMade, Plays, played, unplayed, playIf, flatPlay, PlaysAlike}
 use Rattle.calls.proofs.Lists.{within, ends-within, left, left-full, left-none, left-more, last-more, answers-more, four-words, put-before, put-behind, call-checks, last-checks}
 
 -- k calls are made, the next one stands at i: what is left leads from here where all calls lead from the start.

@@ -7,7 +7,6 @@ use borrow.Author.Tests.{eq-eqb, ne-eqb}
 use lib.ListN.{length}
 use Rattle.bytecode.proofs.Choice.{if-yes}
 use Rattle.model.specs.Limits.{entryWords}
-use Rattle.model.specs.Rules.{Right}
 use Rattle.model.specs.Image.{Verdict, accepted, refused}
 use Rattle.model.proofs.Facts.{most, most-words}
 use Rattle.plain.specs.Registers as R
