@@ -1,30 +1,27 @@
 -- The calls' answers, after a check.
-use Prim.Native.Nat.{ℕ, _*_, _≤_, _<_}
+use Prim.Native.Nat.{ℕ}
 use mathlib.Core.Path.{_≡_, refl, sym, ap, _∙_}
 use mathlib.Core.Bool.{Bool, true, false}
-use mathlib.Core.List.{List, _++_}
+use mathlib.Core.List.{List}
 use lib.Dec.{T}
-use lib.ListN.{length, drop, replicate}
+use lib.ListN.{length, replicate}
 use lib.Seq.{sets}
 use Rattle.bytecode.proofs.TestLaws.{true→T}
-use Rattle.model.specs.Limits.{entryWords}
-use Rattle.model.specs.Objects.{objectsAt}
-use Rattle.model.specs.Image.{accepted, refused, buffersFine, imageBytes, imageOf}
+use Rattle.model.specs.Image.{accepted, refused, buffersFine}
 use Rattle.store.specs.Answer.{roomFor}
 use Rattle.plain.specs.Registers.{withPhase}
 use Rattle.plain.specs.Flat.{flat, roomOf}
 use Rattle.plain.specs.Calls.{done}
 use Rattle.plain.specs.Check.{check, stateFine}
-use Rattle.plain.specs.FlatCalls.{gives, flatDrop, flatForget, flatSave}
+use Rattle.plain.specs.FlatCalls.{gives, flatDrop, flatForget}
 use Rattle.plain.specs.Running.{roomAt}
 use Rattle.machine.specs.declared.Registers.{Registers}
 use Rattle.machine.specs.declared.Checked.{Checked}
-use Rattle.machine.specs.State.{registersOf, state, checkGives, dropGives, forgetGives, saveGives}
-use Rattle.machine.proofs.Calling.{check-3, check-11, check-yes, drop-refused, drop-done, forget-refused, forget-done, save-short, save-refused, save-done, save-room}
+use Rattle.machine.specs.State.{registersOf, state, checkGives, dropGives, forgetGives}
+use Rattle.machine.proofs.Calling.{check-3, check-11, check-yes, drop-refused, drop-done, forget-refused, forget-done}
 use Rattle.machine.specs.declared.Checked.the-variants as C
 use Rattle.machine.specs.declared.Dropped.the-variants as D
 use Rattle.machine.specs.declared.Forgotten.the-variants as F
-use Rattle.machine.specs.declared.Saved.the-variants as S
 
 module _ (r : Registers) (contents bodies stack cache : List ℕ) where
   -- check, by its two tests
@@ -76,22 +73,3 @@ module _ (r : Registers) (contents bodies stack cache : List ℕ) where
         stack cache′ ≡ flatForget (state r contents bodies stack cache)
     unfolding forgetGives
     forgets q cache′ c = forget-done (registersOf r) contents bodies stack cache cache′ (was-right q) c
-
-    module _ (output : List ℕ) (long : imageBytes (r .n) (r .b) ≤ length output) where
-      pub saves-not : (k : ℕ) → x ≡ C.Refused k → saveGives (S.Refused k) output ≡ flatSave (state r contents bodies stack cache) output
-      unfolding saveGives
-      saves-not k q = save-refused (registersOf r) contents bodies stack cache output long k (was-refused k q)
-
-      pub saves-room : x ≡ C.Right → (entryWords * r .n ≤ length contents) × (r .b ≤ length bodies)
-      saves-room q = save-room (registersOf r) contents bodies stack cache output long (was-right q)
-
-      pub saves : x ≡ C.Right → (k : ℕ) (output′ : List ℕ) → k ≡ imageBytes (r .n) (r .b)
-          → output′ ≡ imageOf (record { edition = r .edition; n = r .n; b = r .b; receiver = r .receiver; selector = r .selector })
-          (objectsAt (r .n) (r .b) contents bodies) ++ drop (imageBytes (r .n) (r .b)) output
-          → saveGives (S.Wrote k) output′ ≡ flatSave (state r contents bodies stack cache) output
-      unfolding saveGives
-      saves q k output′ p w = save-done (registersOf r) contents bodies stack cache output long k output′ (was-right q) p w
-
-  pub saves-short : (output : List ℕ) → length output < imageBytes (r .n) (r .b) → saveGives (S.Refused 3) output ≡ flatSave (state r contents bodies stack cache) output
-  unfolding saveGives
-  saves-short output h = save-short (registersOf r) contents bodies stack cache output h

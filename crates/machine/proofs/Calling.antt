@@ -1,23 +1,20 @@
 -- The calls that check first and then do little.
-use Prim.Native.Nat.{ℕ, _*_, _≤_, _<_}
-use mathlib.Core.Path.{_≡_, refl, sym, ap, ap₂, _∙_}
-use mathlib.Core.Bool.{Bool, true, false, _&&_}
+use Prim.Native.Nat.{ℕ, _*_}
+use mathlib.Core.Path.{_≡_, sym, ap, ap₂, _∙_}
+use mathlib.Core.Bool.{Bool, true, false}
 use mathlib.Core.List.{List, _++_, append-nil}
 use native.Mathlib.Omega.{arith}
-use borrow.Author.Tests.{le-leb, lt-leb}
-use lib.ListN.{length, drop, replicate}
-use lib.Seq.{sets, drop-length, length-take-le}
+use lib.ListN.{length, replicate}
+use lib.Seq.{sets, drop-length}
 use Rattle.model.specs.Limits.{entryWords, cacheWords}
-use Rattle.model.specs.Objects.{objectsAt}
-use Rattle.model.specs.Image.{Header, Verdict, accepted, refused, unless, _then_, buffersFine, imageBytes, imageOf}
+use Rattle.model.specs.Image.{Verdict, accepted, refused, unless, _then_, buffersFine}
 use Rattle.words.proofs.Runs.{filled-front}
-use Rattle.image.proofs.RoundTrip.{Fitting, length-image}
 use Rattle.plain.specs.Registers.{Registers, withPhase}
 use Rattle.plain.specs.Flat.{Flat, flat, roomOf, plainOf}
 use Rattle.plain.specs.Cache.{emptyCache}
 use Rattle.plain.specs.Check.{check, stateFine}
-use Rattle.plain.specs.Calls.{dropped, done, refusedBy, wrote}
-use Rattle.plain.specs.FlatCalls.{Given, gives, checked, flatDrop, flatForget, savedImage, saveVerdict, afterSave, flatSave, saved}
+use Rattle.plain.specs.Calls.{dropped, done, refusedBy}
+use Rattle.plain.specs.FlatCalls.{Given, gives, checked, flatDrop, flatForget}
 use Rattle.plain.proofs.FlatLaws.{check-right}
 use Rattle.model.proofs.Lent.{front-same}
 
@@ -69,55 +66,3 @@ unfolding flatForget
 forget-done r contents bodies stack cache cache′ e c =
     let f = check-right (flat r contents bodies stack cache) (sym e) in
     (λ i. gives done (flat r contents bodies stack ((c ∙ emptied cache (f .cacheLength)) i))) ∙ passes (flat r contents bodies stack cache) _ e
-
--- ---- save
-module _ (r : Registers) (contents bodies stack cache output : List ℕ) where
-  abbrev s : Flat
-  s = flat r contents bodies stack cache
-
-  pub save-short : length output < imageBytes (r .n) (r .b) → saved (refusedBy 3) output ≡ flatSave s output
-  unfolding flatSave saveVerdict
-  save-short h = sym (ap (λ (x : Bool). afterSave s output (unless (buffersFine (roomOf s) (r .n) (r .b) && x) 3 then unless (stateFine s) 11)) (lt-leb (imageBytes (r .n) (r .b)) (length output) h)
-      ∙ ap (λ (x : Bool). afterSave s output (unless x 3 then unless (stateFine s) 11)) (and-no (buffersFine (roomOf s) (r .n) (r .b))))
-    where
-      and-no : (b : Bool) → (b && false) ≡ false
-      and-no true = refl
-      and-no false = refl
-
-  module _ (long : imageBytes (r .n) (r .b) ≤ length output) where
-    -- with an output that is long enough, save's verdict is check's
-    same : saveVerdict s output ≡ check s
-    unfolding saveVerdict check
-    same = ap (λ (x : Bool). unless (buffersFine (roomOf s) (r .n) (r .b) && x) 3 then unless (stateFine s) 11) (le-leb (imageBytes (r .n) (r .b)) (length output) long)
-        ∙ ap (λ (x : Bool). unless x 3 then unless (stateFine s) 11) (and-yes (buffersFine (roomOf s) (r .n) (r .b)))
-      where
-        and-yes : (b : Bool) → (b && true) ≡ b
-        and-yes true = refl
-        and-yes false = refl
-
-    pub save-refused : (k : ℕ) → refused k ≡ check s → saved (refusedBy k) output ≡ flatSave s output
-    unfolding flatSave
-    save-refused k e = ap (afterSave s output) (e ∙ sym same)
-
-    pub save-done : (k : ℕ) (output′ : List ℕ) → accepted ≡ check s → k ≡ imageBytes (r .n) (r .b)
-        → output′ ≡ imageOf (record { edition = r .edition; n = r .n; b = r .b; receiver = r .startReceiver; selector = r .startSelector })
-        (objectsAt (r .n) (r .b) contents bodies) ++ drop (imageBytes (r .n) (r .b)) output
-        → saved (wrote k) output′ ≡ flatSave s output
-    unfolding flatSave savedImage
-    save-done k output′ e q w =
-        let f = check-right s (sym e) in
-        let h : Header = record { edition = r .edition; n = r .n; b = r .b; receiver = r .startReceiver; selector = r .startSelector } in
-        let fit : Fitting h (objectsAt (r .n) (r .b) contents bodies) = record {
-          objects = refl;
-          words = refl;
-          contents = length-take-le (entryWords * r .n)
-              contents (f .contents);
-          bodies = length-take-le (r .b) bodies (f .bodies);
-        } in
-        ap₂ (λ (x : ℕ) (l : List ℕ). saved (wrote x) l) q (w ∙ ap (λ (x : ℕ). imageOf h (objectsAt (r .n) (r .b) contents bodies) ++ drop x output)
-        (sym (length-image h (objectsAt (r .n) (r .b) contents bodies) fit)))
-        ∙ ap (afterSave s output) (e ∙ sym same)
-
-    -- what writing asks
-    pub save-room : accepted ≡ check s → (entryWords * r .n ≤ length contents) × (r .b ≤ length bodies)
-    save-room e = let f = check-right s (sym e) in (f .contents, f .bodies)

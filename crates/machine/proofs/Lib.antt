@@ -1,7 +1,5 @@
-pub mod Loading
 pub mod Calling
 pub mod Answers
 pub mod Beginning
 pub mod RunCalls
-pub mod SavedLoaded
 pub mod Replying

@@ -1,4 +1,3 @@
 pub mod State
-pub mod SaveLoad
 pub mod Parts
 pub mod Lists

@@ -4,26 +4,21 @@ use mathlib.Core.Path.{_≡_}
 use mathlib.Core.Bool.{true}
 use mathlib.Core.List.{List}
 use Rattle.plain.specs.Flat.{Flat, flat}
-use Rattle.plain.specs.Calls.{done, refusedBy, result, wrote}
-use Rattle.plain.specs.FlatCalls.{Given, gives, reachFine, flatLoad, flatRun}
+use Rattle.plain.specs.Calls.{done, refusedBy, result}
+use Rattle.plain.specs.FlatCalls.{Given, gives, reachFine, flatRun}
 use Rattle.machine.specs.declared.Registers.{Registers}
-use Rattle.machine.specs.declared.Loaded.{Loaded}
 use Rattle.machine.specs.declared.Checked.{Checked}
 use Rattle.machine.specs.declared.Begun.{Begun}
 use Rattle.machine.specs.declared.Ran.{Ran}
 use Rattle.machine.specs.declared.Dropped.{Dropped}
 use Rattle.machine.specs.declared.Forgotten.{Forgotten}
-use Rattle.machine.specs.declared.Saved.{Saved}
 use Rattle.model.specs.Image.{Verdict, accepted, refused}
 use Rattle.plain.specs.Registers as R
-use Rattle.plain.specs.FlatCalls as A
-use Rattle.machine.specs.declared.Loaded.the-variants as L
 use Rattle.machine.specs.declared.Checked.the-variants as C
 use Rattle.machine.specs.declared.Begun.the-variants as B
 use Rattle.machine.specs.declared.Ran.the-variants as N
 use Rattle.machine.specs.declared.Dropped.the-variants as D
 use Rattle.machine.specs.declared.Forgotten.the-variants as F
-use Rattle.machine.specs.declared.Saved.the-variants as S
 
 abbrev pub registersOf : Registers → R.Registers
 registersOf r =
@@ -32,16 +27,6 @@ registersOf r =
 -- The flat state that registers and lent words are
 abbrev pub state : Registers → List ℕ → List ℕ → List ℕ → List ℕ → Flat
 state r contents bodies stack cache = flat (registersOf r) contents bodies stack cache
-
--- Load: the registers of the image, or 01's number and registers (all zero).
-unfoldable pub loadGives : Loaded → List ℕ → List ℕ → List ℕ → List ℕ → Given
-loadGives (L.Accepted r) contents bodies stack cache = gives done (state r contents bodies stack cache)
-loadGives (L.Refused k r) contents bodies stack cache = gives (refusedBy k) (state r contents bodies stack cache)
-
--- What load promises of its answer and the buffers afterwards, whatever registers and stack there are
-abbrev pub PromisedLoad : (image contents bodies cache : List ℕ) → Loaded → (contents′ bodies′ cache′ : List ℕ) → Type 0
-PromisedLoad image contents bodies cache a contents′ bodies′ cache′ =
-    (g : R.Registers) (stack : List ℕ) → loadGives a contents′ bodies′ stack cache′ ≡ flatLoad (flat g contents bodies stack cache) image
 
 -- Check: yes, 3 or 11
 unfoldable pub checkGives : Checked → Verdict
@@ -75,8 +60,3 @@ dropGives (D.Refused k r) contents bodies stack cache = gives (refusedBy k) (sta
 unfoldable pub forgetGives : Forgotten → Registers → List ℕ → List ℕ → List ℕ → List ℕ → Given
 forgetGives F.Emptied r contents bodies stack cache = gives done (state r contents bodies stack cache)
 forgetGives (F.Refused k) r contents bodies stack cache = gives (refusedBy k) (state r contents bodies stack cache)
-
--- Save: the image's length, and the output
-unfoldable pub saveGives : Saved → List ℕ → A.Saved
-saveGives (S.Wrote k) output = A.saved (wrote k) output
-saveGives (S.Refused k) output = A.saved (refusedBy k) output

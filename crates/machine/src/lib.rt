@@ -1,4 +1,4 @@
-// The calls. Each promise is an equation with the flat calls of plain's specs/FlatCalls.antt, through the definitions of specs/State.antt. What
+// The calls on a state. Each promise is an equation with the flat calls of plain's specs/FlatCalls.antt, through the definitions of specs/State.antt. What
 // is named `.._checked` takes a state that check accepts and does not look at it again.
 ghost use mathlib.Core.Path.{_≡_};
 ghost use Prim.Native.Nat.{_+_, _*_, _≤_};
@@ -10,17 +10,15 @@ ghost use Rattle.code.specs.Asked.{Blank};
 ghost use Rattle.plain.specs.Running.{roomAt};
 ghost use Rattle.plain.specs.Registers as R;
 ghost use Rattle.plain.specs.Check as K;
-ghost use Rattle.plain.specs.FlatCalls.{flatBegin, flatDrop, flatForget, flatCall, flatSave};
+ghost use Rattle.plain.specs.FlatCalls.{flatBegin, flatDrop, flatForget, flatCall};
 ghost use Rattle.calls.specs.Encoding.{sizeAt, callAt, answerWords};
 ghost use Rattle.calls.specs.Plays.{Plays};
 ghost use Rattle.machine.specs.Parts.{FirstParts};
-ghost use Rattle.machine.specs.State.{registersOf, state, PromisedLoad, checkGives, beginGives, PromisedRun, dropGives, forgetGives, saveGives};
+ghost use Rattle.machine.specs.State.{registersOf, state, checkGives, beginGives, PromisedRun, dropGives, forgetGives};
 ghost use Rattle.machine.specs.Lists.{registersIn, answerIn, replyGives, PromisedPlay};
 use begins::Beginning;
 use calls::Listed;
-use image::Header;
 use model::limits;
-use store::Reading;
 
 // `receiver` and `selector` are the start words, `edition` is the image's.
 pub struct Registers {
@@ -34,48 +32,13 @@ pub struct Registers {
     pub edition: u16,
 }
 
-// The answer of load. Refused, the registers are all zero.
-pub enum Loaded {
-    Accepted(Registers),
-    Refused(u32, Registers),
-}
-
-// An image put in place and the cache emptied, or nothing but zeros where it is refused by 4 to 8.
-pub fn load(image: &[u8], contents: &mut [u16], bodies: &mut [u16], cache: &mut [u16]) -> Loaded
-    ensures { λ r. ⌜ PromisedLoad (now (image .entry)) (now (contents .entry)) (now (bodies .entry)) (now (cache .entry)) r (now (contents .exit))
-        (now (bodies .exit)) (now (cache .exit)) ⌝ }
-{
-    match store::read(image, contents, bodies, cache.len()) {
-        Reading::Accepted {
-            edition,
-            n,
-            b,
-            receiver,
-            selector,
-        } => {
-            words::fill(cache, 0, cache.len(), 0); // lookups of what stood here before
-            Loaded::Accepted(Registers {
-                n: n,
-                b: b,
-                receiver: receiver,
-                selector: selector,
-                phase: 0,
-                top: 0,
-                value: 0,
-                edition: edition,
-            })
-        }
-        Reading::Refused(k) => Loaded::Refused(k, Registers::none()),
-    }
-}
-
 // The answer of check.
 pub enum Checked {
     Right,
     Refused(u32),
 }
 
-// The answers of begin, run, drop, forget and save. What passes registers by value gives them back.
+// The answers of begin, run, drop and forget. What passes registers by value gives them back.
 pub enum Begun {
     Started(Registers),
     Refused(u32, Registers),
@@ -97,11 +60,6 @@ pub enum Dropped {
 
 pub enum Forgotten {
     Emptied,
-    Refused(u32),
-}
-
-pub enum Saved {
-    Wrote(u32),
     Refused(u32),
 }
 
@@ -292,39 +250,6 @@ pub fn forget(
     }
 }
 
-// The image written at the front of the output. An output too short is 3, before 11.
-pub fn save(
-    registers: Registers,
-    contents: &[u16],
-    bodies: &[u16],
-    stack: &[u16],
-    cache: &[u16],
-    output: &mut [u8],
-) -> Saved
-    ensures { λ r. ⌜ saveGives r (now (output .exit))
-        ≡ flatSave (state registers (now (contents .entry)) (now (bodies .entry)) (now (stack .entry)) (now (cache .entry))) (now (output .entry)) ⌝ }
-{
-    let n = registers.n;
-    let b = registers.b;
-    if output.len() < image::length_of(n, b) {
-        return Saved::Refused(3);
-    }
-    match check(registers, contents, bodies, stack, cache) {
-        Checked::Refused(k) => Saved::Refused(k),
-        Checked::Right => {
-            let header = Header {
-                edition: registers.edition,
-                n: n,
-                b: b,
-                receiver: registers.receiver,
-                selector: registers.selector,
-            };
-            let bytes = image::write(header, contents, bodies, output);
-            Saved::Wrote(bytes as u32)
-        }
-    }
-}
-
 // The answer of a call written down; its registers.
 fn note(reply: Reply, answers: &mut [u32], at: usize) -> Registers
     requires { ⌜ at + 4 ≤ length (now answers) ⌝ }
@@ -354,22 +279,6 @@ fn note(reply: Reply, answers: &mut [u32], at: usize) -> Registers
 }
 
 impl Registers {
-    // Of no image.
-    fn none() -> Registers
-        ensures { λ r. ⌜ registersOf r ≡ R.noRegisters ⌝ }
-    {
-        Registers {
-            n: 0,
-            b: 0,
-            receiver: 0,
-            selector: 0,
-            phase: 0,
-            top: 0,
-            value: 0,
-            edition: 0,
-        }
-    }
-
     // The same but for phase, top and value.
     fn with_phase(self, phase: u16, top: u16, value: u16) -> Registers
         ensures { λ r. ⌜ registersOf r ≡ R.withPhase (registersOf self) phase top value ⌝ }

@@ -13,11 +13,12 @@ use Rattle.plain.proofs.Theorem.{from-load}
 use Rattle.calls.specs.Plays.{callsMade, Plays}
 use Rattle.calls.proofs.Lists.{last-checks}
 use Rattle.machine.specs.declared.Registers.{Registers}
-use Rattle.machine.specs.declared.Loaded.{Loaded}
-use Rattle.machine.specs.State.{state, loadGives}
-use Rattle.machine.proofs.Loading.{none-given}
+use Rattle.loads.specs.declared.Loaded.{Loaded}
+use Rattle.machine.specs.State.{state}
+use Rattle.loads.specs.Answers.{loadGives}
+use Rattle.loads.proofs.Loading.{none-given}
 use Rattle.replay.specs.Replays.{Makes, Declines}
-use Rattle.machine.specs.declared.Loaded.the-variants as L
+use Rattle.loads.specs.declared.Loaded.the-variants as L
 
 is-done : Given → Type 0
 is-done (gives done s) = Unit {0}

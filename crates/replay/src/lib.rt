@@ -2,7 +2,7 @@
 ghost use Rattle.plain.specs.Registers as R;
 ghost use Rattle.plain.specs.Flat.{flat};
 ghost use Rattle.replay.specs.Replays.{Replays};
-use machine::Loaded;
+use loads::Loaded;
 use machine::Made;
 
 // The calls were made, or the image is refused and nothing else is done.
@@ -26,7 +26,7 @@ pub fn replay(
         (now (calls .entry)) (now (answers .entry)) (now (contents .exit)) (now (bodies .exit)) (now (stack .exit)) (now (cache .exit))
         (now (answers .exit)) r) ⌝ }
 {
-    match machine::load(image, contents, bodies, cache) {
+    match loads::load(image, contents, bodies, cache) {
         Loaded::Accepted(start) => {
             let made = start.play_checked(contents, bodies, stack, cache, calls, answers);
             Replayed::Made(made)

@@ -11,27 +11,28 @@ use Rattle.plain.specs.Check.{check}
 use Rattle.plain.specs.FlatCalls.{Given, gives, saved, flatLoad, flatBegin, flatRun, flatDrop, flatForget, flatSave}
 use Rattle.sofaduck.proofs.Numbers.{NumberedIn, NumberedSaved, load-number, begin-number, run-number, drop-number, forget-number, check-number, save-number}
 use Rattle.machine.specs.declared.Registers.{Registers}
-use Rattle.machine.specs.declared.Loaded.{Loaded}
+use Rattle.loads.specs.declared.Loaded.{Loaded}
 use Rattle.machine.specs.declared.Begun.{Begun}
 use Rattle.machine.specs.declared.Ran.{Ran}
 use Rattle.machine.specs.declared.Dropped.{Dropped}
 use Rattle.machine.specs.declared.Forgotten.{Forgotten}
 use Rattle.machine.specs.declared.Checked.{Checked}
-use Rattle.machine.specs.declared.Saved.{Saved}
+use Rattle.loads.specs.declared.Saved.{Saved}
 use Rattle.machine.specs.declared.Made.{Made}
 use Rattle.machine.specs.declared.Played.{Played}
-use Rattle.machine.specs.State.{registersOf, state, loadGives, beginGives, runGives, ReachIs, dropGives, forgetGives, checkGives, saveGives}
+use Rattle.machine.specs.State.{registersOf, state, beginGives, runGives, ReachIs, dropGives, forgetGives, checkGives}
+use Rattle.loads.specs.Answers.{loadGives, saveGives}
 use Rattle.machine.specs.Lists.{playGives, PromisedPlay}
 use Rattle.calls.specs.Plays.{flatPlay}
 use Rattle.sofaduck.specs.Border.{seven, sevenWords, stateOf, sees, seen, answerOf, verdictOf, runAnswer, RunWrites, saveAnswer, SaveWrites, seesPlay, seenPlay}
 use Rattle.plain.specs.Registers as R
-use Rattle.machine.specs.declared.Loaded.the-variants as L
+use Rattle.loads.specs.declared.Loaded.the-variants as L
 use Rattle.machine.specs.declared.Begun.the-variants as B
 use Rattle.machine.specs.declared.Ran.the-variants as N
 use Rattle.machine.specs.declared.Dropped.the-variants as D
 use Rattle.machine.specs.declared.Forgotten.the-variants as F
 use Rattle.machine.specs.declared.Checked.the-variants as C
-use Rattle.machine.specs.declared.Saved.the-variants as S
+use Rattle.loads.specs.declared.Saved.the-variants as S
 use Rattle.machine.specs.declared.Played.the-variants as M
 
 pub take-seven : (l : List ℕ)

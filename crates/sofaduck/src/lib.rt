@@ -10,15 +10,15 @@ ghost use Rattle.plain.specs.FlatCalls.{gives, saved, flatLoad, flatBegin, flat
 ghost use Rattle.calls.specs.Plays.{flatPlay};
 ghost use Rattle.machine.specs.State.{registersOf};
 ghost use Rattle.sofaduck.specs.Border.{seven, sevenWords, stateOf, sees, seen, answerOf, verdictOf, runAnswer, RunWrites, saveAnswer, SaveWrites, seesPlay, seenPlay};
+use loads::Loaded;
+use loads::Saved;
 use machine::Begun;
 use machine::Checked;
 use machine::Dropped;
 use machine::Forgotten;
-use machine::Loaded;
 use machine::Played;
 use machine::Ran;
 use machine::Registers;
-use machine::Saved;
 
 // C's seven registers, written and read. While there is one edition C does not hold it.
 fn write_registers(registers: &mut [u16; 7], r: Registers)
@@ -54,7 +54,7 @@ pub extern "C" fn sofaduck_load(
         → sees (answerOf r) (now (registers .exit)) (now (contents .exit)) (now (bodies .exit)) stack (now (cache .exit))
         ≡ seen (flatLoad (flat g (now (contents .entry)) (now (bodies .entry)) stack (now (cache .entry))) (now (image .entry)))) ⌝ }
 {
-    match machine::load(image, contents, bodies, cache) {
+    match loads::load(image, contents, bodies, cache) {
         Loaded::Accepted(r) => {
             write_registers(registers, r);
             0
@@ -243,7 +243,7 @@ pub extern "C" fn sofaduck_save(
         (now (output .entry)))
         × SaveWrites r (now (length .entry)) (now (length .exit)) ⌝ }
 {
-    match machine::save(
+    match loads::save(
         read_registers(registers),
         contents,
         bodies,

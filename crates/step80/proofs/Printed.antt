@@ -9,14 +9,15 @@ use Rattle.plain.specs.FlatCalls.{flatLoad, flatBegin, flatRun}
 use Rattle.plain.specs.Program.{Line, line, refusal, step80Room, step80}
 use Rattle.plain.specs.Text.{lineBytes}
 use Rattle.machine.specs.declared.Registers.{Registers}
-use Rattle.machine.specs.declared.Loaded.{Loaded}
+use Rattle.loads.specs.declared.Loaded.{Loaded}
 use Rattle.machine.specs.declared.Begun.{Begun}
 use Rattle.machine.specs.declared.Ran.{Ran}
-use Rattle.machine.specs.State.{state, loadGives, beginGives, runGives}
+use Rattle.machine.specs.State.{state, beginGives, runGives}
+use Rattle.loads.specs.Answers.{loadGives}
 use Rattle.step80.proofs.Front.{front-counts}
 use Rattle.step80.proofs.Reached.{load-refused, Ready, ready, begin-refused, Began, began, run-none, run-done, run-refused}
 use Rattle.plain.specs.Registers as R
-use Rattle.machine.specs.declared.Loaded.the-variants as L
+use Rattle.loads.specs.declared.Loaded.the-variants as L
 use Rattle.machine.specs.declared.Begun.the-variants as B
 use Rattle.machine.specs.declared.Ran.the-variants as N
 

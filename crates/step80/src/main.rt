@@ -7,8 +7,8 @@ ghost use Rattle.io.specs.Counts.{Counts};
 ghost use Rattle.plain.specs.Program.{step80};
 ghost use Rattle.plain.specs.Text.{lineBytes};
 ghost use Rattle.step80.specs.Input.{bytesRead};
+use loads::Loaded;
 use machine::Begun;
-use machine::Loaded;
 use machine::Ran;
 
 // One byte more than the longest image that a header can name, and odd, as no image is.
@@ -51,7 +51,7 @@ fn answer(
     ensures { λ r. ⌜ Counts r (now (out .exit)) ⌝ }
     ensures { λ r. ⌜ (r ≡ length (lineBytes (step80 (now (image .entry))))) × (now (out .exit) ≡ lineBytes (step80 (now (image .entry))) ++ drop r (now (out .entry))) ⌝ }
 {
-    match machine::load(image, contents, bodies, cache) {
+    match loads::load(image, contents, bodies, cache) {
         Loaded::Refused(k, _) => lines::write_refusal(out, k),
         Loaded::Accepted(loaded) => {
             let receiver = loaded.receiver;

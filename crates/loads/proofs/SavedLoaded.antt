@@ -25,14 +25,15 @@ use Rattle.plain.specs.CallLists.{nextState}
 use Rattle.plain.proofs.FlatLaws.{check-right}
 use Rattle.plain.proofs.LoadLaws.{Accepted, accepts}
 use Rattle.plain.proofs.Theorem.{from-load}
 use Rattle.machine.specs.declared.Registers.{Registers}
-use Rattle.machine.specs.declared.Loaded.{Loaded}
-use Rattle.machine.specs.declared.Saved.{Saved}
-use Rattle.machine.specs.declared.Loaded.the-variants as L
-use Rattle.machine.specs.declared.Saved.the-variants as S
-use Rattle.machine.specs.State.{state, loadGives, saveGives}
-use Rattle.machine.specs.SaveLoad.{savedBytes, Reloaded, SaveThenLoad, Resaved, LoadThenSave, idleAgain, SavedLoaded, LoadedSaved}
-use Rattle.machine.proofs.Calling.{save-done}
+use Rattle.loads.specs.declared.Loaded.{Loaded}
+use Rattle.loads.specs.declared.Saved.{Saved}
+use Rattle.loads.specs.declared.Loaded.the-variants as L
+use Rattle.loads.specs.declared.Saved.the-variants as S
+use Rattle.machine.specs.State.{state}
+use Rattle.loads.specs.Answers.{loadGives, saveGives}
+use Rattle.loads.specs.SaveLoad.{savedBytes, Reloaded, SaveThenLoad, Resaved, LoadThenSave, idleAgain, SavedLoaded, LoadedSaved}
+use Rattle.loads.proofs.Saving.{save-done}
 
 -- ---- an accepted load
 

@@ -13,12 +13,13 @@ use Rattle.plain.specs.Cache.{emptyCache}
 use Rattle.plain.specs.Check.{check}
 use Rattle.plain.specs.Calls.{done, wrote}
 use Rattle.plain.specs.FlatCalls.{gives, saved, flatLoad, flatSave}
 use Rattle.machine.specs.declared.Registers.{Registers}
-use Rattle.machine.specs.declared.Loaded.{Loaded}
-use Rattle.machine.specs.declared.Saved.{Saved}
-use Rattle.machine.specs.declared.Loaded.the-variants as L
-use Rattle.machine.specs.declared.Saved.the-variants as S
-use Rattle.machine.specs.State.{state, PromisedLoad, saveGives}
+use Rattle.loads.specs.declared.Loaded.{Loaded}
+use Rattle.loads.specs.declared.Saved.{Saved}
+use Rattle.loads.specs.declared.Loaded.the-variants as L
+use Rattle.loads.specs.declared.Saved.the-variants as S
+use Rattle.machine.specs.State.{state}
+use Rattle.loads.specs.Answers.{PromisedLoad, saveGives}
 
 -- The length of the image of a state
 abbrev pub savedBytes : Flat → ℕ

@@ -1,8 +1,8 @@
 use native.Mathlib.Omega.{arith}
-use Rattle.machine.proofs.Answers.{saves-not, saves-room, saves, saves-short}
+use Rattle.loads.proofs.Saving.{saves-not, saves-room, saves, saves-short}
 use borrow.Author.Needs.{needs}
-use Rattle.machine.proofs.save.Statement.{statement}
-use Rattle.machine.proofs.save.Tie as tie
+use Rattle.loads.proofs.save.Statement.{statement}
+use Rattle.loads.proofs.save.Tie as tie
 
 length-of-requires : tie.Need-length-of-requires
 length-of-requires c κs = search needs

@@ -1,7 +1,7 @@
-use Rattle.machine.proofs.Loading.{read-accepted, read-refused}
+use Rattle.loads.proofs.Loading.{read-accepted, read-refused}
 use borrow.Author.Needs.{needs}
-use Rattle.machine.proofs.load.Statement.{statement}
-use Rattle.machine.proofs.load.Tie as tie
+use Rattle.loads.proofs.load.Statement.{statement}
+use Rattle.loads.proofs.load.Tie as tie
 
 read-requires : tie.Need-read-requires
 read-requires c κs = search needs
@@ -15,8 +15,8 @@ fill-requires c κs = search needs
 enum-known-k : tie.Need-enum-known-k
 enum-known-k c = search needs
 
-none-requires : tie.Need-none-requires
-none-requires c κs = search needs
+no-registers-requires : tie.Need-no-registers-requires
+no-registers-requires c κs = search needs
 
 same-length : tie.Need-same-length
 same-length c = search needs
@@ -49,7 +49,7 @@ returns-2 c =
     let at-start = at-read .before .before .before .before .before .before .before in
     let a = at-start .args in
     let read = at-read .read .ensures in
-    λ g stack. read-refused (a .image .now) (a .contents .now) (a .bodies .now) (a .cache .now) _ _ g stack _ _ _ (c .none .ensures) (c .before .before .k .given .1) (read .0) (read .1)
+    λ g stack. read-refused (a .image .now) (a .contents .now) (a .bodies .now) (a .cache .now) _ _ g stack _ _ _ (c .no-registers .ensures) (c .before .before .k .given .1) (read .0) (read .1)
 
 pub load-spec : {M : Type 1} → statement M
 load-spec =
@@ -59,7 +59,7 @@ load-spec =
     enum-known-edition
     fill-requires
     enum-known-k
-    none-requires
+    no-registers-requires
     same-length
     same-length-2
     same-length-3

@@ -22,10 +22,11 @@ use Rattle.plain.specs.Flat.{Flat, flat, roomOf}
 use Rattle.plain.specs.Calls.{loaded, done, refusedBy, result, wrote}
 use Rattle.plain.specs.FlatCalls.{Given, gives, noAnswer, withRegisters, zeroed, afterLoad, flatLoad}
 use Rattle.plain.proofs.LoadLaws.{accepts}
 use Rattle.machine.specs.declared.Registers.{Registers}
-use Rattle.machine.specs.declared.Loaded.the-variants as L
-use Rattle.machine.specs.State.{registersOf, loadGives}
+use Rattle.loads.specs.declared.Loaded.the-variants as L
+use Rattle.machine.specs.State.{registersOf}
+use Rattle.loads.specs.Answers.{loadGives}
 use Rattle.machine.proofs.Calling.{emptied}
 
 -- parts of a reading
 abbrev hOf : Reading → Header
