@@ -30,11 +30,15 @@ answerRoom answers = min (length answers / 4) mostCalls
 unfoldable pub callsMade : List ℕ → List ℕ → List Call
 callsMade calls answers = take (answerRoom answers) (callsOf calls)
 
+-- What is in `answers` after calls from a state: their answers, and behind them what was there
+abbrev pub answersAfter : Flat → List Call → List ℕ → List ℕ
+answersAfter s cs answers = allWords (answersOf s cs) ++ drop (4 * length cs) answers
+
 -- Calls made from a state s: k of them, leaving s′ and answers′
 pub record Plays (calls answers : List ℕ) (s : Flat) (k : ℕ) (s′ : Flat) (answers′ : List ℕ) : Type 0 where
   pub last : s′ ≡ lastState s (callsMade calls answers)
   pub made : k ≡ length (callsMade calls answers)
-  pub written : answers′ ≡ allWords (answersOf s (callsMade calls answers)) ++ drop (4 * length (callsMade calls answers)) answers
+  pub written : answers′ ≡ answersAfter s (callsMade calls answers) answers
 
 -- Play: the number of calls made, the state and the answers after them; or the number of the refusal, state and answers as they were
 pub data Played : Type 0 where
@@ -42,7 +46,7 @@ pub data Played : Type 0 where
   unplayed : ℕ → Flat → List ℕ → Played
 
 abbrev pub playedAll : Flat → List Call → List ℕ → Played
-playedAll s cs answers = played (length cs) (lastState s cs) (allWords (answersOf s cs) ++ drop (4 * length cs) answers)
+playedAll s cs answers = played (length cs) (lastState s cs) (answersAfter s cs answers)
 
 abbrev pub playIf : Verdict → Flat → List ℕ → List ℕ → Played
 playIf accepted s calls answers = playedAll s (callsMade calls answers) answers

@@ -9,6 +9,9 @@ ghost use Rattle.calls.specs.Encoding.{sizeAt, beginAt, runLength, callA
 ghost use Rattle.calls.specs.Plays.{mostCalls};
 ghost use Rattle.calls.specs.Listing.{listed, Inside};
 
+// What 32 bits count.
+const MOST_CALLS: u32 = 4294967295;
+
 // A call of a list. The arguments of a begin are the list's words from `from` to `end`.
 pub enum Listed {
     Begin {
@@ -105,8 +108,9 @@ pub fn answer_room(words: usize) -> u32
     ensures { λ r. ⌜ r ≡ min (words / 4) mostCalls ⌝ }
 {
     let room = words / 4;
-    if 4294967295 < room {
-        return 4294967295;
+    let most = MOST_CALLS as usize;
+    if most < room {
+        return MOST_CALLS;
     }
     room as u32
 }

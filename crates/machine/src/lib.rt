@@ -497,7 +497,8 @@ impl Registers {
         }
     }
 
-    // The calls of a list one after another, as long as there is room for an answer. Check accepts the state after each, as the theorem says.
+    // The calls of a list in words (crate `calls`) one after another, as long as there is room for an answer. Check accepts the state after each, as
+    // the theorem says.
     pub fn play_checked(
         self,
         contents: &mut [u16],

@@ -1,8 +1,8 @@
 -- What a replay leaves: the theorem over lists of calls, for the calls that were made.
-use Prim.Native.Nat.{ℕ, _*_}
+use Prim.Native.Nat.{ℕ}
 use mathlib.Core.Path.{_≡_}
-use mathlib.Core.List.{List, _++_}
-use lib.ListN.{length, drop}
+use mathlib.Core.List.{List}
+use lib.ListN.{length}
 use Rattle.model.specs.Image.{accepted}
 use Rattle.plain.specs.Registers as R
 use Rattle.plain.specs.Calls.{loaded, done, refusedBy}
@@ -10,8 +10,7 @@ use Rattle.plain.specs.Flat.{Flat, flat, roomOf, plainOf}
 use Rattle.plain.specs.Check.{check}
 use Rattle.plain.specs.FlatCalls.{gives, flatLoad}
 use Rattle.plain.specs.CallLists.{Agrees, lastState}
-use Rattle.calls.specs.Encoding.{allWords}
-use Rattle.calls.specs.Plays.{answersOf, callsMade}
+use Rattle.calls.specs.Plays.{answersAfter, callsMade}
 use Rattle.machine.specs.State.{state}
 use Rattle.replay.specs.declared.Replayed.{Replayed}
 use Rattle.replay.specs.declared.Replayed.the-variants as M
@@ -25,7 +24,7 @@ pub record Makes (s : Flat) (image calls answers : List ℕ) (k : ℕ) (s′ : F
   pub agrees : Agrees (roomOf s) (callsMade calls answers) start (loaded image)
   pub last : s′ ≡ lastState start (callsMade calls answers)
   pub made : k ≡ length (callsMade calls answers)
-  pub written : answers′ ≡ allWords (answersOf start (callsMade calls answers)) ++ drop (4 * length (callsMade calls answers)) answers
+  pub written : answers′ ≡ answersAfter start (callsMade calls answers) answers
   pub checks : check s′ ≡ accepted
 
 -- The image was refused by k.
