@@ -33,8 +33,8 @@ extern "C" {
 #endif
 
 /* The version of header and library, and the edition of the images that load accepts. */
-#define SOFADUCK_VERSION_MAJOR 1
-#define SOFADUCK_VERSION_MINOR 1
+#define SOFADUCK_VERSION_MAJOR 2
+#define SOFADUCK_VERSION_MINOR 0
 #define SOFADUCK_VERSION_PATCH 0
 #define SOFADUCK_EDITION 1
 
@@ -48,7 +48,7 @@ enum {
     SOFADUCK_IMAGE = 64386,      /* bytes of the largest image: 10, 8 for each object, 2 for each word of bodies */
     SOFADUCK_FRAME = 18,         /* words of stack for a frame: 6, and 12 for temporaries and operands ... */
     SOFADUCK_LARGE_FRAME = 38,   /* ... or 32, for a method whose header says large */
-    SOFADUCK_STACK = 65536,      /* words of stack that can be of use */
+    SOFADUCK_STACK = 65536,      /* words of stack that can be of use; run tells how many were needed */
     SOFADUCK_CALL_STACK = 163840 /* bytes of C stack, more than a call takes */
 };
 
@@ -181,9 +181,21 @@ uint32_t sofaduck_begin(uint16_t *contents, size_t contents_length,
  *
  *   grant       any number of bytecodes, 0 too
  *   count       written: the bytecodes made, less than granted only where the handler finished or halted
- *   reach       written: an index of the stack below which all frames of this run lay, at most the stack's length
+ *   reach       written: the words of stack that this run needed, which is the largest end of a frame that stood when it started or after one of its
+ *               bytecodes; at most SOFADUCK_STACK, which is no 16-bit number
  *
- * Returns 0, or 3 or 11; 12, no handler is running, with a grant of 0 too. Refused, it leaves count and reach unwritten. */
+ * Returns 0, or 3 or 11; 12, no handler is running, with a grant of 0 too. Refused, it leaves count and reach unwritten.
+ *
+ * A frame's end is its base and its size, SOFADUCK_FRAME or SOFADUCK_LARGE_FRAME. Frames that returned during the run count, those that had returned
+ * before it do not; a grant of 0 gives the top frame's end. Where a run halts for want of room, the frame that did not fit never stood and does not
+ * count. Of runs that continue each other, the largest reach is that of one run with all their grants.
+ *
+ * How a team finds the length of its stack: it plays the game on a long one (more than SOFADUCK_STACK words are of no use) and keeps the largest
+ * reach of all runs, of every state that uses the stack. On a stack of that many words the same calls, from load on, give the same answers and the
+ * same words: every frame that stood fits, what did not fit still does not, and nothing else depends on the stack's length. On a stack one word
+ * shorter one of these calls ends otherwise: a run halts in phase no stack room, or a begin is refused by 13. Two things to mind. Begin gives no
+ * reach, and its frame is counted by the run behind it: where a handler is begun and dropped unrun, a run with a grant of 0 between the two tells
+ * what it needs. And reach is of the runs that were made: a contact that was not tried may go deeper, and halts where it finds no room. */
 uint32_t sofaduck_run(uint16_t *contents, size_t contents_length,
                       uint16_t *bodies, size_t bodies_length,
                       uint16_t *stack, size_t stack_length,
@@ -213,6 +225,7 @@ enum {
     SOFADUCK_ANSWER_PHASE,  /* the register phase after the run */
     SOFADUCK_ANSWER_COUNT,  /* the bytecodes that it made */
     SOFADUCK_ANSWER_VALUE,  /* the register value after it */
+    SOFADUCK_ANSWER_REACH,  /* the words of stack that it needed */
     SOFADUCK_ANSWER         /* how many words that are */
 };
 
@@ -238,7 +251,7 @@ enum {
  * list. Where a run halts, the begin behind it removes the frames that say where (examples/engine.c shows how to see them). Where begin answers at
  * once, the run behind it is refused by 12, and the value is in no answer: the register has it, until the next begin or drop.
  *
- * Returns 0; or 3 or 11, and then no call is made, and answers and made stay unwritten. The runs' reach is not told. */
+ * Returns 0; or 3 or 11, and then no call is made, and answers and made stay unwritten. */
 uint32_t sofaduck_play(uint16_t *contents, size_t contents_length,
                        uint16_t *bodies, size_t bodies_length,
                        uint16_t *stack, size_t stack_length,
@@ -352,11 +365,12 @@ static inline uint32_t sofaduck_state_play(sofaduck_state *state, const sofaduck
 typedef struct sofaduck_answer {
     uint32_t number, phase, count;
     uint16_t value;
+    uint32_t reach;
 } sofaduck_answer;
 static inline sofaduck_answer sofaduck_answer_at(const uint32_t *answers, size_t k) {
     const uint32_t *const words = answers + SOFADUCK_ANSWER * k;
     const sofaduck_answer answer = {words[SOFADUCK_ANSWER_NUMBER], words[SOFADUCK_ANSWER_PHASE], words[SOFADUCK_ANSWER_COUNT],
-                                    (uint16_t)words[SOFADUCK_ANSWER_VALUE]};
+                                    (uint16_t)words[SOFADUCK_ANSWER_VALUE], words[SOFADUCK_ANSWER_REACH]};
     return answer;
 }
 
