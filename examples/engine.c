@@ -1,6 +1,7 @@
 /* A small collision engine over the library. It plays a scene of a wooden crate, whose contact handlers are in crate.source: the contacts of a frame
  * are one list, played by one call; each handler gets a few bytecodes a frame, one that needs more goes on in the next frame, and contacts wait for
  * it. One handler halts, and where it stands is reported. Then it saves the objects, loads them into a second state, and plays both on, side by side.
+ * At the end it says how many words of stack the handlers needed.
  *
  *     engine IMAGE
  */
@@ -27,6 +28,7 @@ typedef struct {
 } contact;
 
 static uint16_t handler; /* the selector that a contact sends */
+static uint32_t needed;  /* words of stack: the largest reach of the runs so far */
 
 static void quit(const char *what, uint32_t number) {
     fprintf(stderr, "engine: %s is refused by %u: %s\n", what, (unsigned)number, sofaduck_refusal_text(number));
@@ -170,7 +172,9 @@ static size_t frame(world *w, int now, const contact *contacts, size_t waiting, 
         for (uint32_t k = 0; k < count; k++) {
             const contact *const met = goes_on && k == 0 ? NULL : contacts + begun++;
             if (met != NULL) made("begin", sofaduck_answer_at(answers, k++).number); /* the next answer is its run's */
-            if (shown) show_run(now, met, sofaduck_answer_at(answers, k));
+            const sofaduck_answer run = sofaduck_answer_at(answers, k);
+            if (needed < run.reach) needed = run.reach;
+            if (shown) show_run(now, met, run);
         }
         if (s->registers[SOFADUCK_PHASE] > SOFADUCK_FINISHED) {
             if (shown) show_halt(s);
@@ -265,5 +269,6 @@ int main(int argc, char **argv) {
         fail("the two states differ");
     made("check", sofaduck_state_check(other));
     printf("both states are the same\n");
+    printf("the handlers needed %u of %d words of stack\n", (unsigned)needed, STACK);
     return 0;
 }
