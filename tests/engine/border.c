@@ -258,31 +258,33 @@ static void begins(void) {
 }
 
 /* A handler of no arguments, run to its end or halt. */
-static void goes(const char *what, uint16_t selector, unsigned phase, uint32_t made, uint16_t value) {
-    uint32_t count = 77, reach = 0;
+static void goes(const char *what, uint16_t selector, unsigned phase, uint32_t made, uint16_t value, uint32_t needed) {
+    uint32_t count = 77, reach = 78;
     loaded();
     const bool ran = begin(&s, OBJECT_box, selector) == 0 && sofaduck_run(SOFADUCK_STATE(&s), 500, &count, &reach) == 0;
     test(what, ran && s.registers[SOFADUCK_PHASE] == phase && count == made && s.registers[SOFADUCK_VALUE] == value
-                   && reach % SOFADUCK_FRAME == 0 && reach <= STACK && sofaduck_check(SOFADUCK_STATE(&s)) == 0);
+                   && reach == needed && sofaduck_check(SOFADUCK_STATE(&s)) == 0);
 }
 
 static void runs(void) {
     const uint16_t two[] = {sofaduck_word(-3), sofaduck_word(39)};
     uint32_t count = 77, reach = 78;
-    goes("run: goes on", SELECTOR_forever, SOFADUCK_RUNNING, 500, 0);
-    goes("run: not understood", SELECTOR_lost, SOFADUCK_NOT_UNDERSTOOD, 1, 0);
-    goes("run: no boolean", SELECTOR_undecided, SOFADUCK_NO_BOOLEAN, 1, 0);
-    goes("run: no stack room, 56 frames fit", SELECTOR_deeper, SOFADUCK_NO_STACK_ROOM, 111, 0);
+    goes("run: goes on", SELECTOR_forever, SOFADUCK_RUNNING, 500, 0, SOFADUCK_FRAME);
+    goes("run: not understood", SELECTOR_lost, SOFADUCK_NOT_UNDERSTOOD, 1, 0, SOFADUCK_FRAME);
+    goes("run: no boolean", SELECTOR_undecided, SOFADUCK_NO_BOOLEAN, 1, 0, SOFADUCK_FRAME);
+    goes("run: a large frame", SELECTOR_wide, SOFADUCK_FINISHED, 2, SOFADUCK_NIL, SOFADUCK_LARGE_FRAME);
+    goes("run: no stack room, 56 frames fit", SELECTOR_deeper, SOFADUCK_NO_STACK_ROOM, 111, 0, 56 * SOFADUCK_FRAME);
     note();
     refused("run: after a halt", 12, sofaduck_run(SOFADUCK_STATE(&s), 1, &count, &reach));
     test("begin: after a halt", begin(&s, OBJECT_box, SELECTOR_a) == 0 && s.registers[SOFADUCK_PHASE] == SOFADUCK_FINISHED);
     loaded();
     test("begin: two arguments in order",
          sofaduck_begin(SOFADUCK_STATE(&s), OBJECT_box, SELECTOR_a_b_, two, 2) == 0
-             && sofaduck_run(SOFADUCK_STATE(&s), 0, &count, &reach) == 0 && count == 0 && reach == SOFADUCK_FRAME && sofaduck_run(SOFADUCK_STATE(&s), 4294967295u, &count, &reach) == 0 && count == 8
+             && sofaduck_run(SOFADUCK_STATE(&s), 0, &count, &reach) == 0 && count == 0 && reach == SOFADUCK_FRAME
+             && sofaduck_run(SOFADUCK_STATE(&s), 4294967295u, &count, &reach) == 0 && count == 8 && reach == SOFADUCK_FRAME
              && s.registers[SOFADUCK_PHASE] == SOFADUCK_FINISHED && sofaduck_integer(s.registers[SOFADUCK_VALUE]) == -42
              && s.bodies[sofaduck_start(s.contents, OBJECT_box) + FIELD_Box_b] == two[1] && sofaduck_size(s.contents, OBJECT_box) == 2);
-    goes("run: an object is made", SELECTOR_more, SOFADUCK_FINISHED, 5, (uint16_t)(2 * get(1) + 2));
+    goes("run: an object is made", SELECTOR_more, SOFADUCK_FINISHED, 5, (uint16_t)(2 * get(1) + 2), SOFADUCK_FRAME);
     test("forget: the cache was filled and is empty",
          !all(s.cache, SOFADUCK_CACHE, 0) && sofaduck_forget(SOFADUCK_STATE(&s)) == 0 && all(s.cache, SOFADUCK_CACHE, 0));
     memset(lent.stack, 0x33, sizeof lent.stack);
@@ -290,8 +292,9 @@ static void runs(void) {
     test("N and B count it", s.registers[SOFADUCK_N] == get(1) + 1 && s.registers[SOFADUCK_B] == get(2) + 2);
     loaded();
     s.contents_length = 4 * get(1);
-    test("run: no room for an object, new answers nil", begin(&s, OBJECT_box, SELECTOR_more) == 0
-                                                             && sofaduck_run(SOFADUCK_STATE(&s), 9, &count, &reach) == 0 && count == 6 && s.registers[SOFADUCK_VALUE] == SOFADUCK_NIL);
+    test("run: no room for an object, new answers nil in a frame of its own",
+         begin(&s, OBJECT_box, SELECTOR_more) == 0 && sofaduck_run(SOFADUCK_STATE(&s), 9, &count, &reach) == 0 && count == 6
+             && s.registers[SOFADUCK_VALUE] == SOFADUCK_NIL && reach == 2 * SOFADUCK_FRAME);
     bool kept = true;
     for (int k = -16384; k < 16384; k++)
         kept = kept && sofaduck_is_integer(sofaduck_word(k)) && sofaduck_integer(sofaduck_word(k)) == k;
@@ -313,7 +316,8 @@ static uint32_t singly(sofaduck_state *t, const uint16_t *calls, size_t calls_le
         else if (c[0] == SOFADUCK_PLAY_DROP) number = sofaduck_drop(SOFADUCK_STATE(t));
         else number = sofaduck_forget(SOFADUCK_STATE(t));
         const bool ran = c[0] == SOFADUCK_PLAY_RUN && number == 0;
-        const uint32_t answer[] = {number, ran ? t->registers[SOFADUCK_PHASE] : 0u, count, ran ? t->registers[SOFADUCK_VALUE] : 0u};
+        const uint32_t answer[SOFADUCK_ANSWER] = {number, ran ? t->registers[SOFADUCK_PHASE] : 0u, count, ran ? t->registers[SOFADUCK_VALUE] : 0u,
+                                                  reach};
         memcpy(to + SOFADUCK_ANSWER * made, answer, sizeof answer);
     }
     return made;
@@ -369,15 +373,15 @@ static void every_call(void) {
         SOFADUCK_PLAY_DROP,
     };
     const uint32_t expected[][SOFADUCK_ANSWER] = {
-        {12, 0, 0, 0}, {8, 0, 0, 0}, {9, 0, 0, 0}, {10, 0, 0, 0}, {13, 0, 0, 0},  /* refused, and nothing is running behind them */
-        {0, 0, 0, 0}, {12, 0, 0, 0},                                              /* answered at once: nothing to run */
-        {0, 0, 0, 0}, {0, SOFADUCK_RUNNING, 6, 0},
-        {12, 0, 0, 0}, {0, SOFADUCK_FINISHED, 2, sofaduck_word(-2)},              /* no begin: the run goes on with the old handler */
-        {0, 0, 0, 0}, {0, SOFADUCK_FINISHED, 5, 2 * get(1) + 2}, {0, 0, 0, 0},
-        {0, 0, 0, 0}, {0, SOFADUCK_NOT_UNDERSTOOD, 1, 0},
-        {0, 0, 0, 0}, {0, SOFADUCK_NO_BOOLEAN, 1, 0}, {0, 0, 0, 0},               /* a begin after a halt */
-        {0, 0, 0, 0}, {0, SOFADUCK_NO_STACK_ROOM, 3, 0}, {12, 0, 0, 0},
-        {0, 0, 0, 0}, {0, SOFADUCK_RUNNING, 65538, 0}, {0, 0, 0, 0}, {0, 0, 0, 0}, /* the high word of a grant is its first */
+        {12, 0, 0, 0, 0}, {8, 0, 0, 0, 0}, {9, 0, 0, 0, 0}, {10, 0, 0, 0, 0}, {13, 0, 0, 0, 0}, /* refused, and nothing is running behind them */
+        {0, 0, 0, 0, 0}, {12, 0, 0, 0, 0},                                                      /* answered at once: nothing to run */
+        {0, 0, 0, 0, 0}, {0, SOFADUCK_RUNNING, 6, 0, 18},
+        {12, 0, 0, 0, 0}, {0, SOFADUCK_FINISHED, 2, sofaduck_word(-2), 18},                     /* no begin: the run goes on with the old handler */
+        {0, 0, 0, 0, 0}, {0, SOFADUCK_FINISHED, 5, 2 * get(1) + 2, 18}, {0, 0, 0, 0, 0},
+        {0, 0, 0, 0, 0}, {0, SOFADUCK_NOT_UNDERSTOOD, 1, 0, 18},
+        {0, 0, 0, 0, 0}, {0, SOFADUCK_NO_BOOLEAN, 1, 0, 18}, {0, 0, 0, 0, 0},                   /* a begin after a halt */
+        {0, 0, 0, 0, 0}, {0, SOFADUCK_NO_STACK_ROOM, 3, 0, 36}, {12, 0, 0, 0, 0},
+        {0, 0, 0, 0, 0}, {0, SOFADUCK_RUNNING, 65538, 0, 18}, {0, 0, 0, 0, 0}, {0, 0, 0, 0, 0}, /* the high word of a grant is its first */
     };
     loaded();
     s.stack_length = SOFADUCK_LARGE_FRAME - 1;
@@ -405,11 +409,12 @@ static void ends(void) {
         {"first word 65,535", {65535, SOFADUCK_PLAY_DROP}, 2, ANSWERS, 2},
         {"first word 256", {256, SOFADUCK_PLAY_DROP}, 2, ANSWERS, 2},
         {"room for no word of an answer", {SOFADUCK_PLAY_DROP}, 1, 0, 0},
-        {"room for 3 words of answers", {SOFADUCK_PLAY_DROP}, 1, 3, 0},
-        {"room for 4", {SOFADUCK_PLAY_DROP}, 1, 4, 1},
-        {"room for 7", {SOFADUCK_PLAY_DROP}, 1, 7, 1},
-        {"room for 11", {SOFADUCK_PLAY_DROP}, 1, 11, 2},
-        {"room for 12", {SOFADUCK_PLAY_DROP}, 1, 12, 3},
+        {"room for 4 words of answers", {SOFADUCK_PLAY_DROP}, 1, 4, 0},
+        {"room for 5", {SOFADUCK_PLAY_DROP}, 1, 5, 1},
+        {"room for 9", {SOFADUCK_PLAY_DROP}, 1, 9, 1},
+        {"room for 10", {SOFADUCK_PLAY_DROP}, 1, 10, 2},
+        {"room for 14", {SOFADUCK_PLAY_DROP}, 1, 14, 2},
+        {"room for 15", {SOFADUCK_PLAY_DROP}, 1, 15, 3},
     };
     uint16_t list[FRONT + 5] = {SOFADUCK_PLAY_BEGIN, OBJECT_box, SELECTOR_more, 0, SOFADUCK_PLAY_RUN, 0, 9};
     for (size_t i = 0; i < sizeof tails / sizeof *tails; i++) {

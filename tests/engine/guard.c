@@ -1,15 +1,16 @@
 /* The library with every buffer at the end of its memory: a page that nobody may touch lies behind each. Images are edited at random, what is
  * accepted is begun and run, lists of calls are played, states are spoiled and read. An access past a buffer ends the program; otherwise it fails
- * where check refuses a state that the calls left. Usage: guard IMAGE... */
+ * where check refuses a state that the calls left, or where count or reach are not those of the same run made bytecode by bytecode. Usage: guard
+ * IMAGE... */
 #define _DEFAULT_SOURCE /* MAP_ANONYMOUS */
-#include "sofaduck.h"
+#include "frames.h"
 #include <stdbool.h>
 #include <stdio.h>
 #include <stdlib.h>
 #include <string.h>
 #include <sys/mman.h>
 
-enum { EDITS = 100000, ROOM = 1 << 18, PAGE = 4096, IMAGES = 8, LIST = 50 };
+enum { EDITS = 100000, ROOM = 1 << 18, PAGE = 4096, IMAGES = 8, LIST = 50, MOST_STACK = 400 };
 
 static uint64_t seed = 1;
 static unsigned below(size_t n) {
@@ -60,7 +61,19 @@ static uint16_t any_selector(void) {
     return s->registers[SOFADUCK_START_SELECTOR];
 }
 
-/* Begin something and run it for some grants. Returns whether check accepts what is left and no call found the state wrong. */
+/* What a run has to give, from runs of one on a copy of the state. */
+static bool expected(uint32_t n, uint32_t *made_singly, uint32_t *ends) {
+    static uint16_t contents[SOFADUCK_CONTENTS], bodies[SOFADUCK_BODIES], stack[MOST_STACK], cache[SOFADUCK_CACHE];
+    sofaduck_state copy = *s;
+    memcpy(copy.contents = contents, s->contents, 2 * s->contents_length);
+    memcpy(copy.bodies = bodies, s->bodies, 2 * s->bodies_length);
+    memcpy(copy.stack = stack, s->stack, 2 * s->stack_length);
+    memcpy(copy.cache = cache, s->cache, 2 * s->cache_length);
+    return stepped(&copy, n, made_singly, ends);
+}
+
+/* Begin something and run it for some grants. Returns whether check accepts what is left, no call found the state wrong and the runs gave what they
+ * have to. */
 static bool handled(bool start) {
     const size_t given = below(3);
     uint16_t *const arguments = last(7, 2 * given);
@@ -71,7 +84,8 @@ static bool handled(bool start) {
     bool fine = begun != SOFADUCK_NO_ROOM && begun != SOFADUCK_BAD_STATE;
     while (s->registers[SOFADUCK_PHASE] == SOFADUCK_RUNNING && below(8) > 0) {
         const uint32_t n = below(60);
-        fine = counted(sofaduck_state_run(s, n, count, reach)) == 0 && *count <= n && *reach <= s->stack_length && fine;
+        uint32_t singly = 0, ends = 0;
+        fine = expected(n, &singly, &ends) && counted(sofaduck_state_run(s, n, count, reach)) == 0 && *count == singly && *reach == ends && fine;
     }
     if (below(2) == 0) fine = counted(sofaduck_state_drop(s)) == 0 && fine;
     return counted(sofaduck_state_check(s)) == 0 && fine;
@@ -167,14 +181,14 @@ int main(int argc, char **argv) {
         for (unsigned edits = below(4); edits > 0 && length > 1; edits--) edit(image, length / 2);
         s->contents_length = 4 * (images[which][2] * 256u + images[which][3] + below(3));
         s->bodies_length = images[which][4] * 256u + images[which][5] + below(20);
-        s->stack_length = below(3) == 0 ? below(60) : below(400);
+        s->stack_length = below(3) == 0 ? below(60) : below(MOST_STACK);
         s->contents = last(1, 2 * s->contents_length);
         s->bodies = last(2, 2 * s->bodies_length);
         s->stack = last(3, 2 * s->stack_length);
         if (counted(sofaduck_state_load(s, image, length)) != 0) continue;
         for (int turn = 0; turn < 5; turn++)
             if (!(turn == 3 ? listed() : handled(turn == 0))) {
-                printf("FAILED: edit %d: the calls left a state that check refuses\n", k);
+                printf("FAILED: edit %d: the calls left a state that check refuses, or a run's count or reach is wrong\n", k);
                 return 1;
             }
         spoiled();

@@ -6,7 +6,7 @@
 #include <stdlib.h>
 #include <string.h>
 
-#if SOFADUCK_VERSION_MAJOR < 1 || SOFADUCK_VERSION_MINOR < 0 || SOFADUCK_VERSION_PATCH < 0 || SOFADUCK_EDITION != 1
+#if SOFADUCK_VERSION_MAJOR != 2 || SOFADUCK_VERSION_MINOR < 0 || SOFADUCK_VERSION_PATCH < 0 || SOFADUCK_EDITION != 1
 #error "the version's numbers"
 #endif
 
@@ -140,8 +140,9 @@ static void lists(void) {
     test("a list is played on a state", sofaduck_state_play(&s, &calls, answers, ANSWERS, &made) == 0 && made == 5
                                             && sofaduck_integer(s.registers[SOFADUCK_VALUE]) == -3);
     const sofaduck_answer begin = sofaduck_answer_at(answers, 0), run = sofaduck_answer_at(answers, 1);
-    test("its answers are read", begin.number == 0 && begin.phase == SOFADUCK_IDLE && begin.count == 0 && begin.value == 0 && run.number == 0
-                                     && run.phase == SOFADUCK_FINISHED && run.count == 8 && sofaduck_integer(run.value) == -42);
+    test("its answers are read", begin.number == 0 && begin.phase == SOFADUCK_IDLE && begin.count == 0 && begin.value == 0 && begin.reach == 0
+                                     && run.number == 0 && run.phase == SOFADUCK_FINISHED && run.count == 8 && sofaduck_integer(run.value) == -42
+                                     && run.reach == SOFADUCK_FRAME);
     calls.length = calls.count = 0;
     test("a new list is put into the same words",
          sofaduck_put_run(&calls, 1) && sofaduck_state_play(&s, &calls, answers, ANSWERS, &made) == 0 && made == 1
@@ -186,11 +187,11 @@ static void selectors(void) {
 /* As much as a snapshot needs, put back into other buffers. */
 static sofaduck_state restored(const sofaduck_state *s, size_t contents, size_t bodies) {
     const size_t n = 4 * (size_t)s->registers[SOFADUCK_N], b = s->registers[SOFADUCK_B];
-    const size_t reach = (size_t)s->registers[SOFADUCK_TOP] + SOFADUCK_LARGE_FRAME;
+    const size_t behind = (size_t)s->registers[SOFADUCK_TOP] + SOFADUCK_LARGE_FRAME;
     sofaduck_state to = lend(contents, bodies, s->stack_length);
     memcpy(to.contents, s->contents, 2 * n);
     memcpy(to.bodies, s->bodies, 2 * b);
-    memcpy(to.stack, s->stack, 2 * (reach < s->stack_length ? reach : s->stack_length));
+    memcpy(to.stack, s->stack, 2 * (behind < s->stack_length ? behind : s->stack_length));
     memcpy(to.cache, s->cache, 2 * SOFADUCK_CACHE);
     memcpy(to.registers, s->registers, sizeof to.registers);
     return to;
