@@ -16,7 +16,8 @@ int main(int argc, char **argv) {
         number = sofaduck_state_begin(&s, s.registers[SOFADUCK_START_RECEIVER], s.registers[SOFADUCK_START_SELECTOR], NULL, 0);
     if (number == 0 && s.registers[SOFADUCK_PHASE] == SOFADUCK_RUNNING) number = sofaduck_state_run(&s, 1000, &count, &reach);
     if (number != 0) printf("refused: %s\n", sofaduck_refusal_text(number));
-    else printf("%s: %d\n", sofaduck_phase_text(s.registers[SOFADUCK_PHASE]), sofaduck_integer(s.registers[SOFADUCK_VALUE]));
+    else printf("%s: %d, in %u words of stack\n", sofaduck_phase_text(s.registers[SOFADUCK_PHASE]), sofaduck_integer(s.registers[SOFADUCK_VALUE]),
+                (unsigned)reach);
     printf("version %d.%d.%d\n", SOFADUCK_VERSION_MAJOR, SOFADUCK_VERSION_MINOR, SOFADUCK_VERSION_PATCH);
     return number != 0;
 }
