@@ -130,7 +130,7 @@ static double measure(const char *name, machine *m, int runs, double goal, FILE 
         if (t1 - t0 < a) a = t1 - t0;
         if (t2 - t1 < b) b = t2 - t1;
         if (r != 0 || s != 0 || count[0] != 0 || count[1] != 0 || reach[0] != reach[1])
-            return printf("%s: the runs of 0 bytecodes answer %u and %u\n", name, r, s), -1;
+            return printf("%s: the runs of 0 bytecodes answer %u and %u, reach %u and %u\n", name, r, s, reach[0], reach[1]), -1;
     }
     printf("check %-8s %5u words, %4zu frames, %2u lookups   ours %9.2f us   C %9.2f us   speed relative to C: %.2f\n", name, m->registers[B],
            frames, filled, a / 1e3, b / 1e3, b / a);

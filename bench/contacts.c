@@ -40,9 +40,9 @@ static void make_singly(machine *m, uint32_t contacts, words *w) {
     const uint16_t *const r = m->registers;
     for (uint32_t i = 0; i < contacts; i++) {
         const uint16_t x = argument(i);
-        uint32_t *const begun = w->answers[i][0], *const ran = w->answers[i][1], reach;
+        uint32_t *const begun = w->answers[i][0], *const ran = w->answers[i][1];
         begun[SOFADUCK_ANSWER_NUMBER] = sofaduck_state_begin(m, r[START_RECEIVER], r[START_SELECTOR], &x, 1);
-        ran[SOFADUCK_ANSWER_NUMBER] = sofaduck_state_run(m, GRANT, ran + SOFADUCK_ANSWER_COUNT, &reach);
+        ran[SOFADUCK_ANSWER_NUMBER] = sofaduck_state_run(m, GRANT, ran + SOFADUCK_ANSWER_COUNT, ran + SOFADUCK_ANSWER_REACH);
         ran[SOFADUCK_ANSWER_PHASE] = r[PHASE];
         ran[SOFADUCK_ANSWER_VALUE] = r[VALUE];
     }

@@ -1,5 +1,6 @@
-// Times runs, ours, C's and Lua's by turns; the least of all runs counts. After each run the library and its C peer have to agree in
-// registers, count, reach and every word of the four buffers. Arguments: a file to which the goals are added, and the command of Lua if there is one.
+// Times runs, ours, C's and Lua's by turns; the least of all runs counts. After each program the library and its C peer have to agree in
+// registers, counts, reaches and every word of the four buffers. Arguments: a file to which the goals are added, and the command of Lua if there
+// is one.
 #include "machine.h"
 #include "measure.h"
 #include "programs.h"
@@ -31,14 +32,14 @@ typedef struct {
     uint32_t number, count, reach;
 } outcome;
 
-// A program run to its end, so many bytecodes granted at a time. Count and highest reach over all runs.
+// A program run to its end, so many bytecodes granted at a time. Count and reach are added up over all runs.
 static outcome whole(machine *m, bool peer, uint32_t grant) {
     outcome r = {0, 0, 0};
     while (r.number == 0 && m->registers[PHASE] == 1) {
         uint32_t count = 0, reach = 0;
         r.number = peer ? c_run(entries, m, grant, &count, &reach) : sofaduck_state_run(m, grant, &count, &reach);
         r.count += count;
-        if (r.reach < reach) r.reach = reach;
+        r.reach += reach;
     }
     return r;
 }
@@ -47,7 +48,7 @@ static bool alike(const char *name, outcome r, outcome s) {
     if (r.number == 0 && s.number == 0 && ours.registers[PHASE] == 2 && r.count == s.count && r.reach == s.reach
         && memcmp(words[1], words[2], sizeof words[1]) == 0 && memcmp(ours.registers, theirs.registers, sizeof ours.registers) == 0)
         return true;
-    printf("%s: the runs differ, or do not finish: answers %u and %u, phases %u and %u, counts %u and %u, reach %u and %u\n", name, r.number,
+    printf("%s: the runs differ, or do not finish: answers %u and %u, phases %u and %u, counts %u and %u, reaches %u and %u\n", name, r.number,
            s.number, ours.registers[PHASE], theirs.registers[PHASE], r.count, s.count, r.reach, s.reach);
     return false;
 }
