@@ -191,11 +191,12 @@ uint32_t sofaduck_begin(uint16_t *contents, size_t contents_length,
  * count. Of runs that continue each other, the largest reach is that of one run with all their grants.
  *
  * How a team finds the length of its stack: it plays the game on a long one (more than SOFADUCK_STACK words are of no use) and keeps the largest
- * reach of all runs, of every state that uses the stack. On a stack of that many words the same calls, from load on, give the same answers and the
- * same words: every frame that stood fits, what did not fit still does not, and nothing else depends on the stack's length. On a stack one word
- * shorter one of these calls ends otherwise: a run halts in phase no stack room, or a begin is refused by 13. Two things to mind. Begin gives no
- * reach, and its frame is counted by the run behind it: where a handler is begun and dropped unrun, a run with a grant of 0 between the two tells
- * what it needs. And reach is of the runs that were made: a contact that was not tried may go deeper, and halts where it finds no room. */
+ * reach of all runs, of every state that uses the stack. On a stack of that many words the same calls, from load on, give the same answers and leave
+ * the same registers, objects and frames, which is proved: every frame that stood fits, what did not fit still does not, and nothing else depends on
+ * the stack's length. On a stack one word shorter one of these calls ends otherwise: a run halts in phase no stack room, or a begin is refused by 13.
+ * Two things to mind. Begin gives no reach, and its frame is counted by the run behind it: where a handler is begun and dropped unrun, a run with a
+ * grant of 0 between the two tells what it needs. And reach is of the runs that were made: a contact that was not tried may go deeper, and halts
+ * where it finds no room. */
 uint32_t sofaduck_run(uint16_t *contents, size_t contents_length,
                       uint16_t *bodies, size_t bodies_length,
                       uint16_t *stack, size_t stack_length,

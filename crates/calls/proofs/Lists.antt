@@ -19,7 +19,7 @@ use Rattle.plain.specs.Check.{check}
 use Rattle.plain.specs.FlatCalls.{Given, gives, noAnswer, flatCall}
 use Rattle.plain.specs.CallLists.{Together, Agrees, nextState, lastState}
 use Rattle.plain.proofs.Theorem.{from-checked}
-use Rattle.calls.specs.Encoding.{sizeAt, runLength, beginAt, callAt, unlessNone, callsFrom, callsOf, answerWords}
+use Rattle.calls.specs.Encoding.{sizeAt, runLength, beginAt, callAt, unlessNone, callsFrom, callsOf, answerSize, answerWords}
 use Rattle.calls.specs.Listing.{listed}
 use Rattle.calls.specs.declared.Listed.the-variants as L
 use Rattle.calls.specs.Plays.{answered, answersOf}
@@ -189,30 +189,30 @@ pub answers-more : (s s′ : Flat) (a : Answer) (c : Call) (cs : List Call) → 
 unfolding answersOf
 answers-more s s′ a c cs e = ap (λ (g : Given). answered g (λ t. answersOf t cs)) (sym e)
 
-pub four-words : (a : Answer) → length (answerWords a) ≡ 4
+pub all-words : (a : Answer) → length (answerWords a) ≡ answerSize
 unfolding answerWords
-four-words done = refl
-four-words (refusedBy k) = refl
-four-words (result p k v) = refl
-four-words (wrote k) = refl
+all-words done = refl
+all-words (refusedBy k) = refl
+all-words (result p k v h) = refl
+all-words (wrote k) = refl
 
--- ---- four words more
+-- ---- words put at a place
 
-module _ (l ws : List ℕ) (at : ℕ) (four : length ws ≡ 4) (room : at + 4 ≤ length l) where
-  put-is : sets l at ws ≡ take at l ++ ws ++ drop (at + 4) l
-  put-is = sets-eq ws l at (let f = four in omega arith) ∙ ap (λ (k : ℕ). take at l ++ ws ++ drop (at + k) l) four
+module _ (l ws : List ℕ) (at n : ℕ) (count : length ws ≡ n) (room : at + n ≤ length l) where
+  put-is : sets l at ws ≡ take at l ++ ws ++ drop (at + n) l
+  put-is = sets-eq ws l at (let c = count in omega arith) ∙ ap (λ (k : ℕ). take at l ++ ws ++ drop (at + k) l) count
 
-  long : length (take at l ++ ws) ≡ at + 4
-  long = let a = length-append (take at l) ws in let b = length-take-le at l (omega arith) in let f = four in omega arith
+  long : length (take at l ++ ws) ≡ at + n
+  long = let a = length-append (take at l) ws in let b = length-take-le at l (omega arith) in let c = count in omega arith
 
-  pub put-before : take (at + 4) (sets l at ws) ≡ take at l ++ ws
-  put-before = ap (take (at + 4)) put-is ∙ take-at (take at l ++ ws) (drop (at + 4) l) (at + 4) long
+  pub put-before : take (at + n) (sets l at ws) ≡ take at l ++ ws
+  put-before = ap (take (at + n)) put-is ∙ take-at (take at l ++ ws) (drop (at + n) l) (at + n) long
 
-  pub put-behind : drop (at + 4) (sets l at ws) ≡ drop (at + 4) l
-  put-behind = ap (drop (at + 4)) put-is ∙ drop-at (take at l ++ ws) (drop (at + 4) l) (at + 4) long
+  pub put-behind : drop (at + n) (sets l at ws) ≡ drop (at + n) l
+  put-behind = ap (drop (at + n)) put-is ∙ drop-at (take at l ++ ws) (drop (at + n) l) (at + n) long
 
-pub puts : (l : List ℕ) (at a b c d : ℕ) → set (set (set (set l at a) (at + 1) b) (at + 2) c) (at + 3) d ≡ sets l at (a ∷ b ∷ c ∷ d ∷ [])
-puts l at a b c d = λ i. set (set (set (set l at a) (one at i) b) (two at i) c) (three at i) d
+pub puts : (l : List ℕ) (at a b c d e : ℕ) → set (set (set (set (set l at a) (at + 1) b) (at + 2) c) (at + 3) d) (at + 4) e ≡ sets l at (a ∷ b ∷ c ∷ d ∷ e ∷ [])
+puts l at a b c d e = λ i. set (set (set (set (set l at a) (one at i) b) (two at i) c) (three at i) d) (four at i) e
   where
     one : (x : ℕ) → x + 1 ≡ suc x
     one x = omega arith
@@ -223,6 +223,9 @@ puts l at a b c d = λ i. set (set (set (set l at a) (one at i) b) (two at i) c)
     three : (x : ℕ) → x + 3 ≡ suc (suc (suc x))
     three x = omega arith
 
+    four : (x : ℕ) → x + 4 ≡ suc (suc (suc (suc x)))
+    four x = omega arith
+
 -- ---- check, after a call and after a list of calls
 
 pub call-checks : (s s′ : Flat) (a : Answer) (c : Call) → check s ≡ accepted → gives a s′ ≡ flatCall s c → check s′ ≡ accepted
@@ -232,15 +235,15 @@ call-checks s s′ a c e g =
     (subst (λ (x : Given). Together (roomOf s) c (plainOf s) x (call (roomOf s) (plainOf s) c) (Agrees (roomOf s) [])) (sym g) (from-checked s e (c ∷ [])))
   where
     go : (h : Called) → Together (roomOf s) c (plainOf s) (gives a s′) h (Agrees (roomOf s) []) → check s′ ≡ accepted
-    go (called a′ p′ ts) t = t .0 .checks
+    go (called a′ p′) t = t .0 .checks
     go impossible t = absurd t
 
 last-by : (room : Room) (c : Call) (cs : List Call) (p : Plain) (s : Flat) (g : Given) (h : Called) → ((s′ : Flat) (p′ : Plain) → Agrees room cs s′ p′
     → check s′ ≡ accepted → check (lastState s′ cs) ≡ accepted)
     → Together room c p g h (Agrees room cs) → check (lastState (nextState s g) cs) ≡ accepted
-last-by room c cs p s (gives a s′) (called a′ p′ ts) again t = again s′ p′ (t .1) (t .0 .checks)
+last-by room c cs p s (gives a s′) (called a′ p′) again t = again s′ p′ (t .1) (t .0 .checks)
 last-by room c cs p s (gives a s′) impossible again t = absurd t
-last-by room c cs p s noAnswer (called a′ p′ ts) again t = absurd t
+last-by room c cs p s noAnswer (called a′ p′) again t = absurd t
 last-by room c cs p s noAnswer impossible again t = absurd t
 
 pub last-checks : (room : Room) (cs : List Call) (s : Flat) (p : Plain) → Agrees room cs s p → check s ≡ accepted → check (lastState s cs) ≡ accepted

@@ -13,9 +13,9 @@ use Rattle.plain.specs.Check.{check}
 use Rattle.plain.specs.FlatCalls.{gives, flatCall}
 use Rattle.plain.specs.CallLists.{lastState}
 use Rattle.plain.proofs.Theorem.{from-checked}
-use Rattle.calls.specs.Encoding.{sizeAt, callAt, callsOf, answerWords, allWords}
+use Rattle.calls.specs.Encoding.{sizeAt, callAt, callsOf, answerSize, answerWords, allWords}
 use Rattle.calls.specs.Plays.{answersOf, answerRoom, callsMade, Plays, played, unplayed, playIf, flatPlay, PlaysAlike}
-use Rattle.calls.proofs.Lists.{within, ends-within, left, left-full, left-none, left-more, last-more, answers-more, four-words, put-before, put-behind, call-checks, last-checks}
+use Rattle.calls.proofs.Lists.{within, ends-within, left, left-full, left-none, left-more, last-more, answers-more, all-words, put-before, put-behind, call-checks, last-checks}
 
 -- k calls are made, the next one stands at i: what is left leads from here where all calls lead from the start.
 pub record Inv (words answers₀ : List ℕ) (s₀ s : Flat) (answers : List ℕ) (i k : ℕ) : Type 0 where
@@ -24,8 +24,8 @@ pub record Inv (words answers₀ : List ℕ) (s₀ s : Flat) (answers : List ℕ
   pub inside : i ≤ length words
   pub last : lastState s₀ (callsMade words answers₀) ≡ lastState s (left (answerRoom answers₀ - k) (length words - k) i words)
   pub made : length (callsMade words answers₀) ≡ k + length (left (answerRoom answers₀ - k) (length words - k) i words)
-  pub written : allWords (answersOf s₀ (callsMade words answers₀)) ≡ take (4 * k) answers ++ allWords (answersOf s (left (answerRoom answers₀ - k) (length words - k) i words))
-  pub behind : drop (4 * k) answers ≡ drop (4 * k) answers₀
+  pub written : allWords (answersOf s₀ (callsMade words answers₀)) ≡ take (answerSize * k) answers ++ allWords (answersOf s (left (answerRoom answers₀ - k) (length words - k) i words))
+  pub behind : drop (answerSize * k) answers ≡ drop (answerSize * k) answers₀
   pub long : length answers ≡ length answers₀
   pub checks : check s ≡ accepted
   pub contents : length (s .contents) ≡ length (s₀ .contents)
@@ -76,12 +76,12 @@ module _ (words answers₀ : List ℕ) (s₀ s : Flat) (answers : List ℕ) (i k
       counted : length (callsMade words answers₀) ≡ k
       counted = inv .made ∙ ap (λ (cs : List Call). k + length cs) e ∙ plus-zero k
 
-      written′ : allWords (answersOf s₀ (callsMade words answers₀)) ++ drop (4 * length (callsMade words answers₀)) answers₀ ≡ answers
+      written′ : allWords (answersOf s₀ (callsMade words answers₀)) ++ drop (answerSize * length (callsMade words answers₀)) answers₀ ≡ answers
       written′ =
           ap₂ (λ (x y : List ℕ). x ++ y)
-          (inv .written ∙ ap (λ (cs : List Call). take (4 * k) answers ++ allWords (answersOf s cs)) e ∙ append-nil (take (4 * k) answers))
-          (ap (λ (n : ℕ). drop (4 * n) answers₀) counted ∙ sym (inv .behind))
-          ∙ take-append-drop (4 * k) answers
+          (inv .written ∙ ap (λ (cs : List Call). take (answerSize * k) answers ++ allWords (answersOf s cs)) e ∙ append-nil (take (answerSize * k) answers))
+          (ap (λ (n : ℕ). drop (answerSize * n) answers₀) counted ∙ sym (inv .behind))
+          ∙ take-append-drop (answerSize * k) answers
 
   pub ends-full : (room : ℕ) → room ≡ answerRoom answers₀ → room ≤ k → Plays words answers₀ s₀ k s answers
   ends-full room is h = ended (left-full (answerRoom answers₀ - k) (length words - k) i words (omega arith))
@@ -97,13 +97,13 @@ module _ (words answers₀ : List ℕ) (s₀ s : Flat) (answers : List ℕ) (i k
     pub stands : 1 ≤ sizeAt words i
     stands = let e = sized in omega arith
 
-    pub fits : 4 * k + 4 ≤ length answers
+    pub fits : answerSize * k + answerSize ≤ length answers
     fits = let f = free in let l = inv .long in omega arith
 
     pub ends-inside : i + n ≤ length words
     ends-inside = let e = sized in let w = ends-within words i stands in omega arith
 
-    module _ (a : Answer) (s′ : Flat) (answers′ : List ℕ) (made : gives a s′ ≡ flatCall s (callAt words i)) (noted : answers′ ≡ sets answers (4 * k) (answerWords a))
+    module _ (a : Answer) (s′ : Flat) (answers′ : List ℕ) (made : gives a s′ ≡ flatCall s (callAt words i)) (noted : answers′ ≡ sets answers (answerSize * k) (answerWords a))
         (lc : length (s′ .contents) ≡ length (s .contents)) (lb : length (s′ .bodies) ≡ length (s .bodies))
         (ls : length (s′ .stack) ≡ length (s .stack)) (lk : length (s′ .cache) ≡ length (s .cache)) where
       abbrev rest′ : List Call
@@ -115,31 +115,31 @@ module _ (words answers₀ : List ℕ) (s₀ s : Flat) (answers : List ℕ) (i k
           (let a = inv .position in let b = within words i stands in omega arith) stands
           ∙ ap (λ (j : ℕ). callAt words i ∷ left (answerRoom answers₀ - (k + 1)) (length words - (k + 1)) (i + j) words) (sym sized)
 
-      times : (x : ℕ) → 4 * (x + 1) ≡ 4 * x + 4
+      times : (x : ℕ) → answerSize * (x + 1) ≡ answerSize * x + answerSize
       times x = omega arith
 
       last′ : lastState s rest ≡ lastState s′ rest′
       last′ = ap (lastState s) more ∙ last-more s s′ a (callAt words i) rest′ made
 
-      before : take (4 * (k + 1)) answers′ ≡ take (4 * k) answers ++ answerWords a
+      before : take (answerSize * (k + 1)) answers′ ≡ take (answerSize * k) answers ++ answerWords a
       before =
           ap₂ (λ (x : ℕ) (l : List ℕ). take x l) (times k) noted
-          ∙ put-before answers (answerWords a) (4 * k) (four-words a) fits
+          ∙ put-before answers (answerWords a) (answerSize * k) answerSize (all-words a) fits
 
       words′ : allWords (answersOf s rest) ≡ answerWords a ++ allWords (answersOf s′ rest′)
       words′ = ap (λ (cs : List Call). allWords (answersOf s cs)) more ∙ ap allWords (answers-more s s′ a (callAt words i) rest′ made) ∙ (unfold allWords in refl)
 
-      written′ : allWords (answersOf s₀ (callsMade words answers₀)) ≡ take (4 * (k + 1)) answers′ ++ allWords (answersOf s′ rest′)
+      written′ : allWords (answersOf s₀ (callsMade words answers₀)) ≡ take (answerSize * (k + 1)) answers′ ++ allWords (answersOf s′ rest′)
       written′ =
-          inv .written ∙ ap (λ (l : List ℕ). take (4 * k) answers ++ l) words′
-          ∙ sym (append-assoc (take (4 * k) answers) (answerWords a) (allWords (answersOf s′ rest′)))
+          inv .written ∙ ap (λ (l : List ℕ). take (answerSize * k) answers ++ l) words′
+          ∙ sym (append-assoc (take (answerSize * k) answers) (answerWords a) (allWords (answersOf s′ rest′)))
           ∙ ap (λ (l : List ℕ). l ++ allWords (answersOf s′ rest′)) (sym before)
 
-      behind′ : drop (4 * (k + 1)) answers′ ≡ drop (4 * (k + 1)) answers₀
+      behind′ : drop (answerSize * (k + 1)) answers′ ≡ drop (answerSize * (k + 1)) answers₀
       behind′ =
           ap₂ (λ (x : ℕ) (l : List ℕ). drop x l) (times k) noted
-          ∙ put-behind answers (answerWords a) (4 * k) (four-words a) fits
-          ∙ sym (drop-drop 4 (4 * k) answers) ∙ ap (drop 4) (inv .behind) ∙ drop-drop 4 (4 * k) answers₀
+          ∙ put-behind answers (answerWords a) (answerSize * k) answerSize (all-words a) fits
+          ∙ sym (drop-drop answerSize (answerSize * k) answers) ∙ ap (drop answerSize) (inv .behind) ∙ drop-drop answerSize (answerSize * k) answers₀
           ∙ ap (λ (x : ℕ). drop x answers₀) (sym (times k))
 
       made′ : length (callsMade words answers₀) ≡ (k + 1) + length rest′
@@ -158,7 +158,7 @@ module _ (words answers₀ : List ℕ) (s₀ s : Flat) (answers : List ℕ) (i k
             made = made′;
             written = written′;
             behind = behind′;
-            long = ap (λ (l : List ℕ). length l) noted ∙ length-sets answers (4 * k) (answerWords a) ∙ inv .long;
+            long = ap (λ (l : List ℕ). length l) noted ∙ length-sets answers (answerSize * k) (answerWords a) ∙ inv .long;
             checks = call-checks s s′ a (callAt words i) (inv .checks) made;
             contents = lc ∙ inv .contents;
             bodies = lb ∙ inv .bodies;

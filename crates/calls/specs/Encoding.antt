@@ -4,7 +4,7 @@
 --   2  drop
 --   3  forget
 -- The list ends where the words end, or at the first call that is not whole or has another first word.
--- An answer is four words: number (0 or the refusal), phase, count, value.
+-- An answer is five words: number (0 or the refusal), phase, count, value, reach.
 use Prim.Native.Nat.{ℕ, zero, suc, _+_, _-_, _*_}
 use mathlib.Core.List.{List, [], _∷_, _++_}
 use lib.Dec.{leb, ltb, eqb}
@@ -51,12 +51,16 @@ callsFrom (suc fuel) i words = unlessNone (sizeAt words i) (callAt words i) (λ 
 unfoldable pub callsOf : List ℕ → List Call
 callsOf words = callsFrom (length words) 0 words
 
+-- How many words an answer has
+abbrev pub answerSize : ℕ
+answerSize = 5
+
 -- The words of an answer. No call of a list answers `wrote`, which is save's.
 unfoldable pub answerWords : Answer → List ℕ
-answerWords done = 0 ∷ 0 ∷ 0 ∷ 0 ∷ []
-answerWords (refusedBy k) = k ∷ 0 ∷ 0 ∷ 0 ∷ []
-answerWords (result phase count value) = 0 ∷ phase ∷ count ∷ value ∷ []
-answerWords (wrote k) = 0 ∷ 0 ∷ 0 ∷ 0 ∷ []
+answerWords done = 0 ∷ 0 ∷ 0 ∷ 0 ∷ 0 ∷ []
+answerWords (refusedBy k) = k ∷ 0 ∷ 0 ∷ 0 ∷ 0 ∷ []
+answerWords (result phase count value reach) = 0 ∷ phase ∷ count ∷ value ∷ reach ∷ []
+answerWords (wrote k) = 0 ∷ 0 ∷ 0 ∷ 0 ∷ 0 ∷ []
 
 unfoldable pub allWords : List Answer → List ℕ
 allWords [] = []

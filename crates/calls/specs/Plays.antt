@@ -9,7 +9,7 @@ use Rattle.plain.specs.Flat.{Flat, roomOf, plainOf}
 use Rattle.plain.specs.Check.{check}
 use Rattle.plain.specs.FlatCalls.{Given, gives, noAnswer, flatCall}
 use Rattle.plain.specs.CallLists.{Agrees, lastState}
-use Rattle.calls.specs.Encoding.{callsOf, allWords}
+use Rattle.calls.specs.Encoding.{callsOf, answerSize, allWords}
 
 -- The answers of a list of calls; the state after them is `lastState`. (No call is without an answer where check accepts the state.)
 abbrev pub answered : Given → (Flat → List Answer) → List Answer
@@ -25,14 +25,14 @@ abbrev pub mostCalls : ℕ
 mostCalls = 4294967295
 
 abbrev pub answerRoom : List ℕ → ℕ
-answerRoom answers = min (length answers / 4) mostCalls
+answerRoom answers = min (length answers / answerSize) mostCalls
 
 unfoldable pub callsMade : List ℕ → List ℕ → List Call
 callsMade calls answers = take (answerRoom answers) (callsOf calls)
 
 -- What is in `answers` after calls from a state: their answers, and behind them what was there
 abbrev pub answersAfter : Flat → List Call → List ℕ → List ℕ
-answersAfter s cs answers = allWords (answersOf s cs) ++ drop (4 * length cs) answers
+answersAfter s cs answers = allWords (answersOf s cs) ++ drop (answerSize * length cs) answers
 
 -- Calls made from a state s: k of them, leaving s′ and answers′
 pub record Plays (calls answers : List ℕ) (s : Flat) (k : ℕ) (s′ : Flat) (answers′ : List ℕ) : Type 0 where

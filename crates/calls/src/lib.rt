@@ -5,12 +5,15 @@ ghost use Prim.Native.Nat.{_+_, _/_, _≤_, min};
 ghost use lib.ListN.{length, getD};
 ghost use lib.Seq.{sets};
 ghost use Rattle.plain.specs.Calls.{runCall};
-ghost use Rattle.calls.specs.Encoding.{sizeAt, beginAt, runLength, callAt};
+ghost use Rattle.calls.specs.Encoding.{sizeAt, beginAt, runLength, callAt, answerSize};
 ghost use Rattle.calls.specs.Plays.{mostCalls};
 ghost use Rattle.calls.specs.Listing.{listed, Inside};
 
 // What 32 bits count.
 const MOST_CALLS: u32 = 4294967295;
+
+// The words of an answer.
+pub const ANSWER_SIZE: usize = 5;
 
 // A call of a list. The arguments of a begin are the list's words from `from` to `end`.
 pub enum Listed {
@@ -103,11 +106,11 @@ pub fn call_at(calls: &[u16], i: usize) -> Listed
     Listed::Forget
 }
 
-// How many calls are made at most where there are so many words for answers: 4 for each, and no more calls than 32 bits count.
+// How many calls are made at most where there are so many words for answers, and no more than 32 bits count.
 pub fn answer_room(words: usize) -> u32
-    ensures { λ r. ⌜ r ≡ min (words / 4) mostCalls ⌝ }
+    ensures { λ r. ⌜ r ≡ min (words / answerSize) mostCalls ⌝ }
 {
-    let room = words / 4;
+    let room = words / ANSWER_SIZE;
     let most = MOST_CALLS as usize;
     if most < room {
         return MOST_CALLS;
@@ -115,13 +118,22 @@ pub fn answer_room(words: usize) -> u32
     room as u32
 }
 
-// The four words of an answer.
-pub fn write_answer(answers: &mut [u32], at: usize, number: u32, phase: u32, count: u32, value: u32)
-    requires { ⌜ at + 4 ≤ length (now answers) ⌝ }
-    ensures { λ r. ⌜ now (answers .exit) ≡ sets (now (answers .entry)) at (number ∷ phase ∷ count ∷ value ∷ []) ⌝ }
+// The words of an answer.
+pub fn write_answer(
+    answers: &mut [u32],
+    at: usize,
+    number: u32,
+    phase: u32,
+    count: u32,
+    value: u32,
+    reach: u32,
+)
+    requires { ⌜ at + answerSize ≤ length (now answers) ⌝ }
+    ensures { λ r. ⌜ now (answers .exit) ≡ sets (now (answers .entry)) at (number ∷ phase ∷ count ∷ value ∷ reach ∷ []) ⌝ }
 {
     answers[at] = number;
     answers[at + 1] = phase;
     answers[at + 2] = count;
     answers[at + 3] = value;
+    answers[at + 4] = reach;
 }

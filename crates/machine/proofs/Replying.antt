@@ -42,7 +42,7 @@ module _ (contents bodies stack cache : List ℕ) (g : Given) where
     begun-refused k r q = ap (λ (y : Begun). beginGives y contents bodies stack cache) (sym q) ∙ e
 
   module _ (x : Ran) (e : runGives x contents bodies stack cache ≡ g) where
-    pub ran-done : (r : Registers) (count reach : ℕ) → x ≡ N.Done r count reach → replyGives (P.Ran count r) contents bodies stack cache ≡ g
+    pub ran-done : (r : Registers) (count reach : ℕ) → x ≡ N.Done r count reach → replyGives (P.Ran count reach r) contents bodies stack cache ≡ g
     unfolding runGives registersIn answerIn
     ran-done r count reach q = ap (λ (y : Ran). runGives y contents bodies stack cache) (sym q) ∙ e
 
@@ -99,14 +99,14 @@ module _ (x : Reply) (answers answers′ : List ℕ) (at : ℕ) where
   noted : (y : Reply) → x ≡ y → answers′ ≡ sets answers at (answerWords (answerIn y)) → Noted (registersIn y)
   noted y q e = (ap registersIn (sym q), e ∙ ap (λ (z : Reply). sets answers at (answerWords (answerIn z))) (sym q))
 
-  pub noted-done : (r : Registers) → x ≡ P.Done r → answers′ ≡ sets answers at (0 ∷ 0 ∷ 0 ∷ 0 ∷ []) → Noted r
+  pub noted-done : (r : Registers) → x ≡ P.Done r → answers′ ≡ sets answers at (0 ∷ 0 ∷ 0 ∷ 0 ∷ 0 ∷ []) → Noted r
   noted-done r q e = unfold registersIn answerIn answerWords in noted (P.Done r) q e
 
-  pub noted-refused : (k : ℕ) (r : Registers) → x ≡ P.Refused k r → answers′ ≡ sets answers at (k ∷ 0 ∷ 0 ∷ 0 ∷ []) → Noted r
+  pub noted-refused : (k : ℕ) (r : Registers) → x ≡ P.Refused k r → answers′ ≡ sets answers at (k ∷ 0 ∷ 0 ∷ 0 ∷ 0 ∷ []) → Noted r
   noted-refused k r q e = unfold registersIn answerIn answerWords in noted (P.Refused k r) q e
 
-  pub noted-ran : (count : ℕ) (r : Registers) → x ≡ P.Ran count r → answers′ ≡ sets answers at (0 ∷ r .phase ∷ count ∷ r .value ∷ []) → Noted r
-  noted-ran count r q e = unfold registersIn answerIn answerWords in noted (P.Ran count r) q e
+  pub noted-ran : (count reach : ℕ) (r : Registers) → x ≡ P.Ran count reach r → answers′ ≡ sets answers at (0 ∷ r .phase ∷ count ∷ r .value ∷ reach ∷ []) → Noted r
+  noted-ran count reach r q e = unfold registersIn answerIn answerWords in noted (P.Ran count reach r) q e
 
 -- the registers that were given back are those of the call
 pub noted-gives : (x : Reply) (contents bodies stack cache : List ℕ) (g : Given) → replyGives x contents bodies stack cache ≡ g

@@ -13,16 +13,16 @@ use Rattle.plain.specs.Registers.{running, withPhase, withSizes}
 use Rattle.plain.specs.Flat.{Flat, flat, plainOf}
 use Rattle.plain.specs.Calls.{result}
 use Rattle.plain.specs.Check.{check}
-use Rattle.plain.specs.FlatCalls.{gives, checked, flatRunIf, flatRun, runsFrom, endsFrom}
+use Rattle.plain.specs.FlatCalls.{gives, checked, flatRunIf, flatRun}
+use Rattle.plain.specs.RunLoop.{runsFrom}
 use Rattle.plain.proofs.Preserve.{runs, ends}
 use Rattle.plain.proofs.StateLaws.{Stands, goes, rests, waits}
 use Rattle.plain.proofs.FlatLaws.{FlatRight, check-right}
 use Rattle.plain.proofs.TurnLaws.{whole-run}
-use Rattle.plain.proofs.ReachLaws.{reach-fine}
 use Rattle.machine.specs.declared.Registers.{Registers}
 use Rattle.runs.specs.declared.Ended.{Ended}
 use Rattle.runs.specs.Ends.{startOf, endedWith, Goes, RunsTo, RunsOn}
-use Rattle.machine.specs.State.{registersOf, state, runGives, ReachIs}
+use Rattle.machine.specs.State.{registersOf, state, runGives}
 use Rattle.machine.specs.declared.Ran.the-variants as N
 
 value-none : (s : Flat) → FlatRight s → s .registers .phase ≡ running → s .registers .value ≡ 0
@@ -39,18 +39,18 @@ module _ (r : Registers) (contents bodies stack cache : List ℕ) (n : ℕ) wher
   abbrev s : Flat
   s = state r contents bodies stack cache
 
-  pub runs-not : (k : ℕ) → refused k ≡ check s → (runGives (N.Refused k r) contents bodies stack cache ≡ flatRun s n) × ReachIs s n (N.Refused k r)
+  pub runs-not : (k : ℕ) → refused k ≡ check s → runGives (N.Refused k r) contents bodies stack cache ≡ flatRun s n
   unfolding runGives flatRun
-  runs-not k q = (ap (λ (v : Verdict). checked s v (flatRunIf s n (eqb (r .phase) running))) q, tt)
+  runs-not k q = ap (λ (v : Verdict). checked s v (flatRunIf s n (eqb (r .phase) running))) q
 
   module _ (yes : check s ≡ accepted) where
     passes : (b : Bool) → eqb (r .phase) running ≡ b → flatRunIf s n b ≡ flatRun s n
     unfolding flatRun
     passes b p = ap (flatRunIf s n) (sym p) ∙ ap (λ (v : Verdict). checked s v (flatRunIf s n (eqb (r .phase) running))) (sym yes)
 
-    pub runs-12 : (r .phase ≡ 1 → ⊥) → (runGives (N.Refused 12 r) contents bodies stack cache ≡ flatRun s n) × ReachIs s n (N.Refused 12 r)
+    pub runs-12 : (r .phase ≡ 1 → ⊥) → runGives (N.Refused 12 r) contents bodies stack cache ≡ flatRun s n
     unfolding runGives
-    runs-12 p = (passes false (ne-eqb (r .phase) running p), tt)
+    runs-12 p = passes false (ne-eqb (r .phase) running p)
 
     module _ (p : r .phase ≡ 1) where
       -- in phase 1 value is 0
@@ -73,11 +73,9 @@ module _ (r : Registers) (contents bodies stack cache : List ℕ) (n : ℕ) wher
         runs-small = ran .small
 
         pub runs-done : (r₁ r₂ : Registers) → registersOf r₁ ≡ withSizes (registersOf r) (z .n) (z .b) → registersOf r₂ ≡ withPhase (registersOf r₁) (z .phase) (z .top) (z .value)
-            → (runGives (N.Done r₂ (z .count) (z .reach)) contents′ bodies′ stack′ cache′ ≡ flatRun s n) × ReachIs s n (N.Done r₂ (z .count) (z .reach))
+            → runGives (N.Done r₂ (z .count) (z .reach)) contents′ bodies′ stack′ cache′ ≡ flatRun s n
         unfolding runGives
         runs-done r₁ r₂ d f =
-            let e : registersOf r₂ ≡ endedWith (r .edition) (r .receiver) (r .selector) z = f ∙ ap (λ (x : R.Registers). withPhase x (z .phase) (z .top) (z .value)) d in (
-              (λ i. gives (result (e i .phase) (z .count) (e i .value)) (flat (e i) contents′ bodies′ stack′ cache′))
-                  ∙ ran .gave ∙ ap (runsFrom n 0) (sym start-is) ∙ whole-run n s ∙ passes true (eq-eqb (r .phase) running p),
-              reach-fine s n (z .reach) yes (ran .ends ∙ ap (endsFrom n 0) (sym start-is)),
-            )
+            let e : registersOf r₂ ≡ endedWith (r .edition) (r .receiver) (r .selector) z = f ∙ ap (λ (x : R.Registers). withPhase x (z .phase) (z .top) (z .value)) d in
+            (λ i. gives (result (e i .phase) (z .count) (e i .value) (z .reach)) (flat (e i) contents′ bodies′ stack′ cache′)) ∙ ran .gave
+            ∙ ap (runsFrom n 0 0) (sym start-is) ∙ whole-run n s ∙ passes true (eq-eqb (r .phase) running p)

@@ -1,11 +1,9 @@
 -- The registers as the code holds them, and the answers of the calls as 01's numbers and values.
 use Prim.Native.Nat.{ℕ}
-use mathlib.Core.Path.{_≡_}
-use mathlib.Core.Bool.{true}
 use mathlib.Core.List.{List}
 use Rattle.plain.specs.Flat.{Flat, flat}
 use Rattle.plain.specs.Calls.{done, refusedBy, result}
-use Rattle.plain.specs.FlatCalls.{Given, gives, reachFine, flatRun}
+use Rattle.plain.specs.FlatCalls.{Given, gives}
 use Rattle.machine.specs.declared.Registers.{Registers}
 use Rattle.machine.specs.declared.Checked.{Checked}
 use Rattle.machine.specs.declared.Begun.{Begun}
@@ -38,18 +36,10 @@ unfoldable pub beginGives : Begun → List ℕ → List ℕ → List ℕ → Lis
 beginGives (B.Started r) contents bodies stack cache = gives done (state r contents bodies stack cache)
 beginGives (B.Refused k r) contents bodies stack cache = gives (refusedBy k) (state r contents bodies stack cache)
 
--- Run: phase and value are in the registers that come back. Reach (01's term) is left to the program; `ReachIs` says what holds of it.
+-- Run: phase and value are in the registers that come back, count and reach beside them.
 unfoldable pub runGives : Ran → List ℕ → List ℕ → List ℕ → List ℕ → Given
-runGives (N.Done r count reach) contents bodies stack cache = gives (result (r .phase) count (r .value)) (state r contents bodies stack cache)
+runGives (N.Done r count reach) contents bodies stack cache = gives (result (r .phase) count (r .value) reach) (state r contents bodies stack cache)
 runGives (N.Refused k r) contents bodies stack cache = gives (refusedBy k) (state r contents bodies stack cache)
-
-abbrev pub ReachIs : Flat → ℕ → Ran → Type 0
-ReachIs s n (N.Done r count reach) = reachFine s n reach ≡ true
-ReachIs s n (N.Refused k r) = Unit {0}
-
--- What run promises of its answer and the buffers afterwards
-abbrev pub PromisedRun : Flat → ℕ → Ran → (contents bodies stack cache : List ℕ) → Type 0
-PromisedRun s n r contents bodies stack cache = (runGives r contents bodies stack cache ≡ flatRun s n) × ReachIs s n r
 
 -- Drop: the registers come back, changed or as they were.
 unfoldable pub dropGives : Dropped → List ℕ → List ℕ → List ℕ → List ℕ → Given

@@ -1,5 +1,6 @@
-// The calls on a state. Each promise is an equation with the flat calls of plain's specs/FlatCalls.antt, through the definitions of specs/State.antt. What
-// is named `.._checked` takes a state that check accepts and does not look at it again.
+// The calls on a state. Each promise is an equation with the flat calls of plain's specs/FlatCalls.antt, through the definitions of specs/State.antt:
+// it gives the answer and every lent word, and leaves nothing to the program. What is named `.._checked` takes a state that check accepts and does not
+// look at it again.
 ghost use mathlib.Core.Path.{_≡_};
 ghost use Prim.Native.Nat.{_+_, _*_, _≤_};
 ghost use lib.Dec.{T};
@@ -10,11 +11,11 @@ ghost use Rattle.code.specs.Asked.{Blank};
 ghost use Rattle.plain.specs.Running.{roomAt};
 ghost use Rattle.plain.specs.Registers as R;
 ghost use Rattle.plain.specs.Check as K;
-ghost use Rattle.plain.specs.FlatCalls.{flatBegin, flatDrop, flatForget, flatCall};
-ghost use Rattle.calls.specs.Encoding.{sizeAt, callAt, answerWords};
+ghost use Rattle.plain.specs.FlatCalls.{flatBegin, flatRun, flatDrop, flatForget, flatCall};
+ghost use Rattle.calls.specs.Encoding.{sizeAt, callAt, answerSize, answerWords};
 ghost use Rattle.calls.specs.Plays.{Plays};
 ghost use Rattle.machine.specs.Parts.{FirstParts};
-ghost use Rattle.machine.specs.State.{registersOf, state, checkGives, beginGives, PromisedRun, dropGives, forgetGives};
+ghost use Rattle.machine.specs.State.{registersOf, state, checkGives, beginGives, runGives, dropGives, forgetGives};
 ghost use Rattle.machine.specs.Lists.{registersIn, answerIn, replyGives, PromisedPlay};
 use begins::Beginning;
 use calls::Listed;
@@ -75,11 +76,12 @@ pub enum Played {
     Refused(u32, Registers),
 }
 
-// A call of a list that was made: its answer, and the registers that it left. Phase and value of a run are those of the registers.
+// A call of a list that was made: its answer, and the registers that it left. Phase and value of a run are those of the registers; beside them it
+// has its count and its reach.
 enum Reply {
     Done(Registers),
     Refused(u32, Registers),
-    Ran(u32, Registers),
+    Ran(u32, u32, Registers),
 }
 
 // The image's rules, the frames and the cache of a state whose buffers are long enough and whose counts and registers are right. The notes
@@ -251,20 +253,20 @@ pub fn forget(
 }
 
 // The answer of a call written down; its registers.
-fn note(reply: Reply, answers: &mut [u32], at: usize) -> Registers
-    requires { ⌜ at + 4 ≤ length (now answers) ⌝ }
+fn write_reply(reply: Reply, answers: &mut [u32], at: usize) -> Registers
+    requires { ⌜ at + answerSize ≤ length (now answers) ⌝ }
     ensures { λ r. ⌜ (r ≡ registersIn reply) × (now (answers .exit) ≡ sets (now (answers .entry)) at (answerWords (answerIn reply))) ⌝ }
 {
     match reply {
         Reply::Done(registers) => {
-            calls::write_answer(answers, at, 0, 0, 0, 0);
+            calls::write_answer(answers, at, 0, 0, 0, 0, 0);
             registers
         }
         Reply::Refused(k, registers) => {
-            calls::write_answer(answers, at, k, 0, 0, 0);
+            calls::write_answer(answers, at, k, 0, 0, 0, 0);
             registers
         }
-        Reply::Ran(count, registers) => {
+        Reply::Ran(count, reach, registers) => {
             calls::write_answer(
                 answers,
                 at,
@@ -272,6 +274,7 @@ fn note(reply: Reply, answers: &mut [u32], at: usize) -> Registers
                 registers.phase as u32,
                 count,
                 registers.value as u32,
+                reach,
             );
             registers
         }
@@ -389,8 +392,8 @@ impl Registers {
         grant: u32,
     ) -> Ran
         requires { ⌜ K.check (state self (now contents) (now bodies) (now stack) (now cache)) ≡ accepted ⌝ }
-        ensures { λ r. ⌜ PromisedRun (state self (now (contents .entry)) (now (bodies .entry)) (now (stack .entry)) (now (cache .entry))) grant r
-            (now (contents .exit)) (now (bodies .exit)) (now (stack .exit)) (now (cache .exit)) ⌝ }
+        ensures { λ r. ⌜ runGives r (now (contents .exit)) (now (bodies .exit)) (now (stack .exit)) (now (cache .exit))
+            ≡ flatRun (state self (now (contents .entry)) (now (bodies .entry)) (now (stack .entry)) (now (cache .entry))) grant ⌝ }
     {
         if self.phase != 1 {
             return Ran::Refused(12, self);
@@ -424,8 +427,8 @@ impl Registers {
         cache: &mut [u16],
         grant: u32,
     ) -> Ran
-        ensures { λ r. ⌜ PromisedRun (state self (now (contents .entry)) (now (bodies .entry)) (now (stack .entry)) (now (cache .entry))) grant r
-            (now (contents .exit)) (now (bodies .exit)) (now (stack .exit)) (now (cache .exit)) ⌝ }
+        ensures { λ r. ⌜ runGives r (now (contents .exit)) (now (bodies .exit)) (now (stack .exit)) (now (cache .exit))
+            ≡ flatRun (state self (now (contents .entry)) (now (bodies .entry)) (now (stack .entry)) (now (cache .entry))) grant ⌝ }
     {
         match check(self, contents, bodies, stack, cache) {
             Checked::Refused(k) => Ran::Refused(k, self),
@@ -485,8 +488,8 @@ impl Registers {
                 Ran::Done {
                     registers: next,
                     count,
-                    reach: _,
-                } => Reply::Ran(count, next),
+                    reach,
+                } => Reply::Ran(count, reach, next),
                 Ran::Refused(k, next) => Reply::Refused(k, next),
             },
             Listed::Drop => Reply::Done(self.with_phase(0, 0, 0)),
@@ -526,7 +529,7 @@ impl Registers {
                 };
             }
             let reply = registers.call_checked(contents, bodies, stack, cache, calls, i);
-            registers = note(reply, answers, 4 * made as usize);
+            registers = write_reply(reply, answers, calls::ANSWER_SIZE * made as usize);
             i += size;
             made += 1;
         }

@@ -13,11 +13,11 @@ use Rattle.model.specs.Arithmetic.{floorQuotient, floorRemainder, shifted, numb
 use Rattle.model.specs.Primitive.{storeWord, objectByte, storeByte, isIndexable, at, atPut, sizeAnswer, appended, hasRoom, make, new, newWith, perform, primitiveCount, primitive}
 use Rattle.plain.specs.State.{newFrame, fitsStack}
 use Rattle.plain.specs.Step.{operand, fieldOf, literalOf, pushed, read, storedField, stored, returned, entering, activate, framed, sends, arithmeticSends, specialSends, jumps, execute, stepFrame, step}
-use Rattle.plain.specs.Calls.{loaded, begin, steps, dropped, call}
+use Rattle.plain.specs.Calls.{loaded, begin, steps, largestEnd, standingEnd, reachOf, dropped, call}
 use Rattle.plain.specs.Cache.{cacheEntryOf, filled, cachedRight, cacheFine}
 use Rattle.plain.specs.Flat.{frameAt, framesFrom, plainOf}
 use Rattle.plain.specs.Check.{imageRules, noteOf, frameRules, framesFine, plainRules, plainFine, stateFine, check}
-use Rattle.plain.specs.FlatCalls.{laid, stackAfter, cacheAfter, flatBegin, flatRun, topEnd, highestEnd, reachFine, flatDrop, flatForget, flatCall, zeroed, flatLoad, savedImage, saveVerdict, flatSave}
+use Rattle.plain.specs.FlatCalls.{laid, stackAfter, cacheAfter, flatBegin, flatRun, flatDrop, flatForget, flatCall, zeroed, flatLoad, savedImage, saveVerdict, flatSave}
 use Rattle.plain.specs.Program.{step80}
 
 unfoldable pub computing : Unit {0}
@@ -27,7 +27,7 @@ unfolding if_then_else_ byteAt placeOf shortOf constantOf extendedOf jumpOf send
     sendFine variableFine placeFine allowed methodTable methodRules dictionaryMethodsFine rule7 rule8 wordsOf bytesOf headerOf objectsIn imageHeader imageObjects imageOf lengthFine buffersFine
     objectsVerdict loadVerdict floorQuotient floorRemainder shifted number divided exactQuotient onIntegers onBits arithmetic storeWord objectByte storeByte isIndexable at atPut sizeAnswer
     appended hasRoom make new newWith perform primitiveCount primitive newFrame fitsStack operand fieldOf literalOf pushed read storedField stored returned entering activate framed sends
-    arithmeticSends specialSends jumps execute stepFrame step loaded begin steps dropped call cacheEntryOf filled cachedRight cacheFine frameAt framesFrom plainOf imageRules noteOf frameRules
-    framesFine plainRules plainFine stateFine check laid stackAfter cacheAfter flatBegin flatRun topEnd highestEnd reachFine flatDrop flatForget flatCall zeroed flatLoad savedImage saveVerdict
+    arithmeticSends specialSends jumps execute stepFrame step loaded begin steps largestEnd standingEnd reachOf dropped call cacheEntryOf filled cachedRight cacheFine frameAt framesFrom plainOf imageRules noteOf frameRules
+    framesFine plainRules plainFine stateFine check laid stackAfter cacheAfter flatBegin flatRun flatDrop flatForget flatCall zeroed flatLoad savedImage saveVerdict
     flatSave step80
 computing = tt

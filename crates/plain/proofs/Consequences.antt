@@ -23,14 +23,14 @@ use Rattle.plain.proofs.Theorem.{from-checked, from-load}
 -- two flat machines that agree with one plain machine are alike
 alike : (room : Room) (c : Call) (cs : List Call) (p : Plain) (g g′ : Given) (h : Called) → ((s s′ : Flat) (p′ : Plain) → Agrees room cs s p′ → Agrees room cs s′ p′ → Same cs s s′)
     → Together room c p g h (Agrees room cs) → Together room c p g′ h (Agrees room cs) → Alike g g′ (Same cs)
-alike room c cs p (gives a s) (gives a′ s′) (called x q ts) again t t′ =
+alike room c cs p (gives a s) (gives a′ s′) (called x q) again t t′ =
     (t .0 .answer ∙ sym (t′ .0 .answer), t .0 .state ∙ sym (t′ .0 .state), again s s′ q (t .1) (t′ .1))
 alike room c cs p (gives a s) (gives a′ s′) impossible again t t′ = absurd t
-alike room c cs p (gives a s) noAnswer (called x q ts) again t t′ = absurd t′
+alike room c cs p (gives a s) noAnswer (called x q) again t t′ = absurd t′
 alike room c cs p (gives a s) noAnswer impossible again t t′ = absurd t
-alike room c cs p noAnswer (gives a′ s′) (called x q ts) again t t′ = absurd t
+alike room c cs p noAnswer (gives a′ s′) (called x q) again t t′ = absurd t
 alike room c cs p noAnswer (gives a′ s′) impossible again t t′ = absurd t
-alike room c cs p noAnswer noAnswer (called x q ts) again t t′ = absurd t
+alike room c cs p noAnswer noAnswer (called x q) again t t′ = absurd t
 alike room c cs p noAnswer noAnswer impossible again t t′ = absurd t
 
 same : (room : Room) (cs : List Call) (s s′ : Flat) (p : Plain) → Agrees room cs s p → Agrees room cs s′ p → Same cs s s′
@@ -75,11 +75,11 @@ kept-next : (room : Room) (c : Call) (cs : List Call) (s : Flat) (g : Given) (h 
     → ((s′ : Flat) (p′ : Plain) → plainOf s′ ≡ p′ → Agrees room cs s′ p′ → Keeps (flatObjects s′) (flatObjects (lastState s′ cs)))
     → Together room c (plainOf s) g h (Agrees room cs) → Keeps (flatObjects s) (flatObjects (lastState (nextState s g) cs))
 unfolding plainOf
-kept-next room c cs s (gives a s′) (called x p′ ts) again t =
+kept-next room c cs s (gives a s′) (called x p′) again t =
     keeps-trans (flatObjects s) (flatObjects s′) (flatObjects (lastState s′ cs))
     (subst (λ (q : Plain). Keeps (flatObjects s) (objects q)) (sym (t .0 .state)) (t .0 .keeps)) (again s′ p′ (t .0 .state) (t .1))
 kept-next room c cs s (gives a s′) impossible again t = absurd t
-kept-next room c cs s noAnswer (called x p′ ts) again t = absurd t
+kept-next room c cs s noAnswer (called x p′) again t = absurd t
 kept-next room c cs s noAnswer impossible again t = absurd t
 
 keeps-list : (room : Room) (cs : List Call) (s : Flat) (p : Plain) → plainOf s ≡ p → Agrees room cs s p → Keeps (flatObjects s) (flatObjects (lastState s cs))

@@ -28,3 +28,4 @@ pub mod CheckParts
 pub mod MadeLaws
 pub mod LoopLaws
 pub mod ReachLaws
+pub mod StackLaws

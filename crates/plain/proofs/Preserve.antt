@@ -33,7 +33,7 @@ use Rattle.model.specs.Arithmetic.{arithmetic}
 use Rattle.model.specs.Primitive.{Outcome, answers, fails, primitive, storeWord}
 use Rattle.model.proofs.DepthLaws.{spot-start}
 use Rattle.plain.specs.Registers.{running, finished}
-use Rattle.plain.specs.FlatCalls.{topEnd}
+use Rattle.plain.specs.RunLoop.{topEnd}
 use Rattle.plain.specs.State.{Frame, Plain, objects, withObjects, movedTo, withTemporaries, newFrame, fitsStack}
 use Rattle.plain.specs.Step.{Looked, noLookup, looked, Stepped, leadsTo, halts, missing, _>>=_, provided, operand, without, fieldOf, literalOf, onTop, hasWord, pushed, read, storedField, stored, returned, Activation, answered, entered, unfit, entering, fieldAnswered, primitiveAnswered, activate, framed, changed, activated, afterLookup, popped, sends, aboveHome, triedPrimitive, orSends, arithmeticSends, specialSends, jumps, execute}
 use Rattle.plain.proofs.FrameLaws.{FrameRight, Fits, fits, FramesRight, note-is, within}

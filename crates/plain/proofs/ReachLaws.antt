@@ -1,28 +1,232 @@
--- The highest end of a frame is what 01 asks of reach.
-use Prim.Native.Nat.{ℕ, max}
-use mathlib.Core.Path.{_≡_, refl, ap₂}
-use mathlib.Core.Bool.{true, _&&_}
+-- Runs that continue each other are one run, and its reach is the largest of theirs.
+use Prim.Native.Nat.{ℕ, zero, suc, _+_, _≤_, max}
+use mathlib.Core.Path.{_≡_, refl, sym, ap, _∙_, subst}
+use mathlib.Core.Bool.{Bool, true, false}
+use mathlib.Core.List.{List, [], _∷_}
 use native.Mathlib.Omega.{arith}
-use borrow.Author.Tests.{le-leb}
-use lib.ListN.{length}
+use borrow.Author.Tests.{eqb-true, eq-eqb}
+use lib.Dec.{eqb}
+use Rattle.bytecode.specs.Test.{if_then_else_}
+use Rattle.bytecode.proofs.Choice.{if-yes, if-no}
 use Rattle.model.specs.Image.{accepted}
-use Rattle.plain.specs.Calls.{Ran, ran, stuck, steps}
+use Rattle.plain.specs.Registers.{running, Cause, notUnderstood, noBoolean, noStackRoom, phaseOf}
+use Rattle.plain.specs.Step.{Stepped, leadsTo, halts, missing, step}
+use Rattle.plain.specs.Calls.{Ran, ran, stuck, steps, Answer, done, refusedBy, result, wrote, runCall, Called, called, impossible, call}
 use Rattle.plain.specs.Flat.{Flat, roomOf, plainOf}
 use Rattle.plain.specs.Check.{check}
-use Rattle.plain.specs.FlatCalls.{highestEnd, highestOf, endsFrom, reachOf, reachFine}
-use Rattle.plain.proofs.RunLaws.{RunGoes, runs-right}
+use Rattle.plain.specs.FlatCalls.{Given, gives, noAnswer, checked, flatAfterRun, flatRunIf, flatRun, flatCall}
+use Rattle.plain.specs.RunLoop.{topEnd, flatAfterRunFrom, runsFrom}
+use Rattle.plain.specs.CallLists.{Together, Agrees, nextState}
+use Rattle.plain.specs.Reach.{added, Continues, reachIn, largestReach, granted, LargestReach}
+use Rattle.plain.proofs.Preserve.{Goes}
+use Rattle.plain.proofs.After.{After}
+use Rattle.plain.proofs.RunLaws.{RunGoes, step-goes, runs-right}
 use Rattle.plain.proofs.FlatLaws.{FlatRight, check-right}
 use Rattle.plain.proofs.Worlds.{worlds}
-use Rattle.plain.proofs.TurnLaws.{own-stood}
+use Rattle.plain.proofs.Theorem.{from-checked}
+use Rattle.plain.proofs.TurnLaws.{own-stood, runs-start, runs-out, runs-over, turn-plain, turn-right, turn-runs, halt-runs, whole-run}
 
-pub reach-fine : (s : Flat) (n reach : ℕ) → check s ≡ accepted → reach ≡ endsFrom n 0 s → reachFine s n reach ≡ true
-unfolding reachFine endsFrom plainOf
-reach-fine s n reach c e =
-    go (steps (roomOf s) n (plainOf s)) (runs-right (roomOf s) (worlds (roomOf s)) n (plainOf s) (s .stack) (s .cache) (right .plain) refl (right .cacheLength) (own-stood s) (right .cached)) e
+-- A run of n behind what a run gave: where the handler is still running
+onwards : ℕ → Given → Given
+onwards n (gives done s) = gives done s
+onwards n (gives (refusedBy i) s) = gives (refusedBy i) s
+onwards n (gives (result phase k v h) s) = if eqb phase running then runsFrom n k h s else gives (result phase k v h) s
+onwards n (gives (wrote i) s) = gives (wrote i) s
+onwards n noAnswer = noAnswer
+
+on-more : (n phase k v h : ℕ) (s : Flat) → eqb phase running ≡ true → onwards n (gives (result phase k v h) s) ≡ runsFrom n k h s
+unfolding onwards
+on-more n phase k v h s e = if-yes _ _ e
+
+on-over : (n phase k v h : ℕ) (s : Flat) → eqb phase running ≡ false → onwards n (gives (result phase k v h) s) ≡ gives (result phase k v h) s
+unfolding onwards
+on-over n phase k v h s e = if-no _ _ e
+
+not-running : (c : Cause) → eqb (phaseOf c) running ≡ false
+not-running notUnderstood = refl
+not-running noBoolean = refl
+not-running noStackRoom = refl
+
+-- What is left of a run, in two
+joined : (m n k h : ℕ) (s : Flat) → FlatRight s → topEnd (plainOf s) ≤ h → runsFrom (m + n) k h s ≡ onwards n (runsFrom m k h s)
+joined zero n k h s r t = go (eqb (s .registers .phase) running) refl
   where
-    right : FlatRight s
-    right = check-right s c
+    none : (j : ℕ) → 0 + j ≡ j
+    none j = omega arith
 
-    go : (x : Ran) → RunGoes (roomOf s) (worlds (roomOf s)) n (plainOf s) (s .stack) (s .cache) x → reach ≡ max 0 (highestOf (plainOf s) x) → reachOf s x reach ≡ true
-    go (ran k p ts) g q = let z = g .reach in ap₂ _&&_ (le-leb (highestEnd (plainOf s) ts) reach (omega arith)) (le-leb reach (length (s .stack)) (omega arith))
-    go stuck g q = absurd g
+    go : (b : Bool) → eqb (s .registers .phase) running ≡ b → runsFrom (0 + n) k h s ≡ onwards n (runsFrom 0 k h s)
+    go true e = ap (λ (j : ℕ). runsFrom j k h s) (none n) ∙ sym (ap (onwards n) (runs-out k h s r t) ∙ on-more n (s .registers .phase) k (s .registers .value) h s e)
+    go false e = runs-over (0 + n) k h s r t e ∙ sym (ap (onwards n) (runs-out k h s r t) ∙ on-over n (s .registers .phase) k (s .registers .value) h s e)
+joined (suc m) n k h s r t = by-phase (eqb (s .registers .phase) running) refl (λ k′ h′ s′ r′ t′. joined m n k′ h′ s′ r′ t′)
+  where
+    Again : Type 0
+    Again = (k′ h′ : ℕ) (s′ : Flat) → FlatRight s′ → topEnd (plainOf s′) ≤ h′ → runsFrom (m + n) k′ h′ s′ ≡ onwards n (runsFrom m k′ h′ s′)
+
+    one-more : (i j : ℕ) → suc i + j ≡ suc (i + j)
+    one-more i j = omega arith
+
+    by-step : s .registers .phase ≡ running → Again → (x : Stepped) → step (roomOf s) (plainOf s) ≡ x
+        → Goes (After (plainOf s .registers .edition) (roomOf s)) (roomOf s) (plainOf s) x → runsFrom (suc m + n) k h s ≡ onwards n (runsFrom (suc m) k h s)
+    by-step phase again (leadsTo p′ l) e g =
+        ap (λ (j : ℕ). runsFrom j k h s) (one-more m n) ∙ turn-runs s r phase p′ l e (m + n) k h t
+        ∙ again (k + 1) (max h (topEnd p′)) _ (turn-right s r phase p′ l e) (let z = ap topEnd (turn-plain s r phase p′ l e) in omega arith)
+        ∙ sym (ap (onwards n) (turn-runs s r phase p′ l e m k h t))
+    by-step phase again (halts c) e g =
+        ap (λ (j : ℕ). runsFrom j k h s) (one-more m n) ∙ halt-runs s r phase c e (m + n) k h t ∙ sym (ap (onwards n) (halt-runs s r phase c e m k h t) ∙ on-over n (phaseOf c) k 0 h _ (not-running c))
+    by-step phase again missing e g = absurd g
+
+    by-phase : (b : Bool) → eqb (s .registers .phase) running ≡ b → Again → runsFrom (suc m + n) k h s ≡ onwards n (runsFrom (suc m) k h s)
+    by-phase true e again =
+        let phase = eqb-true (s .registers .phase) running e in
+        by-step phase again (step (roomOf s) (plainOf s)) refl (step-goes (roomOf s) (worlds (roomOf s)) (plainOf s) (r .plain) (unfold plainOf in phase))
+    by-phase false e again = runs-over (suc m + n) k h s r t e ∙ sym (ap (onwards n) (runs-over (suc m) k h s r t e) ∙ on-over n (s .registers .phase) k (s .registers .value) h s e)
+
+-- ---- whole runs, from a state that check accepts
+module _ (s : Flat) (accepts : check s ≡ accepted) where
+  passes : (n : ℕ) (b : Bool) → eqb (s .registers .phase) running ≡ b → flatRun s n ≡ flatRunIf s n b
+  unfolding flatRun
+  passes n b e = (λ i. checked s (accepts i) (flatRunIf s n (e i)))
+
+  right : FlatRight s
+  right = check-right s accepts
+
+  -- in phase 1
+  module _ (e : eqb (s .registers .phase) running ≡ true) where
+    run-is : (n : ℕ) → flatRun s n ≡ runsFrom n 0 (topEnd (plainOf s)) s
+    run-is n = passes n true e ∙ sym (whole-run n s) ∙ runs-start n s right
+
+    runs-on : (m n : ℕ) → flatRun s (m + n) ≡ onwards n (flatRun s m)
+    runs-on m n = run-is (m + n) ∙ joined m n 0 (topEnd (plainOf s)) s right (omega arith) ∙ ap (onwards n) (sym (run-is m))
+
+  -- in another phase
+  run-refused : eqb (s .registers .phase) running ≡ false → (n : ℕ) → flatRun s n ≡ gives (refusedBy 12) s
+  run-refused e n = passes n false e
+
+  none-reach : eqb (s .registers .phase) running ≡ false → (ns : List ℕ) → largestReach s ns ≡ 0
+  unfolding largestReach
+  none-reach e [] = refl
+  none-reach e (n ∷ ns) =
+      ap (λ (g : Given). max (reachIn g) (largestReach (nextState s g) ns)) (run-refused e n) ∙ ap (max 0) (none-reach e ns) ∙ omega arith
+
+  -- what a run leaves is checked
+  run-checks : (n : ℕ) (a : Answer) (s₁ : Flat) → flatRun s n ≡ gives a s₁ → check s₁ ≡ accepted
+  unfolding Agrees flatCall
+  run-checks n a s₁ e =
+      go (call (roomOf s) (plainOf s) (runCall n))
+      (subst (λ (g : Given). Together (roomOf s) (runCall n) (plainOf s) g (call (roomOf s) (plainOf s) (runCall n)) (λ s′ p′. Agrees (roomOf s) [] s′ p′)) e
+      (from-checked s accepts (runCall n ∷ [])))
+    where
+      go : (h : Called) → Together (roomOf s) (runCall n) (plainOf s) (gives a s₁) h (λ s′ p′. Agrees (roomOf s) [] s′ p′) → check s₁ ≡ accepted
+      go (called a′ p′) t = t .0 .checks
+      go impossible t = absurd t
+
+-- The phase of an answer is that of the state that it comes with.
+abbrev Phased : Given → Type 0
+Phased (gives done s) = Unit {0}
+Phased (gives (refusedBy i) s) = Unit {0}
+Phased (gives (result phase k v h) s) = s .registers .phase ≡ phase
+Phased (gives (wrote i) s) = Unit {0}
+Phased noAnswer = Unit {0}
+
+run-phased : (s : Flat) (x : Ran) → Phased (flatAfterRun s x)
+run-phased s (ran k p ts) = refl
+run-phased s stuck = tt
+
+-- behind another run
+behind : (n k h : ℕ) (s : Flat) → check s ≡ accepted → eqb (s .registers .phase) running ≡ true → runsFrom n k h s ≡ added k h (flatRun s n)
+unfolding runsFrom
+behind n k h s c e = go (steps (roomOf s) n (plainOf s)) ∙ ap (added k h) (sym (passes s c n true e))
+  where
+    go : (x : Ran) → flatAfterRunFrom k h s x ≡ added k h (flatAfterRun s x)
+    go (ran j p ts) = refl
+    go stuck = refl
+
+-- A run that was not refused started in phase 1.
+abbrev Refused : Given → Type 0
+Refused (gives done s) = ⊥
+Refused (gives (refusedBy i) s) = Unit {0}
+Refused (gives (result phase k v h) s) = ⊥
+Refused (gives (wrote i) s) = ⊥
+Refused noAnswer = ⊥
+
+pub continues : Continues
+continues s s₁ m n k v h c e = go (eqb (s .registers .phase) running) refl
+  where
+    go : (b : Bool) → eqb (s .registers .phase) running ≡ b → flatRun s (m + n) ≡ added k h (flatRun s₁ n)
+    go true q =
+        let phased : Phased (gives (result running k v h) s₁) = subst Phased (sym (passes s c m true q) ∙ e) (run-phased s (steps (roomOf s) m (plainOf s))) in
+        runs-on s c q m n ∙ ap (onwards n) e ∙ on-more n running k v h s₁ refl ∙ behind n k h s₁ (run-checks s c m (result running k v h) s₁ e) (eq-eqb (s₁ .registers .phase) running phased)
+    go false q = absurd (subst Refused (sym (run-refused s c q m) ∙ e) tt)
+
+-- ---- lists of runs
+
+-- A run in phase 1 has a result.
+abbrev HasResult : Given → Type 0
+HasResult (gives done s) = ⊥
+HasResult (gives (refusedBy i) s) = ⊥
+HasResult (gives (result phase k v h) s) = Unit {0}
+HasResult (gives (wrote i) s) = ⊥
+HasResult noAnswer = ⊥
+
+added-reach : (k h : ℕ) (g : Given) → HasResult g → reachIn (added k h g) ≡ max h (reachIn g)
+added-reach k h (gives done s) r = absurd r
+added-reach k h (gives (refusedBy i) s) r = absurd r
+added-reach k h (gives (result phase j v h′) s) r = refl
+added-reach k h (gives (wrote i) s) r = absurd r
+added-reach k h noAnswer r = absurd r
+
+module _ (s : Flat) (c : check s ≡ accepted) (n : ℕ) where
+  run-goes : RunGoes (roomOf s) (worlds (roomOf s)) n (plainOf s) (s .stack) (s .cache) (steps (roomOf s) n (plainOf s))
+  run-goes =
+      let f = check-right s c in
+      unfold plainOf in runs-right (roomOf s) (worlds (roomOf s)) n (plainOf s) (s .stack) (s .cache) (f .plain) refl (f .cacheLength) (own-stood s) (f .cached)
+
+  has-result : eqb (s .registers .phase) running ≡ true → HasResult (flatRun s n)
+  has-result e = subst HasResult (sym (passes s c n true e)) (go (steps (roomOf s) n (plainOf s)) run-goes)
+    where
+      go : (x : Ran) → RunGoes (roomOf s) (worlds (roomOf s)) n (plainOf s) (s .stack) (s .cache) x → HasResult (flatAfterRun s x)
+      go (ran k p ts) g = tt
+      go stuck g = absurd g
+
+pub largest-reach : LargestReach
+unfolding largestReach granted
+largest-reach s c n [] = ap (λ (x : ℕ). max x 0) (ap (λ (j : ℕ). reachIn (flatRun s j)) (none n)) ∙ no-other (reachIn (flatRun s (n + 0)))
+  where
+    none : (j : ℕ) → j ≡ j + 0
+    none j = omega arith
+
+    no-other : (x : ℕ) → max x 0 ≡ x
+    no-other x = omega arith
+largest-reach s c n (m ∷ ns) = by-phase (eqb (s .registers .phase) running) refl (λ s₁ c₁. largest-reach s₁ c₁ m ns)
+  where
+    Again : Type 0
+    Again = (s₁ : Flat) → check s₁ ≡ accepted → largestReach s₁ (m ∷ ns) ≡ reachIn (flatRun s₁ (granted (m ∷ ns)))
+
+    -- behind the first run
+    after : eqb (s .registers .phase) running ≡ true → Again → (phase k v h : ℕ) (s₁ : Flat) → flatRun s n ≡ gives (result phase k v h) s₁ → s₁ .registers .phase ≡ phase
+        → (b : Bool) → eqb phase running ≡ b → max h (largestReach s₁ (m ∷ ns)) ≡ reachIn (flatRun s (n + granted (m ∷ ns)))
+    after e again phase k v h s₁ g q true b =
+        let c₁ = run-checks s c n (result phase k v h) s₁ g in
+        let e₁ : eqb (s₁ .registers .phase) running ≡ true = ap (λ (x : ℕ). eqb x running) q ∙ b in
+        ap (max h) (again s₁ c₁)
+        ∙ sym (ap reachIn (runs-on s c e n (granted (m ∷ ns)) ∙ ap (onwards (granted (m ∷ ns))) g ∙ on-more (granted (m ∷ ns)) phase k v h s₁ b ∙ behind (granted (m ∷ ns)) k h s₁ c₁ e₁)
+        ∙ added-reach k h (flatRun s₁ (granted (m ∷ ns))) (has-result s₁ c₁ (granted (m ∷ ns)) e₁))
+    after e again phase k v h s₁ g q false b =
+        let c₁ = run-checks s c n (result phase k v h) s₁ g in
+        let e₁ : eqb (s₁ .registers .phase) running ≡ false = ap (λ (x : ℕ). eqb x running) q ∙ b in
+        ap (max h) (none-reach s₁ c₁ e₁ (m ∷ ns)) ∙ no-other h
+        ∙ sym (ap reachIn (runs-on s c e n (granted (m ∷ ns)) ∙ ap (onwards (granted (m ∷ ns))) g ∙ on-over (granted (m ∷ ns)) phase k v h s₁ b))
+      where
+        no-other : (x : ℕ) → max x 0 ≡ x
+        no-other x = omega arith
+
+    by-run : eqb (s .registers .phase) running ≡ true → Again → (x : Ran) → RunGoes (roomOf s) (worlds (roomOf s)) n (plainOf s) (s .stack) (s .cache) x
+        → flatRun s n ≡ flatAfterRun s x → max (reachIn (flatRun s n)) (largestReach (nextState s (flatRun s n)) (m ∷ ns)) ≡ reachIn (flatRun s (n + granted (m ∷ ns)))
+    by-run e again (ran k p ts) r g =
+        ap (λ (y : Given). max (reachIn y) (largestReach (nextState s y) (m ∷ ns))) g ∙ after e again (p .registers .phase) k (p .registers .value) _ _ g refl (eqb (p .registers .phase) running) refl
+    by-run e again stuck r g = absurd r
+
+    by-phase : (b : Bool) → eqb (s .registers .phase) running ≡ b → Again
+        → max (reachIn (flatRun s n)) (largestReach (nextState s (flatRun s n)) (m ∷ ns)) ≡ reachIn (flatRun s (n + granted (m ∷ ns)))
+    by-phase true e again = by-run e again (steps (roomOf s) n (plainOf s)) (run-goes s c n) (passes s c n true e)
+    by-phase false e again = none-reach s c e (n ∷ m ∷ ns) ∙ sym (ap reachIn (run-refused s c e (n + granted (m ∷ ns))))

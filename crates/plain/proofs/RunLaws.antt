@@ -1,5 +1,5 @@
 -- A run from a right state: every step exists, and the state after it is right; its frames stand in the stack, and the cache is right.
-use Prim.Native.Nat.{ℕ, zero, suc, _+_, _*_, _≤_, _<_}
+use Prim.Native.Nat.{ℕ, zero, suc, _+_, _*_, _≤_, _<_, max}
 use mathlib.Core.Path.{_≡_, refl, sym, ap, _∙_, subst}
 use mathlib.Core.Bool.{Bool, true, false}
 use mathlib.Core.List.{List, [], _∷_}
@@ -8,7 +8,7 @@ use borrow.Author.Tests.{eqb-true, eqb-false}
 use lib.Dec.{T, eqb}
 use lib.ListN.{length}
 use Rattle.bytecode.specs.Code.{nextAt, decodeAt}
-use Rattle.model.specs.Limits.{entryWords, cacheWords}
+use Rattle.model.specs.Limits.{entryWords, cacheWords, mostStackWords}
 use Rattle.model.specs.Objects.{Objects}
 use Rattle.model.specs.Method.{codeWords, codeSize, frameSize}
 use Rattle.model.specs.Image.{Room}
@@ -18,10 +18,11 @@ use Rattle.model.proofs.Unchanged.{lookup-same}
 use Rattle.plain.specs.Registers.{idle, running, hasFrames, Cause, notUnderstood, noBoolean, noStackRoom, phaseOf}
 use Rattle.plain.specs.State.{Frame, Plain, objects}
 use Rattle.plain.specs.Step.{Looked, Stepped, leadsTo, halts, missing, stepFrame, step}
-use Rattle.plain.specs.Calls.{Taken, taken, Ran, ran, stuck, counted, halted, onward, ifRunning, steps}
+use Rattle.plain.specs.Calls.{Taken, taken, Ran, ran, stuck, counted, halted, onward, ifRunning, steps, largestEnd, standingEnd, reachOf}
 use Rattle.plain.specs.Flat.{framesFrom}
 use Rattle.plain.specs.Cache.{filled, cacheFine}
-use Rattle.plain.specs.FlatCalls.{laid, stackAfter, cacheAfter, topEnd, highestEnd}
+use Rattle.plain.specs.FlatCalls.{laid, stackAfter, cacheAfter}
+use Rattle.plain.specs.RunLoop.{topEnd}
 use Rattle.plain.proofs.FrameLaws.{FrameRight, FramesRight}
 use Rattle.plain.proofs.LaidLaws.{laid-back, length-laid}
 use Rattle.plain.proofs.NowLaws.{now}
@@ -36,26 +37,64 @@ use Rattle.plain.proofs.HaltLaws.{halts-for}
 abbrev pub Stood : Plain → List ℕ → Type 0
 Stood p stack = hasFrames (p .registers .phase) ≡ true → framesFrom (suc (p .registers .top)) (objects p) stack (p .registers .top) ≡ p .frames
 
--- the end of the uppermost frame is inside the stack
-top-inside : (room : Room) (p : Plain) → FramesRight (p .registers .edition) (objects p) (room .stack) true (p .registers .top) (p .frames) → topEnd p ≤ room .stack
+-- where the top frame ends, by the frames
+abbrev endAt : Objects → ℕ → List Frame → ℕ
+endAt o base [] = 0
+endAt o base (f ∷ rest) = base + frameSize o (f .method)
+
+top-is : (p : Plain) → topEnd p ≡ endAt (objects p) (p .registers .top) (p .frames)
 unfolding topEnd
-top-inside room p r = go (p .frames) r
+top-is p = go (p .frames)
   where
-    go : (fs : List Frame) → FramesRight (p .registers .edition) (objects p) (room .stack) true (p .registers .top) fs
-        → elim fs as (λ _. ℕ) [ [] ↦ 0 | f ∷ rest ↦ p .registers .top + frameSize (objects p) (f .method) ] ≤ room .stack
-    go [] x = absurd x
-    go (f ∷ []) x = x .1 .inside
-    go (f ∷ g ∷ rest) x = x .1 .inside
+    go : (fs : List Frame) → elim fs as (λ _. ℕ) [ [] ↦ 0 | f ∷ rest ↦ p .registers .top + frameSize (objects p) (f .method) ] ≡ endAt (objects p) (p .registers .top) fs
+    go [] = refl
+    go (f ∷ rest) = refl
 
-no-frames : (p : Plain) → p .frames ≡ [] → topEnd p ≡ 0
-unfolding topEnd
-no-frames p e = ap (λ (fs : List Frame). elim fs as (λ _. ℕ) [ [] ↦ 0 | f ∷ rest ↦ p .registers .top + frameSize (objects p) (f .method) ]) e
+-- The frames stand one on another: the top frame's end is the largest.
+top-largest : (e : ℕ) (o : Objects) (stack : ℕ) (b : Bool) (base : ℕ) (fs : List Frame) → FramesRight e o stack b base fs → largestEnd o base fs ≡ endAt o base fs
+unfolding largestEnd
+top-largest e o stack b base [] x = refl
+top-largest e o stack b base (f ∷ []) x = omega arith
+top-largest e o stack b base (f ∷ g ∷ rest) x =
+    let below = top-largest e o stack false (f .sender) (g ∷ rest) (x .3) in
+    let under = x .2 in
+    omega arith
 
-pub top-end : (room : Room) (p : Plain) → Stands (room .stack) p → topEnd p ≤ room .stack
-top-end room p (goes (runs a b f)) = top-inside room p f
-top-end room p (goes (ends a b c f)) = subst (λ (k : ℕ). k ≤ room .stack) (sym (no-frames p f)) (omega arith)
-top-end room p (rests a b c f) = subst (λ (k : ℕ). k ≤ room .stack) (sym (no-frames p f)) (omega arith)
-top-end room p (waits a b c f) = top-inside room p f
+-- It is inside the stack, and a number up to 65,536.
+pub record Inside (room : Room) (end : ℕ) : Type 0 where
+  pub stack : end ≤ room .stack
+  pub most : end ≤ mostStackWords
+
+nowhere : (room : Room) → Inside room 0
+nowhere room = record { stack = omega arith; most = omega arith }
+
+pub higher-inside : (room : Room) (a b : ℕ) → Inside room a → Inside room b → Inside room (max a b)
+higher-inside room a b x y =
+    record { stack = let s = x .stack in let t = y .stack in omega arith; most = let s = x .most in let t = y .most in omega arith }
+
+top-inside : (e : ℕ) (o : Objects) (room : Room) (base : ℕ) (fs : List Frame) → FramesRight e o (room .stack) true base fs → Inside room (endAt o base fs)
+top-inside e o room base [] x = absurd x
+top-inside e o room base (f ∷ []) x = record { stack = x .1 .inside; most = x .1 .most }
+top-inside e o room base (f ∷ g ∷ rest) x = record { stack = x .1 .inside; most = x .1 .most }
+
+no-frames : (p : Plain) → p .frames ≡ [] → endAt (objects p) (p .registers .top) (p .frames) ≡ 0
+no-frames p e = ap (endAt (objects p) (p .registers .top)) e
+
+pub end-is-top : (room : Room) (p : Plain) → Stands (room .stack) p → standingEnd p ≡ topEnd p
+unfolding standingEnd largestEnd
+end-is-top room p (goes (runs a b f)) = top-largest (p .registers .edition) (objects p) (room .stack) true (p .registers .top) (p .frames) f ∙ sym (top-is p)
+end-is-top room p (goes (ends a b c f)) = ap (largestEnd (objects p) (p .registers .top)) f ∙ sym (top-is p ∙ no-frames p f)
+end-is-top room p (rests a b c f) = ap (largestEnd (objects p) (p .registers .top)) f ∙ sym (top-is p ∙ no-frames p f)
+end-is-top room p (waits a b c f) = top-largest (p .registers .edition) (objects p) (room .stack) true (p .registers .top) (p .frames) f ∙ sym (top-is p)
+
+end-inside : (room : Room) (p : Plain) → Stands (room .stack) p → Inside room (standingEnd p)
+end-inside room p s = subst (Inside room) (sym (end-is-top room p s ∙ top-is p)) (go s)
+  where
+    go : Stands (room .stack) p → Inside room (endAt (objects p) (p .registers .top) (p .frames))
+    go (goes (runs a b f)) = top-inside (p .registers .edition) (objects p) room (p .registers .top) (p .frames) f
+    go (goes (ends a b c f)) = subst (Inside room) (sym (no-frames p f)) (nowhere room)
+    go (rests a b c f) = subst (Inside room) (sym (no-frames p f)) (nowhere room)
+    go (waits a b c f) = top-inside (p .registers .edition) (objects p) room (p .registers .top) (p .frames) f
 
 -- What is needed of all objects that a run meets
 abbrev pub Worlds : Room → Type 0
@@ -128,7 +167,7 @@ module _ (room : Room) (worlds : Worlds room) where
     pub cached : T (cacheFine (objects p′) (cacheAfter cache ts))
     pub stackLength : length (stackAfter stack ts) ≡ length stack
     pub cacheLength : length (cacheAfter cache ts) ≡ length cache
-    pub reach : highestEnd p ts ≤ room .stack
+    pub reach : Inside room (reachOf p ts)
 
   abbrev pub RunGoes : ℕ → Plain → List ℕ → List ℕ → Ran → Type 0
   RunGoes n p stack cache (ran k p′ ts) = RanRight n p stack cache k p′ ts
@@ -138,7 +177,7 @@ module _ (room : Room) (worlds : Worlds room) where
   none : (n : ℕ) (p p′ : Plain) (stack cache : List ℕ) → PlainRight room p → PlainRight room p′ → objects p′ ≡ objects p → Stood p′ stack → T (cacheFine (objects p) cache)
       → (p′ .registers .phase ≡ running → 0 ≡ n) → (p .registers .phase < 3 → 3 ≤ p′ .registers .phase → Halted room p′ (p′ .registers .phase))
       → ((p .registers .phase ≡ idle → ⊥) → p′ .registers .phase ≡ idle → ⊥) → RanRight n p stack cache 0 p′ []
-  unfolding stackAfter cacheAfter highestEnd
+  unfolding stackAfter cacheAfter reachOf
   none n p p′ stack cache r r′ e s c w h i =
       record {
         made = omega arith;
@@ -151,7 +190,7 @@ module _ (room : Room) (worlds : Worlds room) where
         cached = subst (λ (o : Objects). T (cacheFine o cache)) (sym e) c;
         stackLength = refl;
         cacheLength = refl;
-        reach = top-end room p (r .stands);
+        reach = end-inside room p (r .stands);
       }
 
   -- one step and a run
@@ -159,7 +198,7 @@ module _ (room : Room) (worlds : Worlds room) where
       → Extends (objects p) (objects p₁) → length (filled cache l) ≡ length cache
       → length (laid stack (p₁ .registers .top) (p₁ .frames)) ≡ length stack → (x : Ran)
       → RunGoes n p₁ (laid stack (p₁ .registers .top) (p₁ .frames)) (filled cache l) x → RunGoes (suc n) p stack cache (counted (taken l p₁) x)
-  unfolding stackAfter cacheAfter highestEnd
+  unfolding stackAfter cacheAfter reachOf
   more n p p₁ l stack cache r i b e lc ls (ran k p′ ts) g =
       record {
         made = let m = g .made in omega arith;
@@ -173,7 +212,7 @@ module _ (room : Room) (worlds : Worlds room) where
         stackLength = g .stackLength ∙ ls;
         cacheLength = g .cacheLength
             ∙ lc;
-        reach = let a = top-end room p (r .stands) in let d = g .reach in omega arith;
+        reach = higher-inside room (standingEnd p) (reachOf p₁ ts) (end-inside room p (r .stands)) (g .reach);
       }
   more n p p₁ l stack cache r i b e lc ls stuck g = g
 

@@ -16,18 +16,18 @@ use Rattle.model.proofs.Extends.{Extends, extends-refl}
 use Rattle.model.proofs.Unchanged.{lookup-same}
 use Rattle.plain.specs.Registers.{idle, running, hasFrames}
 use Rattle.plain.specs.State.{Plain, objects}
-use Rattle.plain.specs.Calls.{loaded, Begun, begun, declined, begin, Taken, Ran, ran, stuck, steps, dropped, Call, beginCall, runCall, dropCall, forgetCall, Answer, done, refusedBy, result, wrote, Called, called, impossible, call, afterBegin, afterRun, runIf}
+use Rattle.plain.specs.Calls.{loaded, Begun, begun, declined, begin, Ran, ran, stuck, steps, reachOf, dropped, Call, beginCall, runCall, dropCall, forgetCall, Answer, done, refusedBy, result, wrote, Called, called, impossible, call, afterBegin, afterRun, runIf}
 use Rattle.plain.specs.Cache.{emptyCache, cacheFine}
 use Rattle.plain.specs.Flat.{Flat, roomOf, flatObjects, plainOf, framesFrom}
 use Rattle.plain.specs.Check.{check}
 use Rattle.plain.specs.FlatCalls as F
-use Rattle.plain.specs.FlatCalls.{Given, gives, noAnswer, checked, withPlain, laid, stackAfter, cacheAfter, highestEnd, flatLoad, afterLoad, flatBegin, flatRun, flatDrop, flatForget, flatCall}
+use Rattle.plain.specs.FlatCalls.{Given, gives, noAnswer, checked, withPlain, laid, stackAfter, cacheAfter, flatLoad, afterLoad, flatBegin, flatRun, flatDrop, flatForget, flatCall}
 use Rattle.plain.specs.CallLists.{Halted, RunEnds, Ends, Keeps, Together, Agrees, FromChecked, FromLoad}
 use Rattle.plain.proofs.LaidLaws.{laid-back, length-laid}
 use Rattle.plain.proofs.Preserve.{Shape, runs, ends}
 use Rattle.plain.proofs.StateLaws.{PlainRight, Stands, goes, rests, waits}
 use Rattle.plain.proofs.CacheLaws.{cache-kept, cache-empty}
-use Rattle.plain.proofs.RunLaws.{Stood, RunGoes, runs-right, top-end}
+use Rattle.plain.proofs.RunLaws.{Stood, Inside, RunGoes, runs-right}
 use Rattle.plain.proofs.BeginLaws.{dropped-right, OwnNumber, BegunRight, BeginGoes, begins}
 use Rattle.plain.proofs.FlatLaws.{FlatRight, check-right, right-check, plain-back, room-back, flat-back}
 use Rattle.plain.proofs.LoadLaws.{Accepted, accepts, loaded-right, loaded-stood}
@@ -38,7 +38,7 @@ use Rattle.plain.proofs.Worlds.{worlds}
 number-of : Answer → ℕ
 number-of done = 0
 number-of (refusedBy k) = k
-number-of (result p k v) = 0
+number-of (result p k v h) = 0
 number-of (wrote k) = 0
 
 other-number : (a : Answer) (k : ℕ) → (number-of a ≡ k → ⊥) → a ≢ refusedBy k
@@ -53,12 +53,13 @@ keeps o o′ r r′ x =
 
 -- ---- how a run ends
 
-run-ends : (room : Room) (n k : ℕ) (p : Plain) → k ≤ n → (p .registers .phase ≡ running → k ≡ n) → (p .registers .phase ≡ idle → ⊥)
-    → (3 ≤ p .registers .phase → Halted room p (p .registers .phase)) → Stands (room .stack) p → RunEnds room n p (result (p .registers .phase) k (p .registers .value))
-run-ends room n k p m w i h (goes (runs a b f)) = (m, inl (a, w a))
-run-ends room n k p m w i h (goes (ends a b c f)) = (m, inr (inl a))
-run-ends room n k p m w i h (rests a b c f) = absurd (i a)
-run-ends room n k p m w i h (waits a b c f) = (m, inr (inr (h a)))
+run-ends : (room : Room) (n k reach : ℕ) (p : Plain) → k ≤ n → (p .registers .phase ≡ running → k ≡ n) → (p .registers .phase ≡ idle → ⊥)
+    → (3 ≤ p .registers .phase → Halted room p (p .registers .phase)) → Inside room reach → Stands (room .stack) p
+    → RunEnds room n p (result (p .registers .phase) k (p .registers .value) reach)
+run-ends room n k reach p m w i h x (goes (runs a b f)) = (m, x .stack, x .most, inl (a, w a))
+run-ends room n k reach p m w i h x (goes (ends a b c f)) = (m, x .stack, x .most, inr (inl a))
+run-ends room n k reach p m w i h x (rests a b c f) = absurd (i a)
+run-ends room n k reach p m w i h x (waits a b c f) = (m, x .stack, x .most, inr (inr (h a)))
 
 -- ---- one call
 
@@ -86,8 +87,8 @@ module _ (s : Flat) (right : FlatRight s) where
   cached = right .cached
 
   -- a refused call
-  refuses : (c : Call) (k : ℕ) → OwnNumber k → Ends room c p (refusedBy k) → Both c (gives (refusedBy k) s) (called (refusedBy k) p [])
-  unfolding highestEnd number-of
+  refuses : (c : Call) (k : ℕ) → OwnNumber k → Ends room c p (refusedBy k) → Both c (gives (refusedBy k) s) (called (refusedBy k) p)
+  unfolding number-of
   refuses c k n e = (
     record {
       answer = refl;
@@ -98,7 +99,6 @@ module _ (s : Flat) (right : FlatRight s) where
       never11 =
           other-number (refusedBy k) 11 (n .not-11);
       ends = e;
-      reach = top-end room p (right .plain .stands);
       keeps = keeps (objects p) (objects p)
           (right .plain .image) (right .plain .image) (extends-refl (objects p));
     },
@@ -106,10 +106,10 @@ module _ (s : Flat) (right : FlatRight s) where
   )
 
   -- a call that leads to a right plain state, laid into the buffers
-  leads : (c : Call) (a : Answer) (p′ : Plain) (ts : List Taken) (stack cache : List ℕ) → PlainRight room p′ → Extends (objects p) (objects p′) → Stood p′ stack
-      → length stack ≡ length (s .stack) → length cache ≡ length (s .cache) → T (cacheFine (objects p′) cache) → a ≢ refusedBy 3 → a ≢ refusedBy 11 → Ends room c p′ a → highestEnd p ts ≤ room .stack
-      → Both c (gives a (withPlain s p′ stack cache)) (called a p′ ts)
-  leads c a p′ ts stack cache r x st ls lc t n3 n11 e h =
+  leads : (c : Call) (a : Answer) (p′ : Plain) (stack cache : List ℕ) → PlainRight room p′ → Extends (objects p) (objects p′) → Stood p′ stack
+      → length stack ≡ length (s .stack) → length cache ≡ length (s .cache) → T (cacheFine (objects p′) cache) → a ≢ refusedBy 3 → a ≢ refusedBy 11 → Ends room c p′ a
+      → Both c (gives a (withPlain s p′ stack cache)) (called a p′)
+  leads c a p′ stack cache r x st ls lc t n3 n11 e =
       let f = flat-back s p′ stack cache r st ls lc (right .cacheLength) t in (
         record {
           answer = refl;
@@ -120,7 +120,6 @@ module _ (s : Flat) (right : FlatRight s) where
           never3 = n3;
           never11 = n11;
           ends = e;
-          reach = h;
           keeps = keeps (objects p) (objects p′) (right .plain .image) (r .image) x;
         },
         (f, plain-back s p′ stack cache r st, room-back s p′ stack cache r st ls lc),
@@ -138,21 +137,21 @@ module _ (s : Flat) (right : FlatRight s) where
 
   begin-agrees : (receiver selector : ℕ) (arguments : List ℕ) (x : Begun) → BeginGoes room p x
       → Both (beginCall receiver selector arguments) (F.flatAfterBegin s x) (afterBegin p x)
-  unfolding highestEnd number-of
+  unfolding number-of
   begin-agrees receiver selector arguments (begun p′) g =
-      leads (beginCall receiver selector arguments) done p′ [] (laid (s .stack) 0 (p′ .frames)) (s .cache) (g .right) (g .extends) (begin-stood p′ g)
+      leads (beginCall receiver selector arguments) done p′ (laid (s .stack) 0 (p′ .frames)) (s .cache) (g .right) (g .extends) (begin-stood p′ g)
       (length-laid (s .stack) 0 (p′ .frames)) refl (cache-kept (objects p) (objects p′) (lookup-same (g .extends) (right .plain .image)) (s .cache) cached)
-      (other-number done 3 (λ e. omega arith)) (other-number done 11 (λ e. omega arith)) tt (top-end room p (right .plain .stands))
+      (other-number done 3 (λ e. omega arith)) (other-number done 11 (λ e. omega arith)) tt
   begin-agrees receiver selector arguments (declined k) g = refuses (beginCall receiver selector arguments) k g tt
 
   -- run
-  run-agrees : (n : ℕ) → p .registers .phase ≡ running → (x : Ran) → RunGoes room (worlds room) n p (s .stack) (s .cache) x → Both (runCall n) (F.flatAfterRun s x) (afterRun x)
+  run-agrees : (n : ℕ) → p .registers .phase ≡ running → (x : Ran) → RunGoes room (worlds room) n p (s .stack) (s .cache) x → Both (runCall n) (F.flatAfterRun s x) (afterRun p x)
   unfolding number-of
   run-agrees n i (ran k p′ ts) g =
-      leads (runCall n) (result (p′ .registers .phase) k (p′ .registers .value)) p′ ts (stackAfter (s .stack) ts) (cacheAfter (s .cache) ts) (g .right) (g .extends) (g .stood)
-      (g .stackLength) (g .cacheLength) (g .cached) (other-number (result (p′ .registers .phase) k (p′ .registers .value)) 3 (λ e. omega arith))
-      (other-number (result (p′ .registers .phase) k (p′ .registers .value)) 11 (λ e. omega arith))
-      (run-ends room n k p′ (g .made) (g .whole) (g .busy (λ e. omega arith)) (g .halts (omega arith)) (g .right .stands)) (g .reach)
+      leads (runCall n) (result (p′ .registers .phase) k (p′ .registers .value) (reachOf p ts)) p′ (stackAfter (s .stack) ts) (cacheAfter (s .cache) ts) (g .right) (g .extends) (g .stood)
+      (g .stackLength) (g .cacheLength) (g .cached) (other-number (result (p′ .registers .phase) k (p′ .registers .value) (reachOf p ts)) 3 (λ e. omega arith))
+      (other-number (result (p′ .registers .phase) k (p′ .registers .value) (reachOf p ts)) 11 (λ e. omega arith))
+      (run-ends room n k (reachOf p ts) p′ (g .made) (g .whole) (g .busy (λ e. omega arith)) (g .halts (omega arith)) (g .reach) (g .right .stands))
   run-agrees n i stuck g = absurd g
 
   run-by : (n : ℕ) (b : Bool) → eqb (s .registers .phase) running ≡ b → Both (runCall n) (F.flatRunIf s n b) (runIf room n p b)
@@ -163,8 +162,8 @@ module _ (s : Flat) (right : FlatRight s) where
   run-by n false e = refuses (runCall n) 12 (record { not-3 = λ z. omega arith; not-11 = λ z. omega arith }) refl
 
   -- forget
-  forget-agrees : Both forgetCall (gives done (record { registers = s .registers; contents = s .contents; bodies = s .bodies; stack = s .stack; cache = emptyCache })) (called done p [])
-  unfolding plainOf highestEnd number-of
+  forget-agrees : Both forgetCall (gives done (record { registers = s .registers; contents = s .contents; bodies = s .bodies; stack = s .stack; cache = emptyCache })) (called done p)
+  unfolding plainOf number-of
   forget-agrees = (
     record {
       answer = refl;
@@ -175,7 +174,6 @@ module _ (s : Flat) (right : FlatRight s) where
       never11 =
           other-number done 11 (λ e. omega arith);
       ends = refl;
-      reach = top-end room p (right .plain .stands);
       keeps = keeps (objects p) (objects p)
           (right .plain .image) (right .plain .image) (extends-refl (objects p));
     },
@@ -212,14 +210,14 @@ module _ (s : Flat) (right : FlatRight s) where
       subst (λ (g : Given). Both (runCall n) g (runIf room n p (eqb (p .registers .phase) running))) (sym (passes (F.flatRunIf s n (eqb (s .registers .phase) running))))
       (unfold plainOf in run-by n (eqb (s .registers .phase) running) refl)
   call-agrees dropCall =
-      subst (λ (g : Given). Both dropCall g (called done (dropped p) [])) (sym (passes (gives done (withPlain s (dropped p) (s .stack) (s .cache))))) dropped-agrees
+      subst (λ (g : Given). Both dropCall g (called done (dropped p))) (sym (passes (gives done (withPlain s (dropped p) (s .stack) (s .cache))))) dropped-agrees
     where
-      dropped-agrees : Both dropCall (gives done (withPlain s (dropped p) (s .stack) (s .cache))) (called done (dropped p) [])
-      dropped-agrees = unfold dropped highestEnd number-of in
-          leads dropCall done (dropped p) [] (s .stack) (s .cache) (dropped-right room p (right .plain)) (extends-refl (objects p)) (λ e. absurd (subst T (sym e) tt)) refl refl cached
-          (other-number done 3 (λ e. omega arith)) (other-number done 11 (λ e. omega arith)) refl (top-end room p (right .plain .stands))
+      dropped-agrees : Both dropCall (gives done (withPlain s (dropped p) (s .stack) (s .cache))) (called done (dropped p))
+      dropped-agrees = unfold dropped number-of in
+          leads dropCall done (dropped p) (s .stack) (s .cache) (dropped-right room p (right .plain)) (extends-refl (objects p)) (λ e. absurd (subst T (sym e) tt)) refl refl cached
+          (other-number done 3 (λ e. omega arith)) (other-number done 11 (λ e. omega arith)) refl
   call-agrees forgetCall =
-      subst (λ (g : Given). Both forgetCall g (called done p []))
+      subst (λ (g : Given). Both forgetCall g (called done p))
       (sym (passes (gives done (record { registers = s .registers; contents = s .contents; bodies = s .bodies; stack = s .stack; cache = emptyCache })))) forget-agrees
 
 -- ---- a list of calls
@@ -227,9 +225,9 @@ module _ (s : Flat) (right : FlatRight s) where
 -- both machines answered and agree: what follows holds of the states that they left
 onward : (room : Room) (c : Call) (p : Plain) (g : Given) (h : Called) (rest rest′ : Flat → Plain → Type 0) → ((s′ : Flat) (p′ : Plain) → rest s′ p′ → rest′ s′ p′)
     → Together room c p g h rest → Together room c p g h rest′
-onward room c p (gives a s′) (called a′ p′ ts) rest rest′ f t = (t .0, f s′ p′ (t .1))
+onward room c p (gives a s′) (called a′ p′) rest rest′ f t = (t .0, f s′ p′ (t .1))
 onward room c p (gives a s′) impossible rest rest′ f t = t
-onward room c p noAnswer (called a′ p′ ts) rest rest′ f t = t
+onward room c p noAnswer (called a′ p′) rest rest′ f t = t
 onward room c p noAnswer impossible rest rest′ f t = t
 
 pub agrees : (cs : List Call) (s : Flat) → FlatRight s → Agrees (roomOf s) cs s (plainOf s)

@@ -1,6 +1,6 @@
 -- One turn of a run, on the flat state: what is left of the run before a bytecode is what is left of it after the bytecode.
 use Prim.Native.Nat.{ℕ, zero, suc, _+_, _*_, _-_, _≤_, max}
-use mathlib.Core.Path.{_≡_, refl, sym, ap, ap₂, _∙_, subst}
+use mathlib.Core.Path.{_≡_, refl, sym, ap, _∙_, subst}
 use mathlib.Core.Bool.{Bool, false}
 use mathlib.Core.List.{List, [], _∷_, _++_}
 use native.Mathlib.Omega.{arith}
@@ -15,16 +15,17 @@ use Rattle.model.proofs.Unchanged.{lookup-same}
 use Rattle.plain.specs.Registers.{running, Cause, phaseOf, withPhase}
 use Rattle.plain.specs.State.{Plain, objects}
 use Rattle.plain.specs.Step.{Looked, leadsTo, halts, step}
-use Rattle.plain.specs.Calls.{Taken, taken, Ran, ran, stuck, counted, halted, onward, ifRunning, steps, result}
+use Rattle.plain.specs.Calls.{Taken, taken, Ran, ran, stuck, counted, halted, onward, ifRunning, steps, standingEnd, reachOf, result}
 use Rattle.plain.specs.Cache.{filled, cacheFine}
 use Rattle.plain.specs.Flat.{Flat, roomOf, flatObjects, plainOf, framesFrom, ifFrames}
-use Rattle.plain.specs.FlatCalls.{gives, atFront, withPlain, laid, stackAfter, cacheAfter, topEnd, highestEnd, flatAfterRunFrom, runsFrom, highestOf, endsFrom}
+use Rattle.plain.specs.FlatCalls.{gives, atFront, withPlain, laid, stackAfter, cacheAfter}
+use Rattle.plain.specs.RunLoop.{topEnd, flatAfterRunFrom, runsFrom}
 use Rattle.plain.proofs.LaidLaws.{length-laid}
 use Rattle.plain.proofs.Preserve.{Goes}
 use Rattle.plain.proofs.StateLaws.{PlainRight}
 use Rattle.plain.proofs.CacheLaws.{cache-filled, cache-kept, length-filled}
 use Rattle.plain.proofs.After.{kept-right}
-use Rattle.plain.proofs.RunLaws.{Stood, RanRight, RunGoes, step-goes, shape-stood, runs-right}
+use Rattle.plain.proofs.RunLaws.{Stood, end-is-top, RanRight, RunGoes, step-goes, shape-stood, runs-right}
 use Rattle.plain.proofs.FlatLaws.{FlatRight, plain-back, room-back, flat-back}
 use Rattle.plain.proofs.Worlds.{worlds}
 use Rattle.model.proofs.Lent.{front-same}
@@ -55,44 +56,56 @@ plain-same s r =
       cache = s .cache;
     }
 
+-- No frame ends above the top frame.
+pub plain-end : (s : Flat) → FlatRight s → standingEnd (plainOf s) ≡ topEnd (plainOf s)
+plain-end s r = end-is-top (roomOf s) (plainOf s) (r .plain .stands)
+
 -- A run that makes no bytecode: none is granted, or the phase is not 1.
-no-more : (left k : ℕ) (s : Flat) → FlatRight s → steps (roomOf s) left (plainOf s) ≡ ran 0 (plainOf s) []
-    → runsFrom left k s ≡ gives (result (s .registers .phase) k (s .registers .value)) s
-unfolding runsFrom stackAfter cacheAfter plainOf
-no-more left k s r e =
-    ap (flatAfterRunFrom k s) e ∙ ap₂ (λ (c : ℕ) (t : Flat). gives (result (s .registers .phase) c (s .registers .value)) t) (none k) (plain-same s r)
+no-more : (left k h : ℕ) (s : Flat) → FlatRight s → topEnd (plainOf s) ≤ h → steps (roomOf s) left (plainOf s) ≡ ran 0 (plainOf s) []
+    → runsFrom left k h s ≡ gives (result (s .registers .phase) k (s .registers .value) h) s
+unfolding runsFrom plainOf
+no-more left k h s r t e =
+    ap (flatAfterRunFrom k h s) e
+    ∙ (λ i. gives (result (s .registers .phase) (none k i) (s .registers .value) (same (unfold reachOf in refl) (plain-end s r) i)) (back i))
   where
     none : (k : ℕ) → k + 0 ≡ k
     none k = omega arith
 
-pub runs-out : (k : ℕ) (s : Flat) → FlatRight s → runsFrom 0 k s ≡ gives (result (s .registers .phase) k (s .registers .value)) s
-runs-out k s r = no-more 0 k s r (unfold steps in refl)
+    same : reachOf (plainOf s) [] ≡ standingEnd (plainOf s) → standingEnd (plainOf s) ≡ topEnd (plainOf s) → max h (reachOf (plainOf s) []) ≡ h
+    same a b = omega arith
+
+    back : withPlain s (plainOf s) (stackAfter (s .stack) []) (cacheAfter (s .cache) []) ≡ s
+    back = unfold stackAfter cacheAfter in plain-same s r
+
+pub runs-out : (k h : ℕ) (s : Flat) → FlatRight s → topEnd (plainOf s) ≤ h → runsFrom 0 k h s ≡ gives (result (s .registers .phase) k (s .registers .value) h) s
+runs-out k h s r t = no-more 0 k h s r t (unfold steps in refl)
 
 stops : (room : Room) (left : ℕ) (p : Plain) → eqb (p .registers .phase) running ≡ false → steps room left p ≡ ran 0 p []
 unfolding steps
 stops room zero p e = refl
 stops room (suc n) p e = ap (ifRunning (λ p′. steps room n p′) room p) e
 
-pub runs-over : (left k : ℕ) (s : Flat) → FlatRight s → eqb (s .registers .phase) running ≡ false
-    → runsFrom left k s ≡ gives (result (s .registers .phase) k (s .registers .value)) s
+pub runs-over : (left k h : ℕ) (s : Flat) → FlatRight s → topEnd (plainOf s) ≤ h → eqb (s .registers .phase) running ≡ false
+    → runsFrom left k h s ≡ gives (result (s .registers .phase) k (s .registers .value) h) s
 unfolding plainOf
-runs-over left k s r e = no-more left k s r (stops (roomOf s) left (plainOf s) e)
+runs-over left k h s r t e = no-more left k h s r t (stops (roomOf s) left (plainOf s) e)
 
-ends-none : (left h : ℕ) (s : Flat) → topEnd (plainOf s) ≤ h → steps (roomOf s) left (plainOf s) ≡ ran 0 (plainOf s) [] → endsFrom left h s ≡ h
-unfolding endsFrom highestEnd
-ends-none left h s t e = ap (λ (x : Ran). max h (highestOf (plainOf s) x)) e ∙ omega arith
+-- Reach is at least the end at the start.
+pub reach-least : (q : Plain) (ts : List Taken) → standingEnd q ≤ reachOf q ts
+unfolding reachOf
+reach-least q [] = omega arith
+reach-least q (taken l q′ ∷ ts) = omega arith
 
-pub ends-out : (h : ℕ) (s : Flat) → topEnd (plainOf s) ≤ h → endsFrom 0 h s ≡ h
-ends-out h s t = ends-none 0 h s t (unfold steps in refl)
-
-pub ends-over : (left h : ℕ) (s : Flat) → topEnd (plainOf s) ≤ h → eqb (s .registers .phase) running ≡ false → endsFrom left h s ≡ h
-unfolding plainOf
-ends-over left h s t e = ends-none left h s t (stops (roomOf s) left (plainOf s) e)
-
-pub highest-least : (q : Plain) (ts : List Taken) → topEnd q ≤ highestEnd q ts
-unfolding highestEnd
-highest-least q [] = omega arith
-highest-least q (taken l q′ ∷ ts) = omega arith
+-- A run starts with the end of its top frame.
+pub runs-start : (left : ℕ) (s : Flat) → FlatRight s → runsFrom left 0 0 s ≡ runsFrom left 0 (topEnd (plainOf s)) s
+unfolding runsFrom
+runs-start left s r = go (steps (roomOf s) left (plainOf s))
+  where
+    go : (x : Ran) → flatAfterRunFrom 0 0 s x ≡ flatAfterRunFrom 0 (topEnd (plainOf s)) s x
+    go (ran k p ts) =
+        ap (λ (z : ℕ). gives (result (p .registers .phase) (0 + k) (p .registers .value) z) (withPlain s p (stackAfter (s .stack) ts) (cacheAfter (s .cache) ts)))
+        (let a = reach-least (plainOf s) ts in let b = plain-end s r in omega arith)
+    go stuck = refl
 
 -- One bytecode that was made
 module _ (s : Flat) (right : FlatRight s) (phase : s .registers .phase ≡ running) (p′ : Plain) (l : Looked) (made : step (roomOf s) (plainOf s) ≡ leadsTo p′ l) where
@@ -144,12 +157,13 @@ module _ (s : Flat) (right : FlatRight s) (phase : s .registers .phase ≡ runni
   turn-right = flat-back s p′ stack′ cache′ right-p stood-p (length-laid (s .stack) (p′ .registers .top) (p′ .frames)) (length-filled (s .cache) l) (right .cacheLength) cached-p
 
   -- the rest of the run, from either state
-  counted-from : (k : ℕ) (x : Ran) → ((j : ℕ) (q : Plain) (ts : List Taken) → x ≡ ran j q ts → (length (p′ .contents) ≤ length (q .contents)) × (length (p′ .bodies) ≤ length (q .bodies)))
-      → flatAfterRunFrom k s (counted (taken l p′) x) ≡ flatAfterRunFrom (k + 1) s′ x
+  counted-from : (k h : ℕ) → topEnd p ≤ h → (x : Ran)
+      → ((j : ℕ) (q : Plain) (ts : List Taken) → x ≡ ran j q ts → (length (p′ .contents) ≤ length (q .contents)) × (length (p′ .bodies) ≤ length (q .bodies)))
+      → flatAfterRunFrom k h s (counted (taken l p′) x) ≡ flatAfterRunFrom (k + 1) (max h (topEnd p′)) s′ x
   unfolding stackAfter cacheAfter
-  counted-from k (ran j q ts) h =
-      let g = h j q ts refl in
-      λ i. gives (result (q .registers .phase) (sums k j i) (q .registers .value))
+  counted-from k h t (ran j q ts) y =
+      let g = y j q ts refl in
+      λ i. gives (result (q .registers .phase) (sums k j i) (q .registers .value) (highest i))
       (record {
         registers = q .registers;
         contents = sym (front-over (q .contents) (p′ .contents) (s .contents) (g .0)
@@ -162,7 +176,16 @@ module _ (s : Flat) (right : FlatRight s) (phase : s .registers .phase ≡ runni
     where
       sums : (a b : ℕ) → a + suc b ≡ a + 1 + b
       sums a b = omega arith
-  counted-from k stuck h = refl
+
+      highest : max h (reachOf p (taken l p′ ∷ ts)) ≡ max (max h (topEnd p′)) (reachOf (plainOf s′) ts)
+      highest =
+          go (plain-end s right) (end-is-top room p′ (right-p .stands)) (reach-least p′ ts) (unfold reachOf in refl)
+          ∙ ap (λ (x : Plain). max (max h (topEnd p′)) (reachOf x ts)) (sym turn-plain)
+        where
+          go : standingEnd p ≡ topEnd p → standingEnd p′ ≡ topEnd p′ → standingEnd p′ ≤ reachOf p′ ts → reachOf p (taken l p′ ∷ ts) ≡ max (standingEnd p) (reachOf p′ ts)
+              → max h (reachOf p (taken l p′ ∷ ts)) ≡ max (max h (topEnd p′)) (reachOf p′ ts)
+          go a b c d = omega arith
+  counted-from k h t stuck y = refl
 
   grown : (left : ℕ) (x : Ran) → RunGoes room (worlds room) left p′ stack′ cache′ x → (j : ℕ) (q : Plain) (ts : List Taken) → x ≡ ran j q ts
       → (length (p′ .contents) ≤ length (q .contents)) × (length (p′ .bodies) ≤ length (q .bodies))
@@ -184,26 +207,13 @@ module _ (s : Flat) (right : FlatRight s) (phase : s .registers .phase ≡ runni
   same-steps : (left : ℕ) → steps room left p′ ≡ steps (roomOf s′) left (plainOf s′)
   same-steps left = λ i. steps (sym turn-room i) left (sym turn-plain i)
 
-  pub turn-runs : (left k : ℕ) → runsFrom (suc left) k s ≡ runsFrom left (k + 1) s′
+  pub turn-runs : (left k h : ℕ) → topEnd p ≤ h → runsFrom (suc left) k h s ≡ runsFrom left (k + 1) (max h (topEnd p′)) s′
   unfolding runsFrom
-  turn-runs left k =
-      ap (flatAfterRunFrom k s) (steps-more left)
-      ∙ counted-from k (steps room left p′) (grown left (steps room left p′) (runs-right room (worlds room) left p′ stack′ cache′ right-p
+  turn-runs left k h t =
+      ap (flatAfterRunFrom k h s) (steps-more left)
+      ∙ counted-from k h t (steps room left p′) (grown left (steps room left p′) (runs-right room (worlds room) left p′ stack′ cache′ right-p
       (length-laid (s .stack) (p′ .registers .top) (p′ .frames)) (length-filled (s .cache) l ∙ right .cacheLength) stood-p cached-p))
-      ∙ ap (flatAfterRunFrom (k + 1) s′) (same-steps left)
-
-  -- and the highest end
-  pub turn-ends : (left h : ℕ) → topEnd p ≤ h → endsFrom (suc left) h s ≡ endsFrom left (max h (topEnd p′)) s′
-  unfolding endsFrom
-  turn-ends left h t =
-      ap (λ (x : Ran). max h (highestOf p x)) (steps-more left)
-      ∙ higher (steps room left p′) (runs-right room (worlds room) left p′ stack′ cache′ right-p (length-laid (s .stack) (p′ .registers .top) (p′ .frames))
-      (length-filled (s .cache) l ∙ right .cacheLength) stood-p cached-p)
-      ∙ (λ i. max (max h (topEnd p′)) (highestOf (sym turn-plain i) (same-steps left i)))
-    where
-      higher : (x : Ran) → RunGoes room (worlds room) left p′ stack′ cache′ x → max h (highestOf p (counted (taken l p′) x)) ≡ max (max h (topEnd p′)) (highestOf p′ x)
-      higher (ran j q ts) g = unfold highestEnd in (let z = highest-least p′ ts in omega arith)
-      higher stuck g = absurd g
+      ∙ ap (flatAfterRunFrom (k + 1) (max h (topEnd p′)) s′) (same-steps left)
 
 -- A bytecode that halts
 module _ (s : Flat) (right : FlatRight s) (phase : s .registers .phase ≡ running) (c : Cause) (made : step (roomOf s) (plainOf s) ≡ halts c) where
@@ -212,8 +222,8 @@ module _ (s : Flat) (right : FlatRight s) (phase : s .registers .phase ≡ runni
   halt-steps left =
       ap (ifRunning (λ q. steps (roomOf s) left q) (roomOf s) (plainOf s)) (eq-eqb (s .registers .phase) running phase) ∙ ap (onward (λ q. steps (roomOf s) left q) (plainOf s)) made
 
-  pub halt-runs : (left k : ℕ)
-      → runsFrom (suc left) k s ≡ gives (result (phaseOf c) k 0) (record {
+  pub halt-runs : (left k h : ℕ) → topEnd (plainOf s) ≤ h
+      → runsFrom (suc left) k h s ≡ gives (result (phaseOf c) k 0 h) (record {
         registers = withPhase (s .registers) (phaseOf c) (s .registers .top) 0;
         contents =
             s .contents;
@@ -222,9 +232,9 @@ module _ (s : Flat) (right : FlatRight s) (phase : s .registers .phase ≡ runni
         cache = s .cache;
       })
   unfolding runsFrom stackAfter cacheAfter plainOf
-  halt-runs left k =
-      ap (flatAfterRunFrom k s) (halt-steps left)
-      ∙ (λ i. gives (result (phaseOf c) (none k i) 0) (record {
+  halt-runs left k h t =
+      ap (flatAfterRunFrom k h s) (halt-steps left)
+      ∙ (λ i. gives (result (phaseOf c) (none k i) 0 (same (unfold reachOf in refl) (plain-end s right) i)) (record {
         registers = withPhase (s .registers) (phaseOf c) (s .registers .top) 0;
         contents = plain-same s
             right i .contents;
@@ -236,18 +246,22 @@ module _ (s : Flat) (right : FlatRight s) (phase : s .registers .phase ≡ runni
       none : (k : ℕ) → k + 0 ≡ k
       none k = omega arith
 
-  pub halt-ends : (left h : ℕ) → topEnd (plainOf s) ≤ h → endsFrom (suc left) h s ≡ h
-  unfolding endsFrom highestEnd
-  halt-ends left h t = ap (λ (x : Ran). max h (highestOf (plainOf s) x)) (halt-steps left) ∙ omega arith
+      same : reachOf (plainOf s) [] ≡ standingEnd (plainOf s) → standingEnd (plainOf s) ≡ topEnd (plainOf s) → max h (reachOf (plainOf s) []) ≡ h
+      same a b = omega arith
 
 -- A whole run is what is left of it at its start.
-pub whole-run : (n : ℕ) (s : Flat) → runsFrom n 0 s ≡ Rattle.plain.specs.FlatCalls.flatAfterRun s (steps (roomOf s) n (plainOf s))
+pub whole-run : (n : ℕ) (s : Flat) → runsFrom n 0 0 s ≡ Rattle.plain.specs.FlatCalls.flatAfterRun s (steps (roomOf s) n (plainOf s))
 unfolding runsFrom
 whole-run n s = go (steps (roomOf s) n (plainOf s))
   where
-    go : (x : Ran) → flatAfterRunFrom 0 s x ≡ Rattle.plain.specs.FlatCalls.flatAfterRun s x
-    go (ran k p ts) = ap (λ (j : ℕ). gives (result (p .registers .phase) j (p .registers .value)) (withPlain s p (stackAfter (s .stack) ts) (cacheAfter (s .cache) ts))) (zero-plus k)
+    go : (x : Ran) → flatAfterRunFrom 0 0 s x ≡ Rattle.plain.specs.FlatCalls.flatAfterRun s x
+    go (ran k p ts) =
+        λ i. gives (result (p .registers .phase) (zero-plus k i) (p .registers .value) (zero-max (reachOf (plainOf s) ts) i))
+        (withPlain s p (stackAfter (s .stack) ts) (cacheAfter (s .cache) ts))
       where
         zero-plus : (k : ℕ) → 0 + k ≡ k
         zero-plus k = omega arith
+
+        zero-max : (k : ℕ) → max 0 k ≡ k
+        zero-max k = omega arith
     go stuck = refl

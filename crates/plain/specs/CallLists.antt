@@ -1,7 +1,7 @@
 -- The statement about whole lists of calls. Its proof is proofs/Theorem.antt.
 --
 -- Two machines are fed the same list of begin, run, drop and forget calls, refused ones included: the flat one, which works on the lent
--- buffers and checks its state at each call, and the plain one of 01. After each call their answers are equal (reach aside), the flat state
+-- buffers and checks its state at each call, and the plain one of 01. After each call their answers are equal, the flat state
 -- stands for the plain one, and check accepts it; no call meets a bytecode that pops an empty stack, pushes past a frame, leaves its code or
 -- touches what is not there; a run does all its bytecodes, or finishes, or halts where a listed cause
 -- stands: no method for a send, or by a super send one that cannot run on the receiver; no boolean for a jump; no room for a frame.
@@ -9,16 +9,16 @@ use Prim.Native.Nat.{ℕ, _≤_, _<_}
 use mathlib.Core.Path.{_≡_}
 use mathlib.Core.Logic.{_⊎_, _≢_}
 use mathlib.Core.List.{List, [], _∷_}
-use Rattle.model.specs.Limits.{entryWords, classKind}
+use Rattle.model.specs.Limits.{entryWords, classKind, mostStackWords}
 use Rattle.model.specs.Objects.{Objects, entryWord, kind, bodyWords, bodyWord}
 use Rattle.model.specs.Image.{Room, accepted, loadVerdict}
 use Rattle.plain.specs.Registers.{running, finished, Cause, phaseOf}
 use Rattle.plain.specs.State.{Plain, objects}
 use Rattle.plain.specs.Causes.{HaltsFor}
-use Rattle.plain.specs.Calls.{loaded, Taken, Call, beginCall, runCall, dropCall, forgetCall, Answer, done, refusedBy, result, wrote, Called, called, impossible, call}
+use Rattle.plain.specs.Calls.{loaded, Call, beginCall, runCall, dropCall, forgetCall, Answer, done, refusedBy, result, wrote, Called, called, impossible, call}
 use Rattle.plain.specs.Flat.{Flat, roomOf, flatObjects, plainOf}
 use Rattle.plain.specs.Check.{check}
-use Rattle.plain.specs.FlatCalls.{Given, gives, noAnswer, highestEnd, flatLoad, flatCall}
+use Rattle.plain.specs.FlatCalls.{Given, gives, noAnswer, flatLoad, flatCall}
 
 -- The statement is `FromLoad`: from an accepted load of an image, in buffers of any sufficient lengths and with any stack. `FromChecked` is the
 -- same from every state that check accepts. What they speak of stands before them, what follows from them behind.
@@ -27,9 +27,10 @@ use Rattle.plain.specs.FlatCalls.{Given, gives, noAnswer, highestEnd, fl
 abbrev pub Halted : Room → Plain → ℕ → Type 0
 Halted room p phase = (cause : Cause) × (phase ≡ phaseOf cause) × HaltsFor room p cause (p .frames)
 
--- How a run ended, and the state that it left: all n bytecodes made, or finished, or halted for a cause
+-- How a run ended, and the state that it left: all n bytecodes made, or finished, or halted for a cause. It stayed inside the stack.
 abbrev pub RunEnds : Room → ℕ → Plain → Answer → Type 0
-RunEnds room n p (result phase count value) = (count ≤ n) × (((phase ≡ running) × (count ≡ n)) ⊎ ((phase ≡ finished) ⊎ Halted room p phase))
+RunEnds room n p (result phase count value reach) =
+    (count ≤ n) × (reach ≤ room .stack) × (reach ≤ mostStackWords) × (((phase ≡ running) × (count ≡ n)) ⊎ ((phase ≡ finished) ⊎ Halted room p phase))
 RunEnds room n p done = ⊥
 RunEnds room n p (refusedBy k) = k ≡ 12
 RunEnds room n p (wrote k) = ⊥
@@ -48,8 +49,8 @@ pub record Keeps (o o′ : Objects) : Type 0 where
   pub bodies : (k i : ℕ) → 1 ≤ k → k ≤ o .n → classKind ≤ kind o k → i < bodyWords o k → bodyWord o′ k i ≡ bodyWord o k i
 
 -- One call, from a flat state that stands for p, in buffers of these lengths: a and s′ are the flat machine's answer and state, a′ and p′ the
--- plain one's, ts the steps that it made.
-pub record Agreed (room : Room) (c : Call) (p : Plain) (a : Answer) (s′ : Flat) (a′ : Answer) (p′ : Plain) (ts : List Taken) : Type 0 where
+-- plain one's.
+pub record Agreed (room : Room) (c : Call) (p : Plain) (a : Answer) (s′ : Flat) (a′ : Answer) (p′ : Plain) : Type 0 where
   pub answer : a ≡ a′
   pub state : plainOf s′ ≡ p′
   pub checks : check s′ ≡ accepted
@@ -57,14 +58,13 @@ pub record Agreed (room : Room) (c : Call) (p : Plain) (a : Answer) (s′ : Flat
   pub never3 : a ≢ refusedBy 3
   pub never11 : a ≢ refusedBy 11
   pub ends : Ends room c p′ a
-  pub reach : highestEnd p ts ≤ room .stack
   pub keeps : Keeps (objects p) (objects p′)
 
 -- Both machines answer, they agree, and so they do in what follows.
 abbrev pub Together : Room → Call → Plain → Given → Called → (Flat → Plain → Type 0) → Type 0
-Together room c p (gives a s′) (called a′ p′ ts) rest = Agreed room c p a s′ a′ p′ ts × rest s′ p′
+Together room c p (gives a s′) (called a′ p′) rest = Agreed room c p a s′ a′ p′ × rest s′ p′
 Together room c p (gives a s′) impossible rest = ⊥
-Together room c p noAnswer (called a′ p′ ts) rest = ⊥
+Together room c p noAnswer (called a′ p′) rest = ⊥
 Together room c p noAnswer impossible rest = ⊥
 
 -- The two machines agree on a whole list, call by call.
@@ -127,7 +127,7 @@ WritesCache forgetCall = Unit {0}
 abbrev pub IsRefused : Given → Type 0
 IsRefused (gives done s) = ⊥
 IsRefused (gives (refusedBy k) s) = Unit {0}
-IsRefused (gives (result phase count value) s) = ⊥
+IsRefused (gives (result phase count value reach) s) = ⊥
 IsRefused (gives (wrote k) s) = ⊥
 IsRefused noAnswer = ⊥
 

@@ -1,5 +1,5 @@
 -- The calls of the plain machine (01, "Plain machine", last paragraph, and "From the state"). It is never refused by 3 or 11.
-use Prim.Native.Nat.{ℕ, zero, suc}
+use Prim.Native.Nat.{ℕ, zero, suc, _+_, max}
 use mathlib.Core.Bool.{Bool, true, false}
 use mathlib.Core.List.{List, [], _∷_}
 use lib.Dec.{eqb}
@@ -7,13 +7,13 @@ use lib.ListN.{length}
 use Rattle.bytecode.specs.Test.{if_then_else_}
 use Rattle.model.specs.declared.Found.{Found}
 use Rattle.model.specs.declared.Found.the-variants.{Method, Nothing}
-use Rattle.model.specs.Objects.{classOf}
+use Rattle.model.specs.Objects.{Objects, classOf}
 use Rattle.model.specs.Method.{argumentCount, frameSize}
 use Rattle.model.specs.Lookup.{lookup}
 use Rattle.model.specs.Rules.{rule8}
 use Rattle.model.specs.Image.{Room, imageHeader, imageObjects}
 use Rattle.plain.specs.Registers.{idle, running, finished, Cause, phaseOf}
-use Rattle.plain.specs.State.{Plain, objects, withObjects, withFrames, newFrame, fitsStack}
+use Rattle.plain.specs.State.{Frame, Plain, objects, withObjects, withFrames, newFrame, fitsStack}
 use Rattle.plain.specs.Step.{Looked, Stepped, leadsTo, halts, missing, Activation, answered, entered, unfit, activate, step}
 
 -- The machine starts with the image's objects and start words, no frames, phase and value 0.
@@ -98,11 +98,25 @@ unfoldable pub steps : Room → ℕ → Plain → Ran
 steps room zero s = ran 0 s []
 steps room (suc n) s = ifRunning (λ s′. steps room n s′) room s (eqb (s .registers .phase) running)
 
+-- A frame ends at its base and its size. The largest end of frames, the first of them at `base`, or 0 where there are none
+unfoldable pub largestEnd : Objects → ℕ → List Frame → ℕ
+largestEnd o base [] = 0
+largestEnd o base (f ∷ rest) = max (base + frameSize o (f .method)) (largestEnd o (f .sender) rest)
+
+-- The largest end of the frames that stand in a state
+unfoldable pub standingEnd : Plain → ℕ
+standingEnd s = largestEnd (objects s) (s .registers .top) (s .frames)
+
+-- Reach (01's term): the largest end of the frames that stand when a run starts and after each of its steps. A frame that did not fit never stood.
+unfoldable pub reachOf : Plain → List Taken → ℕ
+reachOf s [] = standingEnd s
+reachOf s (taken l s′ ∷ ts) = max (standingEnd s) (reachOf s′ ts)
+
 -- Drop removes the frames.
 unfoldable pub dropped : Plain → Plain
 dropped s = withFrames s [] idle 0 0
 
--- The calls of a list, and their answers. `result` is phase, count and value.
+-- The calls of a list, and their answers. `result` is phase, count, value and reach.
 pub data Call : Type 0 where
   beginCall : ℕ → ℕ → List ℕ → Call
   runCall : ℕ → Call
@@ -112,29 +126,30 @@ pub data Call : Type 0 where
 pub data Answer : Type 0 where
   done : Answer
   refusedBy : ℕ → Answer
-  result : ℕ → ℕ → ℕ → Answer
+  result : ℕ → ℕ → ℕ → ℕ → Answer
   wrote : ℕ → Answer
 
--- The answer, the state after the call, and the steps that it made; nothing where a step that does not exist was met
+-- The answer and the state after the call; nothing where a step that does not exist was met
 pub data Called : Type 0 where
-  called : Answer → Plain → List Taken → Called
+  called : Answer → Plain → Called
   impossible : Called
 
 abbrev pub afterBegin : Plain → Begun → Called
-afterBegin s (begun s′) = called done s′ []
-afterBegin s (declined k) = called (refusedBy k) s []
+afterBegin s (begun s′) = called done s′
+afterBegin s (declined k) = called (refusedBy k) s
 
-abbrev pub afterRun : Ran → Called
-afterRun (ran k s ts) = called (result (s .registers .phase) k (s .registers .value)) s ts
-afterRun stuck = impossible
+-- A run from s
+abbrev pub afterRun : Plain → Ran → Called
+afterRun s (ran k s′ ts) = called (result (s′ .registers .phase) k (s′ .registers .value) (reachOf s ts)) s′
+afterRun s stuck = impossible
 
 -- Run is refused by 12 outside phase 1; drop and forget are not refused. A refused call and forget change nothing.
 abbrev pub runIf : Room → ℕ → Plain → Bool → Called
-runIf room n s true = afterRun (steps room n s)
-runIf room n s false = called (refusedBy 12) s []
+runIf room n s true = afterRun s (steps room n s)
+runIf room n s false = called (refusedBy 12) s
 
 unfoldable pub call : Room → Plain → Call → Called
 call room s (beginCall receiver selector arguments) = afterBegin s (begin room s receiver selector arguments)
 call room s (runCall n) = runIf room n s (eqb (s .registers .phase) running)
-call room s dropCall = called done (dropped s) []
-call room s forgetCall = called done s []
+call room s dropCall = called done (dropped s)
+call room s forgetCall = called done s

@@ -1,6 +1,6 @@
 -- The calls over the flat state: the answer and every lent word after the call, for all arguments (01, "Calls", "From the input" and
 -- "From the state"). Begin and run are what the plain machine does, laid back into the buffers.
-use Prim.Native.Nat.{ℕ, _+_, _*_, max}
+use Prim.Native.Nat.{ℕ, _*_}
 use mathlib.Core.Bool.{Bool, true, false, _&&_}
 use mathlib.Core.List.{List, [], _∷_, _++_}
 use lib.Dec.{leb, eqb}
@@ -8,12 +8,11 @@ use lib.ListN.{length, replicate}
 use lib.Seq.{sets}
 use Rattle.bytecode.specs.Test.{if_then_else_}
 use Rattle.model.specs.Limits.{entryWords}
-use Rattle.model.specs.Method.{frameSize}
 use Rattle.model.specs.Image.{Verdict, accepted, refused, unless, _then_, buffersFine, imageHeader, imageOf, imageBytes, loadVerdict}
 pub use Rattle.model.specs.Objects.{atFront}
 use Rattle.plain.specs.Registers.{Registers, noRegisters, running}
-use Rattle.plain.specs.State.{Frame, Plain, objects}
-use Rattle.plain.specs.Calls.{loaded, Begun, begun, declined, begin, Ran, ran, stuck, Taken, taken, steps}
+use Rattle.plain.specs.State.{Frame, Plain}
+use Rattle.plain.specs.Calls.{loaded, Begun, begun, declined, begin, Ran, ran, stuck, Taken, taken, steps, reachOf}
 use Rattle.plain.specs.Calls.{dropped, Answer, done, refusedBy, result, wrote, Call, beginCall, runCall, dropCall, forgetCall}
 use Rattle.plain.specs.Cache.{filled, emptyCache}
 use Rattle.plain.specs.Flat.{Flat, roomOf, flatObjects, plainOf}
@@ -61,10 +60,10 @@ flatAfterBegin s (declined k) = gives (refusedBy k) s
 unfoldable pub flatBegin : Flat → ℕ → ℕ → List ℕ → Given
 flatBegin s receiver selector arguments = checked s (check s) (flatAfterBegin s (begin (roomOf s) (plainOf s) receiver selector arguments))
 
--- Run: phase, count, value and reach; reach is left to the program.
+-- Run: phase, count, value and reach
 abbrev pub flatAfterRun : Flat → Ran → Given
 flatAfterRun s (ran k p ts) =
-    gives (result (p .registers .phase) k (p .registers .value)) (withPlain s p (stackAfter (s .stack) ts) (cacheAfter (s .cache) ts))
+    gives (result (p .registers .phase) k (p .registers .value) (reachOf (plainOf s) ts)) (withPlain s p (stackAfter (s .stack) ts) (cacheAfter (s .cache) ts))
 flatAfterRun s stuck = noAnswer
 
 abbrev pub flatRunIf : Flat → ℕ → Bool → Given
@@ -73,37 +72,6 @@ flatRunIf s n false = gives (refusedBy 12) s
 
 unfoldable pub flatRun : Flat → ℕ → Given
 flatRun s n = checked s (check s) (flatRunIf s n (eqb (s .registers .phase) running))
-
--- What holds of reach (01's term): it is between the end of the highest frame that stood in the run and the stack's length.
-unfoldable pub topEnd : Plain → ℕ
-topEnd s = elim (s .frames) [ [] ↦ 0 | f ∷ rest ↦ s .registers .top + frameSize (objects s) (f .method) ]
-
-unfoldable pub highestEnd : Plain → List Taken → ℕ
-highestEnd s [] = topEnd s
-highestEnd s (taken l s′ ∷ ts) = max (topEnd s) (highestEnd s′ ts)
-
-abbrev pub reachOf : Flat → Ran → ℕ → Bool
-reachOf s (ran k p ts) reach = leb (highestEnd (plainOf s) ts) reach && leb reach (length (s .stack))
-reachOf s stuck reach = false
-
-unfoldable pub reachFine : Flat → ℕ → ℕ → Bool
-reachFine s n reach = reachOf s (steps (roomOf s) n (plainOf s)) reach
-
--- What is left of a run from a state on, k bytecodes having been made; and the highest end of a frame, with h that of the frames so far
-abbrev pub flatAfterRunFrom : ℕ → Flat → Ran → Given
-flatAfterRunFrom k s (ran j p ts) =
-    gives (result (p .registers .phase) (k + j) (p .registers .value)) (withPlain s p (stackAfter (s .stack) ts) (cacheAfter (s .cache) ts))
-flatAfterRunFrom k s stuck = noAnswer
-
-unfoldable pub runsFrom : ℕ → ℕ → Flat → Given
-runsFrom left k s = flatAfterRunFrom k s (steps (roomOf s) left (plainOf s))
-
-abbrev pub highestOf : Plain → Ran → ℕ
-highestOf p (ran k p′ ts) = highestEnd p ts
-highestOf p stuck = 0
-
-unfoldable pub endsFrom : ℕ → ℕ → Flat → ℕ
-endsFrom left h s = max h (highestOf (plainOf s) (steps (roomOf s) left (plainOf s)))
 
 -- Drop and forget are allowed in every phase.
 unfoldable pub flatDrop : Flat → Given

@@ -12,3 +12,4 @@ pub mod RunLoop
 pub mod Program
 pub mod Text
 pub mod CallLists
+pub mod Reach

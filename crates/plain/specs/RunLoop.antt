@@ -1,18 +1,35 @@
 -- The loop of a run: what is left of it at each turn.
-use Prim.Native.Nat.{ℕ, _-_, _≤_}
+use Prim.Native.Nat.{ℕ, _+_, _-_, _≤_, max}
 use mathlib.Core.Path.{_≡_}
+use mathlib.Core.List.{[], _∷_}
+use Rattle.model.specs.Method.{frameSize}
 use Rattle.model.specs.Image.{accepted}
 use Rattle.plain.specs.Registers.{running}
+use Rattle.plain.specs.State.{Plain, objects}
+use Rattle.plain.specs.Calls.{Ran, ran, stuck, steps, result, reachOf}
 use Rattle.plain.specs.Flat.{Flat, roomOf, plainOf}
 use Rattle.plain.specs.Check.{check}
-use Rattle.plain.specs.FlatCalls.{topEnd, runsFrom, endsFrom}
+use Rattle.plain.specs.FlatCalls.{Given, gives, noAnswer, withPlain, stackAfter, cacheAfter}
 
--- From s₀ a run of `grant` bytecodes has come to s, having made `count`; `reach` is the highest end of a frame so far.
+-- The end of the top frame: where the frames stand one on another, no other ends higher.
+unfoldable pub topEnd : Plain → ℕ
+topEnd s = elim (s .frames) [ [] ↦ 0 | f ∷ rest ↦ s .registers .top + frameSize (objects s) (f .method) ]
+
+-- What is left of a run from a state on, k bytecodes having been made and h being the reach so far
+abbrev pub flatAfterRunFrom : ℕ → ℕ → Flat → Ran → Given
+flatAfterRunFrom k h s (ran j p ts) =
+    gives (result (p .registers .phase) (k + j) (p .registers .value) (max h (reachOf (plainOf s) ts)))
+    (withPlain s p (stackAfter (s .stack) ts) (cacheAfter (s .cache) ts))
+flatAfterRunFrom k h s stuck = noAnswer
+
+unfoldable pub runsFrom : ℕ → ℕ → ℕ → Flat → Given
+runsFrom left k h s = flatAfterRunFrom k h s (steps (roomOf s) left (plainOf s))
+
+-- From s₀ a run of `grant` bytecodes has come to s, having made `count`; `reach` is that of the run so far.
 pub record Turn (s₀ : Flat) (grant : ℕ) (s : Flat) (count reach : ℕ) : Type 0 where
   pub made : count ≤ grant
   pub checked : check s ≡ accepted
   pub phase : s .registers .phase ≡ running
   pub lengths : roomOf s ≡ roomOf s₀
-  pub rest : runsFrom grant 0 s₀ ≡ runsFrom (grant - count) count s
   pub high : topEnd (plainOf s) ≤ reach
-  pub ends : endsFrom grant 0 s₀ ≡ endsFrom (grant - count) reach s
+  pub rest : runsFrom grant 0 0 s₀ ≡ runsFrom (grant - count) count reach s

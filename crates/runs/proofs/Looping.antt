@@ -11,13 +11,12 @@ use Rattle.model.proofs.Extends.{Extends}
 use Rattle.plain.specs.Step.{Stepped, step}
 use Rattle.plain.specs.Flat.{Flat, flat, roomOf, plainOf}
 use Rattle.plain.specs.Check.{check}
-use Rattle.plain.specs.FlatCalls.{topEnd}
 use Rattle.plain.specs.Running.{Runs, runningWith, finishedWith, runningAt, roomAt, Made}
-use Rattle.plain.specs.RunLoop.{Turn}
+use Rattle.plain.specs.RunLoop.{topEnd, Turn}
 use Rattle.plain.proofs.FlatLaws.{FlatRight, check-right}
 use Rattle.plain.proofs.RunningLaws.{top-bounds}
 use Rattle.plain.proofs.MadeLaws.{made-as, running-is, running-runs}
-use Rattle.plain.proofs.LoopLaws.{top-end-is, turn-start, loop-out, loop-out-ends, loop-halts, loop-halts-ends, loop-extends, loop-level, loop-next, loop-over, loop-over-ends}
+use Rattle.plain.proofs.LoopLaws.{top-end-is, turn-start, loop-out, loop-halts, loop-extends, loop-level, loop-next, loop-over}
 use Rattle.cache.specs.Caches.{Caches}
 use Rattle.model.specs.declared.CodePosition.{CodePosition}
 use Rattle.model.specs.declared.StackPosition.{StackPosition}
@@ -75,7 +74,7 @@ module _ (s₀ : Flat) (grant edition receiver selector n b top : ℕ) (contents
 
   -- the grant is used up
   ends-at : grant ≤ count → RunsTo s₀ grant edition receiver selector contents bodies stack cache (record { n = n; b = b; phase = 1; top = top; value = 0; count = count; reach = reach })
-  ends-at h = record { gave = loop-out s₀ grant sₗ count reach (l .turn) h; ends = loop-out-ends s₀ grant sₗ count reach (l .turn) h; small = l .low }
+  ends-at h = record { gave = loop-out s₀ grant sₗ count reach (l .turn) h; small = l .low }
 
   module _ (more : count < grant) (contents′ bodies′ stack′ cache′ : List ℕ) where
     -- the step is that of the flat state
@@ -91,9 +90,7 @@ module _ (s₀ : Flat) (grant edition receiver selector n b top : ℕ) (contents
         let m = made-as same-step e in
         let z : topEnd (plainOf (flat (finishedWith edition receiver selector n b w) contents′ bodies′ stack′ cache′)) ≡ 0 = unfold plainOf topEnd in refl in
         record {
-          gave = loop-over s₀ grant sₗ count reach (l .turn) more (finishedWith edition receiver selector n b w) contents′ bodies′ stack′ cache′ m refl;
-          ends =
-              loop-over-ends s₀ grant sₗ count reach (l .turn) more (finishedWith edition receiver selector n b w) contents′ bodies′ stack′ cache′ m refl z;
+          gave = loop-over s₀ grant sₗ count reach (l .turn) more (finishedWith edition receiver selector n b w) contents′ bodies′ stack′ cache′ m refl z;
           small = l .low;
         }
 
@@ -102,11 +99,10 @@ module _ (s₀ : Flat) (grant edition receiver selector n b top : ℕ) (contents
     halted-at k h =
         let u = h .stays in
         record {
-          gave = (λ i. Rattle.plain.specs.FlatCalls.gives (Rattle.plain.specs.Calls.result (h .phase i) count 0)
+          gave = (λ i. Rattle.plain.specs.FlatCalls.gives (Rattle.plain.specs.Calls.result (h .phase i) count 0 reach)
               (flat (record { n = n; b = b; startReceiver = receiver; startSelector = selector; phase = h .phase i; top = top; value = 0; edition = edition }) (u .entries i)
               (u .words i) (u .frames i) (u .cached i)))
               ∙ loop-halts s₀ grant sₗ count reach (l .turn) more (h .cause) (same-step ∙ h .steps);
-          ends = loop-halts-ends s₀ grant sₗ count reach (l .turn) more (h .cause) (same-step ∙ h .steps);
           small = l .low;
         }
 

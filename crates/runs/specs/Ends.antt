@@ -6,7 +6,8 @@ use Rattle.model.specs.Image.{accepted}
 use Rattle.plain.specs.Flat.{Flat, flat}
 use Rattle.plain.specs.Check.{check}
 use Rattle.plain.specs.Calls.{result}
-use Rattle.plain.specs.FlatCalls.{gives, runsFrom, endsFrom}
+use Rattle.plain.specs.FlatCalls.{gives}
+use Rattle.plain.specs.RunLoop.{runsFrom}
 use Rattle.plain.specs.Running.{runningWith}
 use Rattle.plain.specs.Registers as R
 use Rattle.runs.specs.declared.Ended.{Ended}
@@ -26,8 +27,7 @@ pub record Goes (e n b top : ℕ) (contents bodies stack cache : List ℕ) : Typ
 
 -- The run from s ended so.
 pub record RunsTo (s : Flat) (grant e receiver selector : ℕ) (contents bodies stack cache : List ℕ) (r : Ended) : Type 0 where
-  pub gave : gives (result (r .phase) (r .count) (r .value)) (flat (endedWith e receiver selector r) contents bodies stack cache) ≡ runsFrom grant 0 s
-  pub ends : r .reach ≡ endsFrom grant 0 s
+  pub gave : gives (result (r .phase) (r .count) (r .value) (r .reach)) (flat (endedWith e receiver selector r) contents bodies stack cache) ≡ runsFrom grant 0 0 s
   pub small : r .reach ≤ 65536
 
 -- With all start words that check accepts

@@ -9,7 +9,7 @@ use model::Pointer;
 use model::StackPosition;
 use model::limits;
 
-// How a run ended: the registers but for the start words, the bytecodes made, the highest end of a frame that stood in it.
+// How a run ended: the registers but for the start words, the bytecodes made, and reach, the largest end of a frame that stood in it.
 pub struct Ended {
     pub n: u16,
     pub b: u16,

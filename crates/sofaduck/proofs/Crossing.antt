@@ -20,7 +20,7 @@ use Rattle.machine.specs.declared.Checked.{Checked}
 use Rattle.loads.specs.declared.Saved.{Saved}
 use Rattle.machine.specs.declared.Made.{Made}
 use Rattle.machine.specs.declared.Played.{Played}
-use Rattle.machine.specs.State.{registersOf, state, beginGives, runGives, ReachIs, dropGives, forgetGives, checkGives}
+use Rattle.machine.specs.State.{registersOf, state, beginGives, runGives, dropGives, forgetGives, checkGives}
 use Rattle.loads.specs.Answers.{loadGives, saveGives}
 use Rattle.machine.specs.Lists.{playGives, PromisedPlay}
 use Rattle.calls.specs.Plays.{flatPlay}
@@ -144,30 +144,30 @@ module _ (words contents bodies stack cache : List ℕ) (b : Registers) (t : reg
         go zero p = absurd (let h : 1 ≤ 0 = subst NumberedSaved (sym p) (save-number (stateOf words contents bodies stack cache) output) in omega arith)
         go (suc k) p = (p, refl)
 
-  module _ (n : ℕ) (contents′ bodies′ stack′ cache′ words′ : List ℕ) (x : Ran)
-      (e : (runGives x contents′ bodies′ stack′ cache′ ≡ flatRun (state b contents bodies stack cache) n) × ReachIs (state b contents bodies stack cache) n x) (count reach : ℕ) where
+  module _ (n : ℕ) (contents′ bodies′ stack′ cache′ words′ : List ℕ) (x : Ran) (e : runGives x contents′ bodies′ stack′ cache′ ≡ flatRun (state b contents bodies stack cache) n)
+      (count reach : ℕ) where
     e₀ : runGives x contents′ bodies′ stack′ cache′ ≡ flatRun (stateOf words contents bodies stack cache) n
-    e₀ = e .0 ∙ ap (λ (s : Flat). flatRun s n) same
+    e₀ = e ∙ ap (λ (s : Flat). flatRun s n) same
 
     pub run-done : (r : Registers) (made highest : ℕ) → x ≡ N.Done r made highest → words′ ≡ seven (registersOf r)
-        → (sees (runAnswer 0 (sevenWords words′) made) words′ contents′ bodies′ stack′ cache′ ≡ seen (flatRun (stateOf words contents bodies stack cache) n))
-        × RunWrites 0 (stateOf words contents bodies stack cache) n count reach made highest
+        → (sees (runAnswer 0 (sevenWords words′) made highest) words′ contents′ bodies′ stack′ cache′ ≡ seen (flatRun (stateOf words contents bodies stack cache) n))
+        × RunWrites 0 count reach made highest
     unfolding runGives sevenWords
     run-done r made highest q p = (
-      (λ i. sees (result (sevenWords (p i) .phase) made (sevenWords (p i) .value)) (p i) contents′ bodies′ stack′ cache′)
+      (λ i. sees (result (sevenWords (p i) .phase) made (sevenWords (p i) .value) highest) (p i) contents′ bodies′ stack′ cache′)
           ∙ ap seen (ap (λ (y : Ran). runGives y contents′ bodies′ stack′ cache′) (sym q) ∙ e₀),
-      subst (λ (s : Flat). ReachIs s n (N.Done r made highest)) same (subst (ReachIs (state b contents bodies stack cache) n) q (e .1)),
+      tt,
     )
 
     pub run-refused : (k : ℕ) (r : Registers) → x ≡ N.Refused k r → words′ ≡ seven (registersOf r)
-        → (sees (runAnswer k (sevenWords words′) count) words′ contents′ bodies′ stack′ cache′ ≡ seen (flatRun (stateOf words contents bodies stack cache) n))
-        × RunWrites k (stateOf words contents bodies stack cache) n count reach count reach
+        → (sees (runAnswer k (sevenWords words′) count reach) words′ contents′ bodies′ stack′ cache′ ≡ seen (flatRun (stateOf words contents bodies stack cache) n))
+        × RunWrites k count reach count reach
     unfolding runGives
     run-refused k r q p = go k (ap (λ (y : Ran). runGives y contents′ bodies′ stack′ cache′) (sym q) ∙ e₀)
       where
         go : (k : ℕ) → gives (refusedBy k) (state r contents′ bodies′ stack′ cache′) ≡ flatRun (stateOf words contents bodies stack cache) n
-            → (sees (runAnswer k (sevenWords words′) count) words′ contents′ bodies′ stack′ cache′ ≡ seen (flatRun (stateOf words contents bodies stack cache) n))
-            × RunWrites k (stateOf words contents bodies stack cache) n count reach count reach
+            → (sees (runAnswer k (sevenWords words′) count reach) words′ contents′ bodies′ stack′ cache′ ≡ seen (flatRun (stateOf words contents bodies stack cache) n))
+            × RunWrites k count reach count reach
         go zero g = absurd (let h : 1 ≤ 0 = subst NumberedIn (sym g) (run-number (stateOf words contents bodies stack cache) n) in omega arith)
         go (suc k) g = (shown r contents′ bodies′ stack′ cache′ p g, (refl, refl))
 

@@ -25,7 +25,7 @@ use Rattle.plain.specs.FlatCalls.{Given, gives, noAnswer, checked, flatAfterBeg
 abbrev pub Numbered : Answer → Type 0
 Numbered done = Unit {0}
 Numbered (refusedBy k) = 1 ≤ k
-Numbered (result p k v) = Unit {0}
+Numbered (result p k v h) = Unit {0}
 Numbered (wrote k) = Unit {0}
 
 abbrev pub NumberedIn : Given → Type 0

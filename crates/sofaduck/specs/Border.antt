@@ -1,14 +1,13 @@
 -- What C sees: registers as seven words, an answer as a number.
 use Prim.Native.Nat.{ℕ, zero, suc}
 use mathlib.Core.Path.{_≡_}
-use mathlib.Core.Bool.{true}
 use mathlib.Core.List.{List, [], _∷_}
 use lib.ListN.{getD}
 use Rattle.model.specs.Image.{Verdict, accepted, refused}
 use Rattle.plain.specs.Registers.{Registers}
 use Rattle.plain.specs.Flat.{Flat, flat}
 use Rattle.plain.specs.Calls.{Answer, done, refusedBy, result, wrote}
-use Rattle.plain.specs.FlatCalls.{Given, gives, noAnswer, reachFine}
+use Rattle.plain.specs.FlatCalls.{Given, gives, noAnswer}
 use Rattle.calls.specs.Plays.{Played, played, unplayed}
 
 -- N, B, start receiver, start selector, phase, top, value. The edition is not among them while there is but one.
@@ -41,13 +40,13 @@ verdictOf zero = accepted
 verdictOf (suc k) = refused (suc k)
 
 -- Run: where it is not refused, phase and value are in the registers, and count and reach are written.
-abbrev pub runAnswer : ℕ → Registers → ℕ → Answer
-runAnswer zero r count = result (r .phase) count (r .value)
-runAnswer (suc k) r count = refusedBy (suc k)
+abbrev pub runAnswer : ℕ → Registers → (count reach : ℕ) → Answer
+runAnswer zero r count reach = result (r .phase) count (r .value) reach
+runAnswer (suc k) r count reach = refusedBy (suc k)
 
-abbrev pub RunWrites : ℕ → Flat → ℕ → ℕ → ℕ → ℕ → ℕ → Type 0
-RunWrites zero s n count reach count′ reach′ = reachFine s n reach′ ≡ true
-RunWrites (suc k) s n count reach count′ reach′ = (count′ ≡ count) × (reach′ ≡ reach)
+abbrev pub RunWrites : ℕ → (count reach count′ reach′ : ℕ) → Type 0
+RunWrites zero count reach count′ reach′ = Unit {0}
+RunWrites (suc k) count reach count′ reach′ = (count′ ≡ count) × (reach′ ≡ reach)
 
 -- Save: where it is not refused, the length is written.
 abbrev pub saveAnswer : ℕ → ℕ → Answer

@@ -113,12 +113,11 @@ pub extern "C" fn sofaduck_run(
     count: &mut u32,
     reach: &mut u32,
 ) -> u32
-    ensures { λ r. ⌜ (sees (runAnswer r (sevenWords (now (registers .exit))) (now (count .exit))) (now (registers .exit)) (now (contents .exit))
-        (now (bodies .exit)) (now (stack .exit)) (now (cache .exit))
+    ensures { λ r. ⌜ (sees (runAnswer r (sevenWords (now (registers .exit))) (now (count .exit)) (now (reach .exit))) (now (registers .exit))
+        (now (contents .exit)) (now (bodies .exit)) (now (stack .exit)) (now (cache .exit))
         ≡ seen (flatRun (stateOf (now (registers .entry)) (now (contents .entry)) (now (bodies .entry)) (now (stack .entry))
         (now (cache .entry))) grant))
-        × RunWrites r (stateOf (now (registers .entry)) (now (contents .entry)) (now (bodies .entry)) (now (stack .entry)) (now (cache .entry)))
-        grant (now (count .entry)) (now (reach .entry)) (now (count .exit)) (now (reach .exit)) ⌝ }
+        × RunWrites r (now (count .entry)) (now (reach .entry)) (now (count .exit)) (now (reach .exit)) ⌝ }
 {
     let before = read_registers(registers);
     match before.run(contents, bodies, stack, cache, grant) {

@@ -69,7 +69,7 @@ module _ (image contents bodies stack cache : List ℕ) (lengths : (length conte
             pub of-run : (r₃ : Registers) (count reach : ℕ) → z ≡ N.Done r₃ count reach → line (r₃ .phase) count (r₃ .value) ≡ step80 image
             unfolding runGives
             of-run r₃ count reach o =
-                run-done image s₂ begins h (r₃ .phase) count (r₃ .value) (state r₃ contents₃ bodies₃ stack₃ cache₃) (ap (λ (w : Ran). runGives w contents₃ bodies₃ stack₃ cache₃) (sym o) ∙ n)
+                run-done image s₂ begins h (r₃ .phase) count (r₃ .value) reach (state r₃ contents₃ bodies₃ stack₃ cache₃) (ap (λ (w : Ran). runGives w contents₃ bodies₃ stack₃ cache₃) (sym o) ∙ n)
 
             -- which never comes
             pub of-refused-run : (k : ℕ) (r₃ : Registers) → z ≡ N.Refused k r₃ → refusal k ≡ step80 image

@@ -38,11 +38,20 @@ mul-answers-4 c = search needs
 slice-write-answers-4 : tie.Need-slice-write-answers-4
 slice-write-answers-4 c = simp length-set (omega arith)
 
+add-answers-4 : tie.Need-add-answers-4
+add-answers-4 c = search needs
+
+mul-answers-5 : tie.Need-mul-answers-5
+mul-answers-5 c = search needs
+
+slice-write-answers-5 : tie.Need-slice-write-answers-5
+slice-write-answers-5 c = simp length-set (omega arith)
+
 same-length : tie.Need-same-length
 same-length c = search needs
 
 returns : tie.Need-returns
-returns c = puts (c .args .answers .now) (c .args .at) (c .args .number) (c .args .phase) (c .args .count) (c .args .value)
+returns c = puts (c .args .answers .now) (c .args .at) (c .args .number) (c .args .phase) (c .args .count) (c .args .value) (c .args .reach)
 
 pub write-answer-spec : {M : Type 1} → statement M
 write-answer-spec =
@@ -59,5 +68,8 @@ write-answer-spec =
     add-answers-3
     mul-answers-4
     slice-write-answers-4
+    add-answers-4
+    mul-answers-5
+    slice-write-answers-5
     same-length
     returns)

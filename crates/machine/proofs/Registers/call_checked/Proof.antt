@@ -135,7 +135,7 @@ returns-3 c =
     let at-call-at = at-grant .before .before in
     let at-start = at-call-at .before .before .before .before .before .before in
     let a = at-start .args in
-    ran-done _ _ _ _ _ (at-run-checked .run-checked .result) (at-run-checked .run-checked .ensures .0) _ _ _ (c .before .next2 .given .1) ∙ run-called
+    ran-done _ _ _ _ _ (at-run-checked .run-checked .result) (at-run-checked .run-checked .ensures) _ _ _ (c .before .next2 .given .1) ∙ run-called
     (state (a .self) (a .contents .now) (a .bodies .now) (a .stack .now) (a .cache .now)) (a .calls .now) _ (at-call-at .call-at .result)
     (at-call-at .call-at .ensures .0) _ (at-grant .grant .given .1)
 
@@ -158,7 +158,7 @@ returns-4 c =
     let at-call-at = at-grant .before .before in
     let at-start = at-call-at .before .before .before .before .before .before in
     let a = at-start .args in
-    ran-refused _ _ _ _ _ (at-run-checked .run-checked .result) (at-run-checked .run-checked .ensures .0) _ _ (c .before .k2 .given .1) ∙ run-called
+    ran-refused _ _ _ _ _ (at-run-checked .run-checked .result) (at-run-checked .run-checked .ensures) _ _ (c .before .k2 .given .1) ∙ run-called
     (state (a .self) (a .contents .now) (a .bodies .now) (a .stack .now) (a .cache .now)) (a .calls .now) _ (at-call-at .call-at .result)
     (at-call-at .call-at .ensures .0) _ (at-grant .grant .given .1)
 

@@ -68,11 +68,11 @@ call-checked-requires c κs =
       at-loop .loop .inv .1 .checks,
     )
 
-cast-note : tie.Need-cast-note Inv-loop μ-loop
-cast-note c = search needs
+cast-write-reply : tie.Need-cast-write-reply Inv-loop μ-loop
+cast-write-reply c = search needs
 
-mul-note : tie.Need-mul-note Inv-loop μ-loop
-mul-note c =
+mul-write-reply : tie.Need-mul-write-reply Inv-loop μ-loop
+mul-write-reply c =
     let at-if1 = c .before .before .before .before .before .before .before .before .before .before .before .before .before .before in
     let at-size-at = at-if1 .before in
     let at-loop-test = at-size-at .before in
@@ -82,8 +82,8 @@ mul-note c =
     let f = fits (a .calls .now) (a .answers .now) _ _ _ _ _ (at-loop .loop .inv .1) _ (at-loop .loop .inv .0) (at-loop-test .loop-test .taken)
     (at-size-at .size-at .result) (at-size-at .size-at .ensures) (at-if1 .if1 .left) in omega arith
 
-note-requires : tie.Need-note-requires Inv-loop μ-loop
-note-requires c κs =
+write-reply-requires : tie.Need-write-reply-requires Inv-loop μ-loop
+write-reply-requires c κs =
     let at-if1 = c .before .before .before .before .before .before .before .before .before .before .before .before .before .before in
     let at-size-at = at-if1 .before in
     let at-loop-test = at-size-at .before in
@@ -116,8 +116,8 @@ loop-less c =
 
 loop-again : tie.Need-loop-again Inv-loop μ-loop
 loop-again c =
-    let at-note = c .before .before in
-    let at-call-checked = at-note .before .before .before .before .before .before .before .before .before .before in
+    let at-write-reply = c .before .before in
+    let at-call-checked = at-write-reply .before .before .before .before .before .before .before .before .before .before in
     let at-if1 = at-call-checked .before .before .before .before .before in
     let at-size-at = at-if1 .before in
     let at-loop-test = at-size-at .before in
@@ -127,8 +127,8 @@ loop-again c =
       at-loop .loop .inv .0,
       goes-on (a .calls .now) (a .answers .now) _ _ _ _ _ (at-loop .loop .inv .1) _ (at-loop .loop .inv .0)
           (at-loop-test .loop-test .taken) (at-size-at .size-at .result) (at-size-at .size-at .ensures) (at-if1 .if1 .left) (answerIn (at-call-checked .call-checked
-          .result)) _ _ (noted-gives (at-call-checked .call-checked .result) _ _ _ _ _ (at-call-checked .call-checked .ensures) _ (at-note .note .ensures .0))
-          (at-note .note .ensures .1) (at-call-checked .call-checked .kept .1 .0) (at-call-checked .call-checked .kept .1 .1 .0) (at-call-checked .call-checked .kept
+          .result)) _ _ (noted-gives (at-call-checked .call-checked .result) _ _ _ _ _ (at-call-checked .call-checked .ensures) _ (at-write-reply .write-reply .ensures .0))
+          (at-write-reply .write-reply .ensures .1) (at-call-checked .call-checked .kept .1 .0) (at-call-checked .call-checked .kept .1 .1 .0) (at-call-checked .call-checked .kept
           .1 .1 .1 .0) (at-call-checked .call-checked .kept .1 .1 .1 .1 .0),
     )
 
@@ -169,9 +169,9 @@ play-checked-spec =
     same-length-5
     returns
     call-checked-requires
-    cast-note
-    mul-note
-    note-requires
+    cast-write-reply
+    mul-write-reply
+    write-reply-requires
     add-i
     add-made
     loop-less

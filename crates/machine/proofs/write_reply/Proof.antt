@@ -1,7 +1,7 @@
 use Rattle.machine.proofs.Replying.{noted-done, noted-refused, noted-ran}
 use borrow.Author.Needs.{needs}
-use Rattle.machine.proofs.note.Statement.{statement}
-use Rattle.machine.proofs.note.Tie as tie
+use Rattle.machine.proofs.write_reply.Statement.{statement}
+use Rattle.machine.proofs.write_reply.Tie as tie
 
 enum-known-reply : tie.Need-enum-known-reply
 enum-known-reply c = search needs
@@ -55,10 +55,10 @@ returns-3 c =
     let at-make-called3 = c .before .before .before .before .before .before .before in
     let at-start = at-make-called3 .before .before .before in
     let args = at-start .args in
-    noted-ran (args .reply) (args .answers .now) _ (args .at) _ _ (at-make-called3 .reply3 .given .1) (c .before .before .write-answer3 .ensures)
+    noted-ran (args .reply) (args .answers .now) _ (args .at) _ _ _ (at-make-called3 .reply3 .given .1) (c .before .before .write-answer3 .ensures)
 
-pub note-spec : {M : Type 1} → statement M
-note-spec =
+pub write-reply-spec : {M : Type 1} → statement M
+write-reply-spec =
     tie.close
     (tie.spec
     enum-known-reply
