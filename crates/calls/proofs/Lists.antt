@@ -1,6 +1,6 @@
 -- Lists of calls in words, and the words of their answers.
 use Prim.Native.Nat.{ℕ, zero, suc, _+_, _-_, _≤_, _<_}
-use mathlib.Core.Path.{_≡_, refl, sym, ap, _∙_, subst}
+use mathlib.Core.Path.{_≡_, refl, sym, ap, _∙_}
 use mathlib.Core.List.{List, [], _∷_, _++_}
 use native.Mathlib.Omega.{arith}
 use native.Mathlib.Decide.{decLt, ℕ-discrete}
@@ -11,14 +11,10 @@ use lib.Seq.{sets, sets-eq, take-at, drop-at, length-take-le}
 use Rattle.bytecode.specs.Test.{if_then_else_}
 use Rattle.bytecode.proofs.Choice.{if-yes, if-no}
 use Rattle.model.specs.Objects.{part}
-use Rattle.model.specs.Image.{Room, accepted}
-use Rattle.plain.specs.State.{Plain}
-use Rattle.plain.specs.Calls.{Call, beginCall, runCall, dropCall, forgetCall, Called, called, impossible, call, Answer, done, refusedBy, result, wrote}
-use Rattle.plain.specs.Flat.{Flat, roomOf, plainOf}
-use Rattle.plain.specs.Check.{check}
-use Rattle.plain.specs.FlatCalls.{Given, gives, noAnswer, flatCall}
-use Rattle.plain.specs.CallLists.{Together, Agrees, nextState, lastState}
-use Rattle.plain.proofs.Theorem.{from-checked}
+use Rattle.plain.specs.Calls.{Call, beginCall, runCall, dropCall, forgetCall, Answer, done, refusedBy, result, wrote}
+use Rattle.plain.specs.Flat.{Flat}
+use Rattle.plain.specs.FlatCalls.{Given, gives, flatCall}
+use Rattle.plain.specs.CallLists.{nextState, lastState}
 use Rattle.calls.specs.Encoding.{sizeAt, runLength, beginAt, callAt, unlessNone, callsFrom, callsOf, answerSize, answerWords}
 use Rattle.calls.specs.Listing.{listed}
 use Rattle.calls.specs.declared.Listed.the-variants as L
@@ -225,28 +221,3 @@ puts l at a b c d e = λ i. set (set (set (set (set l at a) (one at i) b) (two a
 
     four : (x : ℕ) → x + 4 ≡ suc (suc (suc (suc x)))
     four x = omega arith
-
--- ---- check, after a call and after a list of calls
-
-pub call-checks : (s s′ : Flat) (a : Answer) (c : Call) → check s ≡ accepted → gives a s′ ≡ flatCall s c → check s′ ≡ accepted
-unfolding Agrees
-call-checks s s′ a c e g =
-    go (call (roomOf s) (plainOf s) c)
-    (subst (λ (x : Given). Together (roomOf s) c (plainOf s) x (call (roomOf s) (plainOf s) c) (Agrees (roomOf s) [])) (sym g) (from-checked s e (c ∷ [])))
-  where
-    go : (h : Called) → Together (roomOf s) c (plainOf s) (gives a s′) h (Agrees (roomOf s) []) → check s′ ≡ accepted
-    go (called a′ p′) t = t .0 .checks
-    go impossible t = absurd t
-
-last-by : (room : Room) (c : Call) (cs : List Call) (p : Plain) (s : Flat) (g : Given) (h : Called) → ((s′ : Flat) (p′ : Plain) → Agrees room cs s′ p′
-    → check s′ ≡ accepted → check (lastState s′ cs) ≡ accepted)
-    → Together room c p g h (Agrees room cs) → check (lastState (nextState s g) cs) ≡ accepted
-last-by room c cs p s (gives a s′) (called a′ p′) again t = again s′ p′ (t .1) (t .0 .checks)
-last-by room c cs p s (gives a s′) impossible again t = absurd t
-last-by room c cs p s noAnswer (called a′ p′) again t = absurd t
-last-by room c cs p s noAnswer impossible again t = absurd t
-
-pub last-checks : (room : Room) (cs : List Call) (s : Flat) (p : Plain) → Agrees room cs s p → check s ≡ accepted → check (lastState s cs) ≡ accepted
-unfolding Agrees lastState
-last-checks room [] s p a e = e
-last-checks room (c ∷ cs) s p a e = last-by room c cs p s (flatCall s c) (call room p c) (λ s′ p′ x y. last-checks room cs s′ p′ x y) a

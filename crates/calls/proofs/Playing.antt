@@ -15,7 +15,8 @@ use Rattle.plain.specs.CallLists.{lastState}
 use Rattle.plain.proofs.Theorem.{from-checked}
 use Rattle.calls.specs.Encoding.{sizeAt, callAt, callsOf, answerSize, answerWords, allWords}
 use Rattle.calls.specs.Plays.{answersOf, answerRoom, callsMade, Plays, played, unplayed, playIf, flatPlay, PlaysAlike}
-use Rattle.calls.proofs.Lists.{within, ends-within, left, left-full, left-none, left-more, last-more, answers-more, all-words, put-before, put-behind, call-checks, last-checks}
+use Rattle.calls.proofs.Lists.{within, ends-within, left, left-full, left-none, left-more, last-more, answers-more, all-words, put-before, put-behind}
+use Rattle.plain.proofs.Consequences.{call-checks, last-checks}
 
 -- k calls are made, the next one stands at i: what is left leads from here where all calls lead from the start.
 pub record Inv (words answers₀ : List ℕ) (s₀ s : Flat) (answers : List ℕ) (i k : ℕ) : Type 0 where

@@ -1,4 +1,5 @@
--- What follows from the theorem: consoles agree, and handlers change no code. And what follows from the calls alone: who writes the cache.
+-- What follows from the theorem: consoles agree, handlers change no code, and check accepts what calls leave. And what follows from the calls alone: who writes
+-- the cache.
 use Prim.Native.Nat.{ℕ, _+_, _/_, _≤_, _<_}
 use mathlib.Core.Path.{_≡_, refl, sym, ap, ap₂, _∙_, subst}
 use mathlib.Core.Bool.{Bool, true, false}
@@ -11,7 +12,7 @@ use Rattle.model.specs.Objects.{Objects, bodyWords, sizedInBytes}
 use Rattle.model.specs.Image.{Room, Verdict, accepted, refused, loadVerdict}
 use Rattle.plain.specs.Registers.{running}
 use Rattle.plain.specs.State.{Plain, objects}
-use Rattle.plain.specs.Calls.{loaded, Begun, begun, declined, begin, Ran, ran, stuck, steps, dropped, Call, beginCall, runCall, dropCall, forgetCall, done, Called, called, impossible, call}
+use Rattle.plain.specs.Calls.{loaded, Begun, begun, declined, begin, Ran, ran, stuck, steps, dropped, Call, beginCall, runCall, dropCall, forgetCall, Answer, done, Called, called, impossible, call}
 use Rattle.plain.specs.Cache.{emptyCache}
 use Rattle.plain.specs.Flat.{Flat, roomOf, flatObjects, plainOf}
 use Rattle.plain.specs.Check.{check}
@@ -125,3 +126,28 @@ cache-kept s dropCall h = drop-keeps s (check s) (dropped (plainOf s))
 cache-kept s forgetCall h = ap (λ (x : Flat). x .cache)
     (unchanged s (check s) (gives done (record { registers = s .registers; contents = s .contents; bodies = s .bodies; stack = s .stack; cache = emptyCache }))
     (λ r. absurd r) (h tt))
+
+-- ---- check, after a call and after a list of calls
+
+pub call-checks : (s s′ : Flat) (a : Answer) (c : Call) → check s ≡ accepted → gives a s′ ≡ flatCall s c → check s′ ≡ accepted
+unfolding Agrees
+call-checks s s′ a c e g =
+    go (call (roomOf s) (plainOf s) c)
+    (subst (λ (x : Given). Together (roomOf s) c (plainOf s) x (call (roomOf s) (plainOf s) c) (Agrees (roomOf s) [])) (sym g) (from-checked s e (c ∷ [])))
+  where
+    go : (h : Called) → Together (roomOf s) c (plainOf s) (gives a s′) h (Agrees (roomOf s) []) → check s′ ≡ accepted
+    go (called a′ p′) t = t .0 .checks
+    go impossible t = absurd t
+
+last-by : (room : Room) (c : Call) (cs : List Call) (p : Plain) (s : Flat) (g : Given) (h : Called) → ((s′ : Flat) (p′ : Plain) → Agrees room cs s′ p′
+    → check s′ ≡ accepted → check (lastState s′ cs) ≡ accepted)
+    → Together room c p g h (Agrees room cs) → check (lastState (nextState s g) cs) ≡ accepted
+last-by room c cs p s (gives a s′) (called a′ p′) again t = again s′ p′ (t .1) (t .0 .checks)
+last-by room c cs p s (gives a s′) impossible again t = absurd t
+last-by room c cs p s noAnswer (called a′ p′) again t = absurd t
+last-by room c cs p s noAnswer impossible again t = absurd t
+
+pub last-checks : (room : Room) (cs : List Call) (s : Flat) (p : Plain) → Agrees room cs s p → check s ≡ accepted → check (lastState s cs) ≡ accepted
+unfolding Agrees lastState
+last-checks room [] s p a e = e
+last-checks room (c ∷ cs) s p a e = last-by room c cs p s (flatCall s c) (call room p c) (λ s′ p′ x y. last-checks room cs s′ p′ x y) a

@@ -11,19 +11,19 @@ use Rattle.bytecode.proofs.Choice.{if-yes, if-no}
 use Rattle.model.specs.Image.{accepted}
 use Rattle.plain.specs.Registers.{running, Cause, notUnderstood, noBoolean, noStackRoom, phaseOf}
 use Rattle.plain.specs.Step.{Stepped, leadsTo, halts, missing, step}
-use Rattle.plain.specs.Calls.{Ran, ran, stuck, steps, Answer, done, refusedBy, result, wrote, runCall, Called, called, impossible, call}
+use Rattle.plain.specs.Calls.{Ran, ran, stuck, steps, Answer, done, refusedBy, result, wrote, runCall}
 use Rattle.plain.specs.Flat.{Flat, roomOf, plainOf}
 use Rattle.plain.specs.Check.{check}
 use Rattle.plain.specs.FlatCalls.{Given, gives, noAnswer, checked, flatAfterRun, flatRunIf, flatRun, flatCall}
 use Rattle.plain.specs.RunLoop.{topEnd, flatAfterRunFrom, runsFrom}
-use Rattle.plain.specs.CallLists.{Together, Agrees, nextState}
+use Rattle.plain.specs.CallLists.{nextState, IsRefused}
 use Rattle.plain.specs.Reach.{added, Continues, reachIn, largestReach, granted, LargestReach}
 use Rattle.plain.proofs.Preserve.{Goes}
 use Rattle.plain.proofs.After.{After}
 use Rattle.plain.proofs.RunLaws.{RunGoes, step-goes, runs-right}
 use Rattle.plain.proofs.FlatLaws.{FlatRight, check-right}
 use Rattle.plain.proofs.Worlds.{worlds}
-use Rattle.plain.proofs.Theorem.{from-checked}
+use Rattle.plain.proofs.Consequences.{call-checks}
 use Rattle.plain.proofs.TurnLaws.{own-stood, runs-start, runs-out, runs-over, turn-plain, turn-right, turn-runs, halt-runs, whole-run}
 
 -- A run of n behind what a run gave: where the handler is still running
@@ -110,15 +110,8 @@ module _ (s : Flat) (accepts : check s ≡ accepted) where
 
   -- what a run leaves is checked
   run-checks : (n : ℕ) (a : Answer) (s₁ : Flat) → flatRun s n ≡ gives a s₁ → check s₁ ≡ accepted
-  unfolding Agrees flatCall
-  run-checks n a s₁ e =
-      go (call (roomOf s) (plainOf s) (runCall n))
-      (subst (λ (g : Given). Together (roomOf s) (runCall n) (plainOf s) g (call (roomOf s) (plainOf s) (runCall n)) (λ s′ p′. Agrees (roomOf s) [] s′ p′)) e
-      (from-checked s accepts (runCall n ∷ [])))
-    where
-      go : (h : Called) → Together (roomOf s) (runCall n) (plainOf s) (gives a s₁) h (λ s′ p′. Agrees (roomOf s) [] s′ p′) → check s₁ ≡ accepted
-      go (called a′ p′) t = t .0 .checks
-      go impossible t = absurd t
+  unfolding flatCall
+  run-checks n a s₁ e = call-checks s s₁ a (runCall n) accepts (sym e)
 
 -- The phase of an answer is that of the state that it comes with.
 abbrev Phased : Given → Type 0
@@ -141,14 +134,6 @@ behind n k h s c e = go (steps (roomOf s) n (plainOf s)) ∙ ap (added k h) (sym
     go (ran j p ts) = refl
     go stuck = refl
 
--- A run that was not refused started in phase 1.
-abbrev Refused : Given → Type 0
-Refused (gives done s) = ⊥
-Refused (gives (refusedBy i) s) = Unit {0}
-Refused (gives (result phase k v h) s) = ⊥
-Refused (gives (wrote i) s) = ⊥
-Refused noAnswer = ⊥
-
 pub continues : Continues
 continues s s₁ m n k v h c e = go (eqb (s .registers .phase) running) refl
   where
@@ -156,7 +141,7 @@ continues s s₁ m n k v h c e = go (eqb (s .registers .phase) running) refl
     go true q =
         let phased : Phased (gives (result running k v h) s₁) = subst Phased (sym (passes s c m true q) ∙ e) (run-phased s (steps (roomOf s) m (plainOf s))) in
         runs-on s c q m n ∙ ap (onwards n) e ∙ on-more n running k v h s₁ refl ∙ behind n k h s₁ (run-checks s c m (result running k v h) s₁ e) (eq-eqb (s₁ .registers .phase) running phased)
-    go false q = absurd (subst Refused (sym (run-refused s c q m) ∙ e) tt)
+    go false q = absurd (subst IsRefused (sym (run-refused s c q m) ∙ e) tt)
 
 -- ---- lists of runs
 

@@ -68,7 +68,7 @@ pub record Inside (room : Room) (end : ℕ) : Type 0 where
 nowhere : (room : Room) → Inside room 0
 nowhere room = record { stack = omega arith; most = omega arith }
 
-pub higher-inside : (room : Room) (a b : ℕ) → Inside room a → Inside room b → Inside room (max a b)
+higher-inside : (room : Room) (a b : ℕ) → Inside room a → Inside room b → Inside room (max a b)
 higher-inside room a b x y =
     record { stack = let s = x .stack in let t = y .stack in omega arith; most = let s = x .most in let t = y .most in omega arith }
 

@@ -11,7 +11,7 @@ use Rattle.plain.specs.FlatCalls.{Given, gives, noAnswer, afterLoad, flatLoad}
 use Rattle.plain.specs.CallLists.{nextState, Loads}
 use Rattle.plain.proofs.Theorem.{from-load}
 use Rattle.calls.specs.Plays.{callsMade, Plays}
-use Rattle.calls.proofs.Lists.{last-checks}
+use Rattle.plain.proofs.Consequences.{last-checks}
 use Rattle.machine.specs.declared.Registers.{Registers}
 use Rattle.loads.specs.declared.Loaded.{Loaded}
 use Rattle.machine.specs.State.{state}
