@@ -28,8 +28,8 @@ pub struct Lent<'a> {
 /// What run gives beside the registers.
 pub struct Ran {
     pub count: u32,
-    /// The least that reach may be.
-    pub highest: usize,
+    /// The largest end of the frames that stood when it started and after each bytecode made, at most 65,536.
+    pub reach: u32,
 }
 
 pub fn load(image: &[u8], lent: &mut Lent) -> Result<(), Refusal> {
@@ -157,7 +157,7 @@ fn frame(world: &World, stack: &[u16], base: usize, is_top: bool) -> Result<(Fra
     }
     let method = world.method(method_word);
     let end = base + 6 + method.room();
-    if end > stack.len() || end > 65_536 {
+    if end > stack.len() || end > MOST_STACK {
         return refuse(11, FrameWord(base, 3), "a frame that does not fit");
     }
     if stack[base + 4] != 0 {
@@ -224,12 +224,6 @@ pub fn save(lent: &Lent, output: &mut [u8]) -> Result<u32, Refusal> {
     Ok(length as u32)
 }
 
-fn machine<'a>(world: World, frames: Vec<Frame>, stack: &'a mut [u16], cache: &'a mut [u16], room: Room, counts: &'a mut Counts) -> Machine<'a> {
-    let mut machine = Machine { world, frames, stack, cache, room, highest: 0, counts };
-    machine.highest = machine.frames.last().map_or(0, |frame| machine.end_of(frame));
-    machine
-}
-
 /// What a machine leaves in the lent words, its stack and cache aside.
 fn settle(world: &World, contents: &mut [u16], bodies: &mut [u16], registers: &mut Registers, last: [u16; 3]) {
     world.objects.flat(contents, bodies);
@@ -256,7 +250,7 @@ pub fn begin(lent: &mut Lent, receiver: u16, selector: u16, arguments: &[u16], c
         return refuse(10, Message, "another count of arguments");
     }
     let room = Room { contents: lent.contents.len(), bodies: lent.bodies.len() };
-    let mut machine = machine(world, vec![], lent.stack, lent.cache, room, counts);
+    let mut machine = Machine { world, frames: vec![], stack: lent.stack, cache: lent.cache, room, counts };
     let last = match machine.activate(method, receiver, arguments) {
         Ok(Activation::Answer(word)) => [FINISHED, 0, word],
         Ok(Activation::Frame) if !machine.fits(0, method) => return refuse(13, Buffer("stack"), "the first frame does not fit"),
@@ -281,7 +275,9 @@ pub fn run_watched<W: Watch>(lent: &mut Lent, n: u32, counts: &mut Counts, watch
         return refuse(12, Register(PHASE), "no handler is running");
     }
     let room = Room { contents: lent.contents.len(), bodies: lent.bodies.len() };
-    let mut machine = machine(world, frames, lent.stack, lent.cache, room, counts);
+    let mut machine = Machine { world, frames, stack: lent.stack, cache: lent.cache, room, counts };
+    let first = machine.largest_end();
+    let mut reach = first;
     let mut count = 0;
     let mut end = (RUNNING, 0);
     while count < n && end.0 == RUNNING {
@@ -296,8 +292,12 @@ pub fn run_watched<W: Watch>(lent: &mut Lent, n: u32, counts: &mut Counts, watch
             }
             Err(phase) => end = (phase, 0),
         }
+        // A halt has left the frames as they were.
+        reach = reach.max(machine.largest_end());
     }
+    let last = machine.largest_end();
+    machine.counts.reach(n, end.0, [first, reach, last]);
     let top = machine.frames.last().map_or(0, |frame| frame.base) as u16;
     settle(&machine.world, lent.contents, lent.bodies, lent.registers, [end.0, top, end.1]);
-    Ok(Ran { count, highest: machine.highest })
+    Ok(Ran { count, reach: reach as u32 })
 }

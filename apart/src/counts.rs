@@ -1,6 +1,18 @@
 //! What was executed, for the report on coverage.
 
+use crate::machine::{FINISHED, MOST_STACK, NO_STACK_ROOM};
 use std::collections::BTreeMap;
+
+/// How the reach of a run can come about.
+pub const REACHES: [&str; 7] = [
+    "reach of a run of no bytecodes",
+    "reach below a frame that did not fit",
+    "reach of a frame made in the run that still stands",
+    "reach of a frame made in the run that has returned",
+    "reach of a frame from before the run that has returned",
+    "reach with large frames",
+    "reach of 65,536 words",
+];
 
 pub struct Counts {
     pub bytecodes: [u64; 256],
@@ -19,6 +31,17 @@ impl Default for Counts {
 impl Counts {
     pub fn event(&mut self, name: &'static str) {
         *self.events.entry(name).or_insert(0) += 1;
+    }
+
+    /// The largest ends of frames: when a run started, its reach, and where it stopped.
+    pub fn reach(&mut self, n: u32, phase: u16, [first, reach, last]: [usize; 3]) {
+        let (grew, shrank) = (reach > first, reach > last && phase != FINISHED);
+        // Small frames end at multiples of 18.
+        let met: [bool; REACHES.len()] =
+            [n == 0, phase == NO_STACK_ROOM, grew && reach == last, grew && shrank, !grew && shrank, reach % 18 != 0, reach == MOST_STACK];
+        for (name, _) in REACHES.iter().zip(met).filter(|(_, met)| *met) {
+            self.event(name);
+        }
     }
 
     pub fn primitive(&mut self, number: u16, answered: bool) {

@@ -14,6 +14,9 @@ pub const NOT_UNDERSTOOD: u16 = 3;
 pub const NO_BOOLEAN: u16 = 4;
 pub const NO_STACK_ROOM: u16 = 5;
 
+/// No frame ends beyond.
+pub const MOST_STACK: usize = 65_536;
+
 pub struct Frame {
     pub base: usize,
     pub method: u16,
@@ -29,8 +32,6 @@ pub struct Machine<'a> {
     pub stack: &'a mut [u16],
     pub cache: &'a mut [u16],
     pub room: Room,
-    /// The end of the highest frame that stood.
-    pub highest: usize,
     pub counts: &'a mut Counts,
 }
 
@@ -69,8 +70,13 @@ impl Machine<'_> {
         self.frames.last_mut().unwrap()
     }
 
-    pub fn end_of(&self, frame: &Frame) -> usize {
+    fn end_of(&self, frame: &Frame) -> usize {
         frame.base + 6 + self.world.method(frame.method).room()
+    }
+
+    /// The largest end of the frames that stand.
+    pub fn largest_end(&self) -> usize {
+        self.frames.iter().map(|frame| self.end_of(frame)).max().unwrap_or(0)
     }
 
     /// Where the next frame would start.
@@ -80,7 +86,7 @@ impl Machine<'_> {
 
     pub fn fits(&self, base: usize, method: u16) -> bool {
         let end = base + 6 + self.world.method(method).room();
-        end <= self.stack.len() && end <= 65_536
+        end <= self.stack.len() && end <= MOST_STACK
     }
 
     /// Writes the words of one frame, up to its depth, into the flat view.
@@ -363,7 +369,6 @@ impl Machine<'_> {
         let mut temporaries = arguments;
         temporaries.resize(self.world.method(method).temporaries, NIL);
         self.frames.push(Frame { base, method, receiver, position: 0, temporaries, operands: vec![] });
-        self.highest = self.highest.max(self.next_base());
         self.show(self.frames.len() - 1);
     }
 }

@@ -35,8 +35,9 @@ pub fn first(list: &[u16]) -> Result<(Listed<'_>, &[u16]), &'static str> {
     }
 }
 
-/// Number, phase, count and value.
-pub const ANSWER_WORDS: usize = 4;
+/// The words of an answer.
+pub const ANSWER: [&str; 5] = ["number", "phase", "count", "value", "reach"];
+pub const ANSWER_WORDS: usize = ANSWER.len();
 
 /// Makes the calls of a list, each as if it came by itself; gives how many.
 pub fn play(lent: &mut Lent, list: &[u16], answers: &mut [u32], counts: &mut Counts) -> Result<u32, Refusal> {
@@ -65,9 +66,9 @@ pub fn play(lent: &mut Lent, list: &[u16], answers: &mut [u32], counts: &mut Cou
 fn single(lent: &mut Lent, call: Listed, counts: &mut Counts) -> [u32; ANSWER_WORDS] {
     let answer = match call {
         Listed::Begin { receiver, selector, arguments } => begin(lent, receiver, selector, arguments, counts).map(|()| [0; ANSWER_WORDS]),
-        Listed::Run(n) => run(lent, n, counts).map(|ran| [0, lent.registers[PHASE] as u32, ran.count, lent.registers[VALUE] as u32]),
+        Listed::Run(n) => run(lent, n, counts).map(|ran| [0, lent.registers[PHASE] as u32, ran.count, lent.registers[VALUE] as u32, ran.reach]),
         Listed::Drop => drop(lent).map(|()| [0; ANSWER_WORDS]),
         Listed::Forget => forget(lent).map(|()| [0; ANSWER_WORDS]),
     };
-    answer.unwrap_or_else(|refusal| [refusal.number, 0, 0, 0])
+    answer.unwrap_or_else(|refusal| [refusal.number, 0, 0, 0, 0])
 }

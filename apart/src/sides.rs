@@ -3,7 +3,7 @@
 use apart::calls::{self, Lent, Registers};
 use apart::counts::Counts;
 use apart::machine::{Unwatched, Watch};
-use apart::play::{self, Listed, ANSWER_WORDS};
+use apart::play::{self, Listed, ANSWER, ANSWER_WORDS};
 use apart::refusal::Refusal;
 
 extern "C" {
@@ -131,11 +131,11 @@ pub enum Call {
         words: Vec<u16>,
         room: usize,
     },
-    /// A word changed from outside: contents, bodies, stack, cache or registers.
+    /// Words changed from outside, from an index on: contents, bodies, stack, cache or registers.
     Write {
         buffer: usize,
         index: usize,
-        word: u16,
+        words: Vec<u16>,
     },
     /// The lengths from here on: contents, bodies, stack, cache.
     Lengths([usize; 4]),
@@ -162,6 +162,7 @@ impl Call {
     pub fn text(&self) -> String {
         match self {
             Call::Load(image) => format!("load {} bytes", image.len()),
+            Call::Write { buffer, index, words } if words.len() > 100 => format!("Write {} words into buffer {buffer} from {index} on", words.len()),
             Call::Play { words, room } => {
                 let (calls, rest) = listed(words);
                 let lines: String = calls.iter().map(|call| format!("\n    {}", call.text())).collect();
@@ -222,7 +223,6 @@ pub const UNWRITTEN: u32 = 0xDEAD_BEEF;
 pub struct Outcome {
     pub number: u32,
     pub count: u32,
-    /// Of the library the reach that it gave, of the plain machine the least that it may be.
     pub reach: u32,
     pub length: u32,
     pub output: Vec<u8>,
@@ -246,11 +246,11 @@ fn outcome(call: &Call) -> Outcome {
     }
 }
 
-/// A word changed from outside, or other lengths: the same on both sides.
+/// Words changed from outside, or other lengths: the same on both sides.
 fn changed(call: &Call, buffers: &mut Buffers) {
     match call {
-        Call::Write { buffer: 4, index, word } => buffers.registers[*index] = *word,
-        Call::Write { buffer, index, word } => buffers.words[*buffer][*index] = *word,
+        Call::Write { buffer: 4, index, words } => buffers.registers[*index..][..words.len()].copy_from_slice(words),
+        Call::Write { buffer, index, words } => buffers.words[*buffer][*index..][..words.len()].copy_from_slice(words),
         Call::Lengths(lengths) => buffers.lengths = *lengths,
         _ => {}
     }
@@ -278,7 +278,7 @@ pub fn plain_watched<W: Watch>(call: &Call, buffers: &mut Buffers, counts: &mut 
         Call::Begin { receiver, selector, arguments } => calls::begin(&mut lent, *receiver, *selector, arguments, counts),
         Call::Run(n) => calls::run_watched(&mut lent, *n, counts, watch).map(|ran| {
             outcome.count = ran.count;
-            outcome.reach = ran.highest as u32;
+            outcome.reach = ran.reach;
         }),
         Call::Drop => calls::drop(&mut lent),
         Call::Forget => calls::forget(&mut lent),
@@ -339,7 +339,7 @@ pub fn library_singly(call: &Call, before: &Buffers) -> Option<(Outcome, Buffers
             let single = library(call, &mut buffers);
             let ran = matches!(call, Call::Run(_)) && single.number == 0;
             let [.., phase, _, value] = buffers.registers.map(u32::from);
-            answer.copy_from_slice(&if ran { [0, phase, single.count, value] } else { [single.number, 0, 0, 0] });
+            answer.copy_from_slice(&if ran { [0, phase, single.count, value, single.reach] } else { [single.number, 0, 0, 0, 0] });
             outcome.made += 1;
         }
     }
@@ -363,6 +363,9 @@ pub fn difference(plain: &Outcome, proved: &Outcome, ours: &Buffers, theirs: &Bu
     if plain.count != proved.count {
         return Some(format!("count: plain {}, library {}", plain.count, proved.count));
     }
+    if plain.reach != proved.reach {
+        return Some(format!("reach: plain {}, library {}", plain.reach, proved.reach));
+    }
     if plain.length != proved.length || plain.output != proved.output {
         return Some(format!("output: plain length {}, library {}", plain.length, proved.length));
     }
@@ -370,13 +373,8 @@ pub fn difference(plain: &Outcome, proved: &Outcome, ours: &Buffers, theirs: &Bu
         return Some(format!("calls made: plain {}, library {}", plain.made, proved.made));
     }
     if let Some(index) = first_other(&plain.answers, &proved.answers) {
-        let (call, word) = (index / ANSWER_WORDS, ["number", "phase", "count", "value"][index % ANSWER_WORDS]);
+        let (call, word) = (index / ANSWER_WORDS, ANSWER[index % ANSWER_WORDS]);
         return Some(format!("answers, call {call} from 0, {word}: plain {}, library {}", plain.answers[index], proved.answers[index]));
-    }
-    let reach_right =
-        if plain.reach == UNWRITTEN { proved.reach == UNWRITTEN } else { proved.reach >= plain.reach && proved.reach as usize <= ours.lengths[2] };
-    if !reach_right {
-        return Some(format!("reach: plain at least {}, library {}, stack {}", plain.reach, proved.reach, ours.lengths[2]));
     }
     if ours.registers != theirs.registers {
         return Some(format!("registers: plain {:?}, library {:?}", ours.registers, theirs.registers));

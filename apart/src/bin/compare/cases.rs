@@ -1,16 +1,21 @@
 //! Cases: random lists of calls, made on both machines and compared after each.
 
+use crate::cuts::library_cut;
 use crate::damage::*;
 use crate::draft::*;
 use crate::generate;
 use crate::random::Random;
 use crate::report::Report;
 use crate::sides::*;
-use apart::machine::RUNNING;
+use apart::machine::{MOST_STACK, RUNNING};
 use apart::objects::*;
 use apart::play::ANSWER_WORDS;
 use apart::rules::{judge, World};
 use apart::words::*;
+
+/// Words of a frame.
+const SMALL: usize = 18;
+const LARGE: usize = 38;
 
 /// Both machines with the calls made so far.
 pub struct Pair<'a> {
@@ -34,15 +39,18 @@ impl<'a> Pair<'a> {
         let call = self.calls.last().unwrap();
         let ours = plain(call, &mut self.ours, &mut self.report.counts);
         let singly = library_singly(call, &self.theirs);
+        let cut = library_cut(call, &self.theirs, &mut self.report.counts);
         let theirs = library(call, &mut self.theirs);
         self.report.note(call, &ours, &self.ours);
         if let Some(what) = difference(&ours, &theirs, &self.ours, &self.theirs) {
             return Err(what);
         }
-        match singly.and_then(|(theirs, buffers)| difference(&ours, &theirs, &self.ours, &buffers)) {
-            None => Ok(ours),
-            Some(what) => Err(format!("play agrees, but not the library's single calls: {what}")),
+        for (other, way) in [(singly, "play agrees, but not the library's single calls"), (cut, "the run agrees, but not several in its place")] {
+            if let Some(what) = other.and_then(|(theirs, buffers)| difference(&ours, &theirs, &self.ours, &buffers)) {
+                return Err(format!("{way}: {what}"));
+            }
         }
+        Ok(ours)
     }
 
     /// The objects as they are, if they keep the rules.
@@ -79,15 +87,17 @@ pub fn case(random: &mut Random, report: &mut Report) -> Result<(), (Buffers, Ve
     if kind >= 96 {
         fill(random, &mut draft);
     }
-    let deep = kind == 95 && random.percent(30) && recurse(random, &mut draft);
+    let tall = kind == 95 && random.percent(40);
+    let deep = kind == 95 && !tall && random.percent(50) && recurse(random, &mut draft);
     let image = draft.image();
     let mut buffers = buffers(random, &image);
-    if deep {
-        buffers.lengths[2] = random.from(65_500, 65_600);
+    if tall || deep {
+        buffers.lengths[2] = if tall { random.from(MOST_STACK, 65_600) } else { random.from(65_500, 65_600) };
         buffers.words[2] = vec![NIL; buffers.lengths[2] + GUARD];
     }
     let mut pair = Pair::new(buffers, report);
     let compared = match kind {
+        _ if tall => tall_case(random, &mut pair, image),
         _ if deep => deep_case(random, &mut pair, &draft),
         0..=9 => noisy_case(random, &mut pair, image),
         10..=39 => damaged_case(random, &mut pair, &draft),
@@ -130,6 +140,47 @@ fn deep_case(random: &mut Random, pair: &mut Pair, draft: &Draft) -> Compared<()
         }
     }
     Ok(())
+}
+
+/// Frames that no send made, up to the last words that a stack can have; runs go up and down there.
+fn tall_case(random: &mut Random, pair: &mut Pair, image: Vec<u8>) -> Compared<()> {
+    pair.make(Call::Load(image))?;
+    for _ in 0..random.from(1, 4) {
+        let frames = match pair.world().and_then(|world| tall(random, &world)) {
+            Some(frames) => frames,
+            None => return Ok(()),
+        };
+        stand(pair, frames, RUNNING)?;
+        for _ in 0..random.from(1, 5) {
+            let calls: Vec<Call> = (0..random.from(1, 4)).map(|_| run(random)).collect();
+            let call = if random.percent(25) { play(random, &calls) } else { calls[0].clone() };
+            pair.make(call)?;
+        }
+        pair.make(Call::Drop)?;
+    }
+    Ok(())
+}
+
+/// Right frames of both sizes, of which the last ends at 65,536 or a little below.
+fn tall(random: &mut Random, world: &World) -> Option<Vec<Vec<u16>>> {
+    let mut made = |is_top: bool| (0..100).map(|_| made_up_frame(random, world, is_top)).filter(|frame| right(world, frame, is_top)).collect();
+    let (below, tops): (Vec<Vec<u16>>, Vec<Vec<u16>>) = (made(false), made(true));
+    let (small, large): (Vec<Vec<u16>>, Vec<Vec<u16>>) = below.into_iter().partition(|frame| frame.len() == SMALL);
+    if small.is_empty() || large.is_empty() || tops.is_empty() {
+        return None;
+    }
+    let top = tops[random.below(tops.len())].clone();
+    let less = 2 * random.below(100);
+    let room = MOST_STACK - random.pick(&[0, 0, SMALL, LARGE, less]) - top.len();
+    let fitting: Vec<usize> = (0..=room / LARGE).filter(|count| (room - LARGE * count) % SMALL == 0).collect();
+    let count = random.pick(&fitting);
+    let mut frames = vec![];
+    for (count, from) in [(count, large), ((room - LARGE * count) / SMALL, small)] {
+        frames.extend((0..count).map(|_| from[random.below(from.len())].clone()));
+    }
+    random.shuffle(&mut frames);
+    frames.push(top);
+    Some(frames)
 }
 
 /// An image in which some methods have random code, sound or not.
@@ -345,7 +396,7 @@ fn play(random: &mut Random, calls: &[Call]) -> Call {
         _ => {}
     }
     let most = ANSWER_WORDS * calls.len();
-    let room = if random.percent(20) { random.below(most + 1) } else { most + random.below(9) };
+    let room = if random.percent(20) { random.below(most + 1) } else { most + random.below(2 * ANSWER_WORDS + 1) };
     Call::Play { words: words.concat(), room }
 }
 
@@ -484,12 +535,12 @@ fn spoiled(random: &mut Random, pair: &mut Pair) -> Compared<()> {
     let old = if buffer == 4 { pair.ours.registers[index] } else { pair.ours.words[buffer][index] };
     let n = pair.ours.registers[0].clamp(1, 2_047) as usize;
     let word = if random.percent(20) && buffer < 4 { neighbour(random, pair, buffer, index) } else { other_word(random, old, n) };
-    pair.make(Call::Write { buffer, index, word })?;
+    pair.make(Call::Write { buffer, index, words: vec![word] })?;
     for _ in 0..random.from(1, 2) {
         let call = any_call(random, pair);
         pair.make(call)?;
     }
-    pair.make(Call::Write { buffer, index, word: old })?;
+    pair.make(Call::Write { buffer, index, words: vec![old] })?;
     Ok(())
 }
 
@@ -499,24 +550,15 @@ fn made_up(random: &mut Random, pair: &mut Pair) -> Compared<()> {
         Some(world) => world,
         None => return Ok(()),
     };
-    let mut words: Vec<u16> = vec![];
-    let mut base = 0;
     let count = random.pick(&[1, 1, 2, 3]);
-    for index in 0..count {
-        let sender = base;
-        base = words.len();
-        let frame = made_up_frame(random, &world, sender as u16, index + 1 == count);
-        words.extend(frame);
+    let mut frames: Vec<Vec<u16>> = (1..=count).map(|index| made_up_frame(random, &world, index == count)).collect();
+    for frame in frames.iter_mut().filter(|_| random.percent(5)) {
+        frame[1] += 1;
     }
-    if words.len() > pair.ours.lengths[2] {
+    if frames.concat().len() > pair.ours.lengths[2] {
         return Ok(());
     }
-    for (index, word) in words.into_iter().enumerate() {
-        pair.make(Call::Write { buffer: 2, index, word })?;
-    }
-    let phase = random.pick(&[1, 1, 1, 3, 4, 5]);
-    set_registers(pair, [phase, base as u16, 0])?;
-    pair.make(Call::Check)?;
+    stand(pair, frames, random.pick(&[1, 1, 1, 3, 4, 5]))?;
     for _ in 0..random.from(1, 3) {
         let call = any_call(random, pair);
         pair.make(call)?;
@@ -529,13 +571,32 @@ fn made_up(random: &mut Random, pair: &mut Pair) -> Compared<()> {
 
 /// Phase, top and value.
 fn set_registers(pair: &mut Pair, words: [u16; 3]) -> Compared<()> {
-    for (index, word) in words.into_iter().enumerate() {
-        pair.make(Call::Write { buffer: 4, index: 4 + index, word })?;
-    }
+    pair.make(Call::Write { buffer: 4, index: 4, words: words.to_vec() })?;
     Ok(())
 }
 
-fn made_up_frame(random: &mut Random, world: &World, sender: u16, is_top: bool) -> Vec<u16> {
+/// Writes frames, the bottom one first, each with the sender that it has there.
+fn stand(pair: &mut Pair, frames: Vec<Vec<u16>>, phase: u16) -> Compared<()> {
+    let (mut words, mut top): (Vec<u16>, u16) = (vec![], 0);
+    for mut frame in frames {
+        frame[0] = top;
+        top = words.len() as u16;
+        words.extend(frame);
+    }
+    pair.make(Call::Write { buffer: 2, index: 0, words })?;
+    set_registers(pair, [phase, top, 0])?;
+    pair.make(Call::Check)?;
+    Ok(())
+}
+
+/// Whether a made-up frame has a position of its method's table, its depth, and a receiver that can run it.
+fn right(world: &World, frame: &[u16], is_top: bool) -> bool {
+    let method = world.method(frame[3]);
+    let reached = method.table.as_ref().and_then(|table| table.get(frame[1] as usize).copied().flatten());
+    reached == Some(frame[2] as usize + if is_top { 0 } else { 1 }) && world.objects.in_chain(frame[5], method.home)
+}
+
+fn made_up_frame(random: &mut Random, world: &World, is_top: bool) -> Vec<u16> {
     let objects = &world.objects;
     let n = objects.list.len();
     let methods: Vec<u16> = (1..=n).map(pointer).filter(|word| objects.has_kind(*word, METHOD)).collect();
@@ -562,10 +623,7 @@ fn made_up_frame(random: &mut Random, world: &World, sender: u16, is_top: bool) 
         position = random.pick(&reached);
         depth = table[position].unwrap() - if is_top { 0 } else { 1 };
     }
-    if random.percent(5) {
-        position += 1;
-    }
-    let mut frame = vec![sender, position as u16, depth as u16, chosen, 0, receiver];
+    let mut frame = vec![0, position as u16, depth as u16, chosen, 0, receiver];
     frame.extend((0..method.room()).map(|_| argument(random, n)));
     frame
 }

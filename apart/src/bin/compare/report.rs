@@ -1,7 +1,8 @@
 //! What was covered.
 
+use crate::cuts::CUTS;
 use crate::sides::*;
-use apart::counts::Counts;
+use apart::counts::{Counts, REACHES};
 use apart::play::{ANSWER_WORDS, ENDS};
 use std::collections::BTreeMap;
 use std::ops::Range;
@@ -129,7 +130,8 @@ impl Report {
         {
             missing.extend(unmet(tally, call, phases).map(|phase| format!("phase {phase} after {}{place}", CALLS[call])));
         }
-        missing.extend(ENDS.iter().filter(|end| !self.counts.events.contains_key(*end)).map(|end| end.to_string()));
+        let events = ENDS.iter().chain(&REACHES).chain(&CUTS);
+        missing.extend(events.filter(|event| !self.counts.events.contains_key(*event)).map(|event| event.to_string()));
         for byte in (0..256).filter(|byte| !(125..128).contains(byte) && !(137..144).contains(byte)) {
             if self.counts.bytecodes[byte] == 0 {
                 missing.push(format!("bytecode {byte}"));

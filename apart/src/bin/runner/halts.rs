@@ -8,9 +8,6 @@ use apart::objects::*;
 use apart::rules::World;
 use apart::words::*;
 
-/// No frame ends beyond.
-const MOST_STACK: usize = 65_536;
-
 /// Why the top frame's bytecode could not be made.
 pub fn cause(names: &Names, world: &World, frames: &[Frame], phase: u16, stack: usize) -> String {
     let frame = match frames.last() {
