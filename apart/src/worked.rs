@@ -1,31 +1,37 @@
-//! The scope paper's worked image, made by hand.
+//! The scope paper's worked image, made by hand, and others like it.
 
 use crate::calls::*;
 use crate::counts::Counts;
+use crate::machine::*;
 use crate::objects::*;
 use crate::play::*;
 use crate::refusal::*;
 use crate::words::*;
 
-/// Entries as class, kind, size, and the bodies in their order.
-fn image(receiver: u16, code: [u16; 2]) -> Vec<u8> {
+/// Method 11 has these words and runs on integers. Another, for nil and what else is of class 7, is object 14, in a dictionary that is object 13.
+fn image(receiver: u16, method: &[u16], other: Option<&[u16]>) -> Vec<u8> {
     let class = |form: i64, dictionary: u16| vec![NIL, dictionary, word(0).unwrap(), word(form).unwrap()];
-    let objects: [(u16, u16, u16, Vec<u16>); 12] = [
+    let code = |words: &[u16]| (12, METHOD, 2 * words.len() as u16, words.to_vec());
+    // Entries as class, kind, size, and the bodies in their order.
+    let mut objects: Vec<(u16, u16, u16, Vec<u16>)> = vec![
         (14, FIELDS, 0, vec![]),
         (14, FIELDS, 0, vec![]),
         (14, FIELDS, 0, vec![]),
         (12, CLASS, 4, class(3, 18)),
         (12, LIST, 32, vec![NIL; 32]),
         (12, CLASS, 4, class(3, 16)),
-        (12, CLASS, 4, class(0, 16)),
+        (12, CLASS, 4, class(0, if other.is_some() { 26 } else { 16 })),
         (12, LIST, 0, vec![]),
         (12, LIST, 2, vec![20, 22]),
         (24, BYTES, 1, vec![97 << 8]),
-        (12, METHOD, 8, vec![1, 8, code[0], code[1]]),
+        code(method),
         (12, CLASS, 4, class(2, 16)),
     ];
+    if let Some(other) = other {
+        objects.extend([(12, LIST, 2, vec![20, 28]), code(other)]);
+    }
     let bodies: Vec<u16> = objects.iter().flat_map(|object| object.3.clone()).collect();
-    let mut words = vec![1, 12, bodies.len() as u16, receiver, 20];
+    let mut words = vec![1, objects.len() as u16, bodies.len() as u16, receiver, 20];
     let mut start = 0;
     for (class, kind, size, body) in &objects {
         words.extend([*class, *kind, start, *size]);
@@ -35,36 +41,45 @@ fn image(receiver: u16, code: [u16; 2]) -> Vec<u8> {
     words.iter().flat_map(|word| word.to_be_bytes()).collect()
 }
 
-/// Load, and then these calls.
-fn loaded<T>(image: &[u8], calls: impl FnOnce(&mut Lent, &mut Counts) -> Result<T, Refusal>) -> Result<T, Refusal> {
-    let (mut contents, mut bodies, mut stack, mut cache) = (vec![0; 8_188], vec![0; 24_000], vec![0; 1_024], vec![0; 192]);
+/// Load, and then these calls, on a stack of so many words.
+fn loaded<T>(image: &[u8], length: usize, calls: impl FnOnce(&mut Lent, &mut Counts) -> Result<T, Refusal>) -> Result<T, Refusal> {
+    let (mut contents, mut bodies, mut stack, mut cache) = (vec![0; 8_188], vec![0; 24_000], vec![0; length], vec![0; 192]);
     let mut registers = [0; 7];
     let mut lent = Lent { contents: &mut contents, bodies: &mut bodies, stack: &mut stack, cache: &mut cache, registers: &mut registers };
     load(image, &mut lent)?;
     calls(&mut lent, &mut Counts::default())
 }
 
-/// Load, begin the start words, run 1,000: phase, count and value.
-fn played(image: &[u8]) -> Result<(u16, u32, u16), Refusal> {
-    loaded(image, |lent, counts| {
+/// What a run leaves and gives: phase, count, value, reach.
+type Left = (u16, u32, u16, u32);
+
+/// Load, begin the start words, and these runs while they are not refused.
+fn ran(image: &[u8], length: usize, grants: &[u32]) -> Result<Vec<Left>, Refusal> {
+    loaded(image, length, |lent, counts| {
         let [_, _, receiver, selector, ..] = *lent.registers;
         begin(lent, receiver, selector, &[], counts)?;
-        let ran = run(lent, 1_000, counts)?;
-        Ok((lent.registers[PHASE], ran.count, lent.registers[VALUE]))
+        let runs = grants.iter().map(|n| run(lent, *n, counts).map(|ran| (lent.registers[PHASE], ran.count, lent.registers[VALUE], ran.reach)));
+        runs.collect()
     })
 }
 
-const ADDING: [u16; 2] = [112 << 8 | 119, 176 << 8 | 124];
+/// On 1,024 words, 1,000 bytecodes in one run.
+fn played(image: &[u8]) -> Result<Left, Refusal> {
+    ran(image, 1_024, &[1_000]).map(|runs| runs[0])
+}
+
+/// Code with a header and a home, and the selector as the only literal where there is one.
+const ADDING: [u16; 4] = [1, 8, 112 << 8 | 119, 176 << 8 | 124];
 
 #[test]
 fn adds() {
-    assert_eq!(image(81, ADDING).len(), 10 + 8 * 12 + 2 * 55);
-    assert_eq!(played(&image(81, ADDING)), Ok((2, 4, 85)));
+    assert_eq!(image(81, &ADDING, None).len(), 10 + 8 * 12 + 2 * 55);
+    assert_eq!(played(&image(81, &ADDING, None)), Ok((2, 4, 85, 18)));
 }
 
 #[test]
 fn sum_out_of_range_is_sent() {
-    assert_eq!(played(&image(32_767, ADDING)), Ok((3, 2, 0)));
+    assert_eq!(played(&image(32_767, &ADDING, None)), Ok((3, 2, 0, 18)));
 }
 
 #[test]
@@ -74,12 +89,61 @@ fn empty_input_is_refused() {
 
 #[test]
 fn jump_to_itself_is_sound() {
-    assert_eq!(played(&image(81, [163 << 8 | 254, 0])), Ok((1, 1_000, 0)));
+    assert_eq!(played(&image(81, &[1, 8, 163 << 8 | 254], None)), Ok((1, 1_000, 0, 18)));
+}
+
+/// Two bytecodes for each frame, but the last send halts. 56 frames of 18 words fit, 26 of 38.
+#[test]
+fn frame_that_does_not_fit_never_stood() {
+    let sends_itself = |header: u16| image(81, &[header, 8, 20, 112 << 8 | 208, 124 << 8], None);
+    assert_eq!(played(&sends_itself(3)), Ok((5, 111, 0, 1_008)));
+    assert_eq!(played(&sends_itself(131)), Ok((5, 51, 0, 988)));
+    for length in [1_008, 1_025] {
+        assert_eq!(ran(&sends_itself(3), length, &[1_000]), Ok(vec![(5, 111, 0, 1_008)]));
+    }
+    assert_eq!(ran(&sends_itself(3), 1_026, &[1_000]), Ok(vec![(5, 113, 0, 1_026)]));
+    assert_eq!(ran(&sends_itself(131), 18, &[0]).unwrap_err().number, 13);
+}
+
+/// Sends itself to the integer one less, down to 0: eight bytecodes and the return for each frame, five for that of 0.
+fn down(header: u16) -> Vec<u8> {
+    image(5, &[header, 8, 20, 112 << 8 | 117, 182 << 8 | 152, 120 << 8 | 112, 118 << 8 | 177, 208 << 8 | 124], None)
+}
+
+#[test]
+fn frames_that_returned_count() {
+    assert_eq!(played(&down(3)), Ok((2, 23, 1, 54)));
+    assert_eq!(played(&down(131)), Ok((2, 23, 1, 114)));
+    // One bytecode less, and only the first frame stands.
+    assert_eq!(ran(&down(3), 1_024, &[22]), Ok(vec![(1, 22, 0, 54)]));
+}
+
+/// Each run counts the frames that it finds, and no run those of the runs before it.
+#[test]
+fn largest_reach_of_the_parts_is_that_of_the_whole() {
+    let parts = [(0, 0, 18), (7, 7, 18), (1, 1, 36), (12, 12, 54), (0, 0, 54), (1, 1, 54), (0, 0, 36), (1, 1, 36), (0, 0, 18)];
+    let mut expected: Vec<Left> = parts.iter().map(|(_, count, reach)| (1, *count, 0, *reach)).collect();
+    expected.push((2, 1, 1, 18));
+    let grants: Vec<u32> = parts.iter().map(|part| part.0).chain([100]).collect();
+    assert_eq!(ran(&down(3), 1_024, &grants), Ok(expected));
+}
+
+/// Eight large frames for 7 to 0, of which the last sends to nil; then 3,624 small ones: 304 and 65,232 words, the most that there can be.
+#[test]
+fn reach_has_more_than_16_bits() {
+    let large = [131, 8, 20, 112 << 8 | 117, 182 << 8 | 154, 115 << 8 | 208, 124 << 8 | 112, 118 << 8 | 177, 208 << 8 | 124];
+    let image = image(15, &large, Some(&[3, 14, 20, 112 << 8 | 208, 124 << 8]));
+    let count = 7 * 8 + 6 + 3_623 * 2 + 1;
+    for length in [MOST_STACK, MOST_STACK + 100] {
+        assert_eq!(ran(&image, length, &[10_000]), Ok(vec![(5, count, 0, 65_536)]));
+        assert_eq!(ran(&image, length, &[count, 0, 1]), Ok(vec![(1, count, 0, 65_536), (1, 0, 0, 65_536), (5, 0, 0, 65_536)]));
+    }
+    assert_eq!(ran(&image, MOST_STACK - 1, &[10_000]), Ok(vec![(5, count - 2, 0, 65_518)]));
 }
 
 #[test]
 fn refusal_says_where() {
-    let refusal = played(&image(81, [112 << 8 | 135, 135 << 8 | 124])).unwrap_err();
+    let refusal = played(&image(81, &[1, 8, 112 << 8 | 135, 135 << 8 | 124], None)).unwrap_err();
     assert_eq!((refusal.number, refusal.place), (7, Place::Code(11, 2)));
     assert_eq!(refusal.to_string(), "refused 7: method 11, code position 2: fewer operands than needed");
 }
@@ -88,20 +152,22 @@ fn refusal_says_where() {
 #[test]
 fn list_is_played() {
     let calls: [(&[u16], [u32; ANSWER_WORDS]); 8] = [
-        (&[1, 0, 9], [12, 0, 0, 0]),
-        (&[0, 81, 20, 0], [0, 0, 0, 0]),
-        (&[1, 0, 3], [0, 1, 3, 0]),
-        (&[0, 81, 20, 0], [12, 0, 0, 0]),
-        (&[1, 1, 0], [0, 2, 1, 85]),
-        (&[3], [0, 0, 0, 0]),
-        (&[0, 81, 20, 1, 5], [10, 0, 0, 0]),
-        (&[2], [0, 0, 0, 0]),
+        (&[1, 0, 9], [12, 0, 0, 0, 0]),
+        (&[0, 81, 20, 0], [0, 0, 0, 0, 0]),
+        (&[1, 0, 3], [0, 1, 3, 0, 18]),
+        (&[0, 81, 20, 0], [12, 0, 0, 0, 0]),
+        (&[1, 1, 0], [0, 2, 1, 85, 18]),
+        (&[3], [0, 0, 0, 0, 0]),
+        (&[0, 81, 20, 1, 5], [10, 0, 0, 0, 0]),
+        (&[2], [0, 0, 0, 0, 0]),
     ];
     let list = [&calls.map(|(words, _)| words).concat()[..], &[0, 81, 20]].concat();
     let expected = calls.map(|(_, answer)| answer).concat();
-    for room in 0..40 {
-        let mut answers = [7; 40];
-        let played = loaded(&image(81, ADDING), |lent, counts| Ok((play(lent, &list, &mut answers[..room], counts)?, lent.registers[PHASE])));
+    const ROOM: usize = 10 * ANSWER_WORDS;
+    for room in 0..ROOM {
+        let mut answers = [7; ROOM];
+        let played =
+            loaded(&image(81, &ADDING, None), 1_024, |lent, counts| Ok((play(lent, &list, &mut answers[..room], counts)?, lent.registers[PHASE])));
         let made = (room / ANSWER_WORDS).min(calls.len());
         assert_eq!(played, Ok((made as u32, [0, 0, 1, 1, 1, 2, 2, 2, 0][made])));
         let (written, behind) = answers.split_at(ANSWER_WORDS * made);
@@ -110,12 +176,22 @@ fn list_is_played() {
     }
 }
 
+/// The handler `down` in parts: the reach of each run stands with it alone.
+#[test]
+fn reach_is_listed() {
+    let list = [0, 5, 20, 0, 1, 0, 16, 1, 0, 6, 1, 0, 0, 2, 1, 0, 1];
+    let mut answers = [7; 6 * ANSWER_WORDS];
+    assert_eq!(loaded(&down(131), 1_024, |lent, counts| play(lent, &list, &mut answers, counts)), Ok(6));
+    let expected = [[0, 0, 0, 0, 0], [0, 1, 16, 0, 114], [0, 1, 6, 0, 114], [0, 1, 0, 0, 38], [0, 0, 0, 0, 0], [12, 0, 0, 0, 0]];
+    assert_eq!(answers[..], expected.concat());
+}
+
 #[test]
 fn spoiled_state_refuses_the_list() {
-    let mut answers = [7; 4];
-    let played = loaded(&image(81, ADDING), |lent, counts| {
+    let mut answers = [7; ANSWER_WORDS];
+    let played = loaded(&image(81, &ADDING, None), 1_024, |lent, counts| {
         lent.registers[PHASE] = 6;
         play(lent, &[2], &mut answers, counts)
     });
-    assert_eq!((played.unwrap_err().number, answers), (11, [7; 4]));
+    assert_eq!((played.unwrap_err().number, answers), (11, [7; ANSWER_WORDS]));
 }
