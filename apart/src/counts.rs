@@ -33,15 +33,20 @@ impl Counts {
         *self.events.entry(name).or_insert(0) += 1;
     }
 
+    /// Those of the events that were met.
+    pub fn events_met<const K: usize>(&mut self, names: [&'static str; K], met: [bool; K]) {
+        for (name, _) in names.iter().zip(met).filter(|(_, met)| *met) {
+            self.event(name);
+        }
+    }
+
     /// The largest ends of frames: when a run started, its reach, and where it stopped.
     pub fn reach(&mut self, n: u32, phase: u16, [first, reach, last]: [usize; 3]) {
         let (grew, shrank) = (reach > first, reach > last && phase != FINISHED);
         // Small frames end at multiples of 18.
-        let met: [bool; REACHES.len()] =
-            [n == 0, phase == NO_STACK_ROOM, grew && reach == last, grew && shrank, !grew && shrank, reach % 18 != 0, reach == MOST_STACK];
-        for (name, _) in REACHES.iter().zip(met).filter(|(_, met)| *met) {
-            self.event(name);
-        }
+        let large = reach % 18 != 0;
+        let most = reach == MOST_STACK;
+        self.events_met(REACHES, [n == 0, phase == NO_STACK_ROOM, grew && reach == last, grew && shrank, !grew && shrank, large, most]);
     }
 
     pub fn primitive(&mut self, number: u16, answered: bool) {

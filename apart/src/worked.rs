@@ -118,6 +118,13 @@ fn frames_that_returned_count() {
     assert_eq!(ran(&down(3), 1_024, &[22]), Ok(vec![(1, 22, 0, 54)]));
 }
 
+/// Two frames that stand one after the other need the room of the larger: a small method sends twice to nil, whose method is large.
+#[test]
+fn frames_at_the_same_place_count_once() {
+    let twice = image(81, &[3, 8, 20, 115 << 8 | 208, 135 << 8 | 115, 208 << 8 | 124], Some(&[129, 14, 120 << 8]));
+    assert_eq!(played(&twice), Ok((2, 8, 2, 56)));
+}
+
 /// Each run counts the frames that it finds, and no run those of the runs before it.
 #[test]
 fn largest_reach_of_the_parts_is_that_of_the_whole() {
@@ -139,6 +146,9 @@ fn reach_has_more_than_16_bits() {
         assert_eq!(ran(&image, length, &[count, 0, 1]), Ok(vec![(1, count, 0, 65_536), (1, 0, 0, 65_536), (5, 0, 0, 65_536)]));
     }
     assert_eq!(ran(&image, MOST_STACK - 1, &[10_000]), Ok(vec![(5, count - 2, 0, 65_518)]));
+    let mut answers = [7; 2 * ANSWER_WORDS];
+    assert_eq!(loaded(&image, MOST_STACK, |lent, counts| play(lent, &[0, 15, 20, 0, 1, 1, 0], &mut answers, counts)), Ok(2));
+    assert_eq!(answers[ANSWER_WORDS..], [0, 5, count, 0, 65_536]);
 }
 
 #[test]

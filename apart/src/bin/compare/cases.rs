@@ -1,9 +1,9 @@
 //! Cases: random lists of calls, made on both machines and compared after each.
 
-use crate::cuts::library_cut;
 use crate::damage::*;
 use crate::draft::*;
 use crate::generate;
+use crate::laws::*;
 use crate::random::Random;
 use crate::report::Report;
 use crate::sides::*;
@@ -33,22 +33,34 @@ impl<'a> Pair<'a> {
         Pair { first: buffers.clone(), ours: buffers.clone(), theirs: buffers, calls: vec![], report }
     }
 
-    /// Makes a call on both; the refusal's number, or what differs.
+    /// Makes a call on both; what it gave, or what differs.
     pub fn make(&mut self, call: Call) -> Compared<Outcome> {
         self.calls.push(call);
         let call = self.calls.last().unwrap();
+        let before = matches!(call, Call::Run(_) | Call::Play { .. }).then(|| self.theirs.clone());
         let ours = plain(call, &mut self.ours, &mut self.report.counts);
-        let singly = library_singly(call, &self.theirs);
-        let cut = library_cut(call, &self.theirs, &mut self.report.counts);
         let theirs = library(call, &mut self.theirs);
         self.report.note(call, &ours, &self.ours);
         if let Some(what) = difference(&ours, &theirs, &self.ours, &self.theirs) {
             return Err(what);
         }
-        for (other, way) in [(singly, "play agrees, but not the library's single calls"), (cut, "the run agrees, but not several in its place")] {
+        let before = match before {
+            Some(before) => before,
+            None => return Ok(ours),
+        };
+        let counts = &mut self.report.counts;
+        let others = [
+            (library_singly(call, &before), "play agrees, but not the library's single calls"),
+            (library_cut(call, &before, counts), "the run agrees, but not in parts"),
+            (library_tight(call, &ours, &before), "the run agrees, but not on a stack of reach words"),
+        ];
+        for (other, agrees) in others {
             if let Some(what) = other.and_then(|(theirs, buffers)| difference(&ours, &theirs, &self.ours, &buffers)) {
-                return Err(format!("{way}: {what}"));
+                return Err(format!("{agrees}: {what}"));
             }
+        }
+        if less_is_enough(call, &ours, &before, counts) {
+            return Err(format!("the run agrees, but a word less of stack than its reach, {}, is enough", ours.reach));
         }
         Ok(ours)
     }

@@ -1,6 +1,6 @@
 //! What was covered.
 
-use crate::cuts::CUTS;
+use crate::laws::{CUTS, SHORT};
 use crate::sides::*;
 use apart::counts::{Counts, REACHES};
 use apart::play::{ANSWER_WORDS, ENDS};
@@ -130,7 +130,7 @@ impl Report {
         {
             missing.extend(unmet(tally, call, phases).map(|phase| format!("phase {phase} after {}{place}", CALLS[call])));
         }
-        let events = ENDS.iter().chain(&REACHES).chain(&CUTS);
+        let events = ENDS.iter().chain(&REACHES).chain(&CUTS).chain(&SHORT);
         missing.extend(events.filter(|event| !self.counts.events.contains_key(*event)).map(|event| event.to_string()));
         for byte in (0..256).filter(|byte| !(125..128).contains(byte) && !(137..144).contains(byte)) {
             if self.counts.bytecodes[byte] == 0 {
