@@ -171,7 +171,7 @@ impl<'a> Both<'a> {
         if !self.begin(begun)? {
             return Ok(());
         }
-        let mut made = 0;
+        let (mut runs, mut made, mut reach) = (0, 0, 0);
         for _ in 0..self.options.runs {
             if self.phase() != RUNNING {
                 break;
@@ -185,7 +185,12 @@ impl<'a> Both<'a> {
             if ran.number != 0 {
                 break;
             }
+            runs += 1;
             made += ran.count as u64;
+            reach = reach.max(ran.reach);
+        }
+        if runs > 1 {
+            self.out.line(&format!("all {runs} runs: count {made}, reach {reach}"));
         }
         let halted = self.phase() > FINISHED;
         if halted || self.phase() == RUNNING && self.options.frames.is_some() {
