@@ -1,5 +1,5 @@
--- Three more computed examples, each for a slip that it shuts out.
-use Prim.Native.Nat.{_+_, _*_}
+-- More computed examples, each for a slip that it shuts out.
+use Prim.Native.Nat.{ℕ, _+_, _*_}
 use mathlib.Core.Path.{_≡_, refl}
 use mathlib.Core.Bool.{true}
 use mathlib.Core.List.{[], _∷_, _++_}
@@ -7,6 +7,8 @@ use mathlib.Core.Option.{none}
 use lib.ListN.{replicate, take}
 use Rattle.model.specs.Depth.{depthTable}
 use Rattle.plain.specs.Calls.{wrote}
+use Rattle.plain.specs.Flat.{Flat}
+use Rattle.plain.specs.Reach.{reachIn}
 use Rattle.plain.specs.FlatCalls.{saved, flatLoad, flatBegin, flatRun, flatSave}
 use Rattle.plain.proofs.Computing.{computing}
 use Rattle.plain.proofs.Images.{method, addTwo, buffers, stateOf}
@@ -22,9 +24,20 @@ saves : flatSave (stateOf (flatLoad (buffers 21 40 7) (addTwo 81))) (replicate 2
 unfolding computing addTwo
 saves = refl
 
+-- A handler whose second bytecode is a send, whose method has a frame and returns with the fourth; on a stack of so many words
+abbrev sender : ℕ → Flat
+sender stack = stateOf (flatBegin (stateOf (flatLoad (buffers 21 stack 7) (superImage (method 6 (1 ∷ 18 ∷ 124 ∷ [])) 36))) 36 28 [])
+
 -- A send pops receiver and arguments at once: after push self and a send to it, the sender's depth is 0, its operand word stays, and the
 -- new frame's words follow. Words of no frame stay.
-sent : take 25 (stateOf (flatRun (stateOf (flatBegin (stateOf (flatLoad (buffers 21 40 7) (superImage (method 6 (1 ∷ 18 ∷ 124 ∷ [])) 36))) 36 28 [])) 2) .stack)
+sent : take 25 (stateOf (flatRun (sender 40) 2) .stack)
     ≡ 0 ∷ 3 ∷ 0 ∷ 34 ∷ 0 ∷ 36 ∷ 36 ∷ 7 ∷ 7 ∷ 7 ∷ 7 ∷ 7 ∷ 7 ∷ 7 ∷ 7 ∷ 7 ∷ 7 ∷ 7 ∷ 0 ∷ 0 ∷ 0 ∷ 32 ∷ 0 ∷ 36 ∷ 7 ∷ []
 unfolding computing superImage
 sent = refl
+
+-- Reach: of no bytecodes, up to the send, up to the return, to the end; of a run after the return; and where the second frame does not fit.
+reaches : reachIn (flatRun (sender 40) 0) ∷ reachIn (flatRun (sender 40) 2) ∷ reachIn (flatRun (sender 40) 4) ∷ reachIn (flatRun (sender 40) 9)
+    ∷ reachIn (flatRun (stateOf (flatRun (sender 40) 4)) 9) ∷ reachIn (flatRun (sender 35) 9) ∷ []
+    ≡ 18 ∷ 36 ∷ 36 ∷ 36 ∷ 18 ∷ 18 ∷ []
+unfolding computing superImage
+reaches = refl
