@@ -12,7 +12,7 @@ ghost use Rattle.calls.specs.Listing.{listed, Inside};
 // What 32 bits count.
 const MOST_CALLS: u32 = 4294967295;
 
-// The words of an answer.
+// How many words an answer has.
 pub const ANSWER_SIZE: usize = 5;
 
 // A call of a list. The arguments of a begin are the list's words from `from` to `end`.
@@ -106,7 +106,7 @@ pub fn call_at(calls: &[u16], i: usize) -> Listed
     Listed::Forget
 }
 
-// How many calls are made at most where there are so many words for answers, and no more than 32 bits count.
+// How many calls are made at most: those whose answers have room in so many words, and no more than 32 bits count.
 pub fn answer_room(words: usize) -> u32
     ensures { λ r. ⌜ r ≡ min (words / answerSize) mostCalls ⌝ }
 {
