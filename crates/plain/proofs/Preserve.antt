@@ -33,7 +33,7 @@ use Rattle.model.specs.Arithmetic.{arithmetic}
 use Rattle.model.specs.Primitive.{Outcome, answers, fails, primitive, storeWord}
 use Rattle.model.proofs.DepthLaws.{spot-start}
 use Rattle.plain.specs.Registers.{running, finished}
-use Rattle.plain.specs.RunLoop.{topEnd}
+use Rattle.plain.specs.RunLoop.{firstEnd, topEnd}
 use Rattle.plain.specs.State.{Frame, Plain, objects, withObjects, movedTo, withTemporaries, newFrame, fitsStack}
 use Rattle.plain.specs.Step.{Looked, noLookup, looked, Stepped, leadsTo, halts, missing, _>>=_, provided, operand, without, fieldOf, literalOf, onTop, hasWord, pushed, read, storedField, stored, returned, Activation, answered, entered, unfit, entering, fieldAnswered, primitiveAnswered, activate, framed, changed, activated, afterLookup, popped, sends, aboveHome, triedPrimitive, orSends, arithmeticSends, specialSends, jumps, execute}
 use Rattle.plain.proofs.FrameLaws.{FrameRight, Fits, fits, FramesRight, note-is, within}
@@ -245,7 +245,7 @@ module _ (After : Objects → Objects → Type 0) (room : Room) (s : Plain) wher
     -- the end of the top frame
     own-end : topEnd s ≡ s .registers .top + frameSize o (f .method)
     unfolding topEnd
-    own-end = ap (λ (fs : List Frame). elim fs as (λ _. ℕ) [ [] ↦ 0 | g ∷ gs ↦ s .registers .top + frameSize o (g .method) ]) frames-are
+    own-end = ap (firstEnd o (s .registers .top)) frames-are
 
     -- ---- the objects change, the frames stay
     frames-keep : (o′ : Objects) → After o o′ → (b : Bool) (base : ℕ) (fs : List Frame) → FramesRight edition o (room .stack) b base fs → FramesRight edition o′ (room .stack) b base fs

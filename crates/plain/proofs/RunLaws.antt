@@ -1,5 +1,5 @@
 -- A run from a right state: every step exists, and the state after it is right; its frames stand in the stack, and the cache is right.
-use Prim.Native.Nat.{ℕ, zero, suc, _+_, _*_, _≤_, _<_, max}
+use Prim.Native.Nat.{ℕ, zero, suc, _*_, _≤_, _<_, max}
 use mathlib.Core.Path.{_≡_, refl, sym, ap, _∙_, subst}
 use mathlib.Core.Bool.{Bool, true, false}
 use mathlib.Core.List.{List, [], _∷_}
@@ -10,7 +10,7 @@ use lib.ListN.{length}
 use Rattle.bytecode.specs.Code.{nextAt, decodeAt}
 use Rattle.model.specs.Limits.{entryWords, cacheWords, mostStackWords}
 use Rattle.model.specs.Objects.{Objects}
-use Rattle.model.specs.Method.{codeWords, codeSize, frameSize}
+use Rattle.model.specs.Method.{codeWords, codeSize}
 use Rattle.model.specs.Image.{Room}
 use Rattle.model.proofs.Facts.{Right}
 use Rattle.model.proofs.Extends.{Extends, extends-refl, extends-trans}
@@ -22,7 +22,7 @@ use Rattle.plain.specs.Calls.{Taken, taken, Ran, ran, stuck, counted, ha
 use Rattle.plain.specs.Flat.{framesFrom}
 use Rattle.plain.specs.Cache.{filled, cacheFine}
 use Rattle.plain.specs.FlatCalls.{laid, stackAfter, cacheAfter}
-use Rattle.plain.specs.RunLoop.{topEnd}
+use Rattle.plain.specs.RunLoop.{firstEnd, topEnd}
 use Rattle.plain.proofs.FrameLaws.{FrameRight, FramesRight}
 use Rattle.plain.proofs.LaidLaws.{laid-back, length-laid}
 use Rattle.plain.proofs.NowLaws.{now}
@@ -37,21 +37,8 @@ use Rattle.plain.proofs.HaltLaws.{halts-for}
 abbrev pub Stood : Plain → List ℕ → Type 0
 Stood p stack = hasFrames (p .registers .phase) ≡ true → framesFrom (suc (p .registers .top)) (objects p) stack (p .registers .top) ≡ p .frames
 
--- where the top frame ends, by the frames
-abbrev endAt : Objects → ℕ → List Frame → ℕ
-endAt o base [] = 0
-endAt o base (f ∷ rest) = base + frameSize o (f .method)
-
-top-is : (p : Plain) → topEnd p ≡ endAt (objects p) (p .registers .top) (p .frames)
-unfolding topEnd
-top-is p = go (p .frames)
-  where
-    go : (fs : List Frame) → elim fs as (λ _. ℕ) [ [] ↦ 0 | f ∷ rest ↦ p .registers .top + frameSize (objects p) (f .method) ] ≡ endAt (objects p) (p .registers .top) fs
-    go [] = refl
-    go (f ∷ rest) = refl
-
 -- The frames stand one on another: the top frame's end is the largest.
-top-largest : (e : ℕ) (o : Objects) (stack : ℕ) (b : Bool) (base : ℕ) (fs : List Frame) → FramesRight e o stack b base fs → largestEnd o base fs ≡ endAt o base fs
+top-largest : (e : ℕ) (o : Objects) (stack : ℕ) (b : Bool) (base : ℕ) (fs : List Frame) → FramesRight e o stack b base fs → largestEnd o base fs ≡ firstEnd o base fs
 unfolding largestEnd
 top-largest e o stack b base [] x = refl
 top-largest e o stack b base (f ∷ []) x = omega arith
@@ -72,25 +59,26 @@ higher-inside : (room : Room) (a b : ℕ) → Inside room a → Inside room b �
 higher-inside room a b x y =
     record { stack = let s = x .stack in let t = y .stack in omega arith; most = let s = x .most in let t = y .most in omega arith }
 
-top-inside : (e : ℕ) (o : Objects) (room : Room) (base : ℕ) (fs : List Frame) → FramesRight e o (room .stack) true base fs → Inside room (endAt o base fs)
+top-inside : (e : ℕ) (o : Objects) (room : Room) (base : ℕ) (fs : List Frame) → FramesRight e o (room .stack) true base fs → Inside room (firstEnd o base fs)
 top-inside e o room base [] x = absurd x
 top-inside e o room base (f ∷ []) x = record { stack = x .1 .inside; most = x .1 .most }
 top-inside e o room base (f ∷ g ∷ rest) x = record { stack = x .1 .inside; most = x .1 .most }
 
-no-frames : (p : Plain) → p .frames ≡ [] → endAt (objects p) (p .registers .top) (p .frames) ≡ 0
-no-frames p e = ap (endAt (objects p) (p .registers .top)) e
+no-frames : (p : Plain) → p .frames ≡ [] → firstEnd (objects p) (p .registers .top) (p .frames) ≡ 0
+no-frames p e = ap (firstEnd (objects p) (p .registers .top)) e
 
 pub end-is-top : (room : Room) (p : Plain) → Stands (room .stack) p → standingEnd p ≡ topEnd p
-unfolding standingEnd largestEnd
-end-is-top room p (goes (runs a b f)) = top-largest (p .registers .edition) (objects p) (room .stack) true (p .registers .top) (p .frames) f ∙ sym (top-is p)
-end-is-top room p (goes (ends a b c f)) = ap (largestEnd (objects p) (p .registers .top)) f ∙ sym (top-is p ∙ no-frames p f)
-end-is-top room p (rests a b c f) = ap (largestEnd (objects p) (p .registers .top)) f ∙ sym (top-is p ∙ no-frames p f)
-end-is-top room p (waits a b c f) = top-largest (p .registers .edition) (objects p) (room .stack) true (p .registers .top) (p .frames) f ∙ sym (top-is p)
+unfolding standingEnd largestEnd topEnd
+end-is-top room p (goes (runs a b f)) = top-largest (p .registers .edition) (objects p) (room .stack) true (p .registers .top) (p .frames) f
+end-is-top room p (goes (ends a b c f)) = ap (largestEnd (objects p) (p .registers .top)) f ∙ sym (no-frames p f)
+end-is-top room p (rests a b c f) = ap (largestEnd (objects p) (p .registers .top)) f ∙ sym (no-frames p f)
+end-is-top room p (waits a b c f) = top-largest (p .registers .edition) (objects p) (room .stack) true (p .registers .top) (p .frames) f
 
 end-inside : (room : Room) (p : Plain) → Stands (room .stack) p → Inside room (standingEnd p)
-end-inside room p s = subst (Inside room) (sym (end-is-top room p s ∙ top-is p)) (go s)
+unfolding topEnd
+end-inside room p s = subst (Inside room) (sym (end-is-top room p s)) (go s)
   where
-    go : Stands (room .stack) p → Inside room (endAt (objects p) (p .registers .top) (p .frames))
+    go : Stands (room .stack) p → Inside room (firstEnd (objects p) (p .registers .top) (p .frames))
     go (goes (runs a b f)) = top-inside (p .registers .edition) (objects p) room (p .registers .top) (p .frames) f
     go (goes (ends a b c f)) = subst (Inside room) (sym (no-frames p f)) (nowhere room)
     go (rests a b c f) = subst (Inside room) (sym (no-frames p f)) (nowhere room)

@@ -1,19 +1,25 @@
 -- The loop of a run: what is left of it at each turn.
 use Prim.Native.Nat.{ℕ, _+_, _-_, _≤_, max}
 use mathlib.Core.Path.{_≡_}
-use mathlib.Core.List.{[], _∷_}
+use mathlib.Core.List.{List, [], _∷_}
+use Rattle.model.specs.Objects.{Objects}
 use Rattle.model.specs.Method.{frameSize}
 use Rattle.model.specs.Image.{accepted}
 use Rattle.plain.specs.Registers.{running}
-use Rattle.plain.specs.State.{Plain, objects}
+use Rattle.plain.specs.State.{Frame, Plain, objects}
 use Rattle.plain.specs.Calls.{Ran, ran, stuck, steps, result, reachOf}
 use Rattle.plain.specs.Flat.{Flat, roomOf, plainOf}
 use Rattle.plain.specs.Check.{check}
 use Rattle.plain.specs.FlatCalls.{Given, gives, noAnswer, withPlain, stackAfter, cacheAfter}
 
+-- The end of the first of these frames, which is at `base`
+abbrev pub firstEnd : Objects → ℕ → List Frame → ℕ
+firstEnd o base [] = 0
+firstEnd o base (f ∷ rest) = base + frameSize o (f .method)
+
 -- The end of the top frame: where the frames stand one on another, no other ends higher.
 unfoldable pub topEnd : Plain → ℕ
-topEnd s = elim (s .frames) [ [] ↦ 0 | f ∷ rest ↦ s .registers .top + frameSize (objects s) (f .method) ]
+topEnd s = firstEnd (objects s) (s .registers .top) (s .frames)
 
 -- What is left of a run from a state on, k bytecodes having been made and h being the reach so far
 abbrev pub flatAfterRunFrom : ℕ → ℕ → Flat → Ran → Given
