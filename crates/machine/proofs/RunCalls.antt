@@ -1,7 +1,7 @@
 -- Run, from a checked state.
 use Prim.Native.Nat.{ℕ, _≤_}
 use mathlib.Core.Path.{_≡_, sym, ap, _∙_}
-use mathlib.Core.Bool.{Bool, true, false}
+use mathlib.Core.Bool.{true, false}
 use mathlib.Core.List.{List}
 use borrow.Author.Tests.{eq-eqb, ne-eqb}
 use native.Mathlib.Omega.{arith}
@@ -18,7 +18,7 @@ use Rattle.plain.specs.RunLoop.{runsFrom}
 use Rattle.plain.proofs.Preserve.{runs, ends}
 use Rattle.plain.proofs.StateLaws.{Stands, goes, rests, waits}
 use Rattle.plain.proofs.FlatLaws.{FlatRight, check-right}
-use Rattle.plain.proofs.TurnLaws.{whole-run}
+use Rattle.plain.proofs.TurnLaws.{run-passes, whole-run}
 use Rattle.machine.specs.declared.Registers.{Registers}
 use Rattle.runs.specs.declared.Ended.{Ended}
 use Rattle.runs.specs.Ends.{startOf, endedWith, Goes, RunsTo, RunsOn}
@@ -44,13 +44,9 @@ module _ (r : Registers) (contents bodies stack cache : List ℕ) (n : ℕ) wher
   runs-not k q = ap (λ (v : Verdict). checked s v (flatRunIf s n (eqb (r .phase) running))) q
 
   module _ (yes : check s ≡ accepted) where
-    passes : (b : Bool) → eqb (r .phase) running ≡ b → flatRunIf s n b ≡ flatRun s n
-    unfolding flatRun
-    passes b p = ap (flatRunIf s n) (sym p) ∙ ap (λ (v : Verdict). checked s v (flatRunIf s n (eqb (r .phase) running))) (sym yes)
-
     pub runs-12 : (r .phase ≡ 1 → ⊥) → runGives (N.Refused 12 r) contents bodies stack cache ≡ flatRun s n
     unfolding runGives
-    runs-12 p = passes false (ne-eqb (r .phase) running p)
+    runs-12 p = sym (run-passes s yes n false (ne-eqb (r .phase) running p))
 
     module _ (p : r .phase ≡ 1) where
       -- in phase 1 value is 0
@@ -78,4 +74,4 @@ module _ (r : Registers) (contents bodies stack cache : List ℕ) (n : ℕ) wher
         runs-done r₁ r₂ d f =
             let e : registersOf r₂ ≡ endedWith (r .edition) (r .receiver) (r .selector) z = f ∙ ap (λ (x : R.Registers). withPhase x (z .phase) (z .top) (z .value)) d in
             (λ i. gives (result (e i .phase) (z .count) (e i .value) (z .reach)) (flat (e i) contents′ bodies′ stack′ cache′)) ∙ ran .gave
-            ∙ ap (runsFrom n 0 0) (sym start-is) ∙ whole-run n s ∙ passes true (eq-eqb (r .phase) running p)
+            ∙ ap (runsFrom n 0 0) (sym start-is) ∙ whole-run n s ∙ sym (run-passes s yes n true (eq-eqb (r .phase) running p))

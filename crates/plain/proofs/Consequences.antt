@@ -19,25 +19,28 @@ use Rattle.plain.specs.Check.{check}
 use Rattle.plain.specs.FlatCalls as F
 use Rattle.plain.specs.FlatCalls.{Given, gives, noAnswer, checked, flatBegin, flatRun, flatDrop, flatForget, flatCall}
 use Rattle.plain.specs.CallLists.{Keeps, Together, Agrees, Alike, Same, Consoles, nextState, lastState, KeepsAll, IsRefused, CacheKept}
+use Rattle.plain.specs.Reach.{stateAfter}
 use Rattle.plain.proofs.Theorem.{from-checked, from-load}
 
--- two flat machines that agree with one plain machine are alike
-alike : (room : Room) (c : Call) (cs : List Call) (p : Plain) (g g′ : Given) (h : Called) → ((s s′ : Flat) (p′ : Plain) → Agrees room cs s p′ → Agrees room cs s′ p′ → Same cs s s′)
-    → Together room c p g h (Agrees room cs) → Together room c p g′ h (Agrees room cs) → Alike g g′ (Same cs)
-alike room c cs p (gives a s) (gives a′ s′) (called x q) again t t′ =
-    (t .0 .answer ∙ sym (t′ .0 .answer), t .0 .state ∙ sym (t′ .0 .state), again s s′ q (t .1) (t′ .1))
-alike room c cs p (gives a s) (gives a′ s′) impossible again t t′ = absurd t
-alike room c cs p (gives a s) noAnswer (called x q) again t t′ = absurd t′
-alike room c cs p (gives a s) noAnswer impossible again t t′ = absurd t
-alike room c cs p noAnswer (gives a′ s′) (called x q) again t t′ = absurd t
-alike room c cs p noAnswer (gives a′ s′) impossible again t t′ = absurd t
-alike room c cs p noAnswer noAnswer (called x q) again t t′ = absurd t
-alike room c cs p noAnswer noAnswer impossible again t t′ = absurd t
+-- Two flat machines, in buffers of these lengths, that agree with plain machines whose calls are the same: while the calls are as P asks, they are alike.
+module _ (room room′ : Room) (P : List Call → Plain → Type 0)
+    (goes : (c : Call) (cs : List Call) (p : Plain) → P (c ∷ cs) p → (call room′ p c ≡ call room p c) × P cs (stateAfter p (call room p c))) where
+  alike : (c : Call) (cs : List Call) (p : Plain) (g g′ : Given) (h : Called) → ((s s′ : Flat) (q : Plain) → P cs q → Agrees room cs s q → Agrees room′ cs s′ q → Same cs s s′)
+      → P cs (stateAfter p h) → Together room c p g h (Agrees room cs) → Together room′ c p g′ h (Agrees room′ cs) → Alike g g′ (Same cs)
+  alike c cs p (gives a s) (gives a′ s′) (called x q) again n t t′ =
+      (t .0 .answer ∙ sym (t′ .0 .answer), t .0 .state ∙ sym (t′ .0 .state), again s s′ q n (t .1) (t′ .1))
+  alike c cs p (gives a s) noAnswer (called x q) again n t t′ = absurd t′
+  alike c cs p noAnswer g′ (called x q) again n t t′ = absurd t
+  alike c cs p (gives a s) g′ impossible again n t t′ = absurd t
+  alike c cs p noAnswer g′ impossible again n t t′ = absurd t
 
-same : (room : Room) (cs : List Call) (s s′ : Flat) (p : Plain) → Agrees room cs s p → Agrees room cs s′ p → Same cs s s′
-unfolding Agrees Same
-same room [] s s′ p a b = tt
-same room (c ∷ cs) s s′ p a b = alike room c cs p (flatCall s c) (flatCall s′ c) (call room p c) (λ t t′ q x y. same room cs t t′ q x y) a b
+  pub same-calls : (cs : List Call) (s s′ : Flat) (p : Plain) → P cs p → Agrees room cs s p → Agrees room′ cs s′ p → Same cs s s′
+  unfolding Agrees Same
+  same-calls [] s s′ p n a b = tt
+  same-calls (c ∷ cs) s s′ p n a b =
+      let g = goes c cs p n in
+      alike c cs p (flatCall s c) (flatCall s′ c) (call room p c) (λ t t′ q m x y. same-calls cs t t′ q m x y) (g .1) a
+      (subst (λ (h : Called). Together room′ c p (flatCall s′ c) h (Agrees room′ cs)) (g .0) b)
 
 pub consoles : Consoles
 consoles s s′ image e a =
@@ -47,7 +50,7 @@ consoles s s′ image e a =
       l′ .0,
       l .1 .gave,
       l′ .1 .gave,
-      λ cs. same (roomOf s) cs (l .0) (l′ .0) (loaded image) (l .1 .agrees cs) (subst (λ (r : Room). Agrees r cs (l′ .0) (loaded image)) (sym e) (l′ .1 .agrees cs)),
+      λ cs. same-calls (roomOf s) (roomOf s) (λ ds p. Unit {0}) (λ c ds p u. (refl, tt)) cs (l .0) (l′ .0) (loaded image) tt (l .1 .agrees cs) (subst (λ (r : Room). Agrees r cs (l′ .0) (loaded image)) (sym e) (l′ .1 .agrees cs)),
     )
 
 -- ---- what is kept

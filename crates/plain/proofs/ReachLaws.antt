@@ -14,17 +14,17 @@ use Rattle.plain.specs.Step.{Stepped, leadsTo, halts, missing, step}
 use Rattle.plain.specs.Calls.{Ran, ran, stuck, steps, Answer, done, refusedBy, result, wrote, runCall}
 use Rattle.plain.specs.Flat.{Flat, roomOf, plainOf}
 use Rattle.plain.specs.Check.{check}
-use Rattle.plain.specs.FlatCalls.{Given, gives, noAnswer, checked, flatAfterRun, flatRunIf, flatRun, flatCall}
+use Rattle.plain.specs.FlatCalls.{Given, gives, noAnswer, flatAfterRun, flatRun, flatCall}
 use Rattle.plain.specs.RunLoop.{topEnd, flatAfterRunFrom, runsFrom}
 use Rattle.plain.specs.CallLists.{nextState, IsRefused}
-use Rattle.plain.specs.Reach.{added, Continues, reachIn, largestReach, granted, LargestReach}
+use Rattle.plain.specs.Reach.{added, Continues, reachIn, reachOfRuns, granted, LargestReach}
 use Rattle.plain.proofs.Preserve.{Goes}
 use Rattle.plain.proofs.After.{After}
-use Rattle.plain.proofs.RunLaws.{RunGoes, step-goes, runs-right}
+use Rattle.plain.proofs.RunLaws.{RunGoes, step-goes}
 use Rattle.plain.proofs.FlatLaws.{FlatRight, check-right}
 use Rattle.plain.proofs.Worlds.{worlds}
 use Rattle.plain.proofs.Consequences.{call-checks}
-use Rattle.plain.proofs.TurnLaws.{own-stood, runs-start, runs-out, runs-over, turn-plain, turn-right, turn-runs, halt-runs, whole-run}
+use Rattle.plain.proofs.TurnLaws.{flat-runs, run-passes, runs-start, runs-out, runs-over, turn-plain, turn-right, turn-runs, halt-runs, whole-run}
 
 -- A run of n behind what a run gave: where the handler is still running
 onwards : ℕ → Given → Given
@@ -83,30 +83,26 @@ joined (suc m) n k h s r t = by-phase (eqb (s .registers .phase) running) refl (
 
 -- ---- whole runs, from a state that check accepts
 module _ (s : Flat) (accepts : check s ≡ accepted) where
-  passes : (n : ℕ) (b : Bool) → eqb (s .registers .phase) running ≡ b → flatRun s n ≡ flatRunIf s n b
-  unfolding flatRun
-  passes n b e = (λ i. checked s (accepts i) (flatRunIf s n (e i)))
-
   right : FlatRight s
   right = check-right s accepts
 
   -- in phase 1
   module _ (e : eqb (s .registers .phase) running ≡ true) where
     run-is : (n : ℕ) → flatRun s n ≡ runsFrom n 0 (topEnd (plainOf s)) s
-    run-is n = passes n true e ∙ sym (whole-run n s) ∙ runs-start n s right
+    run-is n = run-passes s accepts n true e ∙ sym (whole-run n s) ∙ runs-start n s right
 
     runs-on : (m n : ℕ) → flatRun s (m + n) ≡ onwards n (flatRun s m)
     runs-on m n = run-is (m + n) ∙ joined m n 0 (topEnd (plainOf s)) s right (omega arith) ∙ ap (onwards n) (sym (run-is m))
 
   -- in another phase
   run-refused : eqb (s .registers .phase) running ≡ false → (n : ℕ) → flatRun s n ≡ gives (refusedBy 12) s
-  run-refused e n = passes n false e
+  run-refused e n = run-passes s accepts n false e
 
-  none-reach : eqb (s .registers .phase) running ≡ false → (ns : List ℕ) → largestReach s ns ≡ 0
-  unfolding largestReach
+  none-reach : eqb (s .registers .phase) running ≡ false → (ns : List ℕ) → reachOfRuns s ns ≡ 0
+  unfolding reachOfRuns
   none-reach e [] = refl
   none-reach e (n ∷ ns) =
-      ap (λ (g : Given). max (reachIn g) (largestReach (nextState s g) ns)) (run-refused e n) ∙ ap (max 0) (none-reach e ns) ∙ omega arith
+      ap (λ (g : Given). max (reachIn g) (reachOfRuns (nextState s g) ns)) (run-refused e n) ∙ ap (max 0) (none-reach e ns) ∙ omega arith
 
   -- what a run leaves is checked
   run-checks : (n : ℕ) (a : Answer) (s₁ : Flat) → flatRun s n ≡ gives a s₁ → check s₁ ≡ accepted
@@ -128,7 +124,7 @@ run-phased s stuck = tt
 -- behind another run
 behind : (n k h : ℕ) (s : Flat) → check s ≡ accepted → eqb (s .registers .phase) running ≡ true → runsFrom n k h s ≡ added k h (flatRun s n)
 unfolding runsFrom
-behind n k h s c e = go (steps (roomOf s) n (plainOf s)) ∙ ap (added k h) (sym (passes s c n true e))
+behind n k h s c e = go (steps (roomOf s) n (plainOf s)) ∙ ap (added k h) (sym (run-passes s c n true e))
   where
     go : (x : Ran) → flatAfterRunFrom k h s x ≡ added k h (flatAfterRun s x)
     go (ran j p ts) = refl
@@ -139,7 +135,7 @@ continues s s₁ m n k v h c e = go (eqb (s .registers .phase) running) refl
   where
     go : (b : Bool) → eqb (s .registers .phase) running ≡ b → flatRun s (m + n) ≡ added k h (flatRun s₁ n)
     go true q =
-        let phased : Phased (gives (result running k v h) s₁) = subst Phased (sym (passes s c m true q) ∙ e) (run-phased s (steps (roomOf s) m (plainOf s))) in
+        let phased : Phased (gives (result running k v h) s₁) = subst Phased (sym (run-passes s c m true q) ∙ e) (run-phased s (steps (roomOf s) m (plainOf s))) in
         runs-on s c q m n ∙ ap (onwards n) e ∙ on-more n running k v h s₁ refl ∙ behind n k h s₁ (run-checks s c m (result running k v h) s₁ e) (eq-eqb (s₁ .registers .phase) running phased)
     go false q = absurd (subst IsRefused (sym (run-refused s c q m) ∙ e) tt)
 
@@ -160,36 +156,30 @@ added-reach k h (gives (result phase j v h′) s) r = refl
 added-reach k h (gives (wrote i) s) r = absurd r
 added-reach k h noAnswer r = absurd r
 
-module _ (s : Flat) (c : check s ≡ accepted) (n : ℕ) where
-  run-goes : RunGoes (roomOf s) (worlds (roomOf s)) n (plainOf s) (s .stack) (s .cache) (steps (roomOf s) n (plainOf s))
-  run-goes =
-      let f = check-right s c in
-      unfold plainOf in runs-right (roomOf s) (worlds (roomOf s)) n (plainOf s) (s .stack) (s .cache) (f .plain) refl (f .cacheLength) (own-stood s) (f .cached)
+has-result : (s : Flat) → check s ≡ accepted → (n : ℕ) → eqb (s .registers .phase) running ≡ true → HasResult (flatRun s n)
+has-result s c n e = subst HasResult (sym (run-passes s c n true e)) (go (steps (roomOf s) n (plainOf s)) (flat-runs s (check-right s c) n))
+  where
+    go : (x : Ran) → RunGoes (roomOf s) (worlds (roomOf s)) n (plainOf s) (s .stack) (s .cache) x → HasResult (flatAfterRun s x)
+    go (ran k p ts) g = tt
+    go stuck g = absurd g
 
-  has-result : eqb (s .registers .phase) running ≡ true → HasResult (flatRun s n)
-  has-result e = subst HasResult (sym (passes s c n true e)) (go (steps (roomOf s) n (plainOf s)) run-goes)
-    where
-      go : (x : Ran) → RunGoes (roomOf s) (worlds (roomOf s)) n (plainOf s) (s .stack) (s .cache) x → HasResult (flatAfterRun s x)
-      go (ran k p ts) g = tt
-      go stuck g = absurd g
+no-other : (x : ℕ) → max x 0 ≡ x
+no-other x = omega arith
 
 pub largest-reach : LargestReach
-unfolding largestReach granted
+unfolding reachOfRuns granted
 largest-reach s c n [] = ap (λ (x : ℕ). max x 0) (ap (λ (j : ℕ). reachIn (flatRun s j)) (none n)) ∙ no-other (reachIn (flatRun s (n + 0)))
   where
     none : (j : ℕ) → j ≡ j + 0
     none j = omega arith
-
-    no-other : (x : ℕ) → max x 0 ≡ x
-    no-other x = omega arith
 largest-reach s c n (m ∷ ns) = by-phase (eqb (s .registers .phase) running) refl (λ s₁ c₁. largest-reach s₁ c₁ m ns)
   where
     Again : Type 0
-    Again = (s₁ : Flat) → check s₁ ≡ accepted → largestReach s₁ (m ∷ ns) ≡ reachIn (flatRun s₁ (granted (m ∷ ns)))
+    Again = (s₁ : Flat) → check s₁ ≡ accepted → reachOfRuns s₁ (m ∷ ns) ≡ reachIn (flatRun s₁ (granted (m ∷ ns)))
 
     -- behind the first run
     after : eqb (s .registers .phase) running ≡ true → Again → (phase k v h : ℕ) (s₁ : Flat) → flatRun s n ≡ gives (result phase k v h) s₁ → s₁ .registers .phase ≡ phase
-        → (b : Bool) → eqb phase running ≡ b → max h (largestReach s₁ (m ∷ ns)) ≡ reachIn (flatRun s (n + granted (m ∷ ns)))
+        → (b : Bool) → eqb phase running ≡ b → max h (reachOfRuns s₁ (m ∷ ns)) ≡ reachIn (flatRun s (n + granted (m ∷ ns)))
     after e again phase k v h s₁ g q true b =
         let c₁ = run-checks s c n (result phase k v h) s₁ g in
         let e₁ : eqb (s₁ .registers .phase) running ≡ true = ap (λ (x : ℕ). eqb x running) q ∙ b in
@@ -201,17 +191,14 @@ largest-reach s c n (m ∷ ns) = by-phase (eqb (s .registers .phase) running) re
         let e₁ : eqb (s₁ .registers .phase) running ≡ false = ap (λ (x : ℕ). eqb x running) q ∙ b in
         ap (max h) (none-reach s₁ c₁ e₁ (m ∷ ns)) ∙ no-other h
         ∙ sym (ap reachIn (runs-on s c e n (granted (m ∷ ns)) ∙ ap (onwards (granted (m ∷ ns))) g ∙ on-over (granted (m ∷ ns)) phase k v h s₁ b))
-      where
-        no-other : (x : ℕ) → max x 0 ≡ x
-        no-other x = omega arith
 
     by-run : eqb (s .registers .phase) running ≡ true → Again → (x : Ran) → RunGoes (roomOf s) (worlds (roomOf s)) n (plainOf s) (s .stack) (s .cache) x
-        → flatRun s n ≡ flatAfterRun s x → max (reachIn (flatRun s n)) (largestReach (nextState s (flatRun s n)) (m ∷ ns)) ≡ reachIn (flatRun s (n + granted (m ∷ ns)))
+        → flatRun s n ≡ flatAfterRun s x → max (reachIn (flatRun s n)) (reachOfRuns (nextState s (flatRun s n)) (m ∷ ns)) ≡ reachIn (flatRun s (n + granted (m ∷ ns)))
     by-run e again (ran k p ts) r g =
-        ap (λ (y : Given). max (reachIn y) (largestReach (nextState s y) (m ∷ ns))) g ∙ after e again (p .registers .phase) k (p .registers .value) _ _ g refl (eqb (p .registers .phase) running) refl
+        ap (λ (y : Given). max (reachIn y) (reachOfRuns (nextState s y) (m ∷ ns))) g ∙ after e again (p .registers .phase) k (p .registers .value) _ _ g refl (eqb (p .registers .phase) running) refl
     by-run e again stuck r g = absurd r
 
     by-phase : (b : Bool) → eqb (s .registers .phase) running ≡ b → Again
-        → max (reachIn (flatRun s n)) (largestReach (nextState s (flatRun s n)) (m ∷ ns)) ≡ reachIn (flatRun s (n + granted (m ∷ ns)))
-    by-phase true e again = by-run e again (steps (roomOf s) n (plainOf s)) (run-goes s c n) (passes s c n true e)
+        → max (reachIn (flatRun s n)) (reachOfRuns (nextState s (flatRun s n)) (m ∷ ns)) ≡ reachIn (flatRun s (n + granted (m ∷ ns)))
+    by-phase true e again = by-run e again (steps (roomOf s) n (plainOf s)) (flat-runs s (check-right s c) n) (run-passes s c n true e)
     by-phase false e again = none-reach s c e (n ∷ m ∷ ns) ∙ sym (ap reachIn (run-refused s c e (n + granted (m ∷ ns))))

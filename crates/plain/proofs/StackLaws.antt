@@ -29,15 +29,14 @@ use Rattle.plain.specs.Registers.{running, notUnderstood, noBoolean, noS
 use Rattle.plain.specs.State.{Frame, Plain, objects, newFrame, fitsStack}
 use Rattle.plain.specs.Step.{Looked, looked, Stepped, leadsTo, halts, missing, _>>=_, Activation, answered, entered, unfit, activate, framed, activated, afterLookup, sends, orSends, arithmeticSends, specialSends, noLookup, operand, without, pushed, popped, literalOf, aboveHome, triedPrimitive, execute, stepFrame, step}
 use Rattle.plain.specs.Calls.{loaded, Begun, begun, declined, beginActivated, beginFound, begin, taken, Ran, ran, stuck, counted, onward, ifRunning, steps, largestEnd, standingEnd, reachOf}
-use Rattle.plain.specs.Calls.{Call, beginCall, runCall, dropCall, forgetCall, Called, called, impossible, afterBegin, afterRun, runIf, call}
-use Rattle.plain.specs.Flat.{Flat, roomOf}
-use Rattle.plain.specs.FlatCalls.{Given, gives, noAnswer, flatCall}
-use Rattle.plain.specs.CallLists as A
-use Rattle.plain.specs.CallLists.{Together, Agrees, Same}
-use Rattle.plain.specs.Reach.{withStack, Needs, stateAfter, AllNeed, Suffices}
+use Rattle.plain.specs.Calls.{Call, beginCall, runCall, dropCall, forgetCall, afterBegin, afterRun, runIf, call}
+use Rattle.plain.specs.Flat.{roomOf}
+use Rattle.plain.specs.CallLists.{Agrees}
+use Rattle.plain.specs.Reach.{withStack, Within, stateAfter, AllWithin, Suffices}
 use Rattle.plain.proofs.FrameLaws.{fits, fitting}
 use Rattle.plain.proofs.TurnLaws.{reach-least}
 use Rattle.plain.proofs.Theorem.{from-load}
+use Rattle.plain.proofs.Consequences.{same-calls}
 
 -- ---- one step
 
@@ -263,21 +262,21 @@ module _ (room : Room) (k : ℕ) where
       (found-begins s receiver arguments (lookup (objects s) selector (classOf (objects s) receiver))) (begun-same (declined 8)))
 
   -- ---- a call
-  begin-called : (p : Plain) (x y : Begun) → BeginAlike x y → Needs room k (afterBegin p x) → afterBegin p y ≡ afterBegin p x
+  begin-called : (p : Plain) (x y : Begun) → BeginAlike x y → Within room k (afterBegin p x) → afterBegin p y ≡ afterBegin p x
   unfolding BeginAlike
   begin-called p (begun q) y a n = ap (afterBegin p) (a n)
   begin-called p (declined i) y a n = ap (afterBegin p) (a n)
 
-  run-called : (p : Plain) (x y : Ran) → RunAlike p x y → Needs room k (afterRun p x) → afterRun p y ≡ afterRun p x
+  run-called : (p : Plain) (x y : Ran) → RunAlike p x y → Within room k (afterRun p x) → afterRun p y ≡ afterRun p x
   unfolding RunAlike
   run-called p (ran j q ts) y a n = ap (afterRun p) (a (n .0) (n .1))
   run-called p stuck y a n = absurd n
 
-  run-by : (n : ℕ) (p : Plain) (b : Bool) → Needs room k (runIf room n p b) → runIf other n p b ≡ runIf room n p b
+  run-by : (n : ℕ) (p : Plain) (b : Bool) → Within room k (runIf room n p b) → runIf other n p b ≡ runIf room n p b
   run-by n p true h = run-called p (steps room n p) (steps other n p) (run-alike n p) h
   run-by n p false h = refl
 
-  call-same : (p : Plain) (c : Call) → Needs room k (call room p c) → call other p c ≡ call room p c
+  call-same : (p : Plain) (c : Call) → Within room k (call room p c) → call other p c ≡ call room p c
   unfolding call
   call-same p (beginCall receiver selector arguments) h =
       begin-called p (begin room p receiver selector arguments) (begin other p receiver selector arguments) (begin-alike p receiver selector arguments) h
@@ -286,22 +285,9 @@ module _ (room : Room) (k : ℕ) where
   call-same p forgetCall h = refl
 
   -- ---- a list of calls
-  after : (c : Call) (cs : List Call) (p : Plain) (g g′ : Given) (h : Called)
-      → ((s s′ : Flat) (q : Plain) → AllNeed room k cs q → Agrees room cs s q → Agrees other cs s′ q → Same cs s s′)
-      → AllNeed room k cs (stateAfter p h) → Together room c p g h (Agrees room cs) → Together other c p g′ h (Agrees other cs) → A.Alike g g′ (Same cs)
-  after c cs p (gives a s) (gives a′ s′) (called x q) again n t t′ =
-      (t .0 .answer ∙ sym (t′ .0 .answer), t .0 .state ∙ sym (t′ .0 .state), again s s′ q n (t .1) (t′ .1))
-  after c cs p (gives a s) noAnswer (called x q) again n t t′ = absurd t′
-  after c cs p noAnswer g′ (called x q) again n t t′ = absurd t
-  after c cs p (gives a s) g′ impossible again n t t′ = absurd t
-  after c cs p noAnswer g′ impossible again n t t′ = absurd t
-
-  all-same : (cs : List Call) (s s′ : Flat) (p : Plain) → AllNeed room k cs p → Agrees room cs s p → Agrees other cs s′ p → Same cs s s′
-  unfolding AllNeed Agrees Same
-  all-same [] s s′ p n a a′ = tt
-  all-same (c ∷ cs) s s′ p n a a′ =
-      after c cs p (flatCall s c) (flatCall s′ c) (call room p c) (λ t t′ q m x y. all-same cs t t′ q m x y) (n .1) a
-      (subst (λ (h : Called). Together other c p (flatCall s′ c) h (Agrees other cs)) (call-same p c (n .0)) a′)
+  goes-same : (c : Call) (cs : List Call) (p : Plain) → AllWithin room k (c ∷ cs) p → (call other p c ≡ call room p c) × AllWithin room k cs (stateAfter p (call room p c))
+  unfolding AllWithin
+  goes-same c cs p n = (call-same p c (n .0), n .1)
 
   -- load does not look at the stack
   verdict-same : (image : List ℕ) → loadVerdict other image ≡ loadVerdict room image
@@ -316,5 +302,5 @@ suffices s s′ image k e a =
       l′ .0,
       l .1 .gave,
       l′ .1 .gave,
-      λ cs n. all-same (roomOf s) k cs (l .0) (l′ .0) (loaded image) n (l .1 .agrees cs) (subst (λ (r : Room). Agrees r cs (l′ .0) (loaded image)) e (l′ .1 .agrees cs)),
+      λ cs n. same-calls (roomOf s) (withStack (roomOf s) k) (AllWithin (roomOf s) k) (goes-same (roomOf s) k) cs (l .0) (l′ .0) (loaded image) n (l .1 .agrees cs) (subst (λ (r : Room). Agrees r cs (l′ .0) (loaded image)) e (l′ .1 .agrees cs)),
     )

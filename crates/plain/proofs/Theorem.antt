@@ -27,11 +27,12 @@ use Rattle.plain.proofs.LaidLaws.{laid-back, length-laid}
 use Rattle.plain.proofs.Preserve.{Shape, runs, ends}
 use Rattle.plain.proofs.StateLaws.{PlainRight, Stands, goes, rests, waits}
 use Rattle.plain.proofs.CacheLaws.{cache-kept, cache-empty}
-use Rattle.plain.proofs.RunLaws.{Stood, Inside, RunGoes, runs-right}
+use Rattle.plain.proofs.RunLaws.{Stood, Inside, RunGoes}
 use Rattle.plain.proofs.BeginLaws.{dropped-right, OwnNumber, BegunRight, BeginGoes, begins}
 use Rattle.plain.proofs.FlatLaws.{FlatRight, check-right, right-check, plain-back, room-back, flat-back}
 use Rattle.plain.proofs.LoadLaws.{Accepted, accepts, loaded-right, loaded-stood}
 use Rattle.plain.proofs.Worlds.{worlds}
+use Rattle.plain.proofs.TurnLaws.{flat-runs}
 
 -- ---- answers are told apart
 
@@ -76,11 +77,6 @@ module _ (s : Flat) (right : FlatRight s) where
 
   passes : (g : Given) → checked s (check s) g ≡ g
   passes g = ap (λ (v : Verdict). checked s v g) (right-check s right)
-
-  -- the frames of the state stand in its own stack
-  stood : Stood p (s .stack)
-  unfolding plainOf
-  stood e = sym (ap (λ (b : Bool). Rattle.plain.specs.Flat.ifFrames b (framesFrom (suc (s .registers .top)) (flatObjects s) (s .stack) (s .registers .top))) e)
 
   cached : T (cacheFine (objects p) (s .cache))
   unfolding plainOf
@@ -157,8 +153,7 @@ module _ (s : Flat) (right : FlatRight s) where
   run-by : (n : ℕ) (b : Bool) → eqb (s .registers .phase) running ≡ b → Both (runCall n) (F.flatRunIf s n b) (runIf room n p b)
   unfolding plainOf
   run-by n true e =
-      run-agrees n (eqb-true (s .registers .phase) running e) (steps room n p)
-      (runs-right room (worlds room) n p (s .stack) (s .cache) (right .plain) refl (right .cacheLength) stood cached)
+      run-agrees n (eqb-true (s .registers .phase) running e) (steps room n p) (flat-runs s right n)
   run-by n false e = refuses (runCall n) 12 (record { not-3 = λ z. omega arith; not-11 = λ z. omega arith }) refl
 
   -- forget

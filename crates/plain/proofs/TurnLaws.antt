@@ -9,7 +9,7 @@ use lib.Dec.{T, eqb}
 use lib.ListN.{length, drop}
 use lib.Seq.{drop-append-add, drop-drop}
 use Rattle.model.specs.Limits.{entryWords}
-use Rattle.model.specs.Image.{Room}
+use Rattle.model.specs.Image.{Room, accepted}
 use Rattle.model.proofs.Extends.{Extends}
 use Rattle.model.proofs.Unchanged.{lookup-same}
 use Rattle.plain.specs.Registers.{running, Cause, phaseOf, withPhase}
@@ -18,7 +18,8 @@ use Rattle.plain.specs.Step.{Looked, leadsTo, halts, step}
 use Rattle.plain.specs.Calls.{Taken, taken, Ran, ran, stuck, counted, halted, onward, ifRunning, steps, standingEnd, reachOf, result}
 use Rattle.plain.specs.Cache.{filled, cacheFine}
 use Rattle.plain.specs.Flat.{Flat, roomOf, flatObjects, plainOf, framesFrom, ifFrames}
-use Rattle.plain.specs.FlatCalls.{gives, atFront, withPlain, laid, stackAfter, cacheAfter}
+use Rattle.plain.specs.Check.{check}
+use Rattle.plain.specs.FlatCalls.{gives, checked, atFront, withPlain, laid, stackAfter, cacheAfter, flatRunIf, flatRun}
 use Rattle.plain.specs.RunLoop.{topEnd, flatAfterRunFrom, runsFrom}
 use Rattle.plain.proofs.LaidLaws.{length-laid}
 use Rattle.plain.proofs.Preserve.{Goes}
@@ -42,6 +43,16 @@ front-over ws us buffer h g =
 pub own-stood : (s : Flat) → Stood (plainOf s) (s .stack)
 unfolding plainOf
 own-stood s e = sym (ap (λ (b : Bool). ifFrames b (framesFrom (suc (s .registers .top)) (flatObjects s) (s .stack) (s .registers .top))) e)
+
+-- Every step of a run from a flat state that is right exists, and what it leaves is right.
+pub flat-runs : (s : Flat) → FlatRight s → (n : ℕ) → RunGoes (roomOf s) (worlds (roomOf s)) n (plainOf s) (s .stack) (s .cache) (steps (roomOf s) n (plainOf s))
+flat-runs s r n =
+    runs-right (roomOf s) (worlds (roomOf s)) n (plainOf s) (s .stack) (s .cache) (r .plain) refl (r .cacheLength) (own-stood s) (unfold plainOf in r .cached)
+
+-- Where check accepts the state, run is what follows its check.
+pub run-passes : (s : Flat) → check s ≡ accepted → (n : ℕ) (b : Bool) → eqb (s .registers .phase) running ≡ b → flatRun s n ≡ flatRunIf s n b
+unfolding flatRun
+run-passes s a n b e = λ i. checked s (a i) (flatRunIf s n (e i))
 
 -- A flat state with its own plain state laid back is itself.
 pub plain-same : (s : Flat) → FlatRight s → withPlain s (plainOf s) (s .stack) (s .cache) ≡ s

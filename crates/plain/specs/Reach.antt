@@ -36,9 +36,9 @@ reachIn (gives (wrote i) s) = 0
 reachIn noAnswer = 0
 
 -- Runs of so many bytecodes, one after another: the largest reach in their answers, and all that they are granted
-unfoldable pub largestReach : Flat → List ℕ → ℕ
-largestReach s [] = 0
-largestReach s (n ∷ ns) = max (reachIn (flatRun s n)) (largestReach (nextState s (flatRun s n)) ns)
+unfoldable pub reachOfRuns : Flat → List ℕ → ℕ
+reachOfRuns s [] = 0
+reachOfRuns s (n ∷ ns) = max (reachIn (flatRun s n)) (reachOfRuns (nextState s (flatRun s n)) ns)
 
 unfoldable pub granted : List ℕ → ℕ
 granted [] = 0
@@ -46,7 +46,7 @@ granted (n ∷ ns) = n + granted ns
 
 -- The largest reach over runs that continue each other is that of the single run. (Those behind the handler's end are refused, and have none.)
 abbrev pub LargestReach : Type 0
-LargestReach = (s : Flat) → check s ≡ accepted → (n : ℕ) (ns : List ℕ) → largestReach s (n ∷ ns) ≡ reachIn (flatRun s (granted (n ∷ ns)))
+LargestReach = (s : Flat) → check s ≡ accepted → (n : ℕ) (ns : List ℕ) → reachOfRuns s (n ∷ ns) ≡ reachIn (flatRun s (granted (n ∷ ns)))
 
 -- ---- another stack
 
@@ -56,25 +56,25 @@ withStack room k = record { contents = room .contents; bodies = room .bodies; st
 
 -- A call needs no more than k words of the stack: a run by its reach, a begin by the frame that it leaves. Where it found no room, k words are no more
 -- than it had.
-abbrev pub Needs : Room → ℕ → Called → Type 0
-Needs room k (called done p) = standingEnd p ≤ k
-Needs room k (called (refusedBy i) p) = i ≡ 13 → k ≤ room .stack
-Needs room k (called (result phase count value reach) p) = (reach ≤ k) × (phase ≡ phaseOf noStackRoom → k ≤ room .stack)
-Needs room k (called (wrote i) p) = ⊥
-Needs room k impossible = ⊥
+abbrev pub Within : Room → ℕ → Called → Type 0
+Within room k (called done p) = standingEnd p ≤ k
+Within room k (called (refusedBy i) p) = i ≡ 13 → k ≤ room .stack
+Within room k (called (result phase count value reach) p) = (reach ≤ k) × (phase ≡ phaseOf noStackRoom → k ≤ room .stack)
+Within room k (called (wrote i) p) = ⊥
+Within room k impossible = ⊥
 
 abbrev pub stateAfter : Plain → Called → Plain
 stateAfter p (called a p′) = p′
 stateAfter p impossible = p
 
--- None of the calls needs more.
-unfoldable pub AllNeed : Room → ℕ → List Call → Plain → Type 0
-AllNeed room k [] p = Unit {0}
-AllNeed room k (c ∷ cs) p = Needs room k (call room p c) × AllNeed room k cs (stateAfter p (call room p c))
+-- None of the calls needs more than k words.
+unfoldable pub AllWithin : Room → ℕ → List Call → Plain → Type 0
+AllWithin room k [] p = Unit {0}
+AllWithin room k (c ∷ cs) p = Within room k (call room p c) × AllWithin room k cs (stateAfter p (call room p c))
 
 -- Calls that need no more than k words of stack answer alike, and come to the same states, on a stack of k words.
 abbrev pub Suffices : Type 0
 Suffices =
     (s s′ : Flat) (image : List ℕ) (k : ℕ) → roomOf s′ ≡ withStack (roomOf s) k → loadVerdict (roomOf s) image ≡ accepted
     → (t t′ : Flat) × (flatLoad s image ≡ gives done t) × (flatLoad s′ image ≡ gives done t′)
-    × ((cs : List Call) → AllNeed (roomOf s) k cs (loaded image) → Same cs t t′)
+    × ((cs : List Call) → AllWithin (roomOf s) k cs (loaded image) → Same cs t t′)
