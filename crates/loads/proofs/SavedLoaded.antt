@@ -6,11 +6,12 @@ use mathlib.Core.List.{List, [], _++_}
 use lib.Dec.{T}
 use lib.ListN.{length, take, drop}
 use lib.Seq.{length-take-le}
-use Rattle.bytecode.proofs.TestLaws.{T→true, and-both}
+use Rattle.bytecode.proofs.TestLaws.{T→true, and-both, rules}
 use Rattle.model.specs.Limits.{isEdition, entryWords}
 use Rattle.model.specs.Objects.{objectsAt}
-use Rattle.model.specs.Rules.{sizesFine, headerFine, rule4, rule5, rule6, rule7, rule8}
-use Rattle.model.specs.Image.{Header, Verdict, accepted, refused, unless, _then_, buffersFine, imageHeader, imageObjects, objectsIn, imageOf, objectsVerdict, loadVerdict}
+use Rattle.model.specs.Rules.{sizesFine, headerFine}
+use Rattle.model.specs.Image.{Header, Verdict, accepted, refused, testsOf, buffersFine, imageHeader, imageObjects, objectsIn, imageOf, objectTests, objectsVerdict, loadVerdict}
+use Rattle.model.proofs.OrderLaws.{all→accepted}
 use Rattle.image.proofs.RoundTrip.{Fitting, front}
 use Rattle.image.proofs.SaveLoad.{Back, written-read, read-written}
 use Rattle.plain.specs.Registers as R
@@ -85,17 +86,8 @@ module _ (s : Flat) (e : check s ≡ accepted) where
   unfolding objectsVerdict plainOf
   objects-pass =
       let r = check-right s e .plain in
-      five (rule4 (h .edition) (flatObjects s)) (rule5 (h .edition) (flatObjects s)) (rule6 (h .edition) (flatObjects s)) (rule7 (h .edition) (flatObjects s))
-      (rule8 (flatObjects s) (h .receiver) (h .selector) [])
-      (r .image .rule-4) (r .image .rule-5) (r .image .rule-6) (r .image .rule-7) (r .starts)
-    where
-      five : (p q r s t : Bool) → T p → T q → T r → T s → T t → (unless p 4 then (unless q 5 then (unless r 6 then (unless s 7 then unless t 8)))) ≡ accepted
-      five true true true true true a b c d e = refl
-      five false q r s t a b c d e = absurd a
-      five true false r s t a b c d e = absurd b
-      five true true false s t a b c d e = absurd c
-      five true true true false t a b c d e = absurd d
-      five true true true true false a b c d e = absurd e
+      let tests = objectTests (h .edition) (flatObjects s) (h .receiver) (h .selector) in
+      all→accepted tests (rules (testsOf tests) (r .image .rule-4, (r .image .rule-5, (r .image .rule-14, (r .image .rule-6, (r .image .rule-7, (r .starts, tt)))))))
 
 -- ---- save, then load
 pub save-then-load : SaveThenLoad

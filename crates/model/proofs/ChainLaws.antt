@@ -1,29 +1,19 @@
--- Superclass chains end exactly where the test of N turns says so (01, "Image").
-use Prim.Native.Nat.{ℕ, zero, suc, _+_, _-_, _/_, _%_, _≤_, _<_}
+-- The tests of chains and lookups decide what is said of them without a bound (02, M-101).
+use Prim.Native.Nat.{ℕ, zero, suc, _/_, _%_, _≤_}
 use mathlib.Core.Path.{_≡_, refl, sym, ap, _∙_, subst}
-use mathlib.Core.Logic.{_≢_, _↔_}
-use mathlib.Core.Bool.{Bool, true, false, _||_, _&&_}
-use native.Mathlib.Nat.{add-suc, add-zero}
+use mathlib.Core.Logic.{_↔_, _⊎_, inl, inr}
+use mathlib.Core.Bool.{Bool, true, false, _||_, _&&_, not}
 use native.Mathlib.Omega.{arith}
-use native.Mathlib.Decide.{ℕ-discrete}
-use lib.Dec.{T, eqb, leb, eqb→eq, leb→le, eqb-refl}
-use Rattle.bytecode.specs.Constant.{nilWord}
-use Rattle.bytecode.proofs.TestLaws.{and-left, and-right, true→T}
+use borrow.Author.Tests.{eq-eqb}
+use lib.Dec.{T, eqb, leb, eqb→eq, leb→le}
+use Rattle.bytecode.proofs.TestLaws.{true→T, and-left, and-right, or-cases}
+use Rattle.model.specs.declared.Found.{Found}
+use Rattle.model.specs.declared.Found.the-variants.{Method, Nothing}
 use Rattle.model.specs.Limits.{classKind}
 use Rattle.model.specs.Word.{isPointer}
-use Rattle.model.specs.Objects.{Objects, superclassWord, isKind, isNilOr, kind}
-use Rattle.model.specs.Lookup.{endsWithin, Ends, atNil, above}
-use Rattle.model.proofs.Marks.{at-most}
-
-end-step : (n : ℕ) (o : Objects) (c : ℕ) → (T (endsWithin n o (superclassWord o c)) → Ends o (superclassWord o c))
-    → (b : Bool) → eqb c nilWord ≡ b → T (elim b [ true ↦ true | false ↦ endsWithin n o (superclassWord o c) ]) → Ends o c
-end-step n o c ih true e s = subst (Ends o) (sym (eqb→eq c nilWord (true→T e))) atNil
-end-step n o c ih false e s = above (ih s)
-
-pub test→ends : (n : ℕ) (o : Objects) (c : ℕ) → T (endsWithin n o c) → Ends o c
-unfolding endsWithin
-test→ends zero o c t = subst (Ends o) (sym (eqb→eq c nilWord t)) atNil
-test→ends (suc n) o c t = end-step n o c (test→ends n o (superclassWord o c)) (eqb c nilWord) refl t
+use Rattle.model.specs.Objects.{Objects, superclassWord, dictionaryWord, isKind, kind}
+use Rattle.model.specs.Lookup.{found, findIn, lookupWithin, inChainWithin, endsWithin, Chain, none, more, Looks, ended, here, above, InChain, same, higher}
+use Rattle.model.proofs.Parts.{or-right}
 
 -- a word that names an object of a kind
 pub record Named (o : Objects) (k w : ℕ) : Type 0 where
@@ -46,105 +36,141 @@ named o k w t =
           (kind o (w / 2)) k (and-right (isPointer (o .n) w) (eqb (kind o (w / 2)) k) t);
     }
 
+no-both : {b : Bool} → b ≡ true → b ≡ false → ⊥
+no-both p q = subst T (sym p ∙ q) tt
+
 module _ (o : Objects) where
-  -- the k-th word of the chain of c
-  nth : ℕ → ℕ → ℕ
-  nth c zero = c
-  nth c (suc k) = superclassWord o (nth c k)
+  -- How a lookup and a chain turn
+  pub class-hit : (left s c m : ℕ) → isKind o classKind c ≡ true → findIn o (dictionaryWord o c) s ≡ found m → lookupWithin (suc left) o s c ≡ found m
+  unfolding lookupWithin
+  class-hit left s c m e h = rw (e, h, lookupWithin)
 
-  nth-above : (c k : ℕ) → nth (superclassWord o c) k ≡ nth c (suc k)
-  unfolding nth
-  nth-above c zero = refl
-  nth-above c (suc k) = ap (superclassWord o) (nth-above c k)
+  pub class-miss : (left s c : ℕ) → isKind o classKind c ≡ true → findIn o (dictionaryWord o c) s ≡ Nothing
+      → lookupWithin (suc left) o s c ≡ lookupWithin left o s (superclassWord o c)
+  unfolding lookupWithin
+  class-miss left s c e h = rw (e, h, lookupWithin)
 
-  nth-from : (c i k : ℕ) → nth (nth c i) k ≡ nth c (i + k)
-  unfolding nth
-  nth-from c i zero = ap (nth c) (sym (add-zero i))
-  nth-from c i (suc k) = ap (superclassWord o) (nth-from c i k) ∙ ap (nth c) (sym (add-suc i k))
+  pub no-class : (left s c : ℕ) → isKind o classKind c ≡ false → lookupWithin left o s c ≡ Nothing
+  unfolding lookupWithin
+  no-class zero s c e = refl
+  no-class (suc left) s c e = rw (e, lookupWithin)
 
-  reach : {c : ℕ} → Ends o c → (k : ℕ) × (nth c k ≡ nilWord)
-  unfolding nth
-  reach atNil = (0, refl)
-  reach (above {c = c} e) = let r = reach e in (suc (r .0), sym (nth-above c (r .0)) ∙ r .1)
+  pub chain-class : (left a c : ℕ) → isKind o classKind c ≡ true → inChainWithin (suc left) o a c ≡ (eqb a c || inChainWithin left o a (superclassWord o c))
+  unfolding inChainWithin
+  chain-class left a c e = rw (e, inChainWithin)
 
-  -- the first place where the chain is at nil
-  record First (c k : ℕ) : Type 0 where
-    at : nth c k ≡ nilWord
-    before : (i : ℕ) → i < k → nth c i ≢ nilWord
+  pub chain-none : (left a c : ℕ) → isKind o classKind c ≡ false → inChainWithin left o a c ≡ false
+  unfolding inChainWithin
+  chain-none zero a c e = refl
+  chain-none (suc left) a c e = rw (e, inChainWithin)
 
-  before-suc : (c k : ℕ) → c ≢ nilWord → ((i : ℕ) → i < k → nth (superclassWord o c) i ≢ nilWord) → (i : ℕ) → i < suc k → nth c i ≢ nilWord
-  unfolding nth
-  before-suc c k h f zero l e = h e
-  before-suc c k h f (suc i) l e = f i (omega arith) (nth-above c i ∙ e)
+  pub ends-class : (left c : ℕ) → isKind o classKind c ≡ true → endsWithin (suc left) o c ≡ endsWithin left o (superclassWord o c)
+  unfolding endsWithin
+  ends-class left c e = rw (e, endsWithin)
 
-  first-step : (k c : ℕ) → nth c (suc k) ≡ nilWord → Dec (c ≡ nilWord) → ((n : ℕ) × First (superclassWord o c) n) → (n : ℕ) × First c n
-  unfolding nth
-  first-step k c e (yes h) r = (0, record { at = h; before = λ i l. absurd (omega arith) })
-  first-step k c e (no h) r = (suc (r .0), record { at = sym (nth-above c (r .0)) ∙ r .1 .at; before = before-suc c (r .0) h (r .1 .before) })
+  pub ends-none : (left c : ℕ) → isKind o classKind c ≡ false → endsWithin left o c ≡ true
+  unfolding endsWithin
+  ends-none zero c e = rw e
+  ends-none (suc left) c e = rw (e, endsWithin)
 
-  first : (k c : ℕ) → nth c k ≡ nilWord → (n : ℕ) × First c n
-  unfolding nth
-  first zero c e = (0, record { at = e; before = λ i l. absurd (omega arith) })
-  first (suc k) c e = first-step k c e (ℕ-discrete c nilWord) (first k (superclassWord o c) (nth-above c k ∙ e))
+  pub ends-last : (c : ℕ) → isKind o classKind c ≡ true → endsWithin 0 o c ≡ false
+  unfolding endsWithin
+  ends-last c e = rw e
 
-  -- the test passes where nil is reached in time
-  ends-step : (n c : ℕ) → (c ≢ nilWord → T (endsWithin n o (superclassWord o c))) → (b : Bool) → eqb c nilWord ≡ b
-      → T (elim b [ true ↦ true | false ↦ endsWithin n o (superclassWord o c) ])
-  ends-step n c ih true e = tt
-  ends-step n c ih false e = ih (λ h. subst T e (subst (λ (k : ℕ). T (eqb c k)) h (eqb-refl c)))
+  class-below : {a c : ℕ} → InChain o a c → isKind o classKind c ≡ true
+  class-below (same p e) = p
+  class-below (higher p i) = p
 
-  passes : (n k c : ℕ) → k ≤ n → nth c k ≡ nilWord → T (endsWithin n o c)
-  unfolding endsWithin nth
-  passes zero zero c h e = subst (λ (w : ℕ). T (eqb w nilWord)) (sym e) (eqb-refl nilWord)
-  passes zero (suc k) c h e = absurd (omega arith)
-  passes (suc n) zero c h e = ends-step n c (λ d. absurd (d e)) (eqb c nilWord) refl
-  passes (suc n) (suc k) c h e = ends-step n c (λ d. passes n k (superclassWord o c) (omega arith) (nth-above c k ∙ e)) (eqb c nilWord) refl
+  class-above : {a c : ℕ} → InChain o a c → isKind o classKind a ≡ true
+  class-above (same p e) = ap (isKind o classKind) e ∙ p
+  class-above (higher p i) = class-above i
 
-  -- every class's superclass is nil or a class
-  abbrev pub Closed : Type 0
-  Closed = (c : ℕ) → T (isKind o classKind c) → T (isNilOr o classKind (superclassWord o c))
+  -- A chain has at most n classes exactly where the test says so;
+  test→chain : (n c : ℕ) → T (endsWithin n o c) → (k : ℕ) × (Chain o c k × (k ≤ n))
+  test→chain zero c t = go (isKind o classKind c) refl
+    where
+      go : (b : Bool) → isKind o classKind c ≡ b → (k : ℕ) × (Chain o c k × (k ≤ 0))
+      go true p = absurd (subst T (ends-last c p) t)
+      go false p = (0, (none p, omega arith))
+  test→chain (suc n) c t = go (isKind o classKind c) refl (test→chain n (superclassWord o c))
+    where
+      go : (b : Bool) → isKind o classKind c ≡ b → (T (endsWithin n o (superclassWord o c)) → (k : ℕ) × (Chain o (superclassWord o c) k × (k ≤ n)))
+          → (k : ℕ) × (Chain o c k × (k ≤ suc n))
+      go true p ih = let r = ih (subst T (ends-class n c p) t) in let h = r .1 .1 in (suc (r .0), (more p (r .1 .0), omega arith))
+      go false p ih = (0, (none p, omega arith))
 
-  is-class : (w : ℕ) (b : Bool) → eqb w nilWord ≡ b → T (b || isKind o classKind w) → w ≢ nilWord → T (isKind o classKind w)
-  is-class w true e t h = absurd (h (eqb→eq w nilWord (true→T e)))
-  is-class w false e t h = t
+  chain→test : (n c k : ℕ) → Chain o c k → k ≤ n → T (endsWithin n o c)
+  chain→test n c zero (none p) h = true→T (ends-none n c p)
+  chain→test zero c (suc k) (more p x) h = absurd (omega arith)
+  chain→test (suc n) c (suc k) (more p x) h = subst T (sym (ends-class n c p)) (chain→test n (superclassWord o c) k x (omega arith))
 
-  module _ (closed : Closed) (c k : ℕ) (begins : T (isNilOr o classKind c)) (f : First c k) where
-    links : (i : ℕ) → i ≤ k → T (isNilOr o classKind (nth c i))
-    unfolding nth
-    links zero h = begins
-    links (suc i) h =
-        closed (nth c i) (is-class (nth c i) (eqb (nth c i) nilWord) refl (links i (omega arith)) (f .before i (omega arith)))
+  pub decides-chain : (n c : ℕ) → T (endsWithin n o c) ↔ ((k : ℕ) × (Chain o c k × (k ≤ n)))
+  decides-chain n c = (test→chain n c, λ r. chain→test n c (r .0) (r .1 .0) (r .1 .1))
 
-    link : (i : ℕ) → i < k → Named o classKind (nth c i)
-    link i h = named o classKind (nth c i) (is-class (nth c i) (eqb (nth c i) nilWord) refl (links i (omega arith)) (f .before i h))
+  -- and one that goes round never has.
+  chain-above : (a c k : ℕ) → InChain o a c → Chain o c k → (j : ℕ) × (Chain o a j × (j ≤ k))
+  chain-above a c k (same p e) x = (k, (subst (λ (w : ℕ). Chain o w k) (sym e) x, omega arith))
+  chain-above a c zero (higher p i) (none q) = absurd (no-both p q)
+  chain-above a c (suc k) (higher p i) (more q x) = let r = chain-above a (superclassWord o c) k i x in let h = r .1 .1 in (r .0, (r .1 .0, omega arith))
 
-    place : ℕ → ℕ
-    place i = nth c i / 2 - 1
+  chain-once : (c j k : ℕ) → Chain o c j → Chain o c k → j ≡ k
+  chain-once c zero zero x y = refl
+  chain-once c zero (suc k) (none p) (more q y) = absurd (no-both q p)
+  chain-once c (suc j) zero (more p x) (none q) = absurd (no-both p q)
+  chain-once c (suc j) (suc k) (more p x) (more q y) = ap suc (chain-once (superclassWord o c) j k x y)
 
-    place-inside : (i : ℕ) → i < k → place i < o .n
-    unfolding place
-    place-inside i h = let l = link i h in omega arith
+  pub goes-round : (c k : ℕ) → InChain o c (superclassWord o c) → Chain o c k → ⊥
+  goes-round c zero i (none p) = no-both (class-above i) p
+  goes-round c (suc k) i (more p x) =
+      let r = chain-above c (superclassWord o c) k i x in
+      let h = r .1 .1 in
+      let e = chain-once c (r .0) (suc k) (r .1 .0) (more p x) in
+      omega arith
 
-    -- the chain would go round
-    distinct : (i j : ℕ) → i < j → j < k → place i ≢ place j
-    unfolding place
-    distinct i j h g e =
-        let a = link i (omega arith) in
-        let b = link j g in
-        let same : nth c i ≡ nth c j = omega arith in
-        let back : nth c (i + (k - j)) ≡ nth c (j + (k - j)) = sym (nth-from c i (k - j)) ∙ ap (λ (w : ℕ). nth w (k - j)) same ∙ nth-from c j (k - j) in
-        let whole : j + (k - j) ≡ k = omega arith in
-        f .before (i + (k - j)) (omega arith) (back ∙ ap (nth c) whole ∙ f .at)
+  -- A lookup along a chain that ends in time is the whole lookup.
+  pub looks : (n s c : ℕ) → T (endsWithin n o c) → (k : ℕ) × Looks o s c (lookupWithin n o s c) k
+  looks zero s c t = go (isKind o classKind c) refl
+    where
+      go : (b : Bool) → isKind o classKind c ≡ b → (k : ℕ) × Looks o s c (lookupWithin 0 o s c) k
+      go true p = absurd (subst T (ends-last c p) t)
+      go false p = (0, subst (λ (f : Found). Looks o s c f 0) (sym (no-class 0 s c p)) (ended p))
+  looks (suc n) s c t = go (isKind o classKind c) (findIn o (dictionaryWord o c) s) refl refl (looks n s (superclassWord o c))
+    where
+      go : (b : Bool) (f : Found) → isKind o classKind c ≡ b → findIn o (dictionaryWord o c) s ≡ f
+          → (T (endsWithin n o (superclassWord o c)) → (k : ℕ) × Looks o s (superclassWord o c) (lookupWithin n o s (superclassWord o c)) k)
+          → (k : ℕ) × Looks o s c (lookupWithin (suc n) o s c) k
+      go true (Method m) p q ih = (1, subst (λ (f : Found). Looks o s c f 1) (sym (class-hit n s c (m .0) p q)) (here p q))
+      go true Nothing p q ih =
+          let r = ih (subst T (ends-class n c p) t) in
+          (suc (r .0), subst (λ (f : Found). Looks o s c f (suc (r .0))) (sym (class-miss n s c p q)) (above p q (r .1)))
+      go false f p q ih = (0, subst (λ (f : Found). Looks o s c f 0) (sym (no-class (suc n) s c p)) (ended p))
 
-    short : k ≤ o .n
-    short = at-most (o .n) place k place-inside distinct
+  pub looks-few : (n s c k : ℕ) (f : Found) → T (endsWithin n o c) → Looks o s c f k → (f ≡ lookupWithin n o s c) × (k ≤ n)
+  looks-few n s c zero f t (ended p) = (sym (no-class n s c p), omega arith)
+  looks-few zero s c (suc k) f t (here p q) = absurd (subst T (ends-last c p) t)
+  looks-few zero s c (suc k) f t (above p q l) = absurd (subst T (ends-last c p) t)
+  looks-few (suc n) s c (suc k) f t (here {m = m} p q) = (sym (class-hit n s c m p q), omega arith)
+  looks-few (suc n) s c (suc k) f t (above p q l) =
+      let r = looks-few n s (superclassWord o c) k f (subst T (ends-class n c p) t) l in
+      let h = r .1 in
+      (r .0 ∙ sym (class-miss n s c p q), omega arith)
 
-  pub ends→test : Closed → (c : ℕ) → T (isNilOr o classKind c) → Ends o c → T (endsWithin (o .n) o c)
-  ends→test closed c t e =
-      let r = reach e in
-      let s = first (r .0) c (r .1) in
-      passes (o .n) (s .0) c (short closed c (s .0) t (s .1)) (s .1 .at)
+  -- and the test whether a class is in it decides that.
+  pub test→in : (n a c : ℕ) → T (inChainWithin n o a c) → InChain o a c
+  unfolding inChainWithin
+  test→in zero a c t = absurd t
+  test→in (suc n) a c t = go (isKind o classKind c) refl (test→in n a (superclassWord o c))
+    where
+      go : (b : Bool) → isKind o classKind c ≡ b → (T (inChainWithin n o a (superclassWord o c)) → InChain o a (superclassWord o c)) → InChain o a c
+      go false q ih = absurd (subst T (chain-none (suc n) a c q) t)
+      go true q ih = either (or-cases (eqb a c) (inChainWithin n o a (superclassWord o c)) (subst T (chain-class n a c q) t))
+        where
+          either : T (eqb a c) ⊎ T (inChainWithin n o a (superclassWord o c)) → InChain o a c
+          either (inl s) = same q (eqb→eq a c s)
+          either (inr s) = higher q (ih s)
 
-  -- the test decides the statement where superclasses are nil or classes, which is a rule of its own
-  pub decides-ends : Closed → (c : ℕ) → T (isNilOr o classKind c) → Ends o c ↔ T (endsWithin (o .n) o c)
-  decides-ends closed c t = (ends→test closed c t, test→ends (o .n) o c)
+  pub in→test : (n a c : ℕ) → T (endsWithin n o c) → InChain o a c → T (inChainWithin n o a c)
+  in→test zero a c t i = absurd (subst T (ends-last c (class-below i)) t)
+  in→test (suc n) a c t (same p e) = subst T (sym (chain-class n a c p)) (subst (λ (b : Bool). T (b || inChainWithin n o a (superclassWord o c))) (sym (eq-eqb a c e)) tt)
+  in→test (suc n) a c t (higher p i) =
+      subst T (sym (chain-class n a c p)) (or-right (eqb a c) (inChainWithin n o a (superclassWord o c)) (in→test n a (superclassWord o c) (subst T (ends-class n c p) t) i))

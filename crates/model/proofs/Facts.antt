@@ -11,14 +11,14 @@ use lib.ListN.{length}
 use Rattle.bytecode.specs.Test.{if_then_else_, upTo, every, implies, allOf}
 use Rattle.bytecode.specs.Constant.{nilWord}
 use Rattle.bytecode.proofs.Choice.{if-yes, if-no, if-cases}
-use Rattle.bytecode.proofs.TestLaws.{true→T, T→true, and-left, and-right, and-both, or-cases, implied, rule, rules, upTo-at, below-at, every-at, at-every}
-use Rattle.model.specs.Limits.{leastObjects, mostObjects, mostBodyWords, fieldsKind, bytesKind, classKind, listKind, methodKind, lastForm, fixedForm, indexedForm, bytesForm, otherForm, classWords, mostFields, nilObject, falseObject, trueObject, integerClassObject, selectorsObject, specialSelectors, fieldFlag, primitiveFlag}
+use Rattle.bytecode.proofs.TestLaws.{true→T, T→true, and-left, and-right, and-both, or-cases, implied, rule, rules, upTo-at, at-upTo, below-at, every-at, at-every}
+use Rattle.model.specs.Limits.{leastObjects, mostObjects, mostBodyWords, fieldsKind, bytesKind, classKind, listKind, methodKind, lastForm, fixedForm, indexedForm, bytesForm, otherForm, classWords, mostFields, mostClasses, nilObject, falseObject, trueObject, integerClassObject, selectorsObject, specialSelectors, fieldFlag, primitiveFlag}
 use Rattle.model.specs.Word.{isInteger, isPointer, isValid, pointer, objectNumber, integerClass}
 use Rattle.model.specs.Objects.{Objects, classWord, kind, start, size, sizedInBytes, bodyWords, bodyEnd, bodyWord, bodyOf, isKind, isNilOr, superclassWord, dictionaryWord, fieldsWord, formWord, fieldCount, form, pairCount, pairSelector, pairMethod}
 use Rattle.model.specs.Method.{header, home, literal, flag, temporaryCount, literalCount, extension, argumentCount, runsCode}
 use Rattle.model.specs.Lookup.{endsWithin}
 use Rattle.model.specs.Depth.{isSome}
-use Rattle.model.specs.Rules.{startFine, paddingFine, layoutRules, rule4, wordsFine, rule5, fits, entryFine, pairFine, dictionaryFine, classRules, knownObjectRules, objectFine, rule6, takesCount, methodTable, extensionFine, methodRules, dictionaryMethodsFine, rule7}
+use Rattle.model.specs.Rules.{startFine, paddingFine, layoutRules, rule4, wordsFine, rule5, chainFine, rule14, fits, entryFine, pairFine, dictionaryFine, classRules, knownObjectRules, objectFine, rule6, takesCount, methodTable, extensionFine, methodRules, dictionaryMethodsFine, rule7}
 pub use Rattle.model.specs.Rules.{Right}
 use Rattle.model.proofs.ChainLaws.{Named, named}
 use Rattle.model.proofs.Parts.{_also_, implying, or-left, or-right, length-part, part-at}
@@ -202,6 +202,21 @@ fits-rule e o k h (other a b) =
     ∙ if-no _ _ (ne-eqb (form o (classWord o k)) bytesForm (omega arith)) ∙ if-yes _ _ (eq-eqb (form o (classWord o k)) otherForm a)))
     (and-both (leb classKind (kind o k)) (leb (kind o k) methodKind) (le→leb classKind (kind o k) b) (le→leb (kind o k) methodKind h))
 
+-- Rule 14
+pub short-chain : (o : Objects) → T (rule14 o) → (c : ℕ) → T (isKind o classKind c) → T (endsWithin mostClasses o c)
+unfolding rule14 chainFine
+short-chain o t c q =
+    let h = named o classKind c q in
+    subst (λ (w : ℕ). T (endsWithin mostClasses o w)) (pointer-of c (h .even))
+    (implied (eqb (kind o (c / 2)) classKind) (endsWithin mostClasses o (pointer (c / 2))) (upTo-at (o .n) (chainFine o) t (c / 2) (h .least) (h .most))
+    (true→T (eq-eqb (kind o (c / 2)) classKind (h .kinds))))
+
+pub chains-rule : (o : Objects) → ((c : ℕ) → T (isKind o classKind c) → T (endsWithin mostClasses o c)) → T (rule14 o)
+unfolding rule14 chainFine
+chains-rule o f =
+    at-upTo (o .n) (chainFine o) (λ k h g. implying (eqb (kind o k) classKind) (endsWithin mostClasses o (pointer k))
+    (λ q. f (pointer k) (subst (λ (z : ℕ). T (isKind o z (pointer k))) (eqb→eq (kind o k) classKind q) (naming o (kind o k) (pointer k) (named-pointer o k h g)))))
+
 -- Rule 6: a pair of a dictionary, a class, the known objects
 pub record PairFacts (o : Objects) (d i : ℕ) : Type 0 where
   pub selector : T (isKind o bytesKind (pairSelector o d i))
@@ -226,7 +241,6 @@ pub record ClassFacts (e : ℕ) (o : Objects) (c : ℕ) : Type 0 where
   pub forms : form o c ≤ lastForm e
   pub form-tag : formWord o c % 2 ≡ 1
   pub none : bytesForm ≤ form o c → fieldCount o c ≡ 0
-  pub ends : T (endsWithin (o .n) o c)
   pub rises : superclassWord o c ≢ nilWord → fieldCount o (superclassWord o c) ≤ fieldCount o c
   pub even : size o (objectNumber (dictionaryWord o c)) % 2 ≡ 0
   pub pairs : (i : ℕ) → i < pairCount o (dictionaryWord o c) → PairFacts o (dictionaryWord o c) i
@@ -242,12 +256,11 @@ class-facts-of e o c t =
       forms = leb→le (form o c) (lastForm e) (and-right (isInteger (formWord o c)) _ (rule (classRules e o c) t 3));
       form-tag = eqb→eq (formWord o c % 2) 1 (and-left (isInteger (formWord o c)) _ (rule (classRules e o c) t 3));
       none = λ h. eqb→eq (fieldCount o c) 0 (implied (leb bytesForm (form o c)) _ (rule (classRules e o c) t 4) (le→leb bytesForm (form o c) h));
-      ends = rule (classRules e o c) t 5;
       rises = λ h. leb→le (fieldCount o (superclassWord o c)) (fieldCount o c) (implied (not (eqb (superclassWord o c) nilWord)) _
-          (rule (classRules e o c) t 6) (not-T (eqb (superclassWord o c) nilWord) (λ q. h (eqb→eq (superclassWord o c) nilWord q))));
-      even = eqb→eq (size o (objectNumber (dictionaryWord o c)) % 2) 0 (and-left (eqb (size o (objectNumber (dictionaryWord o c)) % 2) 0) _ (rule (classRules e o c) t 7));
+          (rule (classRules e o c) t 5) (not-T (eqb (superclassWord o c) nilWord) (λ q. h (eqb→eq (superclassWord o c) nilWord q))));
+      even = eqb→eq (size o (objectNumber (dictionaryWord o c)) % 2) 0 (and-left (eqb (size o (objectNumber (dictionaryWord o c)) % 2) 0) _ (rule (classRules e o c) t 6));
       pairs = λ i l. pair-facts-of o (dictionaryWord o c) i (below-at (pairCount o (dictionaryWord o c)) (pairFine o (dictionaryWord o c))
-          (and-right (eqb (size o (objectNumber (dictionaryWord o c)) % 2) 0) _ (rule (classRules e o c) t 7)) i l);
+          (and-right (eqb (size o (objectNumber (dictionaryWord o c)) % 2) 0) _ (rule (classRules e o c) t 6)) i l);
     }
 
 pub record KnownFacts (o : Objects) : Type 0 where
@@ -412,6 +425,10 @@ module _ {e : ℕ} {o : Objects} (r : Right e o) where
   pub known : T (allOf (knownObjectRules e o))
   unfolding rule6
   known = and-left (allOf (knownObjectRules e o)) (upTo (o .n) (objectFine e o)) (r .rule-6)
+
+  -- chains
+  pub chain-ends : (c : ℕ) → T (isKind o classKind c) → T (endsWithin mostClasses o c)
+  chain-ends c t = short-chain o (r .rule-14) c t
 
   -- classes
   pub class-rules : (c : ℕ) → T (isKind o classKind c) → T (allOf (classRules e o c))

@@ -4,6 +4,8 @@ pub mod DepthLaws
 pub mod ChainLaws
 pub mod Parts
 pub mod Facts
+pub mod LookupLaws
+pub mod OrderLaws
 pub mod Extends
 pub mod Unchanged
 pub mod RightLaws

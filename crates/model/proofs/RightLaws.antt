@@ -11,18 +11,17 @@ use lib.ListN.{length}
 use Rattle.bytecode.specs.Test.{upTo, below, every, implies, allOf}
 use Rattle.bytecode.specs.Constant.{nilWord}
 use Rattle.bytecode.proofs.TestLaws.{true→T, and-both, or-cases, rule, rules, at-upTo, at-below}
-use Rattle.model.specs.Limits.{leastObjects, entryWords, otherForm, nilObject, falseObject, trueObject, integerClassObject, selectorsObject, specialSelectors, fieldsKind, bytesKind, classKind, listKind, methodKind, bytesForm, mostFields, lastForm, fieldFlag, primitiveFlag}
+use Rattle.model.specs.Limits.{leastObjects, entryWords, otherForm, nilObject, falseObject, trueObject, integerClassObject, selectorsObject, specialSelectors, fieldsKind, bytesKind, classKind, listKind, methodKind, bytesForm, mostFields, mostClasses, lastForm, fieldFlag, primitiveFlag}
 use Rattle.model.specs.Word.{isInteger, isNatural, isValid, pointer, integerClass}
 use Rattle.model.specs.Objects.{Objects, entryWord, classWord, kind, start, size, bodyWords, bodyEnd, bodyWord, bodyOf, isKind, isNilOr, superclassWord, dictionaryWord, fieldCount, form, pairCount, pairSelector, pairMethod}
 use Rattle.model.specs.Method.{home, literal, flag, literalCount, argumentCount}
-use Rattle.model.specs.Lookup.{endsWithin}
 use Rattle.model.specs.Depth.{isSome}
-use Rattle.model.specs.Rules.{sizesFine, layoutRules, rule4, wordsFine, rule5, fits, entryFine, pairFine, dictionaryFine, classRules, knownObjectRules, objectFine, rule6, takesCount, extensionFine, methodRules, dictionaryMethodsFine, rule7}
+use Rattle.model.specs.Rules.{sizesFine, layoutRules, rule4, wordsFine, rule5, rule14, fits, entryFine, pairFine, dictionaryFine, classRules, knownObjectRules, objectFine, rule6, takesCount, extensionFine, methodRules, dictionaryMethodsFine, rule7}
 use Rattle.model.proofs.ChainLaws.{named}
-use Rattle.model.proofs.Parts.{_also_, implying, every-more, below-same, or-right}
-use Rattle.model.proofs.Facts.{Right, Padded, Layout, layout-rules, words-rule, Fits, fixed, indexed, bytes, other, fits-rule, naming, named-pointer, valid-kind, least, layout, inside, word-valid, entry-class, entry-fits, known, known-facts, integer-class, class-rules, class-facts, method-rules, method-facts, pair-facts, fine-methods}
+use Rattle.model.proofs.Parts.{_also_, implying, every-more, below-same}
+use Rattle.model.proofs.Facts.{Right, Padded, Layout, layout-rules, words-rule, Fits, fixed, indexed, bytes, other, fits-rule, naming, named-pointer, valid-kind, least, layout, inside, word-valid, chains-rule, chain-ends, entry-class, entry-fits, known, known-facts, integer-class, class-rules, class-facts, method-rules, method-facts, pair-facts, fine-methods}
 use Rattle.model.proofs.Extends.{Extends, words-same, valid-grows, kind-kept, kind-same, nil-or-same, body-same, class-word-same, superclass-same, dictionary-same, fields-same, form-same, pair-count-same, pair-selector-same, pair-method-same, method-size-same, header-same, home-same, home-fields-same, flag-same, temporaries-same, literal-count-same, literal-same, extension-same, arguments-same, runs-same}
-use Rattle.model.proofs.Unchanged.{implies-same, ends-above, ends-nil, count-same, table-same}
+use Rattle.model.proofs.Unchanged.{implies-same, ends-same, count-same, table-same}
 
 -- what a change has to show besides
 pub record Renewed (e : ℕ) (o o′ : Objects) : Type 0 where
@@ -40,17 +39,6 @@ pub record Renewed (e : ℕ) (o o′ : Objects) : Type 0 where
 moved : {a b : Bool} → a ≡ b → T b → T a
 moved p t = subst T (sym p) t
 
--- more turns do no harm to a chain that ends
-pub ends-more : (o : Objects) (n m c : ℕ) → n ≤ m → T (endsWithin n o c) → T (endsWithin m o c)
-unfolding endsWithin
-ends-more o zero m c h t = subst (λ (w : ℕ). T (endsWithin m o w)) (sym (eqb→eq c nilWord t)) (ends-nil o m)
-ends-more o (suc n) zero c h t = absurd (omega arith)
-ends-more o (suc n) (suc m) c h t = go (ℕ-discrete c nilWord) (ends-more o n m (superclassWord o c) (omega arith))
-  where
-    go : Dec (c ≡ nilWord) → (T (endsWithin n o (superclassWord o c)) → T (endsWithin m o (superclassWord o c))) → T (endsWithin (suc m) o c)
-    go (yes q) ih = subst (λ (w : ℕ). T (endsWithin (suc m) o w)) (sym q) (ends-nil o (suc m))
-    go (no q) ih = moved (ends-above o m c q) (ih (subst T (ends-above o n c q) t))
-
 is-class : (o : Objects) (w : ℕ) → T (isNilOr o classKind w) → w ≢ nilWord → T (isKind o classKind w)
 is-class o w t h = go (or-cases (eqb w nilWord) (isKind o classKind w) t)
   where
@@ -60,18 +48,6 @@ is-class o w t h = go (or-cases (eqb w nilWord) (isKind o classKind w) t)
 
 module _ {e : ℕ} {o o′ : Objects} (x : Extends o o′) (r : Right e o) where
   -- classes keep their rules
-  ends-kept : (left c : ℕ) → T (isNilOr o classKind c) → T (endsWithin left o c) → T (endsWithin left o′ c)
-  unfolding endsWithin
-  ends-kept zero c k t = t
-  ends-kept (suc left) c k t = go (ℕ-discrete c nilWord) (ends-kept left (superclassWord o c))
-    where
-      go : Dec (c ≡ nilWord) → (T (isNilOr o classKind (superclassWord o c)) → T (endsWithin left o (superclassWord o c))
-          → T (endsWithin left o′ (superclassWord o c))) → T (endsWithin (suc left) o′ c)
-      go (yes q) ih = subst (λ (w : ℕ). T (endsWithin (suc left) o′ w)) (sym q) (ends-nil o′ (suc left))
-      go (no q) ih =
-          let p = is-class o c k q in
-          moved (ends-above o′ left c q ∙ ap (endsWithin left o′) (superclass-same x r c p)) (ih (class-facts r c p .superclass) (subst T (ends-above o left c q) t))
-
   pair-kept : (c i : ℕ) → T (isKind o classKind c) → i < pairCount o (dictionaryWord o c) → T (pairFine o′ (dictionaryWord o c) i)
   unfolding pairFine
   pair-kept c i t l =
@@ -110,12 +86,11 @@ module _ {e : ℕ} {o o′ : Objects} (x : Extends o o′) (r : Right e o) where
       also moved (ap (isNatural mostFields) (class-word-same x r c 2 t (omega arith))) (rule (classRules e o c) old 2)
       also moved (ap (isNatural (lastForm e)) (class-word-same x r c 3 t (omega arith))) (rule (classRules e o c) old 3)
       also moved (ap₂ (λ (a b : ℕ). implies (leb bytesForm a) (eqb b 0)) (form-same x r c t) (fields-same x r c t)) (rule (classRules e o c) old 4)
-      also ends-more o′ (o .n) (o′ .n) c (x .grows) (ends-kept (o .n) c (or-right (eqb c nilWord) (isKind o classKind c) t) (f .ends))
       also moved (implies-same (not (eqb (superclassWord o c) nilWord)) (not (eqb (superclassWord o′ c) nilWord)) (leb (fieldCount o (superclassWord o c))
       (fieldCount o c)) (leb (fieldCount o′ (superclassWord o′ c)) (fieldCount o′ c)) (ap (λ (w : ℕ). not (eqb w nilWord)) s)
       (λ q. ap₂ leb (ap (fieldCount o′) s ∙ fields-same x r (superclassWord o c) (is-class o (superclassWord o c) (f .superclass)
       (λ h. T-not (eqb (superclassWord o c) nilWord) q (true→T (eq-eqb (superclassWord o c) nilWord h))))) (fields-same x r c t)))
-      (rule (classRules e o c) old 6)
+      (rule (classRules e o c) old 5)
       also moved (ap (dictionaryFine o′) d) (dictionary-kept c t)
       also tt)
 
@@ -163,6 +138,9 @@ module _ {e : ℕ} {o o′ : Objects} (x : Extends o o′) (r : Right e o) where
   old-kind : (k kd : ℕ) → classKind ≤ kd → kd ≤ methodKind → 1 ≤ k → k ≤ o′ .n → kind o′ k ≡ kd → T (isKind o kd (pointer k))
   old-kind k kd l u h g p =
       subst T (kind-same x kd (pointer k) l u) (subst (λ (z : ℕ). T (isKind o′ z (pointer k))) p (naming o′ (kind o′ k) (pointer k) (named-pointer o′ k h g)))
+
+  rule-14-kept : T (rule14 o′)
+  rule-14-kept = chains-rule o′ (λ c t. moved (ends-same x r mostClasses c) (chain-ends r c (subst T (kind-same x classKind c (omega arith) (omega arith)) t)))
 
   pub rule-7-kept : T (rule7 e o′)
   unfolding rule7
@@ -306,4 +284,4 @@ module _ {e : ℕ} {o o′ : Objects} (x : Extends o o′) (r : Right e o) where
 
     pub right-kept : Right e o′
     right-kept =
-        record { edition = r .edition; contents = y .contents; bodies = y .bodies; sizes = y .sizes; rule-4 = rule-4-kept; rule-5 = rule-5-kept; rule-6 = rule-6-kept; rule-7 = rule-7-kept }
+        record { edition = r .edition; contents = y .contents; bodies = y .bodies; sizes = y .sizes; rule-4 = rule-4-kept; rule-5 = rule-5-kept; rule-14 = rule-14-kept; rule-6 = rule-6-kept; rule-7 = rule-7-kept }

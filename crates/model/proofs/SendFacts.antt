@@ -12,15 +12,15 @@ use Rattle.bytecode.proofs.Choice.{if-yes, if-no}
 use Rattle.bytecode.proofs.TestLaws.{true→T, T→true, or-cases, implied, upTo-at, below-at}
 use Rattle.model.specs.declared.Found.{Found}
 use Rattle.model.specs.declared.Found.the-variants.{Method, Nothing}
-use Rattle.model.specs.Limits.{fieldsKind, bytesKind, classKind, methodKind}
+use Rattle.model.specs.Limits.{fieldsKind, bytesKind, classKind, methodKind, mostClasses}
 use Rattle.model.specs.Word.{isValid, pointer, integerClass}
 use Rattle.model.specs.Objects.{Objects, classWord, kind, size, bodyWord, isKind, classOf, superclassWord, dictionaryWord, fieldCount, form, pairCount, pairSelector, pairMethod}
 use Rattle.model.specs.Method.{home, argumentCount}
 use Rattle.model.specs.Lookup.{found, findFrom, findIn, lookupWithin, lookup, inChainWithin, inChain}
 use Rattle.model.specs.Rules.{takesCount}
-use Rattle.model.proofs.ChainLaws.{named}
-use Rattle.model.proofs.Facts.{Right, Valid, odd, names, naming, valid-cases, valid-kind, pointer-of, in-words, word-valid, Fits, fixed, indexed, bytes, other, entry-class, entry-fits, class-facts, known-facts, integer-class, pair-facts, pair-home}
-use Rattle.model.proofs.Unchanged.{find-hit, find-miss, class-hit, class-miss, no-class, chain-class, chain-none, class-not-nil}
+use Rattle.model.proofs.ChainLaws.{named, class-hit, class-miss, no-class, chain-class, chain-none}
+use Rattle.model.proofs.Facts.{Right, Valid, odd, names, naming, valid-cases, valid-kind, pointer-of, in-words, word-valid, Fits, fixed, indexed, bytes, other, entry-class, entry-fits, class-facts, known-facts, integer-class, nil-no-class, pair-facts, pair-home}
+use Rattle.model.proofs.Unchanged.{find-hit, find-miss}
 
 abbrev IsMethod : Found → Type 0
 IsMethod (Method w) = Unit {0}
@@ -118,12 +118,12 @@ module _ {e : ℕ} {o : Objects} (r : Right e o) where
   pub lookup-facts : (s c m : ℕ) → lookup o s c ≡ found m → FoundFacts o s c m
   unfolding lookup inChain
   lookup-facts s c m p =
-      let h = holder-of (o .n) s c m p in
+      let h = holder-of mostClasses s c m p in
       let q = h .pair in
       let home-is : home o m ≡ h .holder = ap (home o) (sym (q .method)) ∙ pair-home r (h .holder) (q .place) (h .classes) (q .inside) in
       record {
         method = subst (λ (x : ℕ). T (isKind o methodKind x)) (q .method) (pair-facts r (h .holder) (q .place) (h .classes) (q .inside) .method);
-        homes = subst (λ (x : ℕ). T (inChainWithin (o .n) o x c)) (sym home-is) (true→T (h .chain));
+        homes = subst (λ (x : ℕ). T (inChainWithin mostClasses o x c)) (sym home-is) (true→T (h .chain));
         counts = λ n t. count-at (h .holder) s m n (h .classes) q t;
       }
 
@@ -135,7 +135,7 @@ module _ {e : ℕ} {o : Objects} (r : Right e o) where
       go : (f : Found) → lookup o nilWord c ≡ f → f ≡ Nothing
       go Nothing p = refl
       go (Method m) p =
-          let h = holder-of (o .n) nilWord c (m .0) p in
+          let h = holder-of mostClasses nilWord c (m .0) p in
           let q = h .pair in
           let t = subst (λ (x : ℕ). T (isKind o bytesKind x)) (q .selector) (pair-facts r (h .holder) (q .place) (h .classes) (q .inside) .selector) in
           let k : kind o 1 ≡ 1 = named o bytesKind nilWord t .kinds in
@@ -167,13 +167,13 @@ module _ {e : ℕ} {o : Objects} (r : Right e o) where
               }
           either (inr s) =
               let h = ih s in
-              let f = class-facts r c (true→T q) .rises (class-not-nil r (superclassWord o c) (T→true (isKind o classKind (superclassWord o c)) (h .class-c))) in
+              let f = class-facts r c (true→T q) .rises (λ p. nil-no-class r (subst (λ (w : ℕ). T (isKind o classKind w)) p (h .class-c))) in
               let g = h .fewer in
               record { class-a = h .class-a; class-c = true→T q; fewer = omega arith }
 
   pub chain-fields : (a c : ℕ) → T (inChain o a c) → fieldCount o a ≤ fieldCount o c
   unfolding inChain
-  chain-fields a c t = above-within (o .n) a c t .fewer
+  chain-fields a c t = above-within mostClasses a c t .fewer
 
   -- the fields of a home are fields of the receiver
   pub receiver-fields : (w a i : ℕ) → T (isValid (o .n) w) → T (inChain o a (classOf o w)) → i < fieldCount o a → T (isKind o fieldsKind w) × (i < size o (w / 2))

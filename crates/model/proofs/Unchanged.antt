@@ -2,7 +2,7 @@
 use Prim.Native.Nat.{ℕ, zero, suc, _+_, _-_, _/_, _%_, _≤_, _<_}
 use mathlib.Core.Path.{_≡_, refl, sym, ap, ap₂, _∙_, subst, fun-ext}
 use mathlib.Core.Logic.{_≢_}
-use mathlib.Core.Bool.{Bool, true, false, _&&_, _||_}
+use mathlib.Core.Bool.{Bool, true, false, _&&_, _||_, not}
 use mathlib.Core.List.{List, []}
 use native.Mathlib.Omega.{arith}
 use borrow.Author.Tests.{ne-eqb, ltb-true}
@@ -20,14 +20,14 @@ use Rattle.bytecode.proofs.Choice.{if-cases, if-either}
 use Rattle.bytecode.proofs.TestLaws.{true→T, and-left, and-right, and-both}
 use Rattle.model.specs.declared.Found.{Found}
 use Rattle.model.specs.declared.Found.the-variants.{Method, Nothing}
-use Rattle.model.specs.Limits.{fieldsKind, bytesKind, classKind, listKind, methodKind, selectorsObject, specialSelectors}
+use Rattle.model.specs.Limits.{fieldsKind, bytesKind, classKind, listKind, methodKind, mostClasses, selectorsObject, specialSelectors}
 use Rattle.model.specs.Word.{isValid, pointer}
 use Rattle.model.specs.Objects.{Objects, kind, size, isKind, superclassWord, dictionaryWord, pairCount, pairSelector, pairMethod}
 use Rattle.model.specs.Method.{literal, temporaryCount, literalCount, codeWords, codeSize, frameWords, argumentCount}
 use Rattle.model.specs.Lookup.{found, findFrom, findIn, lookupWithin, lookup, inChainWithin, inChain, endsWithin}
 use Rattle.model.specs.Depth.{walkFrom, successorsAt, depthAfterAt, rulesAt, fineAt, depthTable}
 use Rattle.model.specs.Rules.{takesCount, sendFine, variableFine, placeFine, isWritable, specialSelector, isSame, isClass, allowed, methodTable, rule8}
-use Rattle.model.proofs.ChainLaws.{named}
+use Rattle.model.proofs.ChainLaws.{named, class-hit, class-miss, no-class, chain-class, chain-none, ends-class, ends-none}
 use Rattle.model.proofs.Parts.{below-same, upTo-same, implying}
 use Rattle.model.proofs.Facts.{Right, naming, named-pointer, least, known-facts, inside-selectors, special-valid, class-facts, nil-no-class, pair-facts, method-facts}
 use Rattle.model.proofs.Extends.{Extends, valid-grows, kind-kept, kind-same, kind-valid, superclass-same, dictionary-same, pair-count-same, pair-selector-same, pair-method-same, home-fields-same, temporaries-same, literal-count-same, literal-same, frame-same, code-size-same, code-same, arguments-same}
@@ -45,7 +45,7 @@ no-test : (b : Bool) → (T b → ⊥) → b ≡ false
 no-test true f = absurd (f tt)
 no-test false f = refl
 
--- How a lookup and a chain turn
+-- How a search in a dictionary turns
 module _ (o : Objects) where
   pub find-hit : (d s i left : ℕ) → eqb (pairSelector o d i) s ≡ true → findFrom o d s i (suc left) ≡ found (pairMethod o d i)
   unfolding findFrom
@@ -54,74 +54,6 @@ module _ (o : Objects) where
   pub find-miss : (d s i left : ℕ) → eqb (pairSelector o d i) s ≡ false → findFrom o d s i (suc left) ≡ findFrom o d s (suc i) left
   unfolding findFrom
   find-miss d s i left e = rw (e, findFrom)
-
-  pub class-hit : (left s c m : ℕ) → isKind o classKind c ≡ true → findIn o (dictionaryWord o c) s ≡ found m → lookupWithin (suc left) o s c ≡ found m
-  unfolding lookupWithin
-  class-hit left s c m e h = rw (e, h, lookupWithin)
-
-  pub class-miss : (left s c : ℕ) → isKind o classKind c ≡ true → findIn o (dictionaryWord o c) s ≡ Nothing
-      → lookupWithin (suc left) o s c ≡ lookupWithin left o s (superclassWord o c)
-  unfolding lookupWithin
-  class-miss left s c e h = rw (e, h, lookupWithin)
-
-  pub no-class : (left s c : ℕ) → isKind o classKind c ≡ false → lookupWithin left o s c ≡ Nothing
-  unfolding lookupWithin
-  no-class zero s c e = refl
-  no-class (suc left) s c e = rw (e, lookupWithin)
-
-  pub chain-class : (left a c : ℕ) → isKind o classKind c ≡ true → inChainWithin (suc left) o a c ≡ (eqb a c || inChainWithin left o a (superclassWord o c))
-  unfolding inChainWithin
-  chain-class left a c e = rw (e, inChainWithin)
-
-  pub chain-none : (left a c : ℕ) → isKind o classKind c ≡ false → inChainWithin left o a c ≡ false
-  unfolding inChainWithin
-  chain-none zero a c e = refl
-  chain-none (suc left) a c e = rw (e, inChainWithin)
-
-  pub ends-above : (left c : ℕ) → c ≢ nilWord → endsWithin (suc left) o c ≡ endsWithin left o (superclassWord o c)
-  unfolding endsWithin
-  ends-above left c h = rw (ne-eqb c nilWord h, endsWithin)
-
-  pub ends-nil : (left : ℕ) → T (endsWithin left o nilWord)
-  unfolding endsWithin
-  ends-nil zero = tt
-  ends-nil (suc left) = tt
-
--- A chain that ends is gone through in its own turns: more of them change nothing.
-module _ {e : ℕ} {o : Objects} (r : Right e o) where
-  pub class-not-nil : (c : ℕ) → isKind o classKind c ≡ true → c ≢ nilWord
-  class-not-nil c p q = nil-no-class r (subst (λ (w : ℕ). T (isKind o classKind w)) q (true→T p))
-
-  nil-none : (c : ℕ) → c ≡ nilWord → isKind o classKind c ≡ false
-  nil-none c q = no-test (isKind o classKind c) (λ t. nil-no-class r (subst (λ (w : ℕ). T (isKind o classKind w)) q t))
-
-  lookup-step : (n m s c : ℕ) (b : Bool) (f : Found) → isKind o classKind c ≡ b → findIn o (dictionaryWord o c) s ≡ f
-      → (c ≢ nilWord → lookupWithin m o s (superclassWord o c) ≡ lookupWithin n o s (superclassWord o c))
-      → lookupWithin (suc m) o s c ≡ lookupWithin (suc n) o s c
-  lookup-step n m s c true (Method w) p q ih = class-hit o m s c (w .0) p q ∙ sym (class-hit o n s c (w .0) p q)
-  lookup-step n m s c true Nothing p q ih = class-miss o m s c p q ∙ ih (class-not-nil c p) ∙ sym (class-miss o n s c p q)
-  lookup-step n m s c false f p q ih = no-class o (suc m) s c p ∙ sym (no-class o (suc n) s c p)
-
-  lookup-more : (n m s c : ℕ) → n ≤ m → T (endsWithin n o c) → lookupWithin m o s c ≡ lookupWithin n o s c
-  unfolding endsWithin
-  lookup-more zero m s c h t = let p = nil-none c (eqb→eq c nilWord t) in no-class o m s c p ∙ sym (no-class o zero s c p)
-  lookup-more (suc n) zero s c h t = absurd (omega arith)
-  lookup-more (suc n) (suc m) s c h t =
-      lookup-step n m s c (isKind o classKind c) (findIn o (dictionaryWord o c) s) refl refl
-      (λ q. lookup-more n m s (superclassWord o c) (omega arith) (subst T (ends-above o n c q) t))
-
-  chain-step : (n m a c : ℕ) (b : Bool) → isKind o classKind c ≡ b
-      → (c ≢ nilWord → inChainWithin m o a (superclassWord o c) ≡ inChainWithin n o a (superclassWord o c))
-      → inChainWithin (suc m) o a c ≡ inChainWithin (suc n) o a c
-  chain-step n m a c true p ih = chain-class o m a c p ∙ ap (λ (z : Bool). eqb a c || z) (ih (class-not-nil c p)) ∙ sym (chain-class o n a c p)
-  chain-step n m a c false p ih = chain-none o (suc m) a c p ∙ sym (chain-none o (suc n) a c p)
-
-  chain-more : (n m a c : ℕ) → n ≤ m → T (endsWithin n o c) → inChainWithin m o a c ≡ inChainWithin n o a c
-  unfolding endsWithin
-  chain-more zero m a c h t = let p = nil-none c (eqb→eq c nilWord t) in chain-none o m a c p ∙ sym (chain-none o zero a c p)
-  chain-more (suc n) zero a c h t = absurd (omega arith)
-  chain-more (suc n) (suc m) a c h t =
-      chain-step n m a c (isKind o classKind c) refl (λ q. chain-more n m a (superclassWord o c) (omega arith) (subst T (ends-above o n c q) t))
 
 module _ {e : ℕ} {o o′ : Objects} (x : Extends o o′) (r : Right e o) where
   -- lookups
@@ -165,11 +97,7 @@ module _ {e : ℕ} {o o′ : Objects} (x : Extends o o′) (r : Right e o) where
 
   pub lookup-same : (s c : ℕ) → lookup o′ s c ≡ lookup o s c
   unfolding lookup
-  lookup-same s c = lookup-turns (o′ .n) s c ∙ go (isKind o classKind c) refl
-    where
-      go : (b : Bool) → isKind o classKind c ≡ b → lookupWithin (o′ .n) o s c ≡ lookupWithin (o .n) o s c
-      go true p = lookup-more r (o .n) (o′ .n) s c (x .grows) (class-facts r c (true→T p) .ends)
-      go false p = no-class o (o′ .n) s c p ∙ sym (no-class o (o .n) s c p)
+  lookup-same s c = lookup-turns mostClasses s c
 
   -- chains
   chain-turns : (left a c : ℕ) → inChainWithin left o′ a c ≡ inChainWithin left o a c
@@ -188,11 +116,20 @@ module _ {e : ℕ} {o o′ : Objects} (x : Extends o o′) (r : Right e o) where
 
   pub chain-same : (a c : ℕ) → inChain o′ a c ≡ inChain o a c
   unfolding inChain
-  chain-same a c = chain-turns (o′ .n) a c ∙ go (isKind o classKind c) refl
+  chain-same a c = chain-turns mostClasses a c
+
+  pub ends-same : (left c : ℕ) → endsWithin left o′ c ≡ endsWithin left o c
+  unfolding endsWithin
+  ends-same zero c = ap not (kind-same x classKind c (omega arith) (omega arith))
+  ends-same (suc left) c = go (isKind o classKind c) refl (ends-same left)
     where
-      go : (b : Bool) → isKind o classKind c ≡ b → inChainWithin (o′ .n) o a c ≡ inChainWithin (o .n) o a c
-      go true p = chain-more r (o .n) (o′ .n) a c (x .grows) (class-facts r c (true→T p) .ends)
-      go false p = chain-none o (o′ .n) a c p ∙ sym (chain-none o (o .n) a c p)
+      same : isKind o′ classKind c ≡ isKind o classKind c
+      same = kind-same x classKind c (omega arith) (omega arith)
+
+      go : (b : Bool) → isKind o classKind c ≡ b → ((w : ℕ) → endsWithin left o′ w ≡ endsWithin left o w) → endsWithin (suc left) o′ c ≡ endsWithin (suc left) o c
+      go true p ih =
+          ends-class o′ left c (same ∙ p) ∙ ap (endsWithin left o′) (superclass-same x r c (true→T p)) ∙ ih (superclassWord o c) ∙ sym (ends-class o left c p)
+      go false p ih = ends-none o′ (suc left) c (same ∙ p) ∙ sym (ends-none o (suc left) c p)
 
   -- argument counts
   abbrev counts : Objects → ℕ → ℕ → ℕ → Bool

@@ -6,7 +6,7 @@ use lib.Dec.{leb, eqb}
 use lib.ListN.{length, getD}
 use Rattle.model.specs.Limits.{headerWords, entryWords, cacheWords}
 use Rattle.model.specs.Objects.{Objects, part}
-use Rattle.model.specs.Rules.{headerFine, rule4, rule5, rule6, rule7, rule8}
+use Rattle.model.specs.Rules.{headerFine, rule4, rule5, rule14, rule6, rule7, rule8}
 
 -- The lengths of the lent buffers, in words
 pub record Room : Type 0 where
@@ -70,6 +70,15 @@ abbrev pub unless : Bool → ℕ → Verdict
 unless true k = accepted
 unless false k = refused k
 
+-- An order is a list of tests with their numbers.
+abbrev pub inOrder : List (Bool × ℕ) → Verdict
+inOrder [] = accepted
+inOrder (t ∷ ts) = unless (t .0) (t .1) then inOrder ts
+
+abbrev pub testsOf : List (Bool × ℕ) → List Bool
+testsOf [] = []
+testsOf (t ∷ ts) = t .0 ∷ testsOf ts
+
 -- 1: the length that N and B ask for, which includes a header
 unfoldable pub lengthFine : List ℕ → Bool
 lengthFine bytes =
@@ -79,16 +88,15 @@ lengthFine bytes =
 unfoldable pub buffersFine : Room → ℕ → ℕ → Bool
 buffersFine room n b = leb (entryWords * n) (room .contents) && (leb b (room .bodies) && eqb (room .cache) cacheWords)
 
--- 4 to 8, lowest first, each over the whole image
-unfoldable pub objectsVerdict : ℕ → Objects → ℕ → ℕ → Verdict
-objectsVerdict e o receiver selector =
-    unless (rule4 e o) 4
-    then (unless (rule5 e o) 5
-    then (unless (rule6 e o) 6
-    then (unless (rule7 e o) 7
-    then unless (rule8 o receiver selector []) 8)))
+-- The rules of the objects, each over the whole image
+abbrev pub objectTests : ℕ → Objects → ℕ → ℕ → List (Bool × ℕ)
+objectTests e o receiver selector =
+    (rule4 e o, 4) ∷ (rule5 e o, 5) ∷ (rule14 o, 14) ∷ (rule6 e o, 6) ∷ (rule7 e o, 7) ∷ (rule8 o receiver selector [], 8) ∷ []
 
--- 1 to 8: what load says of the input
+unfoldable pub objectsVerdict : ℕ → Objects → ℕ → ℕ → Verdict
+objectsVerdict e o receiver selector = inOrder (objectTests e o receiver selector)
+
+-- What load says of the input
 unfoldable pub loadVerdict : Room → List ℕ → Verdict
 loadVerdict room bytes =
     unless (lengthFine bytes) 1

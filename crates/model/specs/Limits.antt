@@ -65,6 +65,10 @@ classWords = 4
 abbrev pub mostFields : ℕ
 mostFields = 255
 
+-- 02, M-101: classes of a chain
+abbrev pub mostClasses : ℕ
+mostClasses = 24
+
 -- the objects with a fixed number
 abbrev pub nilObject : ℕ
 nilObject = 1

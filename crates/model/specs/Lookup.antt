@@ -1,11 +1,12 @@
--- Lookup and the class chain (01, "Plain machine": lookup; "Image": chains end). Classes are given by their words.
-use Prim.Native.Nat.{ℕ, zero, suc}
-use mathlib.Core.Bool.{Bool, true, false, _||_}
+-- Lookup and the class chain (01, "Plain machine": lookup; 02, M-101). Classes are given by their words. A chain has at most 24 classes, so
+-- lookups and tests of a chain need no more turns.
+use Prim.Native.Nat.{ℕ, zero, suc, _≤_}
+use mathlib.Core.Path.{_≡_}
+use mathlib.Core.Bool.{Bool, true, false, _||_, not}
 use lib.Dec.{eqb}
-use Rattle.bytecode.specs.Constant.{nilWord}
 use Rattle.model.specs.declared.Found.{Found}
 use Rattle.model.specs.declared.Found.the-variants.{Method, Nothing}
-use Rattle.model.specs.Limits.{classKind}
+use Rattle.model.specs.Limits.{classKind, mostClasses}
 use Rattle.model.specs.Objects.{Objects, isKind, superclassWord, dictionaryWord, pairCount, pairSelector, pairMethod}
 
 abbrev pub found : ℕ → Found
@@ -20,7 +21,7 @@ findFrom o d s i (suc left) =
 unfoldable pub findIn : Objects → ℕ → ℕ → Found
 findIn o d s = findFrom o d s 0 (pairCount o d)
 
--- Dictionaries from a class up to nil, at most `left` of them; a chain that ends has no more than N classes.
+-- Dictionaries along a chain, at most `left` of them
 unfoldable pub lookupWithin : ℕ → Objects → ℕ → ℕ → Found
 lookupWithin zero o s c = Nothing
 lookupWithin (suc left) o s c =
@@ -30,7 +31,7 @@ lookupWithin (suc left) o s c =
     ]
 
 unfoldable pub lookup : Objects → ℕ → ℕ → Found
-lookup o s c = lookupWithin (o .n) o s c
+lookup o s c = lookupWithin mostClasses o s c
 
 -- Class a is c or above it.
 unfoldable pub inChainWithin : ℕ → Objects → ℕ → ℕ → Bool
@@ -39,13 +40,33 @@ inChainWithin (suc left) o a c =
     elim (isKind o classKind c) [ true ↦ eqb a c || inChainWithin left o a (superclassWord o c) | false ↦ false ]
 
 unfoldable pub inChain : Objects → ℕ → ℕ → Bool
-inChain o a c = inChainWithin (o .n) o a c
+inChain o a c = inChainWithin mostClasses o a c
 
--- A superclass chain ends: the statement, and the test, which decides it (proofs/ChainLaws.antt).
-pub data Ends (o : Objects) : ℕ → Type 0 where
-  atNil : Ends o nilWord
-  above : {c : ℕ} → Ends o (superclassWord o c) → Ends o c
-
+-- Whether a chain has at most `left` classes
 unfoldable pub endsWithin : ℕ → Objects → ℕ → Bool
-endsWithin zero o c = eqb c nilWord
-endsWithin (suc left) o c = elim (eqb c nilWord) [ true ↦ true | false ↦ endsWithin left o (superclassWord o c) ]
+endsWithin zero o c = not (isKind o classKind c)
+endsWithin (suc left) o c = elim (isKind o classKind c) [ true ↦ endsWithin left o (superclassWord o c) | false ↦ true ]
+
+-- The same without a bound, as statements; proofs/ChainLaws.antt shows that the tests decide them.
+-- The chain of c has k classes: c, then the class that its superclass word names, and so on, up to the first word that names no class
+-- (02, M-101). One that goes round has no such k.
+pub data Chain (o : Objects) : ℕ → ℕ → Type 0 where
+  none : {c : ℕ} → isKind o classKind c ≡ false → Chain o c 0
+  more : {c k : ℕ} → isKind o classKind c ≡ true → Chain o (superclassWord o c) k → Chain o c (suc k)
+
+-- A lookup from c comes to f, and reads k dictionaries.
+pub data Looks (o : Objects) (s : ℕ) : ℕ → Found → ℕ → Type 0 where
+  ended : {c : ℕ} → isKind o classKind c ≡ false → Looks o s c Nothing 0
+  here : {c m : ℕ} → isKind o classKind c ≡ true → findIn o (dictionaryWord o c) s ≡ found m → Looks o s c (found m) 1
+  above : {c k : ℕ} {f : Found} → isKind o classKind c ≡ true → findIn o (dictionaryWord o c) s ≡ Nothing → Looks o s (superclassWord o c) f k
+      → Looks o s c f (suc k)
+
+-- Class a is c or above it.
+pub data InChain (o : Objects) (a : ℕ) : ℕ → Type 0 where
+  same : {c : ℕ} → isKind o classKind c ≡ true → a ≡ c → InChain o a c
+  higher : {c : ℕ} → isKind o classKind c ≡ true → InChain o a (superclassWord o c) → InChain o a c
+
+-- For whoever budgets a lookup: it ends, comes to what `lookup` says, and reads at most 24 dictionaries, whether it finds or fails.
+pub record ReadsFew (o : Objects) (s c : ℕ) : Type 0 where
+  pub ends : (k : ℕ) × Looks o s c (lookup o s c) k
+  pub few : (f : Found) (k : ℕ) → Looks o s c f k → (f ≡ lookup o s c) × (k ≤ mostClasses)

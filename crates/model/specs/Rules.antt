@@ -1,5 +1,5 @@
--- The rules of an image, by the number that a breach of them gets (01, "Image", "Code" and "From the input"). Each is a test of the
--- objects; `e` is the edition.
+-- The rules of an image, by the number that a breach of them gets (01, "Image", "Code" and "From the input"), in the order in which they are
+-- asked. Each is a test of the objects; `e` is the edition.
 use Prim.Native.Nat.{ℕ, _+_, _-_, _*_, _%_}
 use mathlib.Core.Path.{_≡_}
 use mathlib.Core.Bool.{Bool, true, false, _&&_, _||_, not}
@@ -15,7 +15,7 @@ use Rattle.bytecode.specs.declared.Place.the-variants.{Field, Temporary, Litera
 use Rattle.bytecode.specs.declared.Instruction.{Instruction}
 use Rattle.bytecode.specs.declared.Instruction.the-variants.{Push, Store, PopStore, PushSelf, PushConstant, ReturnSelf, ReturnConstant, ReturnTop, Pop, Duplicate, Jump, JumpOn, Send, SuperSend, SpecialSend, Unused}
 use Rattle.model.specs.Limits.{isEdition, entryWords, leastObjects, mostObjects, mostBodyWords, fieldsKind, bytesKind, classKind, listKind, methodKind, lastKind, fixedForm, indexedForm}
-use Rattle.model.specs.Limits.{bytesForm, otherForm, lastForm, classWords, mostFields, nilObject, falseObject, trueObject, integerClassObject, selectorsObject, specialSelectors, fieldFlag, primitiveFlag}
+use Rattle.model.specs.Limits.{bytesForm, otherForm, lastForm, classWords, mostFields, mostClasses, nilObject, falseObject, trueObject, integerClassObject, selectorsObject, specialSelectors, fieldFlag, primitiveFlag}
 use Rattle.model.specs.Word.{isInteger, isNatural, isValid, pointer, objectNumber, integerClass}
 use Rattle.model.specs.Objects.{Objects, classWord, kind, start, size, sizedInBytes, bodyWords, bodyEnd, bodyWord, bodyOf, isKind}
 use Rattle.model.specs.Objects.{isNilOr, superclassWord, dictionaryWord, fieldsWord, formWord, fieldCount, form, pairCount, pairSelector, pairMethod}
@@ -59,6 +59,13 @@ wordsFine o k =
 unfoldable pub rule5 : ℕ → Objects → Bool
 rule5 e o = upTo (o .n) (wordsFine o)
 
+-- 14: the chain of each class has at most 24 classes (02, M-101).
+unfoldable pub chainFine : Objects → ℕ → Bool
+chainFine o k = implies (eqb (kind o k) classKind) (endsWithin mostClasses o (pointer k))
+
+unfoldable pub rule14 : Objects → Bool
+rule14 o = upTo (o .n) (chainFine o)
+
 -- 6: entries' classes, class bodies, dictionaries, objects 1 to 5.
 -- An object fits the form of its class.
 unfoldable pub fits : ℕ → Objects → ℕ → Bool
@@ -82,7 +89,7 @@ unfoldable pub dictionaryFine : Objects → ℕ → Bool
 dictionaryFine o d = eqb (size o (objectNumber d) % 2) 0 && below (pairCount o d) (pairFine o d)
 
 -- The superclass is nil or a class, the dictionary a list, F from 0 to 255, the form a number; bytes and the last form have no fields;
--- the chain ends; F is not below the superclass's; the dictionary is right.
+-- F is not below the superclass's; the dictionary is right.
 unfoldable pub classRules : ℕ → Objects → ℕ → List Bool
 classRules e o c =
     isNilOr o classKind (superclassWord o c) ∷
@@ -90,7 +97,6 @@ classRules e o c =
     isNatural mostFields (fieldsWord o c) ∷
     isNatural (lastForm e) (formWord o c) ∷
     implies (leb bytesForm (form o c)) (eqb (fieldCount o c) 0) ∷
-    endsWithin (o .n) o c ∷
     implies (not (eqb (superclassWord o c) nilWord)) (leb (fieldCount o (superclassWord o c)) (fieldCount o c)) ∷
     dictionaryFine o (dictionaryWord o c) ∷
     []
@@ -217,7 +223,7 @@ unfoldable pub rule8 : Objects → ℕ → ℕ → List ℕ → Bool
 rule8 o receiver selector arguments =
     isValid (o .n) receiver && (isKind o bytesKind selector && every (isValid (o .n)) arguments)
 
--- Objects that meet the rules 2 and 4 to 7, in lists of their own lengths
+-- Objects that meet the rules 2, 4 to 7 and 14, in lists of their own lengths
 pub record Right (e : ℕ) (o : Objects) : Type 0 where
   pub edition : T (isEdition e)
   pub contents : length (o .contents) ≡ entryWords * o .n
@@ -225,6 +231,7 @@ pub record Right (e : ℕ) (o : Objects) : Type 0 where
   pub sizes : T (sizesFine e (o .n) (o .b))
   pub rule-4 : T (rule4 e o)
   pub rule-5 : T (rule5 e o)
+  pub rule-14 : T (rule14 o)
   pub rule-6 : T (rule6 e o)
   pub rule-7 : T (rule7 e o)
 

@@ -48,6 +48,9 @@ pub const CLASS_WORDS: u16 = 4;
 
 pub const MOST_FIELDS: u16 = 255;
 
+// The most classes of a chain.
+pub const MOST_CLASSES: usize = 24;
+
 // A method body: the places of its header, its home and its first literal.
 pub const HEADER: usize = 0;
 

@@ -6,11 +6,12 @@ use mathlib.Core.List.{List, [], _∷_}
 use native.Mathlib.Omega.{arith}
 use lib.Dec.{T, leb, eqb, leb→le, eqb→eq}
 use lib.ListN.{length}
-use Rattle.bytecode.proofs.TestLaws.{and-left, and-right}
+use Rattle.bytecode.proofs.TestLaws.{and-left, and-right, rule}
 use Rattle.model.specs.Limits.{isEdition, headerWords, entryWords, cacheWords}
-use Rattle.model.specs.Rules.{sizesFine, headerFine, rule4, rule5, rule6, rule7, rule8}
-use Rattle.model.specs.Image.{Room, wordsOf, imageHeader, imageObjects, objectsIn, imageBytes, Verdict, accepted, refused, unless, _then_, lengthFine, buffersFine, objectsVerdict, loadVerdict}
+use Rattle.model.specs.Rules.{sizesFine, headerFine, rule4, rule5, rule14, rule6, rule7, rule8}
+use Rattle.model.specs.Image.{Room, wordsOf, imageHeader, imageObjects, objectsIn, imageBytes, accepted, testsOf, lengthFine, buffersFine, objectTests, objectsVerdict, loadVerdict}
 use Rattle.model.proofs.Parts.{length-part}
+use Rattle.model.proofs.OrderLaws.{passed, accepted→all}
 use Rattle.plain.specs.Calls.{loaded}
 use Rattle.plain.proofs.StateLaws.{PlainRight, rests}
 use Rattle.plain.proofs.RunLaws.{Stood}
@@ -21,22 +22,6 @@ length-words [] = refl
 length-words (h ∷ []) = refl
 length-words (h ∷ l ∷ bytes) = ap suc (length-words bytes) ∙ omega arith
 
-refused-not : (k : ℕ) → refused k ≡ accepted → ⊥
-refused-not k e = subst is-refused e tt
-  where
-    is-refused : Verdict → Type 0
-    is-refused accepted = ⊥
-    is-refused (refused j) = Unit {0}
-
--- the first test of a chain that accepts, and the rest of it
-passed : (b : Bool) (k : ℕ) (v : Verdict) → (unless b k then v) ≡ accepted → T b × (v ≡ accepted)
-passed true k v e = (tt, e)
-passed false k v e = absurd (refused-not k e)
-
-last-passed : (b : Bool) (k : ℕ) → unless b k ≡ accepted → T b
-last-passed true k e = tt
-last-passed false k e = absurd (refused-not k e)
-
 pub record Accepted (room : Room) (bytes : List ℕ) : Type 0 where
   pub long : length bytes ≡ imageBytes (imageHeader bytes .n) (imageHeader bytes .b)
   pub edition : T (isEdition (imageHeader bytes .edition))
@@ -46,6 +31,7 @@ pub record Accepted (room : Room) (bytes : List ℕ) : Type 0 where
   pub cache : room .cache ≡ cacheWords
   pub rule-4 : T (rule4 (imageHeader bytes .edition) (imageObjects bytes))
   pub rule-5 : T (rule5 (imageHeader bytes .edition) (imageObjects bytes))
+  pub rule-14 : T (rule14 (imageObjects bytes))
   pub rule-6 : T (rule6 (imageHeader bytes .edition) (imageObjects bytes))
   pub rule-7 : T (rule7 (imageHeader bytes .edition) (imageObjects bytes))
   pub rule-8 : T (rule8 (imageObjects bytes) (imageHeader bytes .receiver) (imageHeader bytes .selector) [])
@@ -61,10 +47,8 @@ accepts room bytes a =
     let b = leb (h .b) (room .bodies) in
     let k = eqb (room .cache) cacheWords in
     let three = passed (c && (b && k)) 3 _ (two .1) in
-    let four = passed (rule4 (h .edition) o) 4 _ (three .1) in
-    let five = passed (rule5 (h .edition) o) 5 _ (four .1) in
-    let six = passed (rule6 (h .edition) o) 6 _ (five .1) in
-    let seven = passed (rule7 (h .edition) o) 7 _ (six .1) in
+    let tests = objectTests (h .edition) o (h .receiver) (h .selector) in
+    let r = rule (testsOf tests) (accepted→all tests (three .1)) in
     record {
       long = eqb→eq (length bytes) (imageBytes (h .n) (h .b)) (and-right (leb (2 * headerWords) (length bytes))
           (eqb (length bytes) (imageBytes (h .n) (h .b))) (one .0));
@@ -75,11 +59,12 @@ accepts room bytes a =
       bodies = leb→le (h .b) (room .bodies)
           (and-left b k (and-right c (b && k) (three .0)));
       cache = eqb→eq (room .cache) cacheWords (and-right b k (and-right c (b && k) (three .0)));
-      rule-4 = four .0;
-      rule-5 = five .0;
-      rule-6 = six .0;
-      rule-7 = seven .0;
-      rule-8 = last-passed (rule8 o (h .receiver) (h .selector) []) 8 (seven .1);
+      rule-4 = r 0;
+      rule-5 = r 1;
+      rule-14 = r 2;
+      rule-6 = r 3;
+      rule-7 = r 4;
+      rule-8 = r 5;
     }
 
 pub loaded-right : (room : Room) (bytes : List ℕ) → Accepted room bytes → PlainRight room (loaded bytes)
@@ -98,6 +83,7 @@ loaded-right room bytes a =
         sizes = a .sizes;
         rule-4 = a .rule-4;
         rule-5 = a .rule-5;
+        rule-14 = a .rule-14;
         rule-6 = a .rule-6;
         rule-7 = a .rule-7;
       };

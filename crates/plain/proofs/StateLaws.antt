@@ -61,16 +61,17 @@ image-right e o receiver selector c b t =
             (r 0);
         rule-4 = r 1;
         rule-5 = r 2;
-        rule-6 = r 3;
-        rule-7 = r 4;
+        rule-14 = r 3;
+        rule-6 = r 4;
+        rule-7 = r 5;
       },
-      r 5,
+      r 6,
     )
 
 pub right-image : (e : ℕ) (o : Objects) (receiver selector : ℕ) → Right e o → T (rule8 o receiver selector []) → T (allOf (imageRules e o receiver selector))
 unfolding imageRules
 right-image e o receiver selector r s =
-    rules (imageRules e o receiver selector) (and-both (isEdition e) (sizesFine e (o .n) (o .b)) (r .edition) (r .sizes), (r .rule-4, (r .rule-5, (r .rule-6, (r .rule-7, (s, tt))))))
+    rules (imageRules e o receiver selector) (and-both (isEdition e) (sizesFine e (o .n) (o .b)) (r .edition) (r .sizes), (r .rule-4, (r .rule-5, (r .rule-14, (r .rule-6, (r .rule-7, (s, tt)))))))
 
 module _ (stack : ℕ) (s : Plain) where
   abbrev phase : ℕ

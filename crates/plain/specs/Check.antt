@@ -11,8 +11,8 @@ use Rattle.model.specs.Objects.{Objects, classOf, isKind}
 use Rattle.model.specs.Method.{home, temporaryCount, frameSize}
 use Rattle.model.specs.Depth.{noteAt}
 use Rattle.model.specs.Lookup.{inChain}
-use Rattle.model.specs.Rules.{headerFine, rule4, rule5, rule6, rule7, rule8, methodTable}
-use Rattle.model.specs.Image.{Verdict, unless, _then_, buffersFine}
+use Rattle.model.specs.Rules.{headerFine, methodTable}
+use Rattle.model.specs.Image.{Verdict, unless, _then_, testsOf, objectTests, buffersFine}
 use Rattle.plain.specs.Registers.{finished, lastPhase, hasFrames}
 use Rattle.plain.specs.State.{Frame, Plain, noMark, objects, fitsStack}
 use Rattle.plain.specs.Cache.{cacheFine}
@@ -20,8 +20,7 @@ use Rattle.plain.specs.Flat.{Flat, roomOf, flatObjects, plainOf}
 
 -- The image rules of an edition, and right start words
 unfoldable pub imageRules : ℕ → Objects → ℕ → ℕ → List Bool
-imageRules e o receiver selector =
-    headerFine e (o .n) (o .b) ∷ rule4 e o ∷ rule5 e o ∷ rule6 e o ∷ rule7 e o ∷ rule8 o receiver selector [] ∷ []
+imageRules e o receiver selector = headerFine e (o .n) (o .b) ∷ testsOf (objectTests e o receiver selector)
 
 -- A frame: the fifth word is 0; receiver, temporaries and operands are valid; home is in the receiver's class chain; the position is
 -- reached and the depth is that of the table there, or one less below the top. (A note is one more than the table's depth.)

@@ -8,8 +8,7 @@ use native.Mathlib.Decide.{ℕ-discrete}
 use lib.Dec.{T}
 use lib.ListN.{getD, length}
 use Rattle.bytecode.specs.Test.{upTo, below, every}
-use Rattle.bytecode.proofs.TestLaws.{true→T, T→true, and-left, and-right, and-both, upTo-at, at-upTo, below-at, at-below, every-at, at-every}
-use Rattle.model.proofs.Parts.{same-test}
+use Rattle.bytecode.proofs.TestLaws.{true→T, T→true, upTo-at, at-upTo, below-at, at-below, every-at, at-every}
 
 -- a test that cannot pass
 pub never : (b : Bool) → (T b → ⊥) → b ≡ false
@@ -83,11 +82,3 @@ turn-first n f = record { least = omega arith; most = omega arith; passed = up-n
 
 pub turn-next : (n : ℕ) (f : ℕ → Bool) (k : ℕ) → k ≤ n → Turn n f k → f k ≡ true → Turn n f (k + 1)
 turn-next n f k h t e = record { least = omega arith; most = omega arith; passed = up-more f k (t .passed) e }
-
--- two tests at each number
-pub up-both : (n : ℕ) (f g : ℕ → Bool) → upTo n (λ k. f k && g k) ≡ (upTo n f && upTo n g)
-up-both n f g =
-    same-test (upTo n (λ k. f k && g k)) (upTo n f && upTo n g)
-    (λ t. and-both (upTo n f) (upTo n g) (at-upTo n f (λ k a b. and-left (f k) (g k) (upTo-at n (λ k. f k && g k) t k a b)))
-    (at-upTo n g (λ k a b. and-right (f k) (g k) (upTo-at n (λ k. f k && g k) t k a b))))
-    (λ t. at-upTo n (λ k. f k && g k) (λ k a b. and-both (f k) (g k) (upTo-at n f (and-left (upTo n f) (upTo n g) t) k a b) (upTo-at n g (and-right (upTo n f) (upTo n g) t) k a b)))

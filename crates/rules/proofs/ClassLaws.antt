@@ -1,4 +1,4 @@
--- Rule 6 in the order of specs/Shape.antt is rule 6, and each of its tests by the tests that it is made of.
+-- Rule 6 in the parts of specs/Shape.antt is rule 6; each of its tests, and rule 14, by the tests that it is made of.
 use Prim.Native.Nat.{ℕ, suc, _-_, _/_, _%_, _≤_, _<_}
 use mathlib.Core.Path.{_≡_, refl, sym, ap, _∙_, subst, fun-ext}
 use mathlib.Core.Logic.{_≢_}
@@ -9,60 +9,47 @@ use borrow.Author.Tests.{eq-eqb, ne-eqb, lt-leb, le-leb, eqb-true}
 use lib.Dec.{T, eqb, leb, ltb}
 use Rattle.bytecode.specs.Test.{upTo, below, every, implies, allOf}
 use Rattle.bytecode.specs.Constant.{nilWord}
-use Rattle.bytecode.proofs.TestLaws.{true→T, T→true, and-right, implied, rule, upTo-at}
-use Rattle.model.specs.Limits.{bytesKind, classKind, listKind, methodKind, otherForm, integerClassObject, selectorsObject, specialSelectors, mostFields, lastForm, bytesForm}
+use Rattle.bytecode.proofs.TestLaws.{true→T, T→true, and-right}
+use Rattle.model.specs.Limits.{bytesKind, classKind, listKind, methodKind, otherForm, integerClassObject, selectorsObject, specialSelectors, mostFields, mostClasses, lastForm, bytesForm}
 use Rattle.model.specs.Word.{isNatural, pointer, integerClass}
 use Rattle.model.specs.Objects.{Objects, objectsAt, classWord, kind, size, bodyOf, isKind, isNilOr, superclassWord, dictionaryWord, fieldsWord, formWord, fieldCount, form, pairCount, pairSelector, pairMethod, entriesAt}
 use Rattle.model.specs.Lookup.{endsWithin}
-use Rattle.model.specs.Rules.{fits, entryFine, pairFine, dictionaryFine, classRules, knownObjectRules, objectFine, rule6}
-use Rattle.model.proofs.Facts.{pointer-of}
+use Rattle.model.specs.Rules.{chainFine, fits, entryFine, pairFine, dictionaryFine, classRules, knownObjectRules, objectFine, rule6}
 use Rattle.model.proofs.Parts.{or-right}
-use Rattle.model.proofs.Unchanged.{ends-above, ends-nil}
-use Rattle.rules.specs.Shape.{fitsForm, numbersFine, kindsFine, selectorsFine, risesFine, shapeRules, shapeFine, chainFine}
-use Rattle.readers.proofs.Loops.{stop, pass, and-true, up-both}
-use Rattle.readers.proofs.Names.{is-named, names-kind}
+use Rattle.model.proofs.ChainLaws.{ends-class}
+use Rattle.rules.specs.Shape.{fitsForm, numbersFine, kindsFine, selectorsFine, risesFine, shapeRules, shapeFine}
+use Rattle.readers.proofs.Loops.{stop, pass, and-true}
+use Rattle.readers.proofs.Names.{names-kind}
 
-and-false : (b : Bool) → false ≡ (b && false)
-and-false true = refl
-and-false false = refl
+-- the rules of a class, F and form put together
+numbers-first : (x c r₀ r₁ r₂ r₃ r₄ r₅ r₆ : Bool)
+    → (x && implies c (r₀ && (r₁ && (r₂ && (r₃ && (r₄ && (r₅ && (r₆ && true))))))))
+    ≡ (x && implies c (r₀ && (r₁ && ((r₂ && (r₃ && r₄)) && (r₅ && (r₆ && true))))))
+numbers-first false c r₀ r₁ r₂ r₃ r₄ r₅ r₆ = refl
+numbers-first true false r₀ r₁ r₂ r₃ r₄ r₅ r₆ = refl
+numbers-first true true false r₁ r₂ r₃ r₄ r₅ r₆ = refl
+numbers-first true true true false r₂ r₃ r₄ r₅ r₆ = refl
+numbers-first true true true true false r₃ r₄ r₅ r₆ = refl
+numbers-first true true true true true false r₄ r₅ r₆ = refl
+numbers-first true true true true true true r₄ r₅ r₆ = refl
 
--- the rules of an object, with the chain put last
-chain-last : (x c r₀ r₁ r₂ r₃ r₄ e r₆ r₇ : Bool)
-    → (x && implies c (r₀ && (r₁ && (r₂ && (r₃ && (r₄ && (e && (r₆ && (r₇ && true)))))))))
-    ≡ ((x && implies c (r₀ && (r₁ && ((r₂ && (r₃ && r₄)) && (r₆ && (r₇ && true)))))) && implies c e)
-chain-last false c r₀ r₁ r₂ r₃ r₄ e r₆ r₇ = refl
-chain-last true false r₀ r₁ r₂ r₃ r₄ e r₆ r₇ = refl
-chain-last true true false r₁ r₂ r₃ r₄ e r₆ r₇ = refl
-chain-last true true true false r₂ r₃ r₄ e r₆ r₇ = refl
-chain-last true true true true false r₃ r₄ e r₆ r₇ = refl
-chain-last true true true true true false r₄ e r₆ r₇ = refl
-chain-last true true true true true true false e r₆ r₇ = refl
-chain-last true true true true true true true true r₆ r₇ = sym (and-true (r₆ && (r₇ && true)))
-chain-last true true true true true true true false r₆ r₇ = and-false (r₆ && (r₇ && true))
-
-split-at : (e : ℕ) (o : Objects) (k : ℕ) → objectFine e o k ≡ (shapeFine e o k && chainFine o k)
-unfolding objectFine classRules shapeFine shapeRules chainFine numbersFine risesFine
-split-at e o k =
+shape-is : (e : ℕ) (o : Objects) (k : ℕ) → objectFine e o k ≡ shapeFine e o k
+unfolding objectFine classRules shapeFine shapeRules numbersFine risesFine
+shape-is e o k =
     let c : ℕ = pointer k in
-    chain-last (entryFine e o k) (eqb (kind o k) classKind) (isNilOr o classKind (superclassWord o c)) (isKind o listKind (dictionaryWord o c))
+    numbers-first (entryFine e o k) (eqb (kind o k) classKind) (isNilOr o classKind (superclassWord o c)) (isKind o listKind (dictionaryWord o c))
     (isNatural mostFields (fieldsWord o c)) (isNatural (lastForm e) (formWord o c)) (implies (leb bytesForm (form o c)) (eqb (fieldCount o c) 0))
-    (endsWithin (o .n) o c) (implies (not (eqb (superclassWord o c) nilWord)) (leb (fieldCount o (superclassWord o c)) (fieldCount o c)))
-    (dictionaryFine o (dictionaryWord o c))
+    (implies (not (eqb (superclassWord o c) nilWord)) (leb (fieldCount o (superclassWord o c)) (fieldCount o c))) (dictionaryFine o (dictionaryWord o c))
 
-pub split : (e : ℕ) (o : Objects) → rule6 e o ≡ (allOf (knownObjectRules e o) && (upTo (o .n) (shapeFine e o) && upTo (o .n) (chainFine o)))
+pub shaped : (e : ℕ) (o : Objects) → rule6 e o ≡ (allOf (knownObjectRules e o) && upTo (o .n) (shapeFine e o))
 unfolding rule6
-split e o =
-    ap (λ (x : Bool). allOf (knownObjectRules e o) && x)
-    (ap (upTo (o .n)) (fun-ext (split-at e o)) ∙ up-both (o .n) (shapeFine e o) (chainFine o))
+shaped e o = ap (λ (x : Bool). allOf (knownObjectRules e o) && x) (ap (upTo (o .n)) (fun-ext (shape-is e o)))
 
 pub no-known : (e : ℕ) (o : Objects) → allOf (knownObjectRules e o) ≡ false → rule6 e o ≡ false
-no-known e o t = split e o ∙ stop (allOf (knownObjectRules e o)) (upTo (o .n) (shapeFine e o) && upTo (o .n) (chainFine o)) t
+no-known e o t = shaped e o ∙ stop (allOf (knownObjectRules e o)) (upTo (o .n) (shapeFine e o)) t
 
-pub no-shape : (e : ℕ) (o : Objects) → allOf (knownObjectRules e o) ≡ true → upTo (o .n) (shapeFine e o) ≡ false → rule6 e o ≡ false
-no-shape e o t f = split e o ∙ pass (allOf (knownObjectRules e o)) (upTo (o .n) (shapeFine e o) && upTo (o .n) (chainFine o)) t ∙ stop (upTo (o .n) (shapeFine e o)) (upTo (o .n) (chainFine o)) f
-
-pub by-chains : (e : ℕ) (o : Objects) → allOf (knownObjectRules e o) ≡ true → upTo (o .n) (shapeFine e o) ≡ true → rule6 e o ≡ upTo (o .n) (chainFine o)
-by-chains e o t f = split e o ∙ pass (allOf (knownObjectRules e o)) (upTo (o .n) (shapeFine e o) && upTo (o .n) (chainFine o)) t ∙ pass (upTo (o .n) (shapeFine e o)) (upTo (o .n) (chainFine o)) f
+pub by-shapes : (e : ℕ) (o : Objects) → allOf (knownObjectRules e o) ≡ true → rule6 e o ≡ upTo (o .n) (shapeFine e o)
+by-shapes e o t = shaped e o ∙ pass (allOf (knownObjectRules e o)) (upTo (o .n) (shapeFine e o)) t
 
 -- the known objects
 known-order : (a b c d f k s e : Bool)
@@ -253,27 +240,14 @@ pub chain-other : (o : Objects) (k : ℕ) → kind o k ≢ classKind → chainFi
 unfolding chainFine
 chain-other o k h = rw (ne-eqb (kind o k) classKind h)
 
-pub chain-of-class : (o : Objects) (k : ℕ) → kind o k ≡ classKind → chainFine o k ≡ endsWithin (o .n) o (pointer k)
+pub chain-of-class : (o : Objects) (k : ℕ) → kind o k ≡ classKind → chainFine o k ≡ endsWithin mostClasses o (pointer k)
 unfolding chainFine
 chain-of-class o k h = rw (eq-eqb (kind o k) classKind h)
 
--- Once the shapes are right, a chain leads from class to class.
-pub above-class : (e : ℕ) (o : Objects) → upTo (o .n) (shapeFine e o) ≡ true → (c : ℕ) → isKind o classKind c ≡ true → isNilOr o classKind (superclassWord o c) ≡ true
-unfolding shapeFine shapeRules
-above-class e o f c q =
-    let h = is-named o classKind c q in
-    let t = and-right (entryFine e o (c / 2)) (implies (eqb (kind o (c / 2)) classKind) (allOf (shapeRules e o (pointer (c / 2)))))
-    (upTo-at (o .n) (shapeFine e o) (true→T f) (c / 2) (h .least) (h .most)) in
-    let s = implied (eqb (kind o (c / 2)) classKind) (allOf (shapeRules e o (pointer (c / 2)))) t (true→T (eq-eqb (kind o (c / 2)) classKind (h .kinds))) in
-    T→true (isNilOr o classKind (superclassWord o c)) (subst (λ (x : ℕ). T (isNilOr o classKind (superclassWord o x))) (pointer-of c (h .even)) (rule (shapeRules e o (pointer (c / 2))) s 0))
-
 -- a turn along a chain
-pub chain-ends : (o : Objects) (left c : ℕ) → c ≡ nilWord → endsWithin left o c ≡ true
-chain-ends o left c e = ap (endsWithin left o) e ∙ T→true (endsWithin left o nilWord) (ends-nil o left)
+pub chain-turn : (o : Objects) (left rest c : ℕ) → left ≡ suc rest → isKind o classKind c ≡ true → endsWithin left o c ≡ endsWithin rest o (superclassWord o c)
+chain-turn o left rest c e h = ap (λ (k : ℕ). endsWithin k o c) e ∙ ends-class o rest c h
 
-pub chain-turn : (o : Objects) (left rest c : ℕ) → left ≡ suc rest → c ≢ nilWord → endsWithin left o c ≡ endsWithin rest o (superclassWord o c)
-chain-turn o left rest c e h = ap (λ (k : ℕ). endsWithin k o c) e ∙ ends-above o rest c h
-
-pub chain-last-turn : (o : Objects) (left c : ℕ) → left ≡ 0 → endsWithin left o c ≡ eqb c nilWord
+pub chain-last-turn : (o : Objects) (left c : ℕ) → left ≡ 0 → endsWithin left o c ≡ not (isKind o classKind c)
 unfolding endsWithin
 chain-last-turn o left c e = ap (λ (k : ℕ). endsWithin k o c) e

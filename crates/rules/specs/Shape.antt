@@ -1,7 +1,5 @@
--- Rule 6 in the order in which it is tested: first all of it but that superclass chains end, object by object; then the chains, which by
--- then lead from class to class.
+-- Rule 6 in the parts in which it is tested: F and form of a class together, the kinds of the objects 1 to 4 together.
 use Prim.Native.Nat.{ℕ, _/_}
-use mathlib.Core.Path.{_≡_}
 use mathlib.Core.Bool.{Bool, true, false, _&&_, not}
 use mathlib.Core.List.{List, [], _∷_}
 use lib.Dec.{leb, eqb}
@@ -11,7 +9,6 @@ use Rattle.model.specs.Limits.{fieldsKind, bytesKind, classKind, listKind, meth
 use Rattle.model.specs.Limits.{lastForm, mostFields, nilObject, falseObject, trueObject, integerClassObject, selectorsObject, specialSelectors}
 use Rattle.model.specs.Word.{isNatural, pointer}
 use Rattle.model.specs.Objects.{Objects, kind, size, bodyOf, isKind, isNilOr, superclassWord, dictionaryWord, fieldsWord, formWord, fieldCount}
-use Rattle.model.specs.Lookup.{endsWithin}
 use Rattle.model.specs.Rules.{entryFine, dictionaryFine}
 
 -- whether an object of this kind and size fits a class of this form and F
@@ -44,9 +41,6 @@ shapeRules e o c =
 unfoldable pub shapeFine : ℕ → Objects → ℕ → Bool
 shapeFine e o k = entryFine e o k && implies (eqb (kind o k) classKind) (allOf (shapeRules e o (pointer k)))
 
-unfoldable pub chainFine : Objects → ℕ → Bool
-chainFine o k = implies (eqb (kind o k) classKind) (endsWithin (o .n) o (pointer k))
-
 -- the kinds of the objects 1 to 4, and the special selectors
 abbrev pub kindsFine : Objects → Bool
 kindsFine o =
@@ -57,7 +51,3 @@ unfoldable pub selectorsFine : Objects → Bool
 selectorsFine o =
     eqb (kind o selectorsObject) listKind
     && (eqb (size o selectorsObject) specialSelectors && every (isNilOr o bytesKind) (bodyOf o selectorsObject))
-
--- chains lead from class to class
-abbrev pub Closed : Objects → Type 0
-Closed o = (c : ℕ) → isKind o classKind c ≡ true → isNilOr o classKind (superclassWord o c) ≡ true

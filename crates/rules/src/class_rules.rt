@@ -1,17 +1,17 @@
-// Rule 6, in words whose layout is right: specs/Shape.antt has its order.
+// Rules 14 and 6 of an object, in words whose layout is right. specs/Shape.antt has the parts of rule 6.
 ghost use mathlib.Core.Path.{_≡_};
 ghost use mathlib.Core.Bool.{true};
 ghost use Prim.Native.Nat.{_-_, _*_, _<_, _≤_};
 ghost use lib.Dec.{ltb};
 ghost use lib.ListN.{length};
 ghost use Rattle.bytecode.specs.Test.{upTo, below, every, implies, allOf};
-ghost use Rattle.model.specs.Limits.{entryWords, classKind, listKind};
+ghost use Rattle.model.specs.Limits.{entryWords, classKind, listKind, mostClasses};
 ghost use Rattle.model.specs.Word.{isNatural};
 ghost use Rattle.model.specs.Objects.{objectsAt, isKind, isNilOr, superclassWord, pairCount, pairSelector, entriesAt};
 ghost use Rattle.model.specs.Lookup.{endsWithin};
-ghost use Rattle.model.specs.Rules.{entryFine, pairFine, dictionaryFine, knownObjectRules};
+ghost use Rattle.model.specs.Rules.{chainFine, entryFine, pairFine, dictionaryFine, knownObjectRules};
 ghost use Rattle.readers.specs.Places.{Laid};
-ghost use Rattle.rules.specs.Shape.{fitsForm, numbersFine, kindsFine, selectorsFine, risesFine, shapeRules, shapeFine, chainFine, Closed};
+ghost use Rattle.rules.specs.Shape.{fitsForm, numbersFine, kindsFine, selectorsFine, risesFine, shapeRules, shapeFine};
 use model::Pointer;
 use model::limits;
 
@@ -162,7 +162,7 @@ fn dictionary_fine(contents: &[u16], bodies: &[u16], n: usize, b: usize, d: u16)
     pairs_fine(contents, bodies, n, b, d, (words / 2) as usize)
 }
 
-// The body of the class c, but for its chain.
+// The body of the class c.
 fn class_fine(edition: u16, contents: &[u16], bodies: &[u16], n: usize, b: usize, c: u16) -> bool
     requires { ⌜ Laid n b (now contents) (now bodies) × (isKind (objectsAt n b (now contents) (now bodies)) classKind c ≡ true) ⌝ }
     ensures { λ r. ⌜ r ≡ allOf (shapeRules edition (objectsAt n b (now (contents .entry)) (now (bodies .entry))) c) ⌝ }
@@ -199,7 +199,7 @@ fn shape_fine(edition: u16, contents: &[u16], bodies: &[u16], n: usize, b: usize
     class_fine(edition, contents, bodies, n, b, (2 * k) as u16)
 }
 
-// Every object, but for the chains.
+// Every object.
 pub fn shapes(edition: u16, contents: &[u16], bodies: &[u16], n: usize, b: usize) -> bool
     requires { ⌜ Laid n b (now contents) (now bodies) ⌝ }
     ensures { λ r. ⌜ r ≡ upTo n (shapeFine edition (objectsAt n b (now (contents .entry)) (now (bodies .entry)))) ⌝ }
@@ -214,47 +214,31 @@ pub fn shapes(edition: u16, contents: &[u16], bodies: &[u16], n: usize, b: usize
     true
 }
 
-// The chain of superclasses from the class c comes to nil within n turns.
+// The chain from the word c has at most 24 classes.
 fn ends(contents: &[u16], bodies: &[u16], n: usize, b: usize, c: u16) -> bool
-    requires { ⌜ Laid n b (now contents) (now bodies)
-        × ((Closed (objectsAt n b (now contents) (now bodies))) × (isKind (objectsAt n b (now contents) (now bodies)) classKind c ≡ true)) ⌝ }
-    ensures { λ r. ⌜ r ≡ endsWithin n (objectsAt n b (now (contents .entry)) (now (bodies .entry))) c ⌝ }
+    requires { ⌜ Laid n b (now contents) (now bodies) ⌝ }
+    ensures { λ r. ⌜ r ≡ endsWithin mostClasses (objectsAt n b (now (contents .entry)) (now (bodies .entry))) c ⌝ }
 {
     let mut at = c;
-    let mut left = n;
+    let mut left = limits::MOST_CLASSES;
     while 0 < left {
-        if at == limits::NIL {
+        if !readers::is_kind(contents, n, limits::CLASS, at) {
             return true;
         }
         at = readers::word_of(contents, bodies, n, b, Pointer(at), limits::SUPERCLASS);
         left -= 1;
     }
-    at == limits::NIL
+    !readers::is_kind(contents, n, limits::CLASS, at)
 }
 
-fn chain_fine(contents: &[u16], bodies: &[u16], n: usize, b: usize, k: usize) -> bool
-    requires { ⌜ Laid n b (now contents) (now bodies) × ((Closed (objectsAt n b (now contents) (now bodies))) × ((1 ≤ k) × (k ≤ n))) ⌝ }
+pub fn chain_fine(contents: &[u16], bodies: &[u16], n: usize, b: usize, k: usize) -> bool
+    requires { ⌜ Laid n b (now contents) (now bodies) × ((1 ≤ k) × (k ≤ n)) ⌝ }
     ensures { λ r. ⌜ r ≡ chainFine (objectsAt n b (now (contents .entry)) (now (bodies .entry))) k ⌝ }
 {
     if readers::kind(contents, n, k) != limits::CLASS {
         return true;
     }
     ends(contents, bodies, n, b, (2 * k) as u16)
-}
-
-// The chain of every class.
-pub fn chains(contents: &[u16], bodies: &[u16], n: usize, b: usize) -> bool
-    requires { ⌜ Laid n b (now contents) (now bodies) × (Closed (objectsAt n b (now contents) (now bodies))) ⌝ }
-    ensures { λ r. ⌜ r ≡ upTo n (chainFine (objectsAt n b (now (contents .entry)) (now (bodies .entry)))) ⌝ }
-{
-    let mut k = 1;
-    while k <= n {
-        if !chain_fine(contents, bodies, n, b, k) {
-            return false;
-        }
-        k += 1;
-    }
-    true
 }
 
 // nil, false and true have fields, and 4 is a class.

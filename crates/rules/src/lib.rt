@@ -6,7 +6,7 @@ ghost use lib.ListN.{length};
 ghost use Rattle.bytecode.specs.Test.{implies, allOf};
 ghost use Rattle.model.specs.Limits.{classKind, classWords};
 ghost use Rattle.model.specs.Objects.{objectsAt};
-ghost use Rattle.model.specs.Rules.{paddingFine, layoutRules, wordsFine, rule4, rule5, rule6};
+ghost use Rattle.model.specs.Rules.{paddingFine, layoutRules, wordsFine, rule4, rule5, rule14, rule6};
 ghost use Rattle.readers.specs.Places.{Entry, Laid};
 ghost use Rattle.rules.specs.Lent.{Lent, startOf};
 use model::limits;
@@ -113,6 +113,21 @@ pub fn words(edition: u16, contents: &[u16], bodies: &[u16], n: usize, b: usize)
     true
 }
 
+// Rule 14: the chain of every class.
+pub fn chains(contents: &[u16], bodies: &[u16], n: usize, b: usize) -> bool
+    requires { ⌜ Laid n b (now contents) (now bodies) ⌝ }
+    ensures { λ r. ⌜ r ≡ rule14 (objectsAt n b (now (contents .entry)) (now (bodies .entry))) ⌝ }
+{
+    let mut k = 1;
+    while k <= n {
+        if !class_rules::chain_fine(contents, bodies, n, b, k) {
+            return false;
+        }
+        k += 1;
+    }
+    true
+}
+
 // Rule 6: classes, dictionaries, the objects 1 to 5.
 pub fn classes(edition: u16, contents: &[u16], bodies: &[u16], n: usize, b: usize) -> bool
     requires { ⌜ Laid n b (now contents) (now bodies) ⌝ }
@@ -121,8 +136,5 @@ pub fn classes(edition: u16, contents: &[u16], bodies: &[u16], n: usize, b: usiz
     if !class_rules::known_fine(edition, contents, bodies, n, b) {
         return false;
     }
-    if !class_rules::shapes(edition, contents, bodies, n, b) {
-        return false;
-    }
-    class_rules::chains(contents, bodies, n, b)
+    class_rules::shapes(edition, contents, bodies, n, b)
 }

@@ -12,8 +12,9 @@ use Rattle.model.specs.declared.Found.the-variants.{Method, Nothing}
 use Rattle.model.specs.Objects.{classOf}
 use Rattle.model.specs.Method.{argumentCount, frameSize}
 use Rattle.model.specs.Lookup.{lookup}
-use Rattle.model.specs.Rules.{headerFine, rule4, rule5, rule6, rule7, rule8}
-use Rattle.model.specs.Image.{Room, Verdict, accepted, refused, unless, _then_, buffersFine, imageBytes, imageHeader, imageObjects, lengthFine, objectsVerdict, loadVerdict}
+use Rattle.model.specs.Rules.{rule8}
+use Rattle.model.specs.Image.{Room, Verdict, accepted, refused, unless, buffersFine, imageBytes, loadVerdict}
+use Rattle.model.proofs.OrderLaws.{Refuses, next-number, last-number, load-positive}
 use Rattle.plain.specs.Registers.{running}
 use Rattle.plain.specs.State.{Plain, objects, fitsStack}
 use Rattle.plain.specs.Step.{Activation, answered, entered, unfit, activate}
@@ -33,46 +34,19 @@ NumberedIn (gives a s) = Numbered a
 NumberedIn noAnswer = Unit {0}
 
 abbrev NumberedBy : Verdict → Type 0
-NumberedBy accepted = Unit {0}
-NumberedBy (refused k) = 1 ≤ k
+NumberedBy = Refuses (λ k. 1 ≤ k)
 
 -- ---- verdicts
-first : (b : Bool) (k : ℕ) (v : Verdict) → 1 ≤ k → NumberedBy v → NumberedBy (unless b k then v)
-first true k v h t = t
-first false k v h t = h
-
-only : (b : Bool) (k : ℕ) → 1 ≤ k → NumberedBy (unless b k)
-only true k h = tt
-only false k h = h
-
 check-numbered : (s : Flat) → NumberedBy (check s)
 unfolding check
-check-numbered s = first (buffersFine (roomOf s) (s .registers .n) (s .registers .b)) 3 (unless (stateFine s) 11) (omega arith) (only (stateFine s) 11 (omega arith))
+check-numbered s =
+    next-number (λ k. 1 ≤ k) (buffersFine (roomOf s) (s .registers .n) (s .registers .b)) 3 (unless (stateFine s) 11) (omega arith) (last-number (λ k. 1 ≤ k) (stateFine s) 11 (omega arith))
 
 save-numbered : (s : Flat) (output : List ℕ) → NumberedBy (saveVerdict s output)
 unfolding saveVerdict
 save-numbered s output =
-    first (buffersFine (roomOf s) (s .registers .n) (s .registers .b) && leb (imageBytes (s .registers .n) (s .registers .b)) (length output)) 3
-    (unless (stateFine s) 11) (omega arith) (only (stateFine s) 11 (omega arith))
-
-eight : (a b c d e f g h : Bool) → NumberedBy (unless a 1 then (unless b 2 then (unless c 3 then (unless d 4 then (unless e 5 then (unless f 6 then (unless g 7 then unless h 8)))))))
-eight false b c d e f g h = omega arith
-eight true false c d e f g h = omega arith
-eight true true false d e f g h = omega arith
-eight true true true false e f g h = omega arith
-eight true true true true false f g h = omega arith
-eight true true true true true false g h = omega arith
-eight true true true true true true false h = omega arith
-eight true true true true true true true false = omega arith
-eight true true true true true true true true = tt
-
-load-numbered : (room : Room) (bytes : List ℕ) → NumberedBy (loadVerdict room bytes)
-unfolding loadVerdict objectsVerdict
-load-numbered room bytes =
-    let h = imageHeader bytes in
-    let o = imageObjects bytes in
-    eight (lengthFine bytes) (headerFine (h .edition) (h .n) (h .b)) (buffersFine room (h .n) (h .b)) (rule4 (h .edition) o) (rule5 (h .edition) o)
-    (rule6 (h .edition) o) (rule7 (h .edition) o) (rule8 o (h .receiver) (h .selector) [])
+    next-number (λ k. 1 ≤ k) (buffersFine (roomOf s) (s .registers .n) (s .registers .b) && leb (imageBytes (s .registers .n) (s .registers .b)) (length output)) 3
+    (unless (stateFine s) 11) (omega arith) (last-number (λ k. 1 ≤ k) (stateFine s) 11 (omega arith))
 
 -- ---- calls
 after-check : (s : Flat) (v : Verdict) (g : Given) → NumberedBy v → NumberedIn g → NumberedIn (checked s v g)
@@ -102,7 +76,7 @@ begin-numbered room p w s arguments =
 
 pub load-number : (s : Flat) (bytes : List ℕ) → NumberedIn (flatLoad s bytes)
 unfolding flatLoad
-load-number s bytes = go (loadVerdict (roomOf s) bytes) (load-numbered (roomOf s) bytes)
+load-number s bytes = go (loadVerdict (roomOf s) bytes) (load-positive (roomOf s) bytes)
   where
     go : (v : Verdict) → NumberedBy v → NumberedIn (afterLoad s bytes v)
     go accepted t = tt

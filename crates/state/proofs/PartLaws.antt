@@ -11,12 +11,14 @@ use lib.ListN.{length}
 use lib.Seq.{length-take-le}
 use Rattle.bytecode.specs.Test.{if_then_else_, allOf}
 use Rattle.bytecode.proofs.Choice.{if-yes, if-no}
-use Rattle.bytecode.proofs.TestLaws.{true→T, T→true, and-right}
+use Rattle.bytecode.proofs.TestLaws.{true→T, T→true, and-right, and-both}
 use Rattle.model.specs.Limits.{entryWords, cacheWords}
 use Rattle.model.specs.Word.{isValid}
 use Rattle.model.specs.Objects.{Objects, objectsAt}
-use Rattle.model.specs.Rules.{Right, headerFine, rule4, rule5, rule6, rule7, rule8}
-use Rattle.model.specs.Image.{unless, _then_, buffersFine, objectsVerdict}
+use Rattle.model.specs.Rules.{Right, headerFine}
+use Rattle.model.specs.Image.{Verdict, accepted, refused, inOrder, testsOf, buffersFine, objectTests, objectsVerdict}
+use Rattle.model.proofs.OrderLaws.{accepted→all, all→accepted, Refuses, number-of}
+use Rattle.readers.proofs.Loops.{never}
 use Rattle.rules.specs.Lent.{Lent}
 use Rattle.store.specs.Answer.{numberOf, roomFor}
 use Rattle.store.specs.Judged.{Judged}
@@ -88,35 +90,27 @@ module _ (r : Registers) (contents bodies stack cache : List ℕ) where
       regroup false b c d q = refl
 
   -- the image's part is rule 2 and the verdict on the objects
+  abbrev tests : List (Bool × ℕ)
+  tests = objectTests edition o (r .startReceiver) (r .startSelector)
+
   edition-no : headerFine edition (r .n) (r .b) ≡ false → imagePart s ≡ false
   unfolding imageRules
-  edition-no e = ap (λ (x : Bool). allOf (x ∷ rule4 edition o ∷ rule5 edition o ∷ rule6 edition o ∷ rule7 edition o ∷ rule8 o (r .startReceiver) (r .startSelector) [] ∷ [])) e
+  edition-no e = ap (λ (x : Bool). x && allOf (testsOf tests)) e
 
   verdict-no : numberOf (objectsVerdict edition o (r .startReceiver) (r .startSelector)) ≢ 0 → imagePart s ≡ false
   unfolding imageRules objectsVerdict numberOf
-  verdict-no h = go (headerFine edition (r .n) (r .b)) (rule4 edition o) (rule5 edition o) (rule6 edition o) (rule7 edition o) (rule8 o (r .startReceiver) (r .startSelector) []) h
-    where
-      go : (z a b c d e : Bool) → numberOf (unless a 4 then (unless b 5 then (unless c 6 then (unless d 7 then unless e 8)))) ≢ 0 → allOf (z ∷ a ∷ b ∷ c ∷ d ∷ e ∷ []) ≡ false
-      go false a b c d e h = refl
-      go true false b c d e h = refl
-      go true true false c d e h = refl
-      go true true true false d e h = refl
-      go true true true true false e h = refl
-      go true true true true true false h = refl
-      go true true true true true true h = absurd (h refl)
+  verdict-no h =
+      never (imagePart s) (λ t. h (ap numberOf (all→accepted tests (and-right (headerFine edition (r .n) (r .b)) (allOf (testsOf tests)) t))))
 
   verdict-yes : headerFine edition (r .n) (r .b) ≡ true → numberOf (objectsVerdict edition o (r .startReceiver) (r .startSelector)) ≡ 0 → imagePart s ≡ true
   unfolding imageRules objectsVerdict numberOf
-  verdict-yes z h = go (headerFine edition (r .n) (r .b)) (rule4 edition o) (rule5 edition o) (rule6 edition o) (rule7 edition o) (rule8 o (r .startReceiver) (r .startSelector) []) z h
+  verdict-yes z h =
+      T→true (imagePart s) (and-both (headerFine edition (r .n) (r .b)) (allOf (testsOf tests)) (true→T z) (accepted→all tests
+      (go (inOrder tests) (number-of (λ k. 1 ≤ k) tests (omega arith, (omega arith, (omega arith, (omega arith, (omega arith, (omega arith, tt))))))) h)))
     where
-      go : (z a b c d e : Bool) → z ≡ true → numberOf (unless a 4 then (unless b 5 then (unless c 6 then (unless d 7 then unless e 8)))) ≡ 0 → allOf (z ∷ a ∷ b ∷ c ∷ d ∷ e ∷ []) ≡ true
-      go false a b c d e z h = z
-      go true false b c d e z h = absurd (omega arith)
-      go true true false c d e z h = absurd (omega arith)
-      go true true true false d e z h = absurd (omega arith)
-      go true true true true false e z h = absurd (omega arith)
-      go true true true true true false z h = absurd (omega arith)
-      go true true true true true true z h = refl
+      go : (v : Verdict) → Refuses (λ k. 1 ≤ k) v → numberOf v ≡ 0 → v ≡ accepted
+      go accepted p e = refl
+      go (refused k) p e = absurd (omega arith)
 
   pub header-no : headerFine edition (r .n) (r .b) ≡ false → false ≡ stateFine s
   header-no e = image-no (edition-no e)

@@ -1,4 +1,3 @@
-pub mod ChainSteps
 pub mod HereLaws
 pub mod MoveLaws
 pub mod ActiveLaws

@@ -32,8 +32,8 @@ use Rattle.plain.specs.Running.{Sending, sendStep, sentReceiver, runningAt, top
 use Rattle.plain.proofs.RunningLaws.{top-right, is-method, method-is, step-is, now-is}
 use Rattle.objects.specs.Lent.{Holds}
 use Rattle.model.proofs.Parts.{or-right}
+use Rattle.model.proofs.LookupLaws.{chain-joined}
 use Rattle.steps.specs.Events.{Here, HereAt, SendsAt, StepIs, stepAt}
-use Rattle.steps.proofs.ChainSteps.{chain-joined}
 use Rattle.steps.proofs.HereLaws.{operand-is, operand-valid}
 use Rattle.steps.proofs.PlaceLaws.{literal-at}
 use Rattle.steps.proofs.SayLaws.{noted, needed}
@@ -206,7 +206,6 @@ module _ {n b top : ℕ} {contents bodies stack : List ℕ} {h : Here} {l k : �
       let r = a .at .runs .right in
       let t = top-right (a .at .runs) in
       chain-joined r (home (objectsAt n b contents bodies) m) (home (objectsAt n b contents bodies) (frameMethod stack top)) (classOf (objectsAt n b contents bodies) (frameReceiver stack top))
-      (class-kind r (frameReceiver stack top) (t .receiver))
       (subst (λ (x : ℕ). T (inChain (objectsAt n b contents bodies) (home (objectsAt n b contents bodies) m) x)) c (lookup-facts r s class m q .homes)) (t .chain)
 
   pub super-says : (at s c class : ℕ) → at ≡ h .operands + (h .depth - 1 - k) → s ≡ literal (objectsAt n b contents bodies) (h .method) l

@@ -1,4 +1,4 @@
--- The verdicts rule by rule, and what is stored by each.
+-- The verdicts of 1, 2 and 3, and what is stored by each verdict.
 use Prim.Native.Nat.{ℕ, _*_, _≤_, _<_}
 use mathlib.Core.Path.{_≡_, refl, sym, ap, _∙_}
 use mathlib.Core.Bool.{Bool, true, false, _&&_}
@@ -9,38 +9,11 @@ use Rattle.bytecode.proofs.Choice.{if-le, if-gt}
 use Rattle.model.specs.Limits.{entryWords, bytesKind}
 use Rattle.model.specs.Word.{isValid}
 use Rattle.model.specs.Objects.{Objects, isKind}
-use Rattle.model.specs.Rules.{headerFine, rule4, rule5, rule6, rule7, rule8}
-use Rattle.model.specs.Image.{Room, imageHeader, imageObjects, Verdict, accepted, refused, unless, _then_, lengthFine, buffersFine, objectsVerdict, loadVerdict}
+use Rattle.model.specs.Rules.{headerFine, rule8}
+use Rattle.model.specs.Image.{Room, imageHeader, imageObjects, Verdict, accepted, refused, unless, _then_, lengthFine, buffersFine, objectTests, objectsVerdict, loadVerdict}
+use Rattle.model.proofs.OrderLaws.{Refuses, number-of}
 use Rattle.readers.proofs.Loops.{and-true}
 use Rattle.store.specs.Answer.{numberOf, Stored, stored, inFront, storedBy}
-
--- 4 to 8
-module _ (e : ℕ) (o : Objects) (receiver selector : ℕ) where
-  pub gives-4 : rule4 e o ≡ false → objectsVerdict e o receiver selector ≡ refused 4
-  unfolding objectsVerdict
-  gives-4 four = rw four
-
-  pub gives-5 : rule4 e o ≡ true → rule5 e o ≡ false → objectsVerdict e o receiver selector ≡ refused 5
-  unfolding objectsVerdict
-  gives-5 four five = rw (four, five)
-
-  pub gives-6 : rule4 e o ≡ true → rule5 e o ≡ true → rule6 e o ≡ false → objectsVerdict e o receiver selector ≡ refused 6
-  unfolding objectsVerdict
-  gives-6 four five six = rw (four, five, six)
-
-  pub gives-7 : rule4 e o ≡ true → rule5 e o ≡ true → rule6 e o ≡ true → rule7 e o ≡ false → objectsVerdict e o receiver selector ≡ refused 7
-  unfolding objectsVerdict
-  gives-7 four five six seven = rw (four, five, six, seven)
-
-  pub gives-8 : rule4 e o ≡ true → rule5 e o ≡ true → rule6 e o ≡ true → rule7 e o ≡ true → rule8 o receiver selector [] ≡ false
-      → objectsVerdict e o receiver selector ≡ refused 8
-  unfolding objectsVerdict
-  gives-8 four five six seven eight = rw (four, five, six, seven, eight)
-
-  pub gives-none : rule4 e o ≡ true → rule5 e o ≡ true → rule6 e o ≡ true → rule7 e o ≡ true → rule8 o receiver selector [] ≡ true
-      → objectsVerdict e o receiver selector ≡ accepted
-  unfolding objectsVerdict
-  gives-none four five six seven eight = rw (four, five, six, seven, eight)
 
 -- 1 to 3, and what is left then
 module _ (room : Room) (image : List ℕ) where
@@ -65,24 +38,13 @@ module _ (room : Room) (image : List ℕ) where
 
 -- A verdict that refuses by 4 or more, if at all
 abbrev pub Late : Verdict → Type 0
-Late accepted = Unit {0}
-Late (refused k) = 3 < k
-
-late-more : (b : Bool) (k : ℕ) (v : Verdict) → 3 < k → Late v → Late (unless b k then v)
-late-more true k v h l = l
-late-more false k v h l = h
-
-late-last : (b : Bool) (k : ℕ) → 3 < k → Late (unless b k)
-late-last true k h = tt
-late-last false k h = h
+Late = Refuses (λ k. 3 < k)
 
 pub late : (e : ℕ) (o : Objects) (receiver selector : ℕ) → Late (objectsVerdict e o receiver selector)
 unfolding objectsVerdict
 late e o receiver selector =
-    late-more (rule4 e o) 4 _ (omega arith)
-    (late-more (rule5 e o) 5 _ (omega arith)
-    (late-more (rule6 e o) 6 _ (omega arith)
-    (late-more (rule7 e o) 7 _ (omega arith) (late-last (rule8 o receiver selector []) 8 (omega arith)))))
+    number-of (λ k. 3 < k) (objectTests e o receiver selector)
+    (omega arith, (omega arith, (omega arith, (omega arith, (omega arith, (omega arith, tt))))))
 
 -- what is stored, by the number
 pub early : (k : ℕ) (image contents bodies : List ℕ) → k ≤ 3 → storedBy (refused k) image contents bodies ≡ stored k contents bodies

@@ -90,6 +90,9 @@ pub fn judge(
     if !rules::words(edition, contents, bodies, n, b) {
         return 5;
     }
+    if !rules::chains(contents, bodies, n, b) {
+        return 14;
+    }
     if !rules::classes(edition, contents, bodies, n, b) {
         return 6;
     }

@@ -1,8 +1,8 @@
--- `classes` is rule 6, in the order of specs/Shape.antt.
+-- `classes` is rule 6: the known objects, then all.
 use mathlib.Core.Path.{sym, _∙_}
 use borrow.Author.Tests.{not-true, not-false}
 use Rattle.model.specs.Objects.{objectsAt}
-use Rattle.rules.proofs.ClassLaws.{no-known, no-shape, by-chains, above-class}
+use Rattle.rules.proofs.ClassLaws.{no-known, by-shapes}
 use borrow.Author.Needs.{needs}
 use Rattle.rules.proofs.classes.Statement.{statement}
 use Rattle.rules.proofs.classes.Tie as tie
@@ -21,28 +21,11 @@ shapes-requires c κs = search needs
 
 returns-2 : tie.Need-returns-2
 returns-2 c =
-    let at-known-fine = c .before .before .before in
-    let at-start = at-known-fine .before .before .before in
-    let a = at-start .args in
+    let at-known-fine = c .before .before in
+    let a = at-known-fine .before .before .before .args in
     let o = objectsAt (a .n) (a .b) (a .contents .now) (a .bodies .now) in
-    sym (no-shape (a .edition) o (sym (at-known-fine .known-fine .ensures) ∙ not-false _ (c .before .before .if1 .left)) (sym (c .before .shapes .ensures) ∙ not-true _ (c .if2 .taken)))
-
-chains-requires : tie.Need-chains-requires
-chains-requires c κs =
-    let at-start = c .before .before .before .before .before .before in
-    (at-start .pre, above-class (at-start .args .edition) _ (sym (c .before .shapes .ensures) ∙ not-false _ (c .if2 .left)))
-
-returns-3 : tie.Need-returns-3
-returns-3 c =
-    let at-if1 = c .before .before .before in
-    let at-known-fine = at-if1 .before in
-    let at-start = at-known-fine .before .before .before in
-    let a = at-start .args in
-    let o = objectsAt (a .n) (a .b) (a .contents .now) (a .bodies .now) in
-    c .chains .ensures ∙ sym (by-chains (a .edition) o (sym (at-known-fine .known-fine .ensures) ∙ not-false _ (at-if1 .if1 .left))
-    (sym (c .before .before .shapes .ensures) ∙ not-false _ (c .before .if2 .left)))
+    c .shapes .ensures ∙ sym (by-shapes (a .edition) o (sym (at-known-fine .known-fine .ensures) ∙ not-false _ (c .before .if1 .left)))
 
 pub classes-spec : {M : Type 1} → statement M
 classes-spec =
-    tie.close
-    (tie.spec known-fine-requires returns shapes-requires returns-2 chains-requires returns-3)
+    tie.close (tie.spec known-fine-requires returns shapes-requires returns-2)

@@ -3,7 +3,6 @@ use mathlib.Core.Path.{sym, _∙_}
 use native.Mathlib.Omega.{arith}
 use Rattle.model.specs.Objects.{objectsAt}
 use Rattle.rules.proofs.ClassLaws.{chain-other, chain-of-class}
-use Rattle.readers.proofs.Names.{names-kind}
 use borrow.Author.Needs.{needs}
 use Rattle.rules.proofs.class_rules.chain_fine.Statement.{statement}
 use Rattle.rules.proofs.class_rules.chain_fine.Tie as tie
@@ -21,22 +20,19 @@ mul-ends : tie.Need-mul-ends
 mul-ends c =
     let p = c .before .before .before .before .pre in
     let l = p .0 in
-    let h = p .1 .1 in
+    let h = p .1 in
     omega arith
 
 cast-ends : tie.Need-cast-ends
 cast-ends c =
     let p = c .before .before .before .before .pre in
     let l = p .0 in
-    let h = p .1 .1 in
+    let h = p .1 in
     omega arith
 
 ends-requires : tie.Need-ends-requires
 ends-requires c κs =
-    let a = c .before .before .before .before .args in
-    let p = c .before .before .before .before .pre in
-    let o = objectsAt (a .n) (a .b) (a .contents .now) (a .bodies .now) in
-    (p .0, (p .1 .0, names-kind o (a .k) 2 (p .1 .1 .0) (p .1 .1 .1) (sym (c .before .kind .ensures) ∙ c .if1 .left)))
+    c .before .before .before .before .pre .0
 
 returns-2 : tie.Need-returns-2
 returns-2 c =

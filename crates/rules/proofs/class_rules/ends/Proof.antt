@@ -1,84 +1,77 @@
--- `ends` is `endsWithin` N. Before each turn the word is nil or a class, and the turns left from it decide.
-use Prim.Native.Nat.{ℕ, _-_, _≤_}
+-- `ends` is `endsWithin` 24: before each turn the turns left from the word decide.
+use Prim.Native.Nat.{_-_}
 use mathlib.Core.Path.{_≡_, refl, sym, ap, _∙_}
-use mathlib.Core.Bool.{true}
+use mathlib.Core.Bool.{not}
 use native.Mathlib.Omega.{arith}
-use Rattle.model.specs.Objects.{Objects, objectsAt, isNilOr}
-use Rattle.model.specs.Lookup.{endsWithin}
-use Rattle.rules.proofs.ClassLaws.{nil-or-class, class-or-nil, chain-ends, chain-turn, chain-last-turn}
+use borrow.Author.Tests.{not-true, not-false}
+use borrow.Author.Needs.{needs}
 use Rattle.bytecode.proofs.TestLaws.{true→T}
+use Rattle.model.specs.Limits.{mostClasses}
+use Rattle.model.specs.Objects.{objectsAt}
+use Rattle.model.specs.Lookup.{endsWithin}
+use Rattle.model.proofs.ChainLaws.{ends-none}
 use Rattle.readers.proofs.InsideLaws.{class-inside}
+use Rattle.rules.proofs.ClassLaws.{chain-turn, chain-last-turn}
 use Rattle.rules.proofs.class_rules.ends.Statement.{statement}
 use Rattle.rules.proofs.class_rules.ends.Tie as tie
 
-record Walk (o : Objects) (c at left : ℕ) : Type 0 where
-  turns : left ≤ o .n
-  rest : endsWithin (o .n) o c ≡ endsWithin left o at
-  link : isNilOr o 2 at ≡ true
-
 abbrev Inv-loop : tie.InvT-loop
-Inv-loop contents bodies n b c at₀ left₀ at left = Walk (objectsAt n b contents bodies) c at left
+Inv-loop contents bodies n b c at₀ left₀ at left =
+    endsWithin mostClasses (objectsAt n b contents bodies) c ≡ endsWithin left (objectsAt n b contents bodies) at
 
 abbrev μ-loop : tie.MeasureT-loop
 μ-loop contents bodies n b c at₀ left₀ at left = left
 
 loop-holds : tie.Need-loop-holds Inv-loop μ-loop
-loop-holds c =
-    let a = c .before .before .args in
-    let p = c .before .before .pre in
-    let o = objectsAt (a .n) (a .b) (a .contents .now) (a .bodies .now) in
-    record { turns = omega arith; rest = refl; link = class-or-nil o (a .c) (p .1 .1) }
+loop-holds c = refl
+
+is-kind-requires : tie.Need-is-kind-requires Inv-loop μ-loop
+is-kind-requires c κs = search needs
 
 returns : tie.Need-returns Inv-loop μ-loop
 returns c =
-    let a = c .before .before .before .before .before .args in
+    let at-loop = c .before .before .before in
+    let a = at-loop .before .before .before .args in
     let o = objectsAt (a .n) (a .b) (a .contents .now) (a .bodies .now) in
-    let i = c .before .before .loop .inv in
-    sym (i .rest ∙ chain-ends o (c .before .before .loop .left) (c .before .before .loop .at) (c .if1 .taken))
+    sym (at-loop .loop .inv ∙ ends-none o (at-loop .loop .left) (at-loop .loop .at) (sym (c .before .is-kind .ensures (a .b) (a .bodies .now)) ∙ not-true _ (c .if1 .taken)))
 
 word-of-requires : tie.Need-word-of-requires Inv-loop μ-loop
 word-of-requires c κs =
-    let at-loop = c .before .before in
-    let at-start = at-loop .before .before .before in
+    let at-start = c .before .before .before .before .before .before in
     let a = at-start .args in
-    let p = at-start .pre in
-    let o = objectsAt (a .n) (a .b) (a .contents .now) (a .bodies .now) in
-    let i = at-loop .loop .inv in
-    class-inside (p .0) (true→T (nil-or-class o (at-loop .loop .at) (i .link) (c .if1 .left))) (omega arith)
+    class-inside (at-start .pre) (true→T (sym (c .before .is-kind .ensures (a .b) (a .bodies .now)) ∙ not-false _ (c .if1 .left))) (omega arith)
 
 sub-left : tie.Need-sub-left Inv-loop μ-loop
 sub-left c =
-    let t = c .before .before .loop-test .taken in
+    let t = c .before .before .before .loop-test .taken in
     omega arith
 
 loop-less : tie.Need-loop-less Inv-loop μ-loop
 loop-less c =
-    let t = c .before .before .loop-test .taken in
+    let t = c .before .before .before .loop-test .taken in
     omega arith
 
 loop-again : tie.Need-loop-again Inv-loop μ-loop
 loop-again c =
-    let at-loop = c .before .before .before in
-    let at-start = at-loop .before .before .before in
-    let a = at-start .args in
-    let p = at-start .pre in
+    let at-is-kind = c .before .before in
+    let at-loop = at-is-kind .before .before in
+    let a = at-loop .before .before .before .args in
     let o = objectsAt (a .n) (a .b) (a .contents .now) (a .bodies .now) in
-    let i = at-loop .loop .inv in
-    let t = c .before .before .loop-test .taken in
-    let s = c .word-of .ensures in
-    record {
-      turns = omega arith;
-      rest = i .rest ∙ chain-turn o (at-loop .loop .left) (at-loop .loop .left - 1) (at-loop .loop .at) (omega arith) (c .before .if1 .left) ∙ ap (endsWithin (at-loop .loop .left - 1) o) (sym s);
-      link = ap (λ (x : ℕ). isNilOr o 2 x) s ∙ p .1 .0 (at-loop .loop .at) (nil-or-class o (at-loop .loop .at) (i .link) (c .before .if1 .left));
-    }
+    let t = at-is-kind .before .loop-test .taken in
+    at-loop .loop .inv
+    ∙ chain-turn o (at-loop .loop .left) (at-loop .loop .left - 1) (at-loop .loop .at) (omega arith) (sym (at-is-kind .is-kind .ensures (a .b) (a .bodies .now)) ∙ not-false _ (c .before .if1 .left))
+    ∙ ap (endsWithin (at-loop .loop .left - 1) o) (sym (c .word-of .ensures))
+
+is-kind-requires-2 : tie.Need-is-kind-requires-2 Inv-loop μ-loop
+is-kind-requires-2 c κs = search needs
 
 returns-2 : tie.Need-returns-2 Inv-loop μ-loop
 returns-2 c =
-    let a = c .before .before .before .before .args in
+    let at-loop = c .before .before in
+    let a = at-loop .before .before .before .args in
     let o = objectsAt (a .n) (a .b) (a .contents .now) (a .bodies .now) in
-    let i = c .before .loop .inv in
-    let t = c .loop-test .left in
-    sym (i .rest ∙ chain-last-turn o (c .before .loop .left) (c .before .loop .at) (omega arith))
+    let t = c .before .loop-test .left in
+    ap not (c .is-kind2 .ensures (a .b) (a .bodies .now)) ∙ sym (at-loop .loop .inv ∙ chain-last-turn o (at-loop .loop .left) (at-loop .loop .at) (omega arith))
 
 pub ends-spec : {M : Type 1} → statement M
 ends-spec =
@@ -87,9 +80,11 @@ ends-spec =
     Inv-loop
     μ-loop
     loop-holds
+    is-kind-requires
     returns
     word-of-requires
     sub-left
     loop-less
     loop-again
+    is-kind-requires-2
     returns-2)

@@ -1,13 +1,13 @@
--- `chains` tests every class.
+-- `chains` is rule 14: it tests every class.
 use Prim.Native.Nat.{_+_, _-_}
 use mathlib.Core.Path.{sym, _∙_}
 use native.Mathlib.Omega.{arith}
 use borrow.Author.Tests.{not-true, not-false}
 use Rattle.model.specs.Objects.{objectsAt}
-use Rattle.rules.specs.Shape.{chainFine}
+use Rattle.model.specs.Rules.{chainFine, rule14}
 use Rattle.readers.proofs.Loops.{Turn, turn-first, turn-next, up-all, up-no}
-use Rattle.rules.proofs.class_rules.chains.Statement.{statement}
-use Rattle.rules.proofs.class_rules.chains.Tie as tie
+use Rattle.rules.proofs.chains.Statement.{statement}
+use Rattle.rules.proofs.chains.Tie as tie
 
 abbrev Inv-loop : tie.InvT-loop
 Inv-loop contents bodies n b k₀ k = Turn n (chainFine (objectsAt n b contents bodies)) k
@@ -25,9 +25,10 @@ chain-fine-requires : tie.Need-chain-fine-requires Inv-loop μ-loop
 chain-fine-requires c κs =
     let p = c .before .before .before .before .pre in
     let i = c .before .loop .inv in
-    (p .0, (p .1, (i .least, c .loop-test .taken)))
+    (p, (i .least, c .loop-test .taken))
 
 returns : tie.Need-returns Inv-loop μ-loop
+unfolding rule14
 returns c =
     let at-loop = c .before .before .before in
     let at-start = at-loop .before .before .before in
@@ -38,8 +39,7 @@ returns c =
 
 add-k : tie.Need-add-k Inv-loop μ-loop
 add-k c =
-    let p = c .before .before .before .before .before .before .pre in
-    let l = p .0 in
+    let l = c .before .before .before .before .before .before .pre in
     let i = c .before .before .before .loop .inv in
     let t = c .before .before .loop-test .taken in
     omega arith
@@ -59,6 +59,7 @@ loop-again c =
     turn-next (a .n) (chainFine o) (at-loop .loop .k) (c .before .before .loop-test .taken) (at-loop .loop .inv) (sym (c .before .chain-fine .ensures) ∙ not-false _ (c .if1 .left))
 
 returns-2 : tie.Need-returns-2 Inv-loop μ-loop
+unfolding rule14
 returns-2 c =
     let a = c .before .before .before .before .args in
     let o = objectsAt (a .n) (a .b) (a .contents .now) (a .bodies .now) in
