@@ -1,9 +1,8 @@
 -- Save and load undo each other: the statements are in specs/SaveLoad.antt.
 use Prim.Native.Nat.{ℕ, _*_, _≤_}
 use mathlib.Core.Path.{_≡_, refl, sym, ap, ap₂, _∙_, subst}
-use mathlib.Core.Bool.{Bool, true, false}
+use mathlib.Core.Bool.{true}
 use mathlib.Core.List.{List, [], _++_}
-use lib.Dec.{T}
 use lib.ListN.{length, take, drop}
 use lib.Seq.{length-take-le}
 use Rattle.bytecode.proofs.TestLaws.{T→true, and-both, rules}

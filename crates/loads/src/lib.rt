@@ -38,7 +38,7 @@ fn no_registers() -> Registers
     }
 }
 
-// An image put in place and the cache emptied, or nothing but zeros where it is refused by 4 to 8.
+// An image put in place and the cache emptied, or nothing but zeros where its objects are refused.
 pub fn load(image: &[u8], contents: &mut [u16], bodies: &mut [u16], cache: &mut [u16]) -> Loaded
     ensures { λ r. ⌜ PromisedLoad (now (image .entry)) (now (contents .entry)) (now (bodies .entry)) (now (cache .entry)) r (now (contents .exit))
         (now (bodies .exit)) (now (cache .exit)) ⌝ }

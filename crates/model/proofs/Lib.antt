@@ -5,6 +5,7 @@ pub mod ChainLaws
 pub mod Parts
 pub mod Facts
 pub mod LookupLaws
+pub mod ChainExamples
 pub mod OrderLaws
 pub mod Extends
 pub mod Unchanged

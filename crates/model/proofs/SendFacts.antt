@@ -9,7 +9,7 @@ use lib.Dec.{T, eqb, eqb→eq}
 use Rattle.bytecode.specs.Constant.{nilWord}
 use Rattle.bytecode.specs.Test.{below, implies}
 use Rattle.bytecode.proofs.Choice.{if-yes, if-no}
-use Rattle.bytecode.proofs.TestLaws.{true→T, T→true, or-cases, implied, upTo-at, below-at}
+use Rattle.bytecode.proofs.TestLaws.{true→T, or-cases, implied, upTo-at, below-at}
 use Rattle.model.specs.declared.Found.{Found}
 use Rattle.model.specs.declared.Found.the-variants.{Method, Nothing}
 use Rattle.model.specs.Limits.{fieldsKind, bytesKind, classKind, methodKind, mostClasses}

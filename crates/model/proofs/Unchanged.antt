@@ -1,11 +1,10 @@
 -- Lookups, class chains, argument counts and depth tables are the same in objects that extend others.
 use Prim.Native.Nat.{ℕ, zero, suc, _+_, _-_, _/_, _%_, _≤_, _<_}
 use mathlib.Core.Path.{_≡_, refl, sym, ap, ap₂, _∙_, subst, fun-ext}
-use mathlib.Core.Logic.{_≢_}
 use mathlib.Core.Bool.{Bool, true, false, _&&_, _||_, not}
 use mathlib.Core.List.{List, []}
 use native.Mathlib.Omega.{arith}
-use borrow.Author.Tests.{ne-eqb, ltb-true}
+use borrow.Author.Tests.{ltb-true}
 use lib.Dec.{T, leb, ltb, eqb, ltb→lt, eqb→eq}
 use Rattle.bytecode.specs.Test.{if_then_else_, below, implies}
 use Rattle.bytecode.specs.Constant.{nilWord}
@@ -29,7 +28,7 @@ use Rattle.model.specs.Depth.{walkFrom, successorsAt, depthAfterAt, rule
 use Rattle.model.specs.Rules.{takesCount, sendFine, variableFine, placeFine, isWritable, specialSelector, isSame, isClass, allowed, methodTable, rule8}
 use Rattle.model.proofs.ChainLaws.{named, class-hit, class-miss, no-class, chain-class, chain-none, ends-class, ends-none}
 use Rattle.model.proofs.Parts.{below-same, upTo-same, implying}
-use Rattle.model.proofs.Facts.{Right, naming, named-pointer, least, known-facts, inside-selectors, special-valid, class-facts, nil-no-class, pair-facts, method-facts}
+use Rattle.model.proofs.Facts.{Right, naming, named-pointer, least, known-facts, inside-selectors, special-valid, class-facts, pair-facts, method-facts}
 use Rattle.model.proofs.Extends.{Extends, valid-grows, kind-kept, kind-same, kind-valid, superclass-same, dictionary-same, pair-count-same, pair-selector-same, pair-method-same, home-fields-same, temporaries-same, literal-count-same, literal-same, frame-same, code-size-same, code-same, arguments-same}
 
 -- a test behind another is asked only where that one holds

@@ -1,4 +1,4 @@
--- What follows from the theorem: consoles agree, handlers change no code, and check accepts what calls leave. And what follows from the calls alone: who writes
+-- What follows from the theorem: consoles agree, handlers change no code, check accepts what calls leave, and lookups read few dictionaries. And what follows from the calls alone: who writes
 -- the cache.
 use Prim.Native.Nat.{ℕ, _+_, _/_, _≤_, _<_}
 use mathlib.Core.Path.{_≡_, refl, sym, ap, ap₂, _∙_, subst}
@@ -18,8 +18,10 @@ use Rattle.plain.specs.Flat.{Flat, roomOf, flatObjects, plainOf}
 use Rattle.plain.specs.Check.{check}
 use Rattle.plain.specs.FlatCalls as F
 use Rattle.plain.specs.FlatCalls.{Given, gives, noAnswer, checked, flatBegin, flatRun, flatDrop, flatForget, flatCall}
-use Rattle.plain.specs.CallLists.{Keeps, Together, Agrees, Alike, Same, Consoles, nextState, lastState, KeepsAll, IsRefused, CacheKept}
+use Rattle.plain.specs.CallLists.{Keeps, Together, Agrees, Alike, Same, Consoles, nextState, lastState, KeepsAll, LookupsReadFew, IsRefused, CacheKept}
 use Rattle.plain.specs.Reach.{stateAfter}
+use Rattle.model.proofs.LookupLaws.{reads-few}
+use Rattle.plain.proofs.FlatLaws.{check-right}
 use Rattle.plain.proofs.Theorem.{from-checked, from-load}
 
 -- Two flat machines, in buffers of these lengths, that agree with plain machines whose calls are the same: while the calls are as P asks, they are alike.
@@ -154,3 +156,8 @@ pub last-checks : (room : Room) (cs : List Call) (s : Flat) (p : Plain) → Agre
 unfolding Agrees lastState
 last-checks room [] s p a e = e
 last-checks room (c ∷ cs) s p a e = last-by room c cs p s (flatCall s c) (call room p c) (λ s′ p′ x y. last-checks room cs s′ p′ x y) a
+
+pub lookups-read-few : LookupsReadFew
+unfolding plainOf
+lookups-read-few s e cs selector class =
+    reads-few (check-right (lastState s cs) (last-checks (roomOf s) cs s (plainOf s) (from-checked s e cs) e) .plain .image) selector class

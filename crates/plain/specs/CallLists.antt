@@ -11,6 +11,7 @@ use mathlib.Core.Logic.{_⊎_, _≢_}
 use mathlib.Core.List.{List, [], _∷_}
 use Rattle.model.specs.Limits.{entryWords, classKind, mostStackWords}
 use Rattle.model.specs.Objects.{Objects, entryWord, kind, bodyWords, bodyWord}
+use Rattle.model.specs.Lookup.{ReadsFew}
 use Rattle.model.specs.Image.{Room, accepted, loadVerdict}
 use Rattle.plain.specs.Registers.{running, finished, Cause, phaseOf}
 use Rattle.plain.specs.State.{Plain, objects}
@@ -116,6 +117,10 @@ lastState s (c ∷ cs) = lastState (nextState s (flatCall s c)) cs
 
 abbrev pub KeepsAll : Type 0
 KeepsAll = (s : Flat) → check s ≡ accepted → (cs : List Call) → Keeps (flatObjects s) (flatObjects (lastState s cs))
+
+-- A lookup reads at most 24 dictionaries, there and after every list of calls (02, M-101).
+abbrev pub LookupsReadFew : Type 0
+LookupsReadFew = (s : Flat) → check s ≡ accepted → (cs : List Call) (selector class : ℕ) → ReadsFew (flatObjects (lastState s cs)) selector class
 
 -- After load only run and forget write the cache: every other call leaves it, and so does every call that is refused.
 abbrev pub WritesCache : Call → Type 0

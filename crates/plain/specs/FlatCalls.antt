@@ -90,7 +90,7 @@ flatCall s dropCall = flatDrop s
 flatCall s forgetCall = flatForget s
 
 -- Load. It takes buffers and no state: the registers of `s` are not read, and the stack is none of its buffers. Accepted, it puts contents
--- and bodies in place and empties the cache; refused by 4 to 8 it zeroes the 4N and B words; by 1 to 3 it writes nothing. Refused, its
+-- and bodies in place and empties the cache; refused by 1 to 3 it writes nothing; by another number it zeroes the 4N and B words. Refused, its
 -- registers are all zero.
 abbrev pub withRegisters : Flat → Registers → Flat
 withRegisters s r = record { registers = r; contents = s .contents; bodies = s .bodies; stack = s .stack; cache = s .cache }

@@ -1,6 +1,6 @@
 -- Rule 6 in the parts in which it is tested: F and form of a class together, the kinds of the objects 1 to 4 together.
 use Prim.Native.Nat.{ℕ, _/_}
-use mathlib.Core.Bool.{Bool, true, false, _&&_, not}
+use mathlib.Core.Bool.{Bool, false, _&&_, not}
 use mathlib.Core.List.{List, [], _∷_}
 use lib.Dec.{leb, eqb}
 use Rattle.bytecode.specs.Test.{if_then_else_, implies, every, allOf}

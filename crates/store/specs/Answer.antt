@@ -31,7 +31,7 @@ abbrev pub inFront : ℕ → ℕ → ℕ → List ℕ → List ℕ → List ℕ 
 inFront number n b entries words contents bodies =
     stored number (entries ++ drop (entryWords * n) contents) (words ++ drop b bodies)
 
--- Accepted: the image's objects are in place. Refused by 4 to 8: zeros are. Refused by 1 to 3: nothing changes.
+-- Accepted: the image's objects are in place. Refused by 1 to 3: nothing changes. Refused by another number: zeros are in place.
 unfoldable pub storedBy : Verdict → List ℕ → List ℕ → List ℕ → Stored
 storedBy accepted image contents bodies =
     inFront 0 (imageHeader image .n) (imageHeader image .b) (imageObjects image .contents) (imageObjects image .bodies) contents bodies

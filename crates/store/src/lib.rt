@@ -69,8 +69,8 @@ pub fn buffers_fine(contents: usize, bodies: usize, cache: usize, n: u16, b: u16
     cache == CACHE_WORDS
 }
 
-// Rules 4 to 8, each over all objects before the next: 0, or the number of the first that does not hold. The notes are 0; accepted, they
-// are those of the depth tables.
+// The rules of the objects, each over all of them before the next: 0, or the number of the first that does not hold. The notes are 0; accepted,
+// they are those of the depth tables.
 pub fn judge(
     edition: u16,
     contents: &[u16],
