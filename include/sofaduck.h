@@ -34,7 +34,7 @@ extern "C" {
 
 /* The version of header and library, and the edition of the images that load accepts. */
 #define SOFADUCK_VERSION_MAJOR 2
-#define SOFADUCK_VERSION_MINOR 0
+#define SOFADUCK_VERSION_MINOR 1
 #define SOFADUCK_VERSION_PATCH 0
 #define SOFADUCK_EDITION 1
 
@@ -43,6 +43,7 @@ enum {
     SOFADUCK_OBJECTS = 2047,     /* objects of the largest image */
     SOFADUCK_CONTENTS = 8188,    /* words of contents for so many, 4 for each */
     SOFADUCK_BODIES = 24000,     /* words of bodies that an image can use */
+    SOFADUCK_CHAIN = 24,         /* classes of the longest chain, from a class up through its superclasses: a lookup reads no more dictionaries */
     SOFADUCK_CACHE = 192,        /* words of the cache, exactly */
     SOFADUCK_REGISTERS = 7,      /* words of the registers, exactly */
     SOFADUCK_IMAGE = 64386,      /* bytes of the largest image: 10, 8 for each object, 2 for each word of bodies */
@@ -74,8 +75,8 @@ enum {
     SOFADUCK_NO_STACK_ROOM   /* a send finds a method whose frame does not fit in the stack */
 };
 
-/* What every function returns: 0, or the number of the refusal. Where there are several it is the first, in the order 1 to 8 for load, and for the
- * others 3, 11, 12, 8, 9, 10, 13. A refused call changes no buffer, register or result; only load does, see there. */
+/* What every function returns: 0, or the number of the refusal. Where there are several it is the first, in the order 1 to 5, 14, 6, 7, 8 for load,
+ * and for the others 3, 11, 12, 8, 9, 10, 13. A refused call changes no buffer, register or result; only load does, see there. */
 enum {
     SOFADUCK_BAD_LENGTH = 1, /* the image's length is not the one that its header tells, or is below 10 bytes */
     SOFADUCK_BAD_HEADER,     /* an edition other than 1, objects not from 5 to 2,047, or more than 24,000 words of bodies */
@@ -89,7 +90,8 @@ enum {
     SOFADUCK_BAD_COUNT,      /* the method takes another number of arguments */
     SOFADUCK_BAD_STATE,      /* objects, cache, registers or frames break a rule that every call keeps */
     SOFADUCK_BAD_PHASE,      /* begin while a handler is running, or run while none is */
-    SOFADUCK_NO_FIRST_FRAME  /* the handler's first frame does not fit in the stack */
+    SOFADUCK_NO_FIRST_FRAME, /* the handler's first frame does not fit in the stack */
+    SOFADUCK_LONG_CHAIN      /* image: a class's chain of superclasses, itself counted, has more than 24 classes, or goes round */
 };
 
 /* Words. An odd word is an integer, -16,384 to 16,383. An even word names an object: twice its number, from 1 to N. In the buffers a word is a
@@ -124,9 +126,9 @@ static inline size_t sofaduck_size(const uint16_t *contents, uint16_t object) { 
  *   cache       SOFADUCK_CACHE words
  *   registers   written in every case
  *
- * Returns 0; or 1, 2 or 4 to 8, what is wrong with the image; or 3, a buffer of the wrong length. A refused load sets all registers to 0, with which
- * every other call is refused. By 1 to 3 it changes no buffer. By 4 to 8 the words that the image would have in contents and in bodies are 0
- * afterwards, and the rest of both and the cache are as before. */
+ * Returns 0; or 1, 2, 4 to 8 or 14, what is wrong with the image; or 3, a buffer of the wrong length. A refused load sets all registers to 0, with
+ * which every other call is refused. By 1 to 3 it changes no buffer. By 4 to 8 and 14 the words that the image would have in contents and in bodies
+ * are 0 afterwards, and the rest of both and the cache are as before. */
 uint32_t sofaduck_load(const uint8_t *image, size_t image_length,
                        uint16_t *contents, size_t contents_length,
                        uint16_t *bodies, size_t bodies_length,
@@ -141,9 +143,9 @@ uint32_t sofaduck_load(const uint8_t *image, size_t image_length,
  * B, or the cache other than 192, and by 11 where objects, cache, registers or frames break a rule that every call keeps. The time for that grows
  * with the image and the frames, and is spent once a call: one run of a thousand bytecodes takes far less than a thousand runs of one, and one play
  * far less than its calls made singly. On a shared two-core x86-64 machine it took about 4, 21 and 195 microseconds for images of 1,000, 6,000 and
- * 24,000 words of bodies with one frame, and 30 milliseconds for a state made to be slow, a chain of 2,000 classes and 3,640 frames. Of 100 contacts
- * in a frame, with handlers of about 50 bytecodes and 6,000 words of bodies, each took 43 microseconds singly and half of one by play (bench/run
- * prints it).
+ * 24,000 words of bodies with one frame, and 600 for a state made to be slow: 1,300 classes with chains of 24, 3,640 frames, and a cache full of
+ * lookups that read 9,200 pairs each. Of 100 contacts in a frame, with handlers of about 50 bytecodes and 6,000 words of bodies, each took 43
+ * microseconds singly and half of one by play (bench/run prints it).
  *
  * What an engine may write itself, between calls and in any phase: into a field of an object of kind SOFADUCK_FIELDS, any integer and any word that
  * names an object; into an object of kind SOFADUCK_BYTES, any bytes, but for the one behind an odd number of them, which stays 0. Check accepts it.
@@ -391,7 +393,8 @@ static inline const char *sofaduck_refusal_text(uint32_t number) {
         "the method takes another number of arguments",
         "the state was spoiled",
         "the phase is not one for this call",
-        "the first frame does not fit in the stack"
+        "the first frame does not fit in the stack",
+        "a chain of more than 24 classes"
     };
     return number < sizeof texts / sizeof *texts ? texts[number] : "no number of a refusal";
 }
