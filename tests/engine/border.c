@@ -106,10 +106,89 @@ static void load_refused(const char *what, uint32_t wanted, size_t count) {
     memcpy(other, image, sizeof image);
 }
 
+/* Where the body of a class begins, in the image's words. */
+static size_t class_at(uint16_t class) { return 5 + 4 * get(1) + get(5 + 4 * (class / 2u - 1) + 2); }
+
+/* The header of the first method there. */
+static size_t header_at(void) {
+    size_t entry = 5;
+    while (get(entry + 1) != SOFADUCK_METHOD) entry += 4;
+    return 5 + 4 * get(1) + get(entry + 2);
+}
+
+/* The classes from one up to the first word that names none, in a state that load accepted. */
+static unsigned chain_length(uint16_t class) {
+    size_t size = 0;
+    unsigned count = 0;
+    for (const uint16_t *body; (body = sofaduck_body(&s, class, SOFADUCK_CLASS, &size)) != NULL; class = body[0]) count++;
+    return count;
+}
+
+/* Chains of more than 24 classes, and what else is wrong beside them: 1 to 5 come before 14, and 6 to 8 behind it. */
+static void long_chains(void) {
+    const size_t aside = class_at(CLASS_Aside), object = class_at(CLASS_Object);
+    const struct {
+        const char *what;
+        size_t place;
+        unsigned word;
+        uint32_t number;
+    } beside[] = {
+        {"edition 2", 0, 2, 2},
+        {"kind 9", 6, 9, 4},
+        {"class 0", 5, 0, 5},
+        {"a form that is 0", class_at(CLASS_Box) + 3, 0, 5},
+        {"nil as a class", 5, SOFADUCK_NIL, 14},
+        {"nil as a dictionary", aside + 1, SOFADUCK_NIL, 14},
+        {"a superclass that is an integer, of the uppermost", object, sofaduck_word(0), 14},
+        {"a superclass of another kind, of the uppermost", object, OBJECT_box, 14},
+        {"object 4 with form 0", class_at(SOFADUCK_INTEGER_CLASS) + 3, sofaduck_word(0), 14},
+        {"a method's header without its tag", header_at(), get(header_at()) - 1, 14},
+        {"nil as start selector", 4, SOFADUCK_NIL, 14},
+    };
+    char line[100];
+    loaded();
+    test("load: a chain of 24 classes is accepted", chain_length(CLASS_Level24) == SOFADUCK_CHAIN);
+    fresh(&s, &lent);
+    put(aside, CLASS_Level24);
+    load_refused("load: a chain of 25 classes", 14, length);
+    put(aside, CLASS_Level23);
+    test("load: a second chain of 24 classes is accepted", sofaduck_state_load(&s, other, length) == 0 && chain_length(CLASS_Aside) == SOFADUCK_CHAIN);
+    fresh(&s, &lent);
+    put(aside, CLASS_Level24);
+    s.contents_length = 4 * get(1), s.bodies_length = get(2);
+    load_refused("load: a chain of 25 classes, buffers that just fit", 14, length);
+    put(aside, CLASS_Level24);
+    s.contents_length = 4 * get(1) - 1;
+    load_refused("load: a chain of 25 classes, and contents a word short", 3, length);
+    put(aside, CLASS_Level24);
+    load_refused("load: a chain of 25 classes, and a byte too few", 1, length - 1);
+    put(aside, CLASS_Aside);
+    load_refused("load: a class that is its own superclass", 14, length);
+    put(object, CLASS_Object);
+    load_refused("load: a class above all others that is its own superclass", 14, length);
+    put(object, CLASS_Level24);
+    load_refused("load: a circle of 24 classes", 14, length);
+    put(class_at(CLASS_Level2), CLASS_Level3);
+    load_refused("load: a circle of two classes", 14, length);
+    put(object, sofaduck_word(0));
+    load_refused("load: a chain of 24 classes that ends at an integer", 6, length);
+    put(object, OBJECT_box);
+    load_refused("load: a chain of 24 classes that ends at another object", 6, length);
+    put(aside + 1, SOFADUCK_NIL);
+    load_refused("load: nil as a dictionary", 6, length);
+    for (size_t i = 0; i < sizeof beside / sizeof *beside; i++) {
+        put(aside, CLASS_Level24);
+        put(beside[i].place, beside[i].word);
+        snprintf(line, sizeof line, "load: a chain of 25 classes, and %s", beside[i].what);
+        load_refused(line, beside[i].number, length);
+    }
+    put(aside, CLASS_Aside);
+    put(5, SOFADUCK_NIL);
+    load_refused("load: a class that is its own superclass, and nil as a class", 14, length);
+}
+
 static void loads(void) {
     const unsigned n = get(1), b = get(2);
-    size_t method = 5;
-    while (get(method + 1) != 4) method += 4;
     fresh(&s, &lent);
     memcpy(other, image, sizeof image);
     load_refused("load: no bytes, a null pointer", 1, 0);
@@ -138,10 +217,11 @@ static void loads(void) {
     load_refused("load: class 0", 5, length);
     put(5, SOFADUCK_NIL);
     load_refused("load: nil as a class", 6, length);
-    put(5 + 4 * n + get(method + 2), get(5 + 4 * n + get(method + 2)) - 1);
+    put(header_at(), get(header_at()) - 1);
     load_refused("load: a method's header without its tag", 7, length);
     put(4, SOFADUCK_NIL);
     load_refused("load: nil as start selector", 8, length);
+    long_chains();
 
     fresh(&s, &lent);
     const uint16_t expected[] = {(uint16_t)n, (uint16_t)b, OBJECT_box, SELECTOR_a, SOFADUCK_IDLE, 0, 0};
@@ -199,6 +279,25 @@ static void states(void) {
     loaded();
     s.contents[1] = 9;
     all_refused("a spoiled word of contents", 11);
+    static const struct {
+        const char *what;
+        uint16_t class, superclass;
+    } spoiled[] = {
+        {"a superclass that makes a chain of 25 classes", CLASS_Aside, CLASS_Level24},
+        {"a class that is its own superclass", CLASS_Aside, CLASS_Aside},
+        {"a superclass that makes a circle of 24 classes", CLASS_Object, CLASS_Level24},
+    };
+    for (size_t i = 0; i < 2 * (sizeof spoiled / sizeof *spoiled); i++) {
+        char line[100];
+        loaded();
+        if (i % 2 == 1) begin(&s, OBJECT_bottom, SELECTOR_waiting);
+        s.bodies[sofaduck_start(s.contents, spoiled[i / 2].class)] = spoiled[i / 2].superclass;
+        snprintf(line, sizeof line, "%s%s", spoiled[i / 2].what, i % 2 == 1 ? ", a handler running" : "");
+        all_refused(line, 11);
+    }
+    loaded();
+    s.bodies[sofaduck_start(s.contents, CLASS_Aside)] = CLASS_Level23;
+    test("check: a superclass that makes a second chain of 24 classes", sofaduck_check(SOFADUCK_STATE(&s)) == 0);
     loaded();
     s.cache[0] = SELECTOR_a;
     all_refused("a spoiled cache", 11);
@@ -255,6 +354,14 @@ static void begins(void) {
     test("drop: phase, top and value are 0",
          sofaduck_drop(SOFADUCK_STATE(&s)) == 0 && all(s.registers + SOFADUCK_PHASE, 3, 0) && sofaduck_check(SOFADUCK_STATE(&s)) == 0);
     test("begin: a stack of 38 words for a large frame", begin(&s, OBJECT_box, SELECTOR_wide) == 0);
+    loaded();
+    note();
+    refused("begin: no method in 24 classes", 9, begin(&s, OBJECT_bottom, SELECTOR_a));
+    test("begin: a method of the 24th class up is found, and answers",
+         begin(&s, OBJECT_bottom, SELECTOR_yourself) == 0 && s.registers[SOFADUCK_VALUE] == OBJECT_bottom);
+    test("check: a frame whose home is the 24th class up",
+         begin(&s, OBJECT_bottom, SELECTOR_waiting) == 0 && sofaduck_run(SOFADUCK_STATE(&s), 9, &count, &reach) == 0 && count == 9
+             && sofaduck_check(SOFADUCK_STATE(&s)) == 0);
 }
 
 /* A handler of no arguments, run to its end or halt. */

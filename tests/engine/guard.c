@@ -1,7 +1,7 @@
 /* The library with every buffer at the end of its memory: a page that nobody may touch lies behind each. Images are edited at random, what is
  * accepted is begun and run, lists of calls are played, states are spoiled and read. An access past a buffer ends the program; otherwise it fails
- * where check refuses a state that the calls left, or where count or reach are not those of the same run made bytecode by bytecode. Usage: guard
- * IMAGE... */
+ * where check refuses a state that the calls left, where count or reach are not those of the same run made bytecode by bytecode, or where some number
+ * was never answered. Usage: guard IMAGE... */
 #define _DEFAULT_SOURCE /* MAP_ANONYMOUS */
 #include "frames.h"
 #include <stdbool.h>
@@ -34,7 +34,7 @@ static void *last(int buffer, size_t bytes) {
 
 static sofaduck_state *s;
 static uint32_t *count, *reach, *made;
-static unsigned long answers[SOFADUCK_NO_FIRST_FRAME + 1];
+static unsigned long answers[SOFADUCK_LONG_CHAIN + 1];
 
 static uint32_t counted(uint32_t answer) {
     answers[answer]++;
@@ -193,8 +193,10 @@ int main(int argc, char **argv) {
             }
         spoiled();
     }
-    printf("passed: %d edited images in buffers with a guard behind each; answers 0 to 13:", EDITS);
+    bool all = true;
+    for (size_t i = 0; i < sizeof answers / sizeof *answers; i++) all = all && answers[i] > 0;
+    printf("%s: %d edited images in buffers with a guard behind each; answers 0 to 14:", all ? "passed" : "FAILED", EDITS);
     for (size_t i = 0; i < sizeof answers / sizeof *answers; i++) printf(" %lu", answers[i]);
     printf("\n");
-    return 0;
+    return !all;
 }
