@@ -1,6 +1,7 @@
 // Times check, ours and C's by turns, as a run of 0 bytecodes, on states of handlers that were begun; the least of all runs counts. What a
 // call's check costs an engine is the median of our runs. Then runs handlers of random images in both machines, spoils single words of the states
 // that they leave, and checks and runs these. Answers, registers and every word have to agree. Argument: a file to which the goals are added.
+#include "image.h"
 #include "images.h"
 #include "machine.h"
 #include "measure.h"
@@ -93,7 +94,21 @@ static bool begin_any(machine *m, unsigned least) {
     return false;
 }
 
-// Lookups of all classes and selectors, in their places of the cache.
+// The lookup of a selector from a class, in its place of the cache; none where it finds nothing.
+static void keep(machine *m, const objects *o, unsigned selector, unsigned class) {
+    uint16_t *const at = m->cache + 3 * ((selector & class) / 2 % 64);
+    const unsigned method = lookup(o, selector, class);
+    if (method != 0) at[0] = selector, at[1] = class, at[2] = method;
+}
+
+// Lookups of one selector from all classes.
+static void fill_cache_by(machine *m, unsigned selector) {
+    const objects o = objects_in(m);
+    for (unsigned class = 2; class <= 2 * o.n; class += 2)
+        if (is(&o, CLASS, class)) keep(m, &o, selector, class);
+}
+
+// Lookups of all classes and selectors.
 static void fill_cache(machine *m) {
     const objects o = objects_in(m);
     for (unsigned class = 2; class <= 2 * o.n; class += 2) {
@@ -101,10 +116,7 @@ static void fill_cache(machine *m) {
         for (unsigned above = class; above != NIL_WORD; above = body(&o, above)[0]) {
             const unsigned dictionary = body(&o, above)[1];
             const uint16_t *pair = body(&o, dictionary), *const end = pair + of(&o, dictionary)->size;
-            for (; pair < end; pair += 2) {
-                uint16_t *const at = m->cache + 3 * ((pair[0] & class) / 2 % 64);
-                at[0] = pair[0], at[1] = class, at[2] = lookup(&o, pair[0], class);
-            }
+            for (; pair < end; pair += 2) keep(m, &o, pair[0], class);
         }
     }
 }
@@ -149,7 +161,7 @@ static double measure_ordinary(const char *name, size_t size, int runs, double g
     return measure(name, &m, runs, goal, goals);
 }
 
-// A chain of 2,000 classes, as many frames as fit, a full cache.
+// Chains of 24 classes, as many frames as fit, a cache full of lookups that read every pair.
 static bool measure_deep(FILE *goals) {
     memset(words[0], 0, sizeof words[0]);
     machine m = on(words[0], CONTENTS, BODIES, STACK);
@@ -162,14 +174,29 @@ static bool measure_deep(FILE *goals) {
     fine = fine && sofaduck_state_begin(&m, m.registers[START_RECEIVER], m.registers[START_SELECTOR], NULL, 0) == 0;
     fine = fine && sofaduck_state_run(&m, count, &count, &reach) == 0 && m.registers[PHASE] == 1;
     if (!fine) return printf("the deep image is refused, or does not fill the stack\n"), false;
-    fill_cache(&m);
-    return measure("hostile", &m, 10, 0.66, goals) >= 0;
+    fill_cache_by(&m, m.registers[START_SELECTOR]);
+    return measure("hostile", &m, 100, 0.66, goals) >= 0;
+}
+
+// A class of a state that check accepts.
+static unsigned any_class(const objects *o) {
+    for (;;) {
+        const unsigned class = 2 * (1 + below(o->n));
+        if (is(o, CLASS, class)) return class;
+    }
 }
 
 // One word of a state changed: the register, or the word of a buffer.
 static void spoil(machine *m) {
     static const uint16_t edges[] = {0, 1, 2, 3, 4, 5, 6, 8, 12, 18, 36, 65535};
-    const unsigned n = m->registers[N], where = below(12);
+    const unsigned n = m->registers[N], where = below(13);
+    // a superclass
+    if (where == 12) {
+        const objects o = objects_in(m);
+        const unsigned class = any_class(&o);
+        m->bodies[of(&o, class)->start] = any_class(&o);
+        return;
+    }
     const buffer used[BUFFERS] = {
         {m->contents, 4 * n}, {m->bodies, m->registers[B]}, {m->stack, m->registers[TOP] + 18u}, {m->cache, m->cache_length}};
     const buffer from = where < 2 ? (buffer){m->registers, REGISTERS} : used[where < 4 ? 0 : where < 6 ? 1 : where < 10 ? 2 : 3];
@@ -193,8 +220,16 @@ static void spoil(machine *m) {
     }
 }
 
+// Whether a state that check refuses has a chain that is too long, or a circle, in objects as many as they were.
+static bool chain_spoiled(const machine *m, const machine *before) {
+    static uint8_t notes[2 * MOST_WORDS];
+    const uint16_t *const r = m->registers;
+    return r[N] == before->registers[N] && r[B] == before->registers[B]
+        && c_judge(entries, m->contents, m->bodies, r[N], r[B], r[START_RECEIVER], r[START_SELECTOR], notes) == 14;
+}
+
 static bool differential(void) {
-    size_t phases[6] = {0}, answers[14] = {0}, handlers = 0, spoiled = 0, bytecodes = 0;
+    size_t phases[6] = {0}, answers[14] = {0}, chains = 0, handlers = 0, spoiled = 0, bytecodes = 0;
     for (int i = 0; i < IMAGES; i++) {
         const size_t length = i % 2 == 0 ? ordinary(image, 400 + below(1000), 1000 + i) : lively(image, 900 + below(1000), 1000 + i);
         const size_t n = image[2] << 8 | image[3], b = image[4] << 8 | image[5];
@@ -221,6 +256,7 @@ static bool differential(void) {
                 machine other = copy(words[3], &theirs);
                 const uint32_t r = sofaduck_state_check(&other), s = c_check(entries, &theirs);
                 if (r != s) return printf("the checks answer %u and %u\n", r, s), false;
+                chains += r == 11 && chain_spoiled(&theirs, &ours);
                 uint32_t count;
                 const uint32_t ran = both(&other, &theirs, below(2) == 0 ? 0 : below(30), &count);
                 if (ran == 99 || (r != 0 && ran != r)) return false;
@@ -231,9 +267,12 @@ static bool differential(void) {
     }
     printf("%zu handlers of random images ran alike, %zu bytecodes; phases", handlers, bytecodes);
     for (int p = 1; p < 6; p++) printf(" %d: %zu%s", p, phases[p], p < 5 ? "," : "\n");
-    printf("%zu states with a changed word checked and ran alike: %zu accepted, %zu refused by 3, %zu by 11, %zu by 12\n", spoiled, answers[0],
-           answers[3], answers[11], answers[12]);
-    return true;
+    printf("%zu states with a changed word checked and ran alike: %zu accepted, %zu refused by 3, %zu by 11, %zu of them for a chain, %zu by 12\n",
+           spoiled, answers[0], answers[3], answers[11], chains, answers[12]);
+    bool met = answers[0] > 0 && answers[3] > 0 && answers[11] > 0 && chains > 0 && answers[12] > 0;
+    for (int p = 1; p < 6; p++) met = met && phases[p] > 0;
+    if (!met) printf("a phase, an answer or a spoiled chain was never met\n");
+    return met;
 }
 
 int main(int count, char **arguments) {

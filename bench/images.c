@@ -198,6 +198,13 @@ static unsigned root(void) {
     return k;
 }
 
+// The classes from one up to nil, itself counted.
+static unsigned chain_length(unsigned class) {
+    unsigned count = 0;
+    for (; class != NIL; class = body_of(class)[0] / 2) count++;
+    return count;
+}
+
 static size_t classes(uint8_t *image, size_t words, uint64_t seed) {
     state = seed;
     new_image();
@@ -208,11 +215,14 @@ static size_t classes(uint8_t *image, size_t words, uint64_t seed) {
         if (below(4) > 0) body_of(SELECTORS)[i] = 2 * selector_of(i == 22 || i == 23 ? below(4) : special[i]);
     first_variable = object_count + 1;
     for (unsigned i = 0; i < 8; i++) any_words(new_object(VARIABLES, FIELDS, 2), 2);
-    const unsigned uppermost = runs_on ? root() : NIL;
-    unsigned made[1024], count = 0;
+    unsigned uppermost = runs_on ? root() : NIL, made[1024], count = 0;
+    // lookups that climb as far as a chain goes
+    if (runs_on && below(2) == 0)
+        for (unsigned i = 16 + below(7); i > 0; i--) uppermost = new_class(uppermost, EMPTY, 0, 0);
     for (;;) {
         const size_t objects = object_count, before = word_count;
-        const unsigned k = group(count == 0 || below(4) == 0 ? uppermost : made[below(count)]);
+        const unsigned super = count == 0 || below(4) == 0 ? uppermost : made[below(count)];
+        const unsigned k = group(chain_length(super) < MOST_CHAIN ? super : uppermost);
         if (word_count > words || object_count > 2000 || count == 1024) {
             object_count = objects;
             word_count = before;
@@ -234,12 +244,28 @@ size_t lively(uint8_t *image, size_t words, uint64_t seed) {
     return classes(image, words, seed);
 }
 
-size_t chain(uint8_t *image, size_t count) {
+// So many classes, each below the one before, and after `most` of them from nil anew. It gives the first. The selector of the start words is FIRST.
+static unsigned chains(size_t count, size_t most) {
     new_image();
-    const unsigned selector = bytes(1);
-    unsigned last = NIL;
-    for (size_t i = 0; i < count; i++) last = new_class(last, EMPTY, 0, 0);
-    return written(image, 2 * NIL, 2 * selector);
+    bytes(1);
+    const unsigned first = object_count + 1;
+    for (size_t i = 0; i < count; i++) new_class(i % most == 0 ? NIL : object_count, EMPTY, 0, 0);
+    return first;
+}
+
+size_t chain(uint8_t *image, size_t count) {
+    chains(count, MOST_CHAIN);
+    return written(image, 2 * NIL, 2 * FIRST);
+}
+
+size_t long_chain(uint8_t *image, size_t count) {
+    chains(count, count);
+    return written(image, 2 * NIL, 2 * FIRST);
+}
+
+size_t circle(uint8_t *image, size_t count) {
+    body_of(chains(count, count))[0] = 2 * object_count;
+    return written(image, 2 * NIL, 2 * FIRST);
 }
 
 size_t shared(uint8_t *image, size_t count) {
@@ -257,17 +283,22 @@ size_t shared(uint8_t *image, size_t count) {
 }
 
 size_t deep(uint8_t *image) {
-    enum { LAST = 2047 };
+    enum { LAST = 2047, PAIRS = 400, TEMPORARIES = 11 }; // with the operand a frame is full
     new_image();
     const unsigned first = object_count + 1;
-    unsigned last = NIL;
-    for (int i = 0; i < 2000; i++) last = new_class(last, EMPTY, 0, 0);
-    static const uint8_t again[] = {112, 208, 124}; // push self, send the first literal, return top
-    const uint16_t literals[] = {2 * LAST};
-    const unsigned m = new_method(first, 0, 0, 0, literals, 1, again, sizeof again);
-    const unsigned dictionary = new_object(CLASSES, LIST, 2), instance = new_object(last, FIELDS, 0);
-    body_of(dictionary)[0] = 2 * LAST, body_of(dictionary)[1] = 2 * m;
-    body_of(first)[1] = 2 * dictionary;
+    while (object_count < first - 1 + PAIRS) bytes(0);
+    unsigned class = NIL, lowest = NIL;
+    for (int above = 0; above < MOST_CHAIN - 1; above++) {
+        static const uint8_t again[] = {112, 208, 124}; // push self, send the first literal, return top
+        const uint16_t literals[] = {2 * LAST};
+        const unsigned pairs = above == 0 ? PAIRS + 1 : PAIRS;
+        class = new_class(class, EMPTY, 0, 0);
+        const unsigned m = new_method(class, 0, TEMPORARIES, 0, literals, 1, again, sizeof again), dictionary = new_object(CLASSES, LIST, 2 * pairs);
+        for (unsigned i = 0; i < pairs; i++) body_of(dictionary)[2 * i] = 2 * (i < PAIRS ? first + i : LAST), body_of(dictionary)[2 * i + 1] = 2 * m;
+        body_of(class)[1] = 2 * dictionary;
+    }
+    while (word_count + 4 <= MOST_WORDS && object_count + 2 < LAST) lowest = new_class(class, EMPTY, 0, 0);
+    const unsigned instance = new_object(lowest, FIELDS, 0);
     while (object_count < LAST) bytes(0);
     return written(image, 2 * instance, 2 * LAST);
 }

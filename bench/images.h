@@ -2,13 +2,20 @@
 
 // A correct image of b body words, from 400 on: what a compiler writes. It gives the length in bytes.
 size_t ordinary(uint8_t *image, size_t b, uint64_t seed);
-// The same from 900 words on, but every selector is understood and conditions are mostly booleans, so that handlers run on.
+// The same from 900 words on, but every selector is understood and conditions are mostly booleans, so that handlers run on. In half of these images
+// chains are about as long as they may be.
 size_t lively(uint8_t *image, size_t b, uint64_t seed);
-// A correct image whose superclasses make one chain of so many classes, up to 2,000.
+// A correct image of so many classes, up to 2,000, in chains as long as they may be.
 size_t chain(uint8_t *image, size_t count);
+// So many classes in one chain, or in a circle: refused by 14, the first where it is more than load allows.
+size_t long_chain(uint8_t *image, size_t count);
+size_t circle(uint8_t *image, size_t count);
 // So many classes with one dictionary of as many pairs, up to 1,000: refused by 7, for its methods have one home.
 size_t shared(uint8_t *image, size_t count);
-// A correct image with one chain of 2,000 classes. Its start words begin a method of the uppermost class, on an instance of the lowest, that
-// sends itself again and again. The start selector's number has its low 6 bits set, so classes next to each other have places next to each
-// other in the cache.
+// A correct image that check is slow on, once its handler has filled the stack and lookups of its start selector the cache. 23 classes are below each
+// other, each with 400 pairs, and all classes that fit beside them, next to each other, are below the lowest: each ends a chain of 24. The start words
+// begin a method of the uppermost class, on an instance of one below all 23, that sends itself again and again. The start selector is the last in the
+// uppermost dictionary alone, so lookup reads all pairs; its number has its low 6 bits set, so classes next to each other have places next to each
+// other in the cache. Other mixes of pairs and classes take a little less. Random code in place of most of them takes a tenth more, but that is time
+// for the walk over code.
 size_t deep(uint8_t *image);

@@ -5,7 +5,7 @@
 
 enum { NIL_WORD = 2, FALSE_WORD = 4, TRUE_WORD = 6, INTEGER_CLASS = 8, SPECIAL_SELECTORS = 10 };
 enum { FIELDS, BYTES, CLASS, LIST, METHOD };
-enum { MOST_OBJECTS = 2047, MOST_WORDS = 24000, CACHE_WORDS = 192 };
+enum { MOST_OBJECTS = 2047, MOST_WORDS = 24000, MOST_CHAIN = 24, CACHE_WORDS = 192 };
 
 typedef struct {
     uint16_t class, kind, start, size;
@@ -31,7 +31,7 @@ static inline unsigned literals_of(unsigned header) { return header >> 1 & 63; }
 // The words of a frame, its first six included.
 static inline unsigned frame_of(unsigned header) { return header & 128 ? 38 : 18; }
 
-// The method under a selector in a class or above it, 0 if there is none.
+// The method under a selector in a class or above it, 0 if there is none. Of objects that were judged: no walk up is longer than MOST_CHAIN.
 static inline unsigned lookup(const objects *o, unsigned selector, unsigned class) {
     for (; class != NIL_WORD; class = body(o, class)[0]) {
         const unsigned dictionary = body(o, class)[1];
