@@ -14,6 +14,11 @@ pub const REACHES: [&str; 7] = [
     "reach of 65,536 words",
 ];
 
+// How a lookup can go through as many classes as a chain can have: what it finds there, and that it finds nothing.
+pub const SENDS: [&str; 2] = ["a send that found in the 24th class", "a send that found nothing in 24 classes"];
+pub const SUPER_SENDS: [&str; 2] =
+    ["a super send that found in the 24th class, its home counted", "a super send that found nothing in 24 classes, its home counted"];
+
 pub struct Counts {
     pub bytecodes: [u64; 256],
     /// By primitive number: how often it answered, and how often it failed.

@@ -1,7 +1,7 @@
 //! Frames and the step. The frames are structs; `stack` is their flat view, in which the words of frames that are gone stay as they were.
 
 use crate::code::*;
-use crate::counts::Counts;
+use crate::counts::{Counts, SENDS, SUPER_SENDS};
 use crate::objects::*;
 use crate::primitives::*;
 use crate::rules::World;
@@ -170,6 +170,7 @@ impl Machine<'_> {
                 let method = self.top().method;
                 let home = self.world.method(method).home;
                 let above = self.world.objects.class(home).unwrap().superclass;
+                self.count_far(home, self.world.objects.lookup(above, selector), SUPER_SENDS);
                 return self.send(selector, above, arguments, next);
             }
         }
@@ -285,7 +286,9 @@ impl Machine<'_> {
     }
 
     fn send(&mut self, selector: u16, class: u16, arguments: usize, next: usize) -> Result<Made, u16> {
-        let method = match self.world.objects.lookup(class, selector) {
+        let found = self.world.objects.lookup(class, selector);
+        self.count_far(class, found, SENDS);
+        let method = match found {
             Some(method) => method,
             None => {
                 self.counts.event("halt: no method");
@@ -310,6 +313,16 @@ impl Machine<'_> {
                 self.enter(base, method, receiver, words);
                 Ok(Made::Goes)
             }
+        }
+    }
+
+    /// Counts a lookup along a chain of as many classes as there can be, up to the last one.
+    fn count_far(&mut self, class: u16, found: Option<u16>, [finds, nothing]: [&'static str; 2]) {
+        let last = self.world.objects.chain(class).nth(MOST_CHAIN - 1);
+        match found.map(|method| self.world.method(method).home) {
+            Some(home) if last == Some(home) => self.counts.event(finds),
+            None if last.is_some() => self.counts.event(nothing),
+            _ => {}
         }
     }
 

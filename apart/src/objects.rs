@@ -10,6 +10,8 @@ pub const METHOD: u16 = 4;
 
 pub const MOST_OBJECTS: usize = 2_047;
 pub const MOST_BODY_WORDS: usize = 24_000;
+/// Classes in a chain, the first one counted.
+pub const MOST_CHAIN: usize = 24;
 
 #[derive(Clone)]
 pub struct Object {
@@ -140,28 +142,20 @@ impl Objects {
         dictionary.chunks(2).find(|pair| pair[0] == selector).map(|pair| pair[1])
     }
 
-    /// Lookup, from a class up to nil.
+    /// The words of a class and of those above it, up to the first superclass word that names no class. In a circle it has no end.
+    pub fn chain(&self, class: u16) -> impl Iterator<Item = u16> + '_ {
+        let named = move |word: u16| self.has_kind(word, CLASS).then_some(word);
+        std::iter::successors(named(class), move |word| named(self.class(*word)?.superclass))
+    }
+
+    /// Lookup, from a class on.
     pub fn lookup(&self, class: u16, selector: u16) -> Option<u16> {
-        let mut at = class;
-        while let Some(class) = self.class(at) {
-            if let Some(method) = self.own(&class, selector) {
-                return Some(method);
-            }
-            at = class.superclass;
-        }
-        None
+        self.chain(class).take(MOST_CHAIN).find_map(|word| self.own(&self.class(word)?, selector))
     }
 
     /// Whether a class is in the chain of a receiver's class.
     pub fn in_chain(&self, receiver: u16, sought: u16) -> bool {
-        let mut at = self.class_of(receiver);
-        while let Some(class) = self.class(at) {
-            if at == sought {
-                return true;
-            }
-            at = class.superclass;
-        }
-        false
+        self.chain(self.class_of(receiver)).take(MOST_CHAIN).any(|word| word == sought)
     }
 
     pub fn body_total(&self) -> usize {

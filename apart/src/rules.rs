@@ -1,5 +1,5 @@
-//! The rules of an image, number by number: one that breaks several is refused by the lowest. Each number gives all its faults, but not those that merely
-//! follow from others.
+//! The rules of an image, number by number, in load's order: 1, 2, 3, 4, 5, 14, 6, 7, 8. An image that breaks several is refused by the first of these. Each
+//! number gives all its faults, but not those that merely follow from others.
 
 use crate::code::{depth_table, Surroundings};
 use crate::objects::*;
@@ -10,6 +10,10 @@ use std::collections::{HashMap, HashSet};
 
 /// The fault that takes an object and its class to be seen.
 pub const DOES_NOT_FIT: &str = "an object that does not fit its class";
+
+// The faults of rule 14.
+pub const TOO_LONG: &str = "a chain of more than 24 classes";
+pub const CIRCLE: &str = "a chain of more than 24 classes: a circle";
 
 /// The words of a header.
 pub struct Header {
@@ -55,11 +59,19 @@ pub fn ranges(edition: u16, n: usize, b: usize) -> Result<(), Faults> {
     faults.none(())
 }
 
-/// Rules 4 to 7 on 4N words of contents and B words of bodies.
+type Test = fn(&Objects, &mut Faults);
+
+/// The tests of objects that lie where rule 4 wants them, each with its number. Their order is load's; none rests on another.
+pub const TESTS: [(u32, Test); 3] = [(5, words_valid), (14, chains), (6, classes_and_entries)];
+
+/// Rules 4, 5, 14, 6 and 7 on 4N words of contents and B words of bodies.
 pub fn judge(contents: &[u16], bodies: &[u16]) -> Result<World, Faults> {
     let objects = layout(contents, bodies)?;
-    words_valid(&objects)?;
-    classes_and_entries(&objects)?;
+    for (number, test) in TESTS {
+        let mut faults = Faults::new(number);
+        test(&objects, &mut faults);
+        faults.none(())?;
+    }
     let methods = methods(&objects)?;
     Ok(World { objects, methods })
 }
@@ -73,7 +85,7 @@ pub fn start_words(objects: &Objects, receiver: u16, selector: u16) -> Result<()
 }
 
 /// Rule 4: where bodies lie. It gives the objects.
-fn layout(contents: &[u16], bodies: &[u16]) -> Result<Objects, Faults> {
+pub fn layout(contents: &[u16], bodies: &[u16]) -> Result<Objects, Faults> {
     let mut faults = Faults::new(4);
     let mut objects = Objects::default();
     // A body starts at the end of the one before. After a fault it may start wherever one wrong word would explain it, or anywhere.
@@ -122,9 +134,12 @@ fn numbered(objects: &Objects) -> impl Iterator<Item = (usize, &Object)> {
     objects.list.iter().enumerate().map(|(index, object)| (index + 1, object))
 }
 
+fn numbered_classes(objects: &Objects) -> impl Iterator<Item = (usize, &Object)> {
+    numbered(objects).filter(|(_, object)| object.kind == CLASS)
+}
+
 /// Rule 5: entries' classes, and the words of kinds 0, 2, 3.
-fn words_valid(objects: &Objects) -> Result<(), Faults> {
-    let mut faults = Faults::new(5);
+fn words_valid(objects: &Objects, faults: &mut Faults) {
     for (number, object) in numbered(objects) {
         faults.ask(objects.valid(object.class), Entry(number, 0), "an invalid word");
         if object.kind == BYTES || object.kind == METHOD {
@@ -134,30 +149,48 @@ fn words_valid(objects: &Objects) -> Result<(), Faults> {
             faults.ask(objects.valid(*word), Body(number, index), "an invalid word");
         }
     }
-    faults.none(())
+}
+
+/// Rule 14. The lowest class of a chain that is too long has the fault, and the first class of a circle: what is above the one and leads into the other
+/// follows from it.
+fn chains(objects: &Objects, faults: &mut Faults) {
+    let superclasses: HashSet<u16> = numbered_classes(objects).map(|(_, object)| object.body[0]).collect();
+    for (number, _) in numbered_classes(objects) {
+        let own = pointer(number);
+        if objects.chain(own).nth(MOST_CHAIN).is_none() {
+            continue;
+        }
+        // All that there is above: a chain that goes on after as many classes as there are objects goes round.
+        let above = || objects.chain(own).skip(1).take(objects.list.len());
+        let goes_round = above().count() == objects.list.len();
+        if !goes_round && !superclasses.contains(&own) {
+            faults.add(Body(number, 0), TOO_LONG);
+        }
+        if above().any(|word| word == own) && above().all(|word| word >= own) {
+            faults.add(Body(number, 0), CIRCLE);
+        }
+    }
 }
 
 /// Rule 6.
-fn classes_and_entries(objects: &Objects) -> Result<(), Faults> {
-    let mut faults = Faults::new(6);
-    classes(objects, &mut faults);
-    entries(objects, &mut faults);
-    first_objects(objects, &mut faults);
-    faults.none(())
+fn classes_and_entries(objects: &Objects, faults: &mut Faults) {
+    classes(objects, faults);
+    entries(objects, faults);
+    first_objects(objects, faults);
 }
 
 fn integer_up_to(word: u16, most: i32) -> bool {
     is_integer(word) && (0..=most).contains(&integer(word))
 }
 
-/// Class bodies, chains and dictionaries.
+/// Class bodies and dictionaries.
 fn classes(objects: &Objects, faults: &mut Faults) {
-    for (number, object) in numbered(objects).filter(|(_, object)| object.kind == CLASS) {
+    for (number, object) in numbered_classes(objects) {
         class_body(objects, number, &object.body, faults);
     }
-    let (mut circles, mut judged) = (HashSet::new(), vec![false; objects.list.len() + 1]);
-    for (number, object) in numbered(objects).filter(|(_, object)| object.kind == CLASS) {
-        class_chain(objects, number, &mut circles, faults);
+    let mut judged = vec![false; objects.list.len() + 1];
+    for (number, object) in numbered_classes(objects) {
+        fields_of_superclass(objects, number, faults);
         // Classes may share a dictionary.
         let list = (object.body[1] / 2) as usize;
         if objects.has_kind(object.body[1], LIST) && !judged[list] {
@@ -182,22 +215,10 @@ fn numbers_right(objects: &Objects, class: u16) -> bool {
     objects.get(class).map_or(false, |object| integer_up_to(object.body[2], 255) && integer_up_to(object.body[3], 3))
 }
 
-/// The classes of circles that were found are kept: what leads into one has no fault of its own.
-fn class_chain(objects: &Objects, number: usize, circles: &mut HashSet<u16>, faults: &mut Faults) {
+fn fields_of_superclass(objects: &Objects, number: usize, faults: &mut Faults) {
     let class = objects.class(pointer(number)).unwrap();
     if let Some(above) = objects.class(class.superclass).filter(|_| numbers_right(objects, class.superclass)) {
         faults.ask(class.fields >= above.fields, Body(number, 2), "fewer fields than the superclass");
-    }
-    let mut at = pointer(number);
-    for _ in 0..=objects.list.len() {
-        match objects.class(at) {
-            Some(class) if !circles.contains(&at) => at = class.superclass,
-            _ => return,
-        }
-    }
-    faults.add(Body(number, 0), "a chain of superclasses without end");
-    while circles.insert(at) {
-        at = objects.class(at).unwrap().superclass;
     }
 }
 
@@ -332,7 +353,7 @@ fn extension(number: usize, flag: u16, literals: &[u16], faults: &mut Faults) ->
 /// so is a selector whose counts differ: what follows from these is not said.
 fn counts_under_selectors(objects: &Objects, methods: &mut [Option<Method>], faults: &mut Faults) -> HashMap<u16, usize> {
     let (mut counts, mut differ) = (HashMap::new(), vec![]);
-    for (number, object) in numbered(objects).filter(|(_, object)| object.kind == CLASS) {
+    for (number, object) in numbered_classes(objects) {
         let list = object.body[1];
         for (index, pair) in objects.get(list).unwrap().body.chunks(2).enumerate() {
             let found = (pair[1] / 2) as usize;

@@ -8,12 +8,18 @@ use crate::play::*;
 use crate::refusal::*;
 use crate::words::*;
 
+/// An entry as class, kind, size, and the body.
+type Entry = (u16, u16, u16, Vec<u16>);
+
 /// Method 11 has these words and runs on integers. Another, for nil and what else is of class 7, is object 14, in a dictionary that is object 13.
 fn image(receiver: u16, method: &[u16], other: Option<&[u16]>) -> Vec<u8> {
+    written(receiver, &objects(method, other))
+}
+
+fn objects(method: &[u16], other: Option<&[u16]>) -> Vec<Entry> {
     let class = |form: i64, dictionary: u16| vec![NIL, dictionary, word(0).unwrap(), word(form).unwrap()];
     let code = |words: &[u16]| (12, METHOD, 2 * words.len() as u16, words.to_vec());
-    // Entries as class, kind, size, and the bodies in their order.
-    let mut objects: Vec<(u16, u16, u16, Vec<u16>)> = vec![
+    let mut objects = vec![
         (14, FIELDS, 0, vec![]),
         (14, FIELDS, 0, vec![]),
         (14, FIELDS, 0, vec![]),
@@ -30,10 +36,14 @@ fn image(receiver: u16, method: &[u16], other: Option<&[u16]>) -> Vec<u8> {
     if let Some(other) = other {
         objects.extend([(12, LIST, 2, vec![20, 28]), code(other)]);
     }
+    objects
+}
+
+fn written(receiver: u16, objects: &[Entry]) -> Vec<u8> {
     let bodies: Vec<u16> = objects.iter().flat_map(|object| object.3.clone()).collect();
     let mut words = vec![1, objects.len() as u16, bodies.len() as u16, receiver, 20];
     let mut start = 0;
-    for (class, kind, size, body) in &objects {
+    for (class, kind, size, body) in objects {
         words.extend([*class, *kind, start, *size]);
         start += body.len() as u16;
     }
@@ -156,6 +166,80 @@ fn refusal_says_where() {
     let refusal = played(&image(81, &[1, 8, 112 << 8 | 135, 135 << 8 | 124], None)).unwrap_err();
     assert_eq!((refusal.number, refusal.place), (7, Place::Code(11, 2)));
     assert_eq!(refusal.to_string(), "refused 7: method 11, code position 2: fewer operands than needed");
+}
+
+/// The adder with more classes: the integers' class is below the last of them, each below the one before, and the first below a word.
+fn below(first: u16, count: usize) -> Vec<Entry> {
+    let mut objects = objects(&ADDING, None);
+    let mut above = first;
+    for _ in 0..count {
+        objects.push((12, CLASS, 4, vec![above, 16, 1, 1]));
+        above = pointer(objects.len());
+    }
+    objects[3].3[0] = above;
+    objects
+}
+
+fn number(objects: &[Entry]) -> u32 {
+    played(&written(81, objects)).map_or_else(|refusal| refusal.number, |_| 0)
+}
+
+#[test]
+fn chains_of_up_to_24_classes() {
+    assert_eq!([21, 22, 23, 24, 25].map(|count| number(&below(NIL, count))), [0, 0, 0, 14, 14]);
+    // The word 14 names class 7, so these have one more.
+    assert_eq!([21, 22, 23, 24, 25].map(|count| number(&below(14, count))), [0, 0, 14, 14, 14]);
+}
+
+/// Object 13 is the first of the added classes, object 4 the lowest.
+#[test]
+fn circles_are_too_long() {
+    for (first, count) in [(8, 0), (8, 1), (8, 23), (8, 30), (26, 1), (26, 5), (28, 5)] {
+        assert_eq!(number(&below(first, count)), 14);
+    }
+}
+
+/// An integer, false and the method end a chain, and are a fault of 6 where it is not too long.
+#[test]
+fn chains_end_at_what_is_no_class() {
+    for first in [7, 4, 22] {
+        assert_eq!([1, 23, 24].map(|count| number(&below(first, count))), [6, 6, 14]);
+    }
+}
+
+#[test]
+fn chains_come_between_words_and_classes() {
+    for count in [23, 24] {
+        let mut half_a_pair = below(NIL, count);
+        half_a_pair[7].2 = 1;
+        half_a_pair[7].3 = vec![20];
+        assert_eq!(number(&half_a_pair), if count == 23 { 6 } else { 14 });
+        let mut invalid = below(NIL, count);
+        invalid[4].3[0] = 0;
+        assert_eq!(number(&invalid), 5);
+    }
+}
+
+/// The words of a refused image are zero, the rest as before; a state with such a chain is not right.
+#[test]
+fn what_a_chain_leaves() {
+    let image = written(81, &below(NIL, 24));
+    let (mut contents, mut bodies, mut cache) = (vec![7; 8_188], vec![7; 24_000], vec![7; CACHE_WORDS]);
+    let mut registers = [7; 7];
+    let mut lent = Lent { contents: &mut contents, bodies: &mut bodies, stack: &mut [], cache: &mut cache, registers: &mut registers };
+    assert_eq!(load(&image, &mut lent).unwrap_err().number, 14);
+    let (n, b) = (12 + 24, 55 + 4 * 24);
+    assert_eq!(registers, [0; 7]);
+    for (words, zero) in [(&contents, 4 * n), (&bodies, b), (&cache, 0)] {
+        assert!(words[..zero].iter().all(|word| *word == 0) && words[zero..].iter().all(|word| *word == 7));
+    }
+    let spoiled = loaded(&written(81, &below(NIL, 23)), 1_024, |lent, _| {
+        // The first of the added classes, behind the 55 words of the adder, gets the class of nil as its superclass.
+        check(lent)?;
+        lent.bodies[55] = 14;
+        check(lent)
+    });
+    assert_eq!(spoiled.unwrap_err().number, 11);
 }
 
 /// 40 + 2 in two runs, with refused calls around them; the last begin lacks a word.

@@ -103,6 +103,14 @@ pub fn case(random: &mut Random, report: &mut Report) -> Result<(), (Buffers, Ve
     let deep = kind == 95 && !tall && random.percent(50) && recurse(random, &mut draft);
     let image = draft.image();
     let mut buffers = buffers(random, &image);
+    // Damage can make an image longer.
+    if (10..40).contains(&kind) && random.percent(80) {
+        let more = random.pick(&[600, 600, 600, 8_000]);
+        for buffer in 0..2 {
+            buffers.lengths[buffer] += more;
+            buffers.words[buffer].extend((0..more).map(|_| random.word()));
+        }
+    }
     if tall || deep {
         buffers.lengths[2] = if tall { random.from(MOST_STACK, 65_600) } else { random.from(65_500, 65_600) };
         buffers.words[2] = vec![NIL; buffers.lengths[2] + GUARD];
@@ -450,17 +458,27 @@ fn message(random: &mut Random, world: Option<&World>) -> Call {
     let objects = &world.objects;
     let n = objects.list.len();
     let classes: Vec<u16> = (1..=n).map(pointer).filter(|word| objects.has_kind(*word, CLASS)).collect();
-    let mut home = random.pick(&classes);
+    let pairs = |class: u16| &objects.get(objects.class(class).unwrap().dictionary).unwrap().body;
+    let homes: Vec<u16> = classes.iter().copied().filter(|class| !pairs(*class).is_empty()).collect();
+    // A class without methods now and then.
+    let homes = if homes.is_empty() || random.percent(5) { &classes } else { &homes };
+    let mut home = random.pick(homes);
     for _ in 0..3 {
         // Classes whose objects have fields or elements, more often than the others.
         let class = objects.class(home).unwrap();
         if class.fields > 0 || class.form == 1 {
             break;
         }
-        home = random.pick(&classes);
+        home = random.pick(homes);
     }
-    let pairs = &objects.get(objects.class(home).unwrap().dictionary).unwrap().body;
-    let first = if random.percent(30) { random.pick(&classes) } else { argument(random, n) };
+    let pairs = pairs(home);
+    let is_low = |word: &u16| objects.chain(objects.class_of(*word)).nth(MOST_CHAIN - 1).is_some();
+    let low: Vec<u16> = (1..=n).map(pointer).filter(is_low).collect();
+    let first = match random.below(10) {
+        0..=2 => random.pick(&classes),
+        3..=7 if !low.is_empty() => random.pick(&low),
+        _ => argument(random, n),
+    };
     let (mut receiver, mut selector, mut count) = (first, pointer(random.from(1, n)), random.below(3));
     if !pairs.is_empty() {
         let at = 2 * random.below(pairs.len() / 2);
@@ -540,13 +558,31 @@ fn saved_and_loaded(random: &mut Random, pair: &mut Pair) -> Compared<()> {
 
 /// One word changed from outside, one or two calls, and the old word again.
 fn spoiled(random: &mut Random, pair: &mut Pair) -> Compared<()> {
+    if random.percent(40) {
+        if let Some((index, word)) = pair.world().and_then(|world| spoiled_chain(random, &world)) {
+            return spoiled_word(random, pair, 1, index, word);
+        }
+    }
     let (buffer, index) = match place_to_spoil(random, pair) {
         Some(place) => place,
         None => return Ok(()),
     };
-    let old = if buffer == 4 { pair.ours.registers[index] } else { pair.ours.words[buffer][index] };
+    let old = word_at(pair, buffer, index);
     let n = pair.ours.registers[0].clamp(1, 2_047) as usize;
     let word = if random.percent(20) && buffer < 4 { neighbour(random, pair, buffer, index) } else { other_word(random, old, n) };
+    spoiled_word(random, pair, buffer, index, word)
+}
+
+fn word_at(pair: &Pair, buffer: usize, index: usize) -> u16 {
+    if buffer == 4 {
+        pair.ours.registers[index]
+    } else {
+        pair.ours.words[buffer][index]
+    }
+}
+
+fn spoiled_word(random: &mut Random, pair: &mut Pair, buffer: usize, index: usize, word: u16) -> Compared<()> {
+    let old = word_at(pair, buffer, index);
     pair.make(Call::Write { buffer, index, words: vec![word] })?;
     for _ in 0..random.from(1, 2) {
         let call = any_call(random, pair);
@@ -554,6 +590,28 @@ fn spoiled(random: &mut Random, pair: &mut Pair) -> Compared<()> {
     }
     pair.make(Call::Write { buffer, index, words: vec![old] })?;
     Ok(())
+}
+
+/// The index of a superclass word in the bodies, and a class for it: the lowest of the longest chain, for a class outside of it, which makes a chain of one
+/// more; or any class. The class has fields enough, so the other rules of images hold.
+fn spoiled_chain(random: &mut Random, world: &World) -> Option<(usize, u16)> {
+    let objects = &world.objects;
+    let classes: Vec<u16> = (1..=objects.list.len()).map(pointer).filter(|word| objects.has_kind(*word, CLASS)).collect();
+    let chain = |word: u16| objects.chain(word).take(MOST_CHAIN);
+    let longest = *classes.iter().max_by_key(|word| chain(**word).count())?;
+    // Where no chain is long, only a circle is too long.
+    if chain(longest).count() < MOST_CHAIN && random.percent(60) {
+        return None;
+    }
+    let outside = random.percent(60);
+    let above = if outside { longest } else { random.pick(&classes) };
+    let fields = |word: u16| objects.class(word).map_or(0, |class| class.fields);
+    let able = |word: &u16| fields(*word) >= fields(above) && !(outside && chain(longest).any(|other| other == *word));
+    let below: Vec<u16> = classes.iter().copied().filter(able).collect();
+    if below.is_empty() {
+        return None;
+    }
+    Some((objects.get(random.pick(&below))?.start as usize, above))
 }
 
 /// Frames that no send made, written into the stack: any method at any position of its table, flags 5 and 6 too, most of them right.

@@ -1,5 +1,6 @@
 //! Images with something wrong in them: a rule broken by design, or a word, byte or length changed at random.
 
+use crate::chains;
 use crate::draft::*;
 use crate::random::Random;
 use apart::objects::*;
@@ -41,7 +42,7 @@ fn of_kind(random: &mut Random, draft: &Draft, kind: u16) -> usize {
 
 fn spoil_draft(random: &mut Random, draft: &mut Draft) {
     let n = draft.objects.len();
-    match random.below(12) {
+    match random.below(14) {
         0..=2 => spoil_class(random, draft),
         3..=6 => spoil_method(random, draft),
         7 => spoil_dictionary(random, draft),
@@ -55,6 +56,15 @@ fn spoil_draft(random: &mut Random, draft: &mut Draft) {
             }
         }
         10 => spoil_size(random, draft),
+        11 | 12 => {
+            chains::spoil(random, draft);
+            // Other rules with it.
+            match random.below(10) {
+                0 => spoil_word(random, draft),
+                1..=3 => spoil_draft(random, draft),
+                _ => {}
+            }
+        }
         _ => {
             let index = random.below(n);
             let made = &mut draft.objects[index];
@@ -69,6 +79,15 @@ fn spoil_draft(random: &mut Random, draft: &mut Draft) {
             }
         }
     }
+}
+
+/// An invalid word in fields, a class or a list.
+fn spoil_word(random: &mut Random, draft: &mut Draft) {
+    let invalid = random.pick(&[0, pointer(draft.objects.len() + 1)]);
+    let mut bodies: Vec<&mut Made> = draft.objects.iter_mut().filter(|made| [FIELDS, CLASS, LIST].contains(&made.kind) && made.size > 0).collect();
+    let index = random.below(bodies.len());
+    let at = random.below(bodies[index].size);
+    bodies[index].body[at] = invalid;
 }
 
 fn spoil_class(random: &mut Random, draft: &mut Draft) {

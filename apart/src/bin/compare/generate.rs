@@ -16,6 +16,8 @@ struct PlannedClass {
 
 /// What there is to speak of when code is written.
 struct Plan {
+    /// From the root down, so many of the classes make a chain, each below the one before. 0 where there is no long chain.
+    deep: usize,
     classes: Vec<PlannedClass>,
     /// Selectors with their counts of arguments.
     selectors: Vec<(u16, usize)>,
@@ -24,6 +26,13 @@ struct Plan {
     instances: Vec<(u16, usize, usize)>,
     /// Those that can be literal variables.
     variables: Vec<u16>,
+}
+
+impl Plan {
+    /// The last class of the long chain.
+    fn lowest(&self) -> usize {
+        ROOT + self.deep - 1
+    }
 }
 
 const INTEGERS: usize = 0;
@@ -46,12 +55,13 @@ impl Numbers {
     }
 }
 
-/// A valid image.
+/// A valid image; in some a chain has as many classes as it can have, or one less.
 pub fn draft(random: &mut Random) -> Draft {
-    let class_count = random.from(5, 11);
+    let deep = if random.percent(8) { random.pick(&[MOST_CHAIN, MOST_CHAIN, MOST_CHAIN - 1]) } else { 0 };
+    let class_count = if deep > 0 { ROOT + deep + random.below(3) } else { random.from(5, 11) };
     let selector_count = random.from(8, 15);
     let instance_count = random.from(5, 14);
-    let (plan, dictionaries, loose, count, mut numbers) = plan(random, class_count, selector_count, instance_count);
+    let (plan, dictionaries, loose, count, mut numbers) = plan(random, deep, class_count, selector_count, instance_count);
     let mut draft = Draft { objects: vec![Default::default(); count], receiver: 0, selector: 0 };
     put_instances(random, &plan, &mut draft);
     put_classes(random, &plan, &mut draft, &dictionaries);
@@ -71,23 +81,29 @@ pub fn draft(random: &mut Random) -> Draft {
         let pointer = numbers.take();
         draft.put(pointer, plan.classes[METACLASS].pointer, LIST, vec![number(7); random.below(3)]);
     }
-    draft.receiver = any_word(random, &plan);
+    draft.receiver = if deep > 0 { plan.instances[3].0 } else { any_word(random, &plan) };
     draft.selector = random.pick(&plan.selectors).0;
     draft
 }
 
 type Dictionaries = Vec<Vec<(u16, u16)>>;
 
-fn plan(random: &mut Random, class_count: usize, selector_count: usize, instance_count: usize) -> (Plan, Dictionaries, Vec<u16>, usize, Numbers) {
+fn plan(
+    random: &mut Random,
+    deep: usize,
+    class_count: usize,
+    selector_count: usize,
+    instance_count: usize,
+) -> (Plan, Dictionaries, Vec<u16>, usize, Numbers) {
     // Which class has methods under which selectors: the root under most, so that sends find something.
-    let has: Vec<Vec<bool>> = (0..class_count).map(|class| (0..selector_count).map(|_| random.percent(chance(class))).collect()).collect();
+    let has: Vec<Vec<bool>> = (0..class_count).map(|class| (0..selector_count).map(|_| random.percent(chance(deep, class))).collect()).collect();
     let method_count: usize = has.iter().flatten().filter(|has| **has).count();
     let loose_count = random.below(3);
     let count = 5 + (class_count - 1) + class_count + selector_count + instance_count + method_count + loose_count + random.below(3);
     let mut free: Vec<u16> = (6..=count).map(pointer).collect();
     random.shuffle(&mut free);
     let mut numbers = Numbers { free };
-    let classes = plan_classes(random, class_count, &mut numbers);
+    let classes = plan_classes(random, deep, class_count, &mut numbers);
     const COUNTS: [usize; 15] = [0, 0, 1, 1, 2, 1, 0, 1, 2, 3, 4, 1, 5, 9, 0];
     let selectors: Vec<(u16, usize)> = (0..selector_count).map(|index| (numbers.take(), COUNTS[index])).collect();
     let dictionaries = has
@@ -99,17 +115,19 @@ fn plan(random: &mut Random, class_count: usize, selector_count: usize, instance
         })
         .collect();
     let loose = (0..loose_count).map(|_| numbers.take()).collect();
-    let mut plan = Plan { classes, selectors, specials: vec![], instances: vec![], variables: vec![] };
+    let mut plan = Plan { deep, classes, selectors, specials: vec![], instances: vec![], variables: vec![] };
     plan_instances(random, &mut plan, instance_count, &mut numbers);
     plan.specials = specials(random, &plan);
     (plan, dictionaries, loose, count, numbers)
 }
 
-/// How often a class has a method under a selector, in percent.
-fn chance(class: usize) -> usize {
+/// How often a class has a method under a selector, in percent: seldom between the ends of a long chain, so that lookups go through it.
+fn chance(deep: usize, class: usize) -> usize {
     match class {
         ROOT => 85,
         METACLASS | INTEGERS | STRINGS => 60,
+        _ if class + 1 < ROOT + deep => 3,
+        _ if class + 1 == ROOT + deep => 70,
         _ => 45,
     }
 }
@@ -119,7 +137,7 @@ fn fields_of(classes: &[PlannedClass], pointer: u16) -> usize {
     classes.iter().find(|class| class.pointer == pointer).map_or(0, |class| class.fields)
 }
 
-fn plan_classes(random: &mut Random, count: usize, numbers: &mut Numbers) -> Vec<PlannedClass> {
+fn plan_classes(random: &mut Random, deep: usize, count: usize, numbers: &mut Numbers) -> Vec<PlannedClass> {
     let root_fields = if random.percent(88) { 0 } else { 2 };
     let mut pointers = vec![INTEGER_CLASS];
     pointers.extend((1..count).map(|_| numbers.take()));
@@ -131,8 +149,11 @@ fn plan_classes(random: &mut Random, count: usize, numbers: &mut Numbers) -> Vec
                 (above, if index == STRINGS { 2 } else { 3 })
             }
             ROOT => (NIL, random.pick(&[0, 0, 1])),
+            _ if index < ROOT + deep => (pointers[index - 1], random.pick(&[0, 0, 1])),
             _ => {
-                let above = pointers[random.from(ROOT, index - 1)];
+                // The lowest class of a long chain is the superclass of none.
+                let last = if deep > 0 { ROOT + deep - 2 } else { index - 1 };
+                let above = pointers[random.from(ROOT, last)];
                 let forms: &[u16] = if fields_of(&classes, above) == 0 { &[0, 0, 1, 1, 2, 3] } else { &[0, 1] };
                 (above, random.pick(forms))
             }
@@ -140,6 +161,7 @@ fn plan_classes(random: &mut Random, count: usize, numbers: &mut Numbers) -> Vec
         let fields = match index {
             ROOT => root_fields,
             _ if form >= 2 => 0,
+            _ if deep > 0 => fields_of(&classes, superclass) + random.pick(&[0, 0, 0, 0, 0, 0, 0, 0, 1, 2]),
             _ => fields_of(&classes, superclass) + random.pick(&[0, 1, 2, 3, 1, 2, 9, 20]),
         };
         classes.push(PlannedClass { pointer: own, dictionary: numbers.take(), superclass, fields, form });
@@ -152,7 +174,11 @@ fn plan_instances(random: &mut Random, plan: &mut Plan, count: usize, numbers: &
     let mut pointers: Vec<u16> = vec![NIL, FALSE, TRUE];
     pointers.extend((0..count).map(|_| numbers.take()));
     for (index, &own) in pointers.iter().enumerate() {
-        let mut class = if index < 3 { ROOT } else { random.pick(&able) };
+        let mut class = match index {
+            0..=2 => ROOT,
+            3..=5 if plan.deep > 0 => plan.lowest(),
+            _ => random.pick(&able),
+        };
         if index < 3 && random.percent(20) {
             // nil, false or true of a class of their own.
             class = random.pick(&able);
@@ -267,8 +293,12 @@ fn put_method(random: &mut Random, plan: &Plan, draft: &mut Draft, class: usize,
         _ => (arguments + random.pick(&[0, 1, 2, 3, 8, 20])).min(most).max(arguments),
     };
     let room = if large { 32 } else { 12 };
-    let has_superclass = home.superclass != NIL;
-    let mut coder = Coder { random, plan, fields: home.fields, has_superclass, temporaries, room, literals: vec![] };
+    let super_sends = match home.superclass {
+        NIL => 3,
+        _ if plan.deep > 0 && class == plan.lowest() => 60,
+        _ => 25,
+    };
+    let mut coder = Coder { random, plan, fields: home.fields, super_sends, temporaries, room, literals: vec![] };
     let free = (flag == 5 || flag == 6) && coder.random.percent(70);
     let code = if free || temporaries > coder.room { coder.noise(12) } else { coder.method_code() };
     let mut literals = coder.literals;
@@ -288,8 +318,8 @@ struct Coder<'a> {
     random: &'a mut Random,
     plan: &'a Plan,
     fields: usize,
-    /// Where there is none, a super send finds nothing.
-    has_superclass: bool,
+    /// How many of the sends, in percent. Where there is no superclass they find nothing.
+    super_sends: usize,
     temporaries: usize,
     room: usize,
     literals: Vec<u16>,
@@ -607,7 +637,7 @@ impl Coder<'_> {
             Some(literal) => literal,
             None => return vec![118],
         };
-        let above = self.random.percent(if self.has_superclass { 25 } else { 3 });
+        let above = self.random.percent(self.super_sends);
         let short = literal < 32 && arguments < 8;
         if !above && literal < 16 && arguments < 3 && self.random.percent(80) {
             code.push(208 + 16 * arguments as u8 + literal as u8);

@@ -1,6 +1,7 @@
 //! Makes the same random calls on the plain machine and on the proved library, and compares answers, registers and every word of every buffer.
 
 mod cases;
+mod chains;
 mod damage;
 mod draft;
 mod generate;

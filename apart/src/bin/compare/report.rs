@@ -1,9 +1,11 @@
 //! What was covered.
 
+use crate::chains::{self, CHAINS};
 use crate::laws::{CUTS, SHORT};
 use crate::sides::*;
-use apart::counts::{Counts, REACHES};
+use apart::counts::{Counts, REACHES, SENDS, SUPER_SENDS};
 use apart::play::{ANSWER_WORDS, ENDS};
+use apart::rules::{CIRCLE, TOO_LONG};
 use std::collections::BTreeMap;
 use std::ops::Range;
 
@@ -13,7 +15,7 @@ pub struct Report {
     pub cases: u64,
     /// By call and refusal number; 0 is accepted.
     answers: Tally,
-    /// By refusal number of load and what was wrong.
+    /// By refusal number and what was wrong.
     reasons: BTreeMap<(u32, &'static str), u64>,
     /// By number of the call, begin or run, and the phase it left.
     phases: Tally,
@@ -26,8 +28,16 @@ pub struct Report {
 type Tally = BTreeMap<(usize, u32), u64>;
 
 /// The refusals that a call can give.
-const POSSIBLE: [&[u32]; 8] =
-    [&[0, 1, 2, 3, 4, 5, 6, 7, 8], &[0, 3, 8, 9, 10, 11, 12, 13], &[0, 3, 11, 12], &[0, 3, 11], &[0, 3, 11], &[0, 3, 11], &[0, 3, 11], &[0, 3, 11]];
+const POSSIBLE: [&[u32]; 8] = [
+    &[0, 1, 2, 3, 4, 5, 14, 6, 7, 8],
+    &[0, 3, 8, 9, 10, 11, 12, 13],
+    &[0, 3, 11, 12],
+    &[0, 3, 11],
+    &[0, 3, 11],
+    &[0, 3, 11],
+    &[0, 3, 11],
+    &[0, 3, 11],
+];
 
 /// The calls that a list can have: begin, run, drop, forget.
 const LISTED: Range<usize> = 1..5;
@@ -93,6 +103,9 @@ impl Report {
         if let Some(refusal) = outcome.refusal {
             *self.reasons.entry((refusal.number, refusal.why)).or_insert(0) += 1;
         }
+        if let Call::Load(image) = call {
+            self.counts.events_met(CHAINS, chains::met(image, outcome.number));
+        }
         if outcome.number == 0 && (index == 1 || index == 2) {
             count(&mut self.phases, index, after.registers[4] as u32);
         }
@@ -130,7 +143,12 @@ impl Report {
         {
             missing.extend(unmet(tally, call, phases).map(|phase| format!("phase {phase} after {}{place}", CALLS[call])));
         }
-        let events = ENDS.iter().chain(&REACHES).chain(&CUTS).chain(&SHORT);
+        for reason in [(14, TOO_LONG), (14, CIRCLE), (11, TOO_LONG), (11, CIRCLE)] {
+            if !self.reasons.contains_key(&reason) {
+                missing.push(format!("refusal {} by {}", reason.0, reason.1));
+            }
+        }
+        let events = ENDS.iter().chain(&REACHES).chain(&CUTS).chain(&SHORT).chain(&CHAINS).chain(&SENDS).chain(&SUPER_SENDS);
         missing.extend(events.filter(|event| !self.counts.events.contains_key(*event)).map(|event| event.to_string()));
         for byte in (0..256).filter(|byte| !(125..128).contains(byte) && !(137..144).contains(byte)) {
             if self.counts.bytecodes[byte] == 0 {
