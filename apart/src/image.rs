@@ -197,6 +197,37 @@ impl Image {
         format!("{number} (form {}, F {})", self.name(form), self.name(fields))
     }
 
+    /// The classes of a chain, each once, and the superclass word of the last: one that names no class, or one of these where the chain goes round.
+    fn chain(&self, number: usize) -> (Vec<usize>, u16) {
+        let (mut classes, mut at) = (vec![], number);
+        loop {
+            classes.push(at);
+            let word = self.word(at, 0).unwrap_or(0);
+            match object_number(word).filter(|above| self.of_kind(*above, CLASS) && !classes.contains(above)) {
+                Some(above) => at = above,
+                None => return (classes, word),
+            }
+        }
+    }
+
+    /// The chain of a class in one line; where it has more than `most` classes, a few of the first and the last of them.
+    pub fn chain_shown(&self, number: usize, most: usize) -> String {
+        let (classes, behind) = self.chain(number);
+        let name = |class: &usize| self.given.get(class).cloned().unwrap_or(class.to_string());
+        let mut names: Vec<String> = classes.iter().map(name).collect();
+        if classes.len() > most {
+            let few = most.min(8) / 2;
+            names.splice(few..classes.len() - few, [format!("... {} more ...", classes.len() - 2 * few)]);
+        }
+        let counted = |count: usize| if count == 1 { "1 class".to_string() } else { format!("{count} classes") };
+        let (end, count) = match classes.iter().position(|class| object_number(behind) == Some(*class)) {
+            Some(first) => (name(&classes[first]), format!("a circle of {}", counted(classes.len() - first))),
+            None if behind == NIL => ("nil".to_string(), counted(classes.len())),
+            None => (self.found(behind), counted(classes.len())),
+        };
+        format!("{} > {end}: {count}", names.join(" > "))
+    }
+
     /// A method taken apart as far as it can be.
     pub fn method(&self, number: usize) -> Option<Method> {
         let header = self.word(number, 0).filter(|_| self.of_kind(number, METHOD))?;

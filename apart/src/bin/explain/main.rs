@@ -105,7 +105,7 @@ mod tests {
 
     #[test]
     fn any_bytes_get_an_answer() {
-        let (seeds, mut random, mut numbers) = (seeds(), Random(80), [0; 9]);
+        let (seeds, mut random, mut numbers) = (seeds(), Random(80), [0; 15]);
         for round in 0..20_000 {
             let mut bytes = seeds[round % seeds.len()].clone();
             for _ in 0..random.below(4) + 1 {

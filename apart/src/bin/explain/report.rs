@@ -9,20 +9,24 @@ use apart::refusal::{Faults, Place, Refusal};
 use apart::rules::{self, Header, World};
 use apart::words::*;
 
-const RULES: [&str; 9] = [
-    "",
-    "the length is 10 + 8N + 2B bytes",
-    "the edition is 1, N is 5 to 2047, B is at most 24000",
-    "the lent buffers are long enough",
-    "the layout: kinds are 0 to 4, each body starts where the one before ends, a class has 4 words, padding is zero, the last body ends at B",
-    "the classes of entries and the words of fields, classes and lists are valid: odd, or twice the number of an object",
-    "entries' classes, class bodies, dictionaries and objects 1 to 5",
-    "methods: header, home, literals, counts of arguments, and code with a depth table",
-    "the start receiver is a valid word, the start selector has kind 1",
+/// By their numbers, in load's order.
+const RULES: [(u32, &str); 9] = [
+    (1, "the length is 10 + 8N + 2B bytes"),
+    (2, "the edition is 1, N is 5 to 2047, B is at most 24000"),
+    (3, "the lent buffers are long enough"),
+    (4, "the layout: kinds are 0 to 4, each body starts where the one before ends, a class has 4 words, padding is zero, the last body ends at B"),
+    (5, "the classes of entries and the words of fields, classes and lists are valid: odd, or twice the number of an object"),
+    (14, "the chain of each class, itself counted, has at most 24 classes"),
+    (6, "entries' classes, class bodies, dictionaries and objects 1 to 5"),
+    (7, "methods: header, home, literals, counts of arguments, and code with a depth table"),
+    (8, "the start receiver is a valid word, the start selector has kind 1"),
 ];
 
 /// How many faults are said after the first.
 const MOST_OTHERS: usize = 10;
+/// How many classes of a chain are said: where it is too long, and in the line of another fault.
+const CHAIN: usize = 32;
+const OTHER_CHAIN: usize = 6;
 
 /// The number that load gives, 0 where the image is right, and the text.
 pub fn explain(bytes: &[u8]) -> (u32, String) {
@@ -35,8 +39,8 @@ pub fn explain(bytes: &[u8]) -> (u32, String) {
         Ok(world) => (0, right(&header, &image, &world)),
         Err(faults) => {
             let mut text = refused(&faults, bytes, &image);
-            // Before rule 5 it is not known where bodies are.
-            if faults.list[0].number >= 5 {
+            // Where rule 4 does not hold it is not known where bodies are.
+            if ![1, 2, 3, 4].contains(&faults.list[0].number) {
                 text += &selectors::warnings(&header, &image);
             }
             (faults.list[0].number, text)
@@ -54,11 +58,12 @@ pub fn judge(header: &Header, image: &Image) -> Result<World, Faults> {
 /// The first fault in full, then a line for each of the others.
 fn refused(faults: &Faults, bytes: &[u8], image: &Image) -> String {
     let first = &faults.list[0];
-    let mut out = format!("refused {}\nrule: {}\nbroken: {}\n", first.number, RULES[first.number as usize], first.why);
+    let rule = RULES.iter().find(|(number, _)| *number == first.number).map_or("", |(_, rule)| rule);
+    let mut out = format!("refused {}\nrule: {rule}\nbroken: {}\n", first.number, first.why);
     if first.place != Place::Image {
         out += &format!("at: {}\n", at(first, image));
     }
-    out += &format!("found: {}\n", found(first, bytes, image));
+    out += &format!("found: {}\n", found(first, bytes, image, CHAIN));
     out += &match first.place {
         Place::Image if first.number == 1 => String::new(),
         Place::Image => format!("object: {}\n", image.shown(image.contents.len() / 4)),
@@ -74,7 +79,7 @@ fn refused(faults: &Faults, bytes: &[u8], image: &Image) -> String {
         out += &format!("hint: {hint}\n");
     }
     for other in faults.list.iter().skip(1).take(MOST_OTHERS) {
-        out += &format!("also: {}: {}; found {}\n", at(other, image), other.why, found(other, bytes, image));
+        out += &format!("also: {}: {}; found {}\n", at(other, image), other.why, found(other, bytes, image, OTHER_CHAIN));
     }
     if faults.list.len() > 1 + MOST_OTHERS {
         out += &format!("and {} more\n", faults.list.len() - 1 - MOST_OTHERS);
@@ -95,8 +100,8 @@ fn at(fault: &Refusal, image: &Image) -> String {
     }
 }
 
-/// What stands there.
-fn found(fault: &Refusal, bytes: &[u8], image: &Image) -> String {
+/// What stands there; of a chain so many classes.
+fn found(fault: &Refusal, bytes: &[u8], image: &Image, most: usize) -> String {
     let header = |index: usize| bytes.get(2 * index..2 * index + 2).map_or(0, |pair| u16::from_be_bytes([pair[0], pair[1]]));
     let (n, b) = (header(1) as usize, header(2) as usize);
     match fault.place {
@@ -116,6 +121,7 @@ fn found(fault: &Refusal, bytes: &[u8], image: &Image) -> String {
                 _ => format!("{word}, of kind {} ({kind})", entry[1]),
             }
         }
+        Place::Body(number, _) if fault.number == 14 => image.chain_shown(number, most),
         Place::Body(number, index) => {
             let word = image.word(number, index).unwrap_or(0);
             if image.of_kind(number, METHOD) && index == 0 {
@@ -224,6 +230,11 @@ fn right(header: &Header, image: &Image, world: &World) -> String {
         Some((word, 0)) => format!("begin without arguments: {}\n", image.name(word)),
         Some((word, count)) => format!("begin without arguments: refused 10, {} takes {count}\n", image.name(word)),
     };
+    let length = |number: &usize| world.objects.chain(pointer(*number)).take(MOST_CHAIN).count();
+    // Of several the first.
+    if let Some(longest) = (1..=header.n).rev().max_by_key(length) {
+        out += &format!("longest chain: {}, of at most {MOST_CHAIN}\n", image.chain_shown(longest, MOST_CHAIN));
+    }
     out += &selectors::warnings(header, image);
     for number in 1..=header.n {
         out += &match image.entry(number).map_or(FIELDS, |entry| entry[1]) {
@@ -245,7 +256,7 @@ fn class_shown(image: &Image, world: &World, number: usize) -> String {
     let names: Vec<String> = pairs.map(|pair| image.text(pair[0] as usize / 2)).collect();
     out += &format!("  understands: {}", if names.is_empty() { "nothing of its own".to_string() } else { names.join(" ") });
     out += &if class.superclass == NIL { "\n".to_string() } else { format!(", and what {above} understands\n") };
-    out
+    out + &format!("  chain: {}\n", image.chain_shown(number, MOST_CHAIN))
 }
 
 fn method_shown(image: &Image, world: &World, number: usize) -> String {

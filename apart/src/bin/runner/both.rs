@@ -16,7 +16,7 @@ use apart::rules::World;
 
 pub const PHASES: [&str; 6] = ["idle", "running", "finished", "not understood", "no boolean", "no stack room"];
 
-const REFUSALS: [&str; 14] = [
+const REFUSALS: [&str; 15] = [
     "",
     "the length is not the one that the header tells",
     "a wrong header",
@@ -31,6 +31,7 @@ const REFUSALS: [&str; 14] = [
     "the state is not right",
     "not in this phase",
     "no room for the first frame",
+    "a chain of more than 24 classes",
 ];
 
 /// Bytes of the largest image.
