@@ -8,10 +8,10 @@ use lib.Dec.{eqb}
 use Rattle.model.specs.declared.Pointer.{Pointer}
 use Rattle.model.specs.declared.Found.{Found}
 use Rattle.model.specs.declared.Found.the-variants.{Method, Nothing}
-use Rattle.model.specs.Limits.{classKind, mostClasses, cacheEntries}
+use Rattle.model.specs.Limits.{classKind, cacheEntries}
 use Rattle.model.specs.Objects.{Objects, isKind}
 use Rattle.model.specs.Lookup.{lookup}
-use Rattle.model.proofs.ChainLaws.{no-class}
+use Rattle.model.proofs.LookupLaws.{lookup-none}
 use Rattle.readers.proofs.Loops.{Before, before-more, below-all, below-no}
 use Rattle.plain.specs.Cache.{finds, emptyOr, cachedRight, cachedRightAt, cacheFine}
 
@@ -35,7 +35,7 @@ module _ (o : Objects) (s c m : ℕ) (e : Bool) (p : e ≡ (eqb s 0 && (eqb c 0 
   entry-held f q l = ap₂ (λ (x : Bool) (y : Found). emptyOr x (finds y m)) (sym q ∙ p) l
 
   pub entry-other : (x : Bool) → e ≡ false → x ≡ isKind o classKind c → not x ≡ true → false ≡ cachedRight o s c m
-  entry-other x q k r = entry-held Nothing q (sym (unfold lookup in no-class o mostClasses s c (sym k ∙ not-true x r)))
+  entry-other x q k r = entry-held Nothing q (sym (lookup-none o s c (sym k ∙ not-true x r)))
 
   pub entry-found : (f : Found) (k : Pointer) → e ≡ false → f ≡ lookup o s c → f ≡ Method k → eqb (k .0) m ≡ cachedRight o s c m
   entry-found f k q l h = entry-held (Method k) q (sym h ∙ l)

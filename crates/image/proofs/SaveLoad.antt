@@ -1,14 +1,14 @@
 -- Reading and writing undo each other, with load's verdict.
 use Prim.Native.Nat.{ℕ, _<_}
-use mathlib.Core.Path.{_≡_, refl, ap, _∙_, subst}
-use mathlib.Core.Bool.{Bool, true, false}
+use mathlib.Core.Path.{_≡_, refl, ap, _∙_}
+use mathlib.Core.Bool.{Bool, true}
 use mathlib.Core.List.{List}
-use lib.Dec.{T}
 use lib.ListN.{length, getD}
-use Rattle.bytecode.proofs.TestLaws.{true→T, T→true}
+use Rattle.bytecode.proofs.TestLaws.{T→true, rule}
 use Rattle.model.specs.Objects.{Objects}
 use Rattle.model.specs.Rules.{headerFine}
-use Rattle.model.specs.Image.{Room, Header, Verdict, accepted, refused, _then_, unless, imageHeader, imageObjects, imageOf, lengthFine, buffersFine, objectsVerdict, loadVerdict}
+use Rattle.model.specs.Image.{Room, Header, Verdict, accepted, _then_, unless, imageHeader, imageObjects, imageOf, lengthFine, testsOf, buffersFine, objectsVerdict, loadTests, loadVerdict}
+use Rattle.model.proofs.OrderLaws.{load-passes}
 use Rattle.image.proofs.RoundTrip.{Fitting, header-written, objects-written, length-written, image-read}
 
 -- load's verdict, by what is read
@@ -34,7 +34,7 @@ written-read room h o f two three rest =
     record { header = header-written h o; objects = objects-written h o f; taken = whole }
   where
     by-parts : loadVerdict room (imageOf h o) ≡ verdict room (lengthFine (imageOf h o)) (imageHeader (imageOf h o)) (imageObjects (imageOf h o))
-    by-parts = unfold loadVerdict in refl
+    by-parts = unfold loadVerdict objectsVerdict in refl
 
     whole : loadVerdict room (imageOf h o) ≡ accepted
     whole =
@@ -49,13 +49,4 @@ written-read room h o f two three rest =
 -- An image that load accepted is written as it was.
 pub read-written : (room : Room) (image : List ℕ) → ((i : ℕ) → i < length image → getD image i 0 < 256) → loadVerdict room image ≡ accepted
     → imageOf (imageHeader image) (imageObjects image) ≡ image
-unfolding loadVerdict
-read-written room image bytes e = image-read image (go (lengthFine image) refl e) bytes
-  where
-    go : (b : Bool) → lengthFine image ≡ b → verdict room b (imageHeader image) (imageObjects image) ≡ accepted → T (lengthFine image)
-    go true q v = true→T q
-    go false q v = absurd (subst Is v tt)
-      where
-        Is : Verdict → Type 0
-        Is accepted = ⊥
-        Is (refused k) = Unit {0}
+read-written room image bytes e = image-read image (rule (testsOf (loadTests room image)) (load-passes room image e) 0) bytes

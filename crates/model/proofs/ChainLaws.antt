@@ -77,7 +77,7 @@ module _ (o : Objects) where
   unfolding endsWithin
   ends-last c e = rw e
 
-  class-below : {a c : ℕ} → InChain o a c → isKind o classKind c ≡ true
+  pub class-below : {a c : ℕ} → InChain o a c → isKind o classKind c ≡ true
   class-below (same p e) = p
   class-below (higher p i) = p
 

@@ -5,16 +5,22 @@ use mathlib.Core.Logic.{_↔_}
 use mathlib.Core.Bool.{Bool, true, false}
 use lib.Dec.{T}
 use Rattle.bytecode.proofs.TestLaws.{true→T}
+use Rattle.model.specs.declared.Found.the-variants.{Nothing}
 use Rattle.model.specs.Limits.{classKind, mostClasses}
 use Rattle.model.specs.Objects.{Objects, isKind, superclassWord}
 use Rattle.model.specs.Lookup.{lookup, inChain, endsWithin, Chain, InChain, same, higher, ReadsFew}
 use Rattle.model.specs.Rules.{rule14}
-use Rattle.model.proofs.ChainLaws.{ends-none, decides-chain, looks, looks-few, test→in, in→test}
+use Rattle.model.proofs.ChainLaws.{no-class, ends-none, decides-chain, looks, looks-few, test→in, in→test}
 use Rattle.model.proofs.Facts.{Right, short-chain, chains-rule, chain-ends}
 
 pub decides-chains : (o : Objects) → T (rule14 o) ↔ ((c : ℕ) → T (isKind o classKind c) → (k : ℕ) × (Chain o c k × (k ≤ mostClasses)))
 decides-chains o =
     (λ t c q. decides-chain o mostClasses c .0 (short-chain o t c q), λ f. chains-rule o (λ c q. decides-chain o mostClasses c .1 (f c q)))
+
+-- from a word that names no class
+pub lookup-none : (o : Objects) (s c : ℕ) → isKind o classKind c ≡ false → lookup o s c ≡ Nothing
+unfolding lookup
+lookup-none o s c p = no-class o mostClasses s c p
 
 in-joined : {o : Objects} {a h c : ℕ} → InChain o a (superclassWord o h) → InChain o h c → InChain o a c
 in-joined {o = o} {a = a} i (same {c = c} p e) = higher p (subst (λ (w : ℕ). InChain o a (superclassWord o w)) e i)

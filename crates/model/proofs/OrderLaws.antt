@@ -8,10 +8,10 @@ use lib.Dec.{T}
 use Rattle.bytecode.specs.Test.{allOf}
 use Rattle.bytecode.proofs.TestLaws.{and-both}
 use Rattle.model.specs.Objects.{Objects}
-use Rattle.model.specs.Rules.{headerFine, rule4, rule5, rule14, rule6, rule7, rule8}
-use Rattle.model.specs.Image.{Room, imageHeader, imageObjects, Verdict, accepted, refused, unless, _then_, inOrder, testsOf, lengthFine, buffersFine, objectTests, objectsVerdict, loadVerdict}
+use Rattle.model.specs.Rules.{rule4, rule5, rule14, rule6, rule7, rule8}
+use Rattle.model.specs.Image.{Room, Verdict, accepted, refused, unless, _then_, inOrder, testsOf, objectsVerdict, loadTests, loadVerdict}
 
-pub refused-not : (k : ℕ) → refused k ≡ accepted → ⊥
+refused-not : (k : ℕ) → refused k ≡ accepted → ⊥
 refused-not k e = subst is-refused e tt
   where
     is-refused : Verdict → Type 0
@@ -19,7 +19,7 @@ refused-not k e = subst is-refused e tt
     is-refused (refused j) = Unit {0}
 
 -- the first test of an order that accepts, and the rest of it
-pub passed : (b : Bool) (k : ℕ) (v : Verdict) → (unless b k then v) ≡ accepted → T b × (v ≡ accepted)
+passed : (b : Bool) (k : ℕ) (v : Verdict) → (unless b k then v) ≡ accepted → T b × (v ≡ accepted)
 passed true k v e = (tt, e)
 passed false k v e = absurd (refused-not k e)
 
@@ -88,10 +88,12 @@ module _ (e : ℕ) (o : Objects) (receiver selector : ℕ) where
 
 -- no refusal of load has number 0
 pub load-positive : (room : Room) (bytes : List ℕ) → Refuses (λ k. 1 ≤ k) (loadVerdict room bytes)
-unfolding loadVerdict objectsVerdict
+unfolding loadVerdict
 load-positive room bytes =
-    let h = imageHeader bytes in
-    let o = imageObjects bytes in
-    number-of (λ k. 1 ≤ k)
-    ((lengthFine bytes, 1) ∷ (headerFine (h .edition) (h .n) (h .b), 2) ∷ (buffersFine room (h .n) (h .b), 3) ∷ objectTests (h .edition) o (h .receiver) (h .selector))
+    number-of (λ k. 1 ≤ k) (loadTests room bytes)
     (omega arith, (omega arith, (omega arith, (omega arith, (omega arith, (omega arith, (omega arith, (omega arith, (omega arith, tt)))))))))
+
+-- each test of load that accepts
+pub load-passes : (room : Room) (bytes : List ℕ) → loadVerdict room bytes ≡ accepted → T (allOf (testsOf (loadTests room bytes)))
+unfolding loadVerdict
+load-passes room bytes e = accepted→all (loadTests room bytes) e

@@ -1,25 +1,26 @@
 -- What a lookup finds, and the fields of a receiver whose class chain holds a method's home.
 use Prim.Native.Nat.{ℕ, zero, suc, _+_, _/_, _%_, _≤_, _<_}
 use mathlib.Core.Path.{_≡_, refl, sym, ap, _∙_, subst}
-use mathlib.Core.Logic.{_⊎_, inl, inr, _≢_}
-use mathlib.Core.Bool.{Bool, true, false, _||_}
+use mathlib.Core.Logic.{_≢_}
+use mathlib.Core.Bool.{Bool, true, false}
 use native.Mathlib.Omega.{arith}
 use borrow.Author.Tests.{eq-eqb, ne-eqb, eqb-true}
 use lib.Dec.{T, eqb, eqb→eq}
 use Rattle.bytecode.specs.Constant.{nilWord}
 use Rattle.bytecode.specs.Test.{below, implies}
 use Rattle.bytecode.proofs.Choice.{if-yes, if-no}
-use Rattle.bytecode.proofs.TestLaws.{true→T, or-cases, implied, upTo-at, below-at}
+use Rattle.bytecode.proofs.TestLaws.{true→T, implied, upTo-at, below-at}
 use Rattle.model.specs.declared.Found.{Found}
 use Rattle.model.specs.declared.Found.the-variants.{Method, Nothing}
-use Rattle.model.specs.Limits.{fieldsKind, bytesKind, classKind, methodKind, mostClasses}
+use Rattle.model.specs.Limits.{fieldsKind, bytesKind, classKind, methodKind}
 use Rattle.model.specs.Word.{isValid, pointer, integerClass}
 use Rattle.model.specs.Objects.{Objects, classWord, kind, size, bodyWord, isKind, classOf, superclassWord, dictionaryWord, fieldCount, form, pairCount, pairSelector, pairMethod}
 use Rattle.model.specs.Method.{home, argumentCount}
-use Rattle.model.specs.Lookup.{found, findFrom, findIn, lookupWithin, lookup, inChainWithin, inChain}
+use Rattle.model.specs.Lookup.{found, findFrom, findIn, lookup, inChain, Looks, ended, here, above, InChain, same, higher}
 use Rattle.model.specs.Rules.{takesCount}
-use Rattle.model.proofs.ChainLaws.{named, class-hit, class-miss, no-class, chain-class, chain-none}
+use Rattle.model.proofs.ChainLaws.{named, class-below}
 use Rattle.model.proofs.Facts.{Right, Valid, odd, names, naming, valid-cases, valid-kind, pointer-of, in-words, word-valid, Fits, fixed, indexed, bytes, other, entry-class, entry-fits, class-facts, known-facts, integer-class, nil-no-class, pair-facts, pair-home}
+use Rattle.model.proofs.LookupLaws.{reads-few, decides-in}
 use Rattle.model.proofs.Unchanged.{find-hit, find-miss}
 
 abbrev IsMethod : Found → Type 0
@@ -55,10 +56,10 @@ module _ (o : Objects) where
   found-in d s m p = found-from d s m 0 (pairCount o d) (omega arith) p
 
 -- the class whose dictionary has the method
-record Holder (o : Objects) (left s c m : ℕ) : Type 0 where
+record Holder (o : Objects) (s c m : ℕ) : Type 0 where
   holder : ℕ
   classes : T (isKind o classKind holder)
-  chain : inChainWithin left o holder c ≡ true
+  chain : InChain o holder c
   pair : PairOf o (dictionaryWord o holder) s m
 
 pub record FoundFacts (o : Objects) (s c m : ℕ) : Type 0 where
@@ -67,33 +68,15 @@ pub record FoundFacts (o : Objects) (s c m : ℕ) : Type 0 where
   pub counts : (n : ℕ) → T (takesCount o s n) → argumentCount o m ≡ n
 
 module _ {e : ℕ} {o : Objects} (r : Right e o) where
-  holder-of : (left s c m : ℕ) → lookupWithin left o s c ≡ found m → Holder o left s c m
-  unfolding lookupWithin
-  holder-of zero s c m p = absurd (nothing-found m p)
-  holder-of (suc left) s c m p = go (isKind o classKind c) (findIn o (dictionaryWord o c) s) refl refl (holder-of left s (superclassWord o c) m)
-    where
-      go : (b : Bool) (f : Found) → isKind o classKind c ≡ b → findIn o (dictionaryWord o c) s ≡ f → (lookupWithin left o s (superclassWord o c) ≡ found m
-          → Holder o left s (superclassWord o c) m) → Holder o (suc left) s c m
-      go true (Method w) q f ih =
-          record {
-            holder = c;
-            classes = true→T q;
-            chain = chain-class o left c c q ∙ ap (λ (b : Bool). b || inChainWithin left o c (superclassWord o c)) (eq-eqb c c refl);
-            pair = found-in o (dictionaryWord o c) s m (f ∙ sym (class-hit o left s c (w .0) q f) ∙ p);
-          }
-      go true Nothing q f ih =
-          let h = ih (sym (class-miss o left s c q f) ∙ p) in
-          record {
-            holder = h .holder;
-            classes = h .classes;
-            chain = chain-class o left (h .holder) c q ∙ ap (λ (b : Bool). eqb (h .holder) c || b) (h .chain) ∙ or-true (eqb (h .holder) c);
-            pair = h .pair;
-          }
-        where
-          or-true : (b : Bool) → (b || true) ≡ true
-          or-true true = refl
-          or-true false = refl
-      go false f q g ih = absurd (nothing-found m (sym (no-class o (suc left) s c q) ∙ p))
+  holder-by : (s c m k : ℕ) (f : Found) → Looks o s c f k → f ≡ found m → Holder o s c m
+  holder-by s c m k f (ended p) e = absurd (nothing-found m e)
+  holder-by s c m k f (here p q) e = record { holder = c; classes = true→T p; chain = same p refl; pair = found-in o (dictionaryWord o c) s m (q ∙ e) }
+  holder-by s c m k f (above {k = j} p q l) e =
+      let h = holder-by s (superclassWord o c) m j f l e in
+      record { holder = h .holder; classes = h .classes; chain = higher p (h .chain); pair = h .pair }
+
+  holder-of : (s c m : ℕ) → lookup o s c ≡ found m → Holder o s c m
+  holder-of s c m e = let l = reads-few r s c .ends in holder-by s c m (l .0) (lookup o s c) (l .1) e
 
   -- every method under a selector takes the count that the test says
   count-at : (c s m n : ℕ) → T (isKind o classKind c) → PairOf o (dictionaryWord o c) s m → T (takesCount o s n) → argumentCount o m ≡ n
@@ -116,26 +99,24 @@ module _ {e : ℕ} {o : Objects} (r : Right e o) where
 
   -- a method found is one, its home is in the class chain, and it takes the selector's count
   pub lookup-facts : (s c m : ℕ) → lookup o s c ≡ found m → FoundFacts o s c m
-  unfolding lookup inChain
   lookup-facts s c m p =
-      let h = holder-of mostClasses s c m p in
+      let h = holder-of s c m p in
       let q = h .pair in
       let home-is : home o m ≡ h .holder = ap (home o) (sym (q .method)) ∙ pair-home r (h .holder) (q .place) (h .classes) (q .inside) in
       record {
         method = subst (λ (x : ℕ). T (isKind o methodKind x)) (q .method) (pair-facts r (h .holder) (q .place) (h .classes) (q .inside) .method);
-        homes = subst (λ (x : ℕ). T (inChainWithin mostClasses o x c)) (sym home-is) (true→T (h .chain));
+        homes = subst (λ (x : ℕ). T (inChain o x c)) (sym home-is) (decides-in r (h .holder) c .1 (h .chain));
         counts = λ n t. count-at (h .holder) s m n (h .classes) q t;
       }
 
   -- nil as a selector finds nothing (01, "Image"): selectors of dictionaries have kind 1, and nil has kind 0.
   pub nil-finds-nothing : (c : ℕ) → lookup o nilWord c ≡ Nothing
-  unfolding lookup
   nil-finds-nothing c = go (lookup o nilWord c) refl
     where
       go : (f : Found) → lookup o nilWord c ≡ f → f ≡ Nothing
       go Nothing p = refl
       go (Method m) p =
-          let h = holder-of mostClasses nilWord c (m .0) p in
+          let h = holder-of nilWord c (m .0) p in
           let q = h .pair in
           let t = subst (λ (x : ℕ). T (isKind o bytesKind x)) (q .selector) (pair-facts r (h .holder) (q .place) (h .classes) (q .inside) .selector) in
           let k : kind o 1 ≡ 1 = named o bytesKind nilWord t .kinds in
@@ -143,37 +124,15 @@ module _ {e : ℕ} {o : Objects} (r : Right e o) where
           absurd (omega arith)
 
   -- F is not below that of a class above
-  record Above (a c : ℕ) : Type 0 where
-    class-a : T (isKind o classKind a)
-    class-c : T (isKind o classKind c)
-    fewer : fieldCount o a ≤ fieldCount o c
-
-  above-within : (left a c : ℕ) → T (inChainWithin left o a c) → Above a c
-  unfolding inChainWithin
-  above-within zero a c t = absurd t
-  above-within (suc left) a c t = go (isKind o classKind c) refl (above-within left a (superclassWord o c))
-    where
-      go : (b : Bool) → isKind o classKind c ≡ b → (T (inChainWithin left o a (superclassWord o c)) → Above a (superclassWord o c)) → Above a c
-      go false q ih = absurd (subst T (chain-none o (suc left) a c q) t)
-      go true q ih = either (or-cases (eqb a c) (inChainWithin left o a (superclassWord o c)) (subst T (chain-class o left a c q) t))
-        where
-          either : T (eqb a c) ⊎ T (inChainWithin left o a (superclassWord o c)) → Above a c
-          either (inl s) =
-              let same = eqb→eq a c s in
-              record {
-                class-a = subst (λ (x : ℕ). T (isKind o classKind x)) (sym same) (true→T q);
-                class-c = true→T q;
-                fewer = subst (λ (x : ℕ). fieldCount o x ≤ fieldCount o c) (sym same) (omega arith);
-              }
-          either (inr s) =
-              let h = ih s in
-              let f = class-facts r c (true→T q) .rises (λ p. nil-no-class r (subst (λ (w : ℕ). T (isKind o classKind w)) p (h .class-c))) in
-              let g = h .fewer in
-              record { class-a = h .class-a; class-c = true→T q; fewer = omega arith }
+  fewer : (a c : ℕ) → InChain o a c → fieldCount o a ≤ fieldCount o c
+  fewer a c (same p e) = subst (λ (x : ℕ). fieldCount o a ≤ fieldCount o x) e (omega arith)
+  fewer a c (higher p i) =
+      let f = class-facts r c (true→T p) .rises (λ q. nil-no-class r (subst (λ (w : ℕ). T (isKind o classKind w)) q (true→T (class-below o i)))) in
+      let g = fewer a (superclassWord o c) i in
+      omega arith
 
   pub chain-fields : (a c : ℕ) → T (inChain o a c) → fieldCount o a ≤ fieldCount o c
-  unfolding inChain
-  chain-fields a c t = above-within mostClasses a c t .fewer
+  chain-fields a c t = fewer a c (decides-in r a c .0 t)
 
   -- the fields of a home are fields of the receiver
   pub receiver-fields : (w a i : ℕ) → T (isValid (o .n) w) → T (inChain o a (classOf o w)) → i < fieldCount o a → T (isKind o fieldsKind w) × (i < size o (w / 2))

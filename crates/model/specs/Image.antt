@@ -60,7 +60,7 @@ pub data Verdict : Type 0 where
   accepted : Verdict
   refused : ℕ → Verdict
 
--- The first refusal of a chain counts. A later test waits where an earlier one refuses.
+-- The first refusal counts. A later test waits where an earlier one refuses.
 infixr 3 _then_
 abbrev pub _then_ : Verdict → Verdict → Verdict
 accepted then v = v
@@ -96,10 +96,14 @@ objectTests e o receiver selector =
 unfoldable pub objectsVerdict : ℕ → Objects → ℕ → ℕ → Verdict
 objectsVerdict e o receiver selector = inOrder (objectTests e o receiver selector)
 
+-- The order of load
+abbrev pub loadTests : Room → List ℕ → List (Bool × ℕ)
+loadTests room bytes =
+    (lengthFine bytes, 1) ∷
+    (headerFine (imageHeader bytes .edition) (imageHeader bytes .n) (imageHeader bytes .b), 2) ∷
+    (buffersFine room (imageHeader bytes .n) (imageHeader bytes .b), 3) ∷
+    objectTests (imageHeader bytes .edition) (imageObjects bytes) (imageHeader bytes .receiver) (imageHeader bytes .selector)
+
 -- What load says of the input
 unfoldable pub loadVerdict : Room → List ℕ → Verdict
-loadVerdict room bytes =
-    unless (lengthFine bytes) 1
-    then (unless (headerFine (imageHeader bytes .edition) (imageHeader bytes .n) (imageHeader bytes .b)) 2
-    then (unless (buffersFine room (imageHeader bytes .n) (imageHeader bytes .b)) 3
-    then objectsVerdict (imageHeader bytes .edition) (imageObjects bytes) (imageHeader bytes .receiver) (imageHeader bytes .selector)))
+loadVerdict room bytes = inOrder (loadTests room bytes)

@@ -65,7 +65,7 @@ classWords = 4
 abbrev pub mostFields : ℕ
 mostFields = 255
 
--- 02, M-101: classes of a chain
+-- 02, M-101: the most classes of a chain
 abbrev pub mostClasses : ℕ
 mostClasses = 24
 

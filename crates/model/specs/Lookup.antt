@@ -47,7 +47,7 @@ unfoldable pub endsWithin : ℕ → Objects → ℕ → Bool
 endsWithin zero o c = not (isKind o classKind c)
 endsWithin (suc left) o c = elim (isKind o classKind c) [ true ↦ endsWithin left o (superclassWord o c) | false ↦ true ]
 
--- The same without a bound, as statements; proofs/ChainLaws.antt shows that the tests decide them.
+-- The same without a bound, as statements. The tests decide them: proofs/ChainLaws.antt and, for right objects, proofs/LookupLaws.antt.
 -- The chain of c has k classes: c, then the class that its superclass word names, and so on, up to the first word that names no class
 -- (02, M-101). One that goes round has no such k.
 pub data Chain (o : Objects) : ℕ → ℕ → Type 0 where

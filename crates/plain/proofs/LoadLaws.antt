@@ -8,10 +8,10 @@ use lib.Dec.{T, leb, eqb, leb→le, eqb→eq}
 use lib.ListN.{length}
 use Rattle.bytecode.proofs.TestLaws.{and-left, and-right, rule}
 use Rattle.model.specs.Limits.{isEdition, headerWords, entryWords, cacheWords}
-use Rattle.model.specs.Rules.{sizesFine, headerFine, rule4, rule5, rule14, rule6, rule7, rule8}
-use Rattle.model.specs.Image.{Room, wordsOf, imageHeader, imageObjects, objectsIn, imageBytes, accepted, testsOf, lengthFine, buffersFine, objectTests, objectsVerdict, loadVerdict}
+use Rattle.model.specs.Rules.{sizesFine, rule4, rule5, rule14, rule6, rule7, rule8}
+use Rattle.model.specs.Image.{Room, wordsOf, imageHeader, imageObjects, objectsIn, imageBytes, accepted, testsOf, lengthFine, buffersFine, loadTests, loadVerdict}
 use Rattle.model.proofs.Parts.{length-part}
-use Rattle.model.proofs.OrderLaws.{passed, accepted→all}
+use Rattle.model.proofs.OrderLaws.{load-passes}
 use Rattle.plain.specs.Calls.{loaded}
 use Rattle.plain.proofs.StateLaws.{PlainRight, rests}
 use Rattle.plain.proofs.RunLaws.{Stood}
@@ -37,34 +37,29 @@ pub record Accepted (room : Room) (bytes : List ℕ) : Type 0 where
   pub rule-8 : T (rule8 (imageObjects bytes) (imageHeader bytes .receiver) (imageHeader bytes .selector) [])
 
 pub accepts : (room : Room) (bytes : List ℕ) → loadVerdict room bytes ≡ accepted → Accepted room bytes
-unfolding loadVerdict objectsVerdict lengthFine buffersFine
+unfolding lengthFine buffersFine
 accepts room bytes a =
     let h = imageHeader bytes in
-    let o = imageObjects bytes in
-    let one = passed (leb (2 * headerWords) (length bytes) && eqb (length bytes) (imageBytes (h .n) (h .b))) 1 _ a in
-    let two = passed (headerFine (h .edition) (h .n) (h .b)) 2 _ (one .1) in
+    let r = rule (testsOf (loadTests room bytes)) (load-passes room bytes a) in
     let c = leb (entryWords * h .n) (room .contents) in
     let b = leb (h .b) (room .bodies) in
     let k = eqb (room .cache) cacheWords in
-    let three = passed (c && (b && k)) 3 _ (two .1) in
-    let tests = objectTests (h .edition) o (h .receiver) (h .selector) in
-    let r = rule (testsOf tests) (accepted→all tests (three .1)) in
     record {
       long = eqb→eq (length bytes) (imageBytes (h .n) (h .b)) (and-right (leb (2 * headerWords) (length bytes))
-          (eqb (length bytes) (imageBytes (h .n) (h .b))) (one .0));
-      edition = and-left (isEdition (h .edition)) (sizesFine (h .edition) (h .n) (h .b)) (two .0);
+          (eqb (length bytes) (imageBytes (h .n) (h .b))) (r 0));
+      edition = and-left (isEdition (h .edition)) (sizesFine (h .edition) (h .n) (h .b)) (r 1);
       sizes = and-right (isEdition (h .edition)) (sizesFine (h .edition) (h .n) (h .b))
-          (two .0);
-      contents = leb→le (entryWords * h .n) (room .contents) (and-left c (b && k) (three .0));
+          (r 1);
+      contents = leb→le (entryWords * h .n) (room .contents) (and-left c (b && k) (r 2));
       bodies = leb→le (h .b) (room .bodies)
-          (and-left b k (and-right c (b && k) (three .0)));
-      cache = eqb→eq (room .cache) cacheWords (and-right b k (and-right c (b && k) (three .0)));
-      rule-4 = r 0;
-      rule-5 = r 1;
-      rule-14 = r 2;
-      rule-6 = r 3;
-      rule-7 = r 4;
-      rule-8 = r 5;
+          (and-left b k (and-right c (b && k) (r 2)));
+      cache = eqb→eq (room .cache) cacheWords (and-right b k (and-right c (b && k) (r 2)));
+      rule-4 = r 3;
+      rule-5 = r 4;
+      rule-14 = r 5;
+      rule-6 = r 6;
+      rule-7 = r 7;
+      rule-8 = r 8;
     }
 
 pub loaded-right : (room : Room) (bytes : List ℕ) → Accepted room bytes → PlainRight room (loaded bytes)

@@ -1,4 +1,4 @@
-// The image rules 4, 5 and 6 of 01 over the lent words. The definitions are model's specs/Rules.antt.
+// The image rules 4, 5, 14 and 6 over the lent words. The definitions are model's specs/Rules.antt.
 ghost use mathlib.Core.Path.{_≡_};
 ghost use Prim.Native.Nat.{_≤_};
 ghost use lib.Dec.{eqb};

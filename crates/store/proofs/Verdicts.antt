@@ -33,7 +33,7 @@ module _ (room : Room) (image : List ℕ) where
 
       pub gives-rest : buffersFine room (imageHeader image .n) (imageHeader image .b) ≡ true
           → loadVerdict room image ≡ objectsVerdict (imageHeader image .edition) (imageObjects image) (imageHeader image .receiver) (imageHeader image .selector)
-      unfolding loadVerdict
+      unfolding loadVerdict objectsVerdict
       gives-rest three = rw (one, two, three)
 
 -- A verdict that refuses by 4 or more, if at all
