@@ -31,7 +31,10 @@ pub fn met(image: &[u8], number: u32) -> [bool; CHAINS.len()] {
         _ => return met,
     };
     let words: Vec<u16> = image[10..].chunks(2).map(|pair| u16::from_be_bytes([pair[0], pair[1]])).collect();
-    let objects = rules::layout(&words[..4 * header.n], &words[4 * header.n..]).unwrap();
+    let objects = match rules::layout(&words[..4 * header.n], &words[4 * header.n..]) {
+        Ok(objects) => objects,
+        Err(_) => return met,
+    };
     let is_broken = |number: u32| {
         let mut faults = Faults::new(number);
         rules::TESTS.iter().find(|test| test.0 == number).unwrap().1(&objects, &mut faults);
