@@ -12,7 +12,7 @@ use Rattle.bytecode.specs.Test.{if_then_else_, upTo, every, implies, allOf}
 use Rattle.bytecode.specs.Constant.{nilWord}
 use Rattle.bytecode.proofs.Choice.{if-yes, if-no, if-cases}
 use Rattle.bytecode.proofs.TestLaws.{true→T, T→true, and-left, and-right, and-both, or-cases, implied, rule, rules, upTo-at, at-upTo, below-at, every-at, at-every}
-use Rattle.model.specs.Limits.{leastObjects, mostObjects, mostBodyWords, fieldsKind, bytesKind, classKind, listKind, methodKind, lastForm, fixedForm, indexedForm, bytesForm, otherForm, classWords, mostFields, mostClasses, nilObject, falseObject, trueObject, integerClassObject, selectorsObject, specialSelectors, fieldFlag, primitiveFlag}
+use Rattle.model.specs.Limits.{leastObjects, mostObjects, mostBodyWords, fieldsKind, bytesKind, classKind, listKind, methodKind, lastForm, fixedForm, indexedForm, bytesForm, otherForm, classWords, mostFields, longestChain, nilObject, falseObject, trueObject, integerClassObject, selectorsObject, specialSelectors, fieldFlag, primitiveFlag}
 use Rattle.model.specs.Word.{isInteger, isPointer, isValid, pointer, objectNumber, integerClass}
 use Rattle.model.specs.Objects.{Objects, classWord, kind, start, size, sizedInBytes, bodyWords, bodyEnd, bodyWord, bodyOf, isKind, isNilOr, superclassWord, dictionaryWord, fieldsWord, formWord, fieldCount, form, pairCount, pairSelector, pairMethod}
 use Rattle.model.specs.Method.{header, home, literal, flag, temporaryCount, literalCount, extension, argumentCount, runsCode}
@@ -203,18 +203,18 @@ fits-rule e o k h (other a b) =
     (and-both (leb classKind (kind o k)) (leb (kind o k) methodKind) (le→leb classKind (kind o k) b) (le→leb (kind o k) methodKind h))
 
 -- Rule 14
-pub short-chain : (o : Objects) → T (rule14 o) → (c : ℕ) → T (isKind o classKind c) → T (endsWithin mostClasses o c)
+pub short-chain : (o : Objects) → T (rule14 o) → (c : ℕ) → T (isKind o classKind c) → T (endsWithin longestChain o c)
 unfolding rule14 chainFine
 short-chain o t c q =
     let h = named o classKind c q in
-    subst (λ (w : ℕ). T (endsWithin mostClasses o w)) (pointer-of c (h .even))
-    (implied (eqb (kind o (c / 2)) classKind) (endsWithin mostClasses o (pointer (c / 2))) (upTo-at (o .n) (chainFine o) t (c / 2) (h .least) (h .most))
+    subst (λ (w : ℕ). T (endsWithin longestChain o w)) (pointer-of c (h .even))
+    (implied (eqb (kind o (c / 2)) classKind) (endsWithin longestChain o (pointer (c / 2))) (upTo-at (o .n) (chainFine o) t (c / 2) (h .least) (h .most))
     (true→T (eq-eqb (kind o (c / 2)) classKind (h .kinds))))
 
-pub chains-rule : (o : Objects) → ((c : ℕ) → T (isKind o classKind c) → T (endsWithin mostClasses o c)) → T (rule14 o)
+pub chains-rule : (o : Objects) → ((c : ℕ) → T (isKind o classKind c) → T (endsWithin longestChain o c)) → T (rule14 o)
 unfolding rule14 chainFine
 chains-rule o f =
-    at-upTo (o .n) (chainFine o) (λ k h g. implying (eqb (kind o k) classKind) (endsWithin mostClasses o (pointer k))
+    at-upTo (o .n) (chainFine o) (λ k h g. implying (eqb (kind o k) classKind) (endsWithin longestChain o (pointer k))
     (λ q. f (pointer k) (subst (λ (z : ℕ). T (isKind o z (pointer k))) (eqb→eq (kind o k) classKind q) (naming o (kind o k) (pointer k) (named-pointer o k h g)))))
 
 -- Rule 6: a pair of a dictionary, a class, the known objects
@@ -427,7 +427,7 @@ module _ {e : ℕ} {o : Objects} (r : Right e o) where
   known = and-left (allOf (knownObjectRules e o)) (upTo (o .n) (objectFine e o)) (r .rule-6)
 
   -- chains
-  pub chain-ends : (c : ℕ) → T (isKind o classKind c) → T (endsWithin mostClasses o c)
+  pub chain-ends : (c : ℕ) → T (isKind o classKind c) → T (endsWithin longestChain o c)
   chain-ends c t = short-chain o (r .rule-14) c t
 
   -- classes

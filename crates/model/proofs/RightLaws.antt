@@ -11,7 +11,7 @@ use lib.ListN.{length}
 use Rattle.bytecode.specs.Test.{upTo, below, every, implies, allOf}
 use Rattle.bytecode.specs.Constant.{nilWord}
 use Rattle.bytecode.proofs.TestLaws.{true→T, and-both, or-cases, rule, rules, at-upTo, at-below}
-use Rattle.model.specs.Limits.{leastObjects, entryWords, otherForm, nilObject, falseObject, trueObject, integerClassObject, selectorsObject, specialSelectors, fieldsKind, bytesKind, classKind, listKind, methodKind, bytesForm, mostFields, mostClasses, lastForm, fieldFlag, primitiveFlag}
+use Rattle.model.specs.Limits.{leastObjects, entryWords, otherForm, nilObject, falseObject, trueObject, integerClassObject, selectorsObject, specialSelectors, fieldsKind, bytesKind, classKind, listKind, methodKind, bytesForm, mostFields, longestChain, lastForm, fieldFlag, primitiveFlag}
 use Rattle.model.specs.Word.{isInteger, isNatural, isValid, pointer, integerClass}
 use Rattle.model.specs.Objects.{Objects, entryWord, classWord, kind, start, size, bodyWords, bodyEnd, bodyWord, bodyOf, isKind, isNilOr, superclassWord, dictionaryWord, fieldCount, form, pairCount, pairSelector, pairMethod}
 use Rattle.model.specs.Method.{home, literal, flag, literalCount, argumentCount}
@@ -140,7 +140,7 @@ module _ {e : ℕ} {o o′ : Objects} (x : Extends o o′) (r : Right e o) where
       subst T (kind-same x kd (pointer k) l u) (subst (λ (z : ℕ). T (isKind o′ z (pointer k))) p (naming o′ (kind o′ k) (pointer k) (named-pointer o′ k h g)))
 
   rule-14-kept : T (rule14 o′)
-  rule-14-kept = chains-rule o′ (λ c t. moved (ends-same x r mostClasses c) (chain-ends r c (subst T (kind-same x classKind c (omega arith) (omega arith)) t)))
+  rule-14-kept = chains-rule o′ (λ c t. moved (ends-same x r longestChain c) (chain-ends r c (subst T (kind-same x classKind c (omega arith) (omega arith)) t)))
 
   pub rule-7-kept : T (rule7 e o′)
   unfolding rule7

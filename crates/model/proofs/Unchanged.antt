@@ -19,7 +19,7 @@ use Rattle.bytecode.proofs.Choice.{if-cases, if-either}
 use Rattle.bytecode.proofs.TestLaws.{true→T, and-left, and-right, and-both}
 use Rattle.model.specs.declared.Found.{Found}
 use Rattle.model.specs.declared.Found.the-variants.{Method, Nothing}
-use Rattle.model.specs.Limits.{fieldsKind, bytesKind, classKind, listKind, methodKind, mostClasses, selectorsObject, specialSelectors}
+use Rattle.model.specs.Limits.{fieldsKind, bytesKind, classKind, listKind, methodKind, longestChain, selectorsObject, specialSelectors}
 use Rattle.model.specs.Word.{isValid, pointer}
 use Rattle.model.specs.Objects.{Objects, kind, size, isKind, superclassWord, dictionaryWord, pairCount, pairSelector, pairMethod}
 use Rattle.model.specs.Method.{literal, temporaryCount, literalCount, codeWords, codeSize, frameWords, argumentCount}
@@ -96,7 +96,7 @@ module _ {e : ℕ} {o o′ : Objects} (x : Extends o o′) (r : Right e o) where
 
   pub lookup-same : (s c : ℕ) → lookup o′ s c ≡ lookup o s c
   unfolding lookup
-  lookup-same s c = lookup-turns mostClasses s c
+  lookup-same s c = lookup-turns longestChain s c
 
   -- chains
   chain-turns : (left a c : ℕ) → inChainWithin left o′ a c ≡ inChainWithin left o a c
@@ -115,7 +115,7 @@ module _ {e : ℕ} {o o′ : Objects} (x : Extends o o′) (r : Right e o) where
 
   pub chain-same : (a c : ℕ) → inChain o′ a c ≡ inChain o a c
   unfolding inChain
-  chain-same a c = chain-turns mostClasses a c
+  chain-same a c = chain-turns longestChain a c
 
   pub ends-same : (left c : ℕ) → endsWithin left o′ c ≡ endsWithin left o c
   unfolding endsWithin

@@ -65,9 +65,9 @@ classWords = 4
 abbrev pub mostFields : ℕ
 mostFields = 255
 
--- 02, M-101: the most classes of a chain
-abbrev pub mostClasses : ℕ
-mostClasses = 24
+-- 02, M-101: the classes of the longest superclass chain
+abbrev pub longestChain : ℕ
+longestChain = 24
 
 -- the objects with a fixed number
 abbrev pub nilObject : ℕ

@@ -6,7 +6,7 @@ use mathlib.Core.Bool.{Bool, true, false, _||_, not}
 use lib.Dec.{eqb}
 use Rattle.model.specs.declared.Found.{Found}
 use Rattle.model.specs.declared.Found.the-variants.{Method, Nothing}
-use Rattle.model.specs.Limits.{classKind, mostClasses}
+use Rattle.model.specs.Limits.{classKind, longestChain}
 use Rattle.model.specs.Objects.{Objects, isKind, superclassWord, dictionaryWord, pairCount, pairSelector, pairMethod}
 
 abbrev pub found : ℕ → Found
@@ -31,7 +31,7 @@ lookupWithin (suc left) o s c =
     ]
 
 unfoldable pub lookup : Objects → ℕ → ℕ → Found
-lookup o s c = lookupWithin mostClasses o s c
+lookup o s c = lookupWithin longestChain o s c
 
 -- Class a is c or above it.
 unfoldable pub inChainWithin : ℕ → Objects → ℕ → ℕ → Bool
@@ -40,7 +40,7 @@ inChainWithin (suc left) o a c =
     elim (isKind o classKind c) [ true ↦ eqb a c || inChainWithin left o a (superclassWord o c) | false ↦ false ]
 
 unfoldable pub inChain : Objects → ℕ → ℕ → Bool
-inChain o a c = inChainWithin mostClasses o a c
+inChain o a c = inChainWithin longestChain o a c
 
 -- Whether a chain has at most `left` classes
 unfoldable pub endsWithin : ℕ → Objects → ℕ → Bool
@@ -69,4 +69,4 @@ pub data InChain (o : Objects) (a : ℕ) : ℕ → Type 0 where
 -- For whoever budgets a lookup: it ends, comes to what `lookup` says, and reads at most 24 dictionaries, whether it finds or fails.
 pub record ReadsFew (o : Objects) (s c : ℕ) : Type 0 where
   pub ends : (k : ℕ) × Looks o s c (lookup o s c) k
-  pub few : (f : Found) (k : ℕ) → Looks o s c f k → (f ≡ lookup o s c) × (k ≤ mostClasses)
+  pub few : (f : Found) (k : ℕ) → Looks o s c f k → (f ≡ lookup o s c) × (k ≤ longestChain)

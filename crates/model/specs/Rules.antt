@@ -15,7 +15,7 @@ use Rattle.bytecode.specs.declared.Place.the-variants.{Field, Temporary, Litera
 use Rattle.bytecode.specs.declared.Instruction.{Instruction}
 use Rattle.bytecode.specs.declared.Instruction.the-variants.{Push, Store, PopStore, PushSelf, PushConstant, ReturnSelf, ReturnConstant, ReturnTop, Pop, Duplicate, Jump, JumpOn, Send, SuperSend, SpecialSend, Unused}
 use Rattle.model.specs.Limits.{isEdition, entryWords, leastObjects, mostObjects, mostBodyWords, fieldsKind, bytesKind, classKind, listKind, methodKind, lastKind, fixedForm, indexedForm}
-use Rattle.model.specs.Limits.{bytesForm, otherForm, lastForm, classWords, mostFields, mostClasses, nilObject, falseObject, trueObject, integerClassObject, selectorsObject, specialSelectors, fieldFlag, primitiveFlag}
+use Rattle.model.specs.Limits.{bytesForm, otherForm, lastForm, classWords, mostFields, longestChain, nilObject, falseObject, trueObject, integerClassObject, selectorsObject, specialSelectors, fieldFlag, primitiveFlag}
 use Rattle.model.specs.Word.{isInteger, isNatural, isValid, pointer, objectNumber, integerClass}
 use Rattle.model.specs.Objects.{Objects, classWord, kind, start, size, sizedInBytes, bodyWords, bodyEnd, bodyWord, bodyOf, isKind}
 use Rattle.model.specs.Objects.{isNilOr, superclassWord, dictionaryWord, fieldsWord, formWord, fieldCount, form, pairCount, pairSelector, pairMethod}
@@ -61,7 +61,7 @@ rule5 e o = upTo (o .n) (wordsFine o)
 
 -- 14: the chain of each class has at most 24 classes (02, M-101).
 unfoldable pub chainFine : Objects → ℕ → Bool
-chainFine o k = implies (eqb (kind o k) classKind) (endsWithin mostClasses o (pointer k))
+chainFine o k = implies (eqb (kind o k) classKind) (endsWithin longestChain o (pointer k))
 
 unfoldable pub rule14 : Objects → Bool
 rule14 o = upTo (o .n) (chainFine o)

@@ -48,8 +48,8 @@ pub const CLASS_WORDS: u16 = 4;
 
 pub const MOST_FIELDS: u16 = 255;
 
-// The most classes of a chain.
-pub const MOST_CLASSES: usize = 24;
+// The classes of the longest superclass chain.
+pub const LONGEST_CHAIN: usize = 24;
 
 // A method body: the places of its header, its home and its first literal.
 pub const HEADER: usize = 0;

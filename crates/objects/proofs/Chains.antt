@@ -14,7 +14,7 @@ use Rattle.bytecode.proofs.TestLaws.{true→T, T→true, or-cases}
 use Rattle.model.specs.declared.Pointer.{Pointer}
 use Rattle.model.specs.declared.Found.{Found}
 use Rattle.model.specs.declared.Found.the-variants.{Method, Nothing}
-use Rattle.model.specs.Limits.{classKind, listKind, mostClasses}
+use Rattle.model.specs.Limits.{classKind, listKind, longestChain}
 use Rattle.model.specs.Word.{objectNumber}
 use Rattle.model.specs.Objects.{Objects, objectsAt, start, size, isKind, isNilOr, superclassWord, dictionaryWord, pairSelector, pairMethod}
 use Rattle.model.specs.Lookup.{found, findFrom, findIn, lookupWithin, lookup, inChainWithin, inChain}
@@ -139,7 +139,7 @@ module _ {e : ℕ} {o : Objects} (r : Right e o) where
       ∙ ap (λ (k : ℕ). inChainWithin k o a c) (one-left left l)
 
 -- at the start, and where no turn is left
-pub lookup-first : (o : Objects) (s c : ℕ) → lookupWithin mostClasses o s c ≡ lookup o s c
+pub lookup-first : (o : Objects) (s c : ℕ) → lookupWithin longestChain o s c ≡ lookup o s c
 unfolding lookup
 lookup-first o s c = refl
 
@@ -150,7 +150,7 @@ lookup-over left o s c h = ap (λ (k : ℕ). lookupWithin k o s c) (none left h)
     none : (left : ℕ) → left ≤ 0 → 0 ≡ left
     none left h = omega arith
 
-pub chain-first : (o : Objects) (a c : ℕ) → inChainWithin mostClasses o a c ≡ inChain o a c
+pub chain-first : (o : Objects) (a c : ℕ) → inChainWithin longestChain o a c ≡ inChain o a c
 unfolding inChain
 chain-first o a c = refl
 

@@ -219,7 +219,7 @@ pub fn lookup(contents: &[u16], bodies: &[u16], n: usize, b: usize, s: u16, clas
     ensures { λ r. ⌜ r ≡ lookup (objectsAt n b (now (contents .entry)) (now (bodies .entry))) s (class .0) ⌝ }
 {
     let mut c = class;
-    let mut left = limits::MOST_CLASSES;
+    let mut left = limits::LONGEST_CHAIN;
     while 0 < left {
         if c.0 == limits::NIL {
             return Found::Nothing;
@@ -250,7 +250,7 @@ pub fn in_chain(
     ensures { λ r. ⌜ r ≡ inChain (objectsAt n b (now (contents .entry)) (now (bodies .entry))) (a .0) (class .0) ⌝ }
 {
     let mut c = class;
-    let mut left = limits::MOST_CLASSES;
+    let mut left = limits::LONGEST_CHAIN;
     while 0 < left {
         if c.0 == limits::NIL {
             return false;

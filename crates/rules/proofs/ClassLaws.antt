@@ -10,7 +10,7 @@ use lib.Dec.{eqb, leb, ltb}
 use Rattle.bytecode.specs.Test.{upTo, below, every, implies, allOf}
 use Rattle.bytecode.specs.Constant.{nilWord}
 use Rattle.bytecode.proofs.TestLaws.{true→T, T→true, and-right}
-use Rattle.model.specs.Limits.{bytesKind, classKind, listKind, methodKind, otherForm, integerClassObject, selectorsObject, specialSelectors, mostFields, mostClasses, lastForm, bytesForm}
+use Rattle.model.specs.Limits.{bytesKind, classKind, listKind, methodKind, otherForm, integerClassObject, selectorsObject, specialSelectors, mostFields, longestChain, lastForm, bytesForm}
 use Rattle.model.specs.Word.{isNatural, pointer, integerClass}
 use Rattle.model.specs.Objects.{Objects, objectsAt, classWord, kind, size, bodyOf, isKind, isNilOr, superclassWord, dictionaryWord, fieldsWord, formWord, fieldCount, form, pairCount, pairSelector, pairMethod, entriesAt}
 use Rattle.model.specs.Lookup.{endsWithin}
@@ -240,7 +240,7 @@ pub chain-other : (o : Objects) (k : ℕ) → kind o k ≢ classKind → chainFi
 unfolding chainFine
 chain-other o k h = rw (ne-eqb (kind o k) classKind h)
 
-pub chain-of-class : (o : Objects) (k : ℕ) → kind o k ≡ classKind → chainFine o k ≡ endsWithin mostClasses o (pointer k)
+pub chain-of-class : (o : Objects) (k : ℕ) → kind o k ≡ classKind → chainFine o k ≡ endsWithin longestChain o (pointer k)
 unfolding chainFine
 chain-of-class o k h = rw (eq-eqb (kind o k) classKind h)
 

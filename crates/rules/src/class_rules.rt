@@ -5,7 +5,7 @@ ghost use Prim.Native.Nat.{_-_, _*_, _<_, _≤_};
 ghost use lib.Dec.{ltb};
 ghost use lib.ListN.{length};
 ghost use Rattle.bytecode.specs.Test.{upTo, below, every, implies, allOf};
-ghost use Rattle.model.specs.Limits.{entryWords, classKind, listKind, mostClasses};
+ghost use Rattle.model.specs.Limits.{entryWords, classKind, listKind, longestChain};
 ghost use Rattle.model.specs.Word.{isNatural};
 ghost use Rattle.model.specs.Objects.{objectsAt, isKind, isNilOr, superclassWord, pairCount, pairSelector, entriesAt};
 ghost use Rattle.model.specs.Lookup.{endsWithin};
@@ -217,10 +217,10 @@ pub fn shapes(edition: u16, contents: &[u16], bodies: &[u16], n: usize, b: usize
 // The chain from the word c has at most 24 classes.
 fn ends(contents: &[u16], bodies: &[u16], n: usize, b: usize, c: u16) -> bool
     requires { ⌜ Laid n b (now contents) (now bodies) ⌝ }
-    ensures { λ r. ⌜ r ≡ endsWithin mostClasses (objectsAt n b (now (contents .entry)) (now (bodies .entry))) c ⌝ }
+    ensures { λ r. ⌜ r ≡ endsWithin longestChain (objectsAt n b (now (contents .entry)) (now (bodies .entry))) c ⌝ }
 {
     let mut at = c;
-    let mut left = limits::MOST_CLASSES;
+    let mut left = limits::LONGEST_CHAIN;
     while 0 < left {
         if !readers::is_kind(contents, n, limits::CLASS, at) {
             return true;

@@ -6,7 +6,7 @@ use native.Mathlib.Omega.{arith}
 use borrow.Author.Tests.{not-true, not-false}
 use borrow.Author.Needs.{needs}
 use Rattle.bytecode.proofs.TestLaws.{true→T}
-use Rattle.model.specs.Limits.{mostClasses}
+use Rattle.model.specs.Limits.{longestChain}
 use Rattle.model.specs.Objects.{objectsAt}
 use Rattle.model.specs.Lookup.{endsWithin}
 use Rattle.model.proofs.ChainLaws.{ends-none}
@@ -17,7 +17,7 @@ use Rattle.rules.proofs.class_rules.ends.Tie as tie
 
 abbrev Inv-loop : tie.InvT-loop
 Inv-loop contents bodies n b c at₀ left₀ at left =
-    endsWithin mostClasses (objectsAt n b contents bodies) c ≡ endsWithin left (objectsAt n b contents bodies) at
+    endsWithin longestChain (objectsAt n b contents bodies) c ≡ endsWithin left (objectsAt n b contents bodies) at
 
 abbrev μ-loop : tie.MeasureT-loop
 μ-loop contents bodies n b c at₀ left₀ at left = left
