@@ -10,7 +10,7 @@ use Rattle.model.specs.Limits.{entryWords, bytesKind}
 use Rattle.model.specs.Word.{isValid}
 use Rattle.model.specs.Objects.{Objects, isKind}
 use Rattle.model.specs.Rules.{headerFine, rule8}
-use Rattle.model.specs.Image.{Room, imageHeader, imageObjects, Verdict, accepted, refused, _then_, lengthFine, buffersFine, objectTests, objectsVerdict, loadVerdict}
+use Rattle.model.specs.Image.{Room, imageHeader, imageObjects, Verdict, accepted, refused, lengthFine, buffersFine, objectTests, objectsVerdict, loadVerdict}
 use Rattle.model.proofs.OrderLaws.{Refuses, number-of}
 use Rattle.readers.proofs.Loops.{and-true}
 use Rattle.store.specs.Answer.{numberOf, Stored, stored, inFront, storedBy}
