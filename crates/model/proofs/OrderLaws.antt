@@ -87,7 +87,10 @@ module _ (e : ℕ) (o : Objects) (receiver selector : ℕ) where
   gives-none four five chains six seven eight = rw (four, five, chains, six, seven, eight)
 
 -- no refusal of load has number 0
-pub load-positive : (room : Room) (bytes : List ℕ) → Refuses (λ k. 1 ≤ k) (loadVerdict room bytes)
+abbrev pub Positive : Verdict → Type 0
+Positive = Refuses (λ k. 1 ≤ k)
+
+pub load-positive : (room : Room) (bytes : List ℕ) → Positive (loadVerdict room bytes)
 unfolding loadVerdict
 load-positive room bytes =
     number-of (λ k. 1 ≤ k) (loadTests room bytes)

@@ -14,7 +14,7 @@ use Rattle.model.specs.Method.{argumentCount, frameSize}
 use Rattle.model.specs.Lookup.{lookup}
 use Rattle.model.specs.Rules.{rule8}
 use Rattle.model.specs.Image.{Room, Verdict, accepted, refused, unless, buffersFine, imageBytes, loadVerdict}
-use Rattle.model.proofs.OrderLaws.{Refuses, next-number, last-number, load-positive}
+use Rattle.model.proofs.OrderLaws.{Positive, next-number, last-number, load-positive}
 use Rattle.plain.specs.Registers.{running}
 use Rattle.plain.specs.State.{Plain, objects, fitsStack}
 use Rattle.plain.specs.Step.{Activation, answered, entered, unfit, activate}
@@ -33,23 +33,20 @@ abbrev pub NumberedIn : Given → Type 0
 NumberedIn (gives a s) = Numbered a
 NumberedIn noAnswer = Unit {0}
 
-abbrev NumberedBy : Verdict → Type 0
-NumberedBy = Refuses (λ k. 1 ≤ k)
-
 -- ---- verdicts
-check-numbered : (s : Flat) → NumberedBy (check s)
+check-numbered : (s : Flat) → Positive (check s)
 unfolding check
 check-numbered s =
     next-number (λ k. 1 ≤ k) (buffersFine (roomOf s) (s .registers .n) (s .registers .b)) 3 (unless (stateFine s) 11) (omega arith) (last-number (λ k. 1 ≤ k) (stateFine s) 11 (omega arith))
 
-save-numbered : (s : Flat) (output : List ℕ) → NumberedBy (saveVerdict s output)
+save-numbered : (s : Flat) (output : List ℕ) → Positive (saveVerdict s output)
 unfolding saveVerdict
 save-numbered s output =
     next-number (λ k. 1 ≤ k) (buffersFine (roomOf s) (s .registers .n) (s .registers .b) && leb (imageBytes (s .registers .n) (s .registers .b)) (length output)) 3
     (unless (stateFine s) 11) (omega arith) (last-number (λ k. 1 ≤ k) (stateFine s) 11 (omega arith))
 
 -- ---- calls
-after-check : (s : Flat) (v : Verdict) (g : Given) → NumberedBy v → NumberedIn g → NumberedIn (checked s v g)
+after-check : (s : Flat) (v : Verdict) (g : Given) → Positive v → NumberedIn g → NumberedIn (checked s v g)
 after-check s accepted g n t = t
 after-check s (refused k) g n t = n
 
@@ -78,7 +75,7 @@ pub load-number : (s : Flat) (bytes : List ℕ) → NumberedIn (flatLoad s bytes
 unfolding flatLoad
 load-number s bytes = go (loadVerdict (roomOf s) bytes) (load-positive (roomOf s) bytes)
   where
-    go : (v : Verdict) → NumberedBy v → NumberedIn (afterLoad s bytes v)
+    go : (v : Verdict) → Positive v → NumberedIn (afterLoad s bytes v)
     go accepted t = tt
     go (refused k) t = t
 
@@ -111,7 +108,7 @@ unfolding flatForget
 forget-number s = after-check s (check s) _ (check-numbered s) tt
 
 pub check-number : (s : Flat) (k : ℕ) → refused k ≡ check s → 1 ≤ k
-check-number s k e = subst NumberedBy (sym e) (check-numbered s)
+check-number s k e = subst Positive (sym e) (check-numbered s)
 
 abbrev pub NumberedSaved : Saved → Type 0
 NumberedSaved (saved a output) = Numbered a
@@ -120,6 +117,6 @@ pub save-number : (s : Flat) (output : List ℕ) → NumberedSaved (flatSave s o
 unfolding flatSave
 save-number s output = go (saveVerdict s output) (save-numbered s output)
   where
-    go : (v : Verdict) → NumberedBy v → NumberedSaved (afterSave s output v)
+    go : (v : Verdict) → Positive v → NumberedSaved (afterSave s output v)
     go accepted t = tt
     go (refused k) t = t

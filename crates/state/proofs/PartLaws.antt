@@ -17,11 +17,12 @@ use Rattle.model.specs.Word.{isValid}
 use Rattle.model.specs.Objects.{Objects, objectsAt}
 use Rattle.model.specs.Rules.{Right, headerFine}
 use Rattle.model.specs.Image.{Verdict, accepted, refused, inOrder, testsOf, buffersFine, objectTests, objectsVerdict}
-use Rattle.model.proofs.OrderLaws.{accepted→all, all→accepted, Refuses, number-of}
+use Rattle.model.proofs.OrderLaws.{accepted→all, all→accepted}
 use Rattle.readers.proofs.Loops.{never}
 use Rattle.rules.specs.Lent.{Lent}
 use Rattle.store.specs.Answer.{numberOf, roomFor}
 use Rattle.store.specs.Judged.{Judged}
+use Rattle.store.proofs.Verdicts.{Late, late}
 use Rattle.store.proofs.Settled.{lent-by}
 use Rattle.checks.specs.Frame.{Noted}
 use Rattle.plain.specs.Registers.{Registers, finished, idle, lastPhase, hasFrames}
@@ -106,9 +107,9 @@ module _ (r : Registers) (contents bodies stack cache : List ℕ) where
   unfolding imageRules objectsVerdict numberOf
   verdict-yes z h =
       T→true (imagePart s) (and-both (headerFine edition (r .n) (r .b)) (allOf (testsOf tests)) (true→T z) (accepted→all tests
-      (go (inOrder tests) (number-of (λ k. 1 ≤ k) tests (omega arith, (omega arith, (omega arith, (omega arith, (omega arith, (omega arith, tt))))))) h)))
+      (go (inOrder tests) (late edition o (r .startReceiver) (r .startSelector)) h)))
     where
-      go : (v : Verdict) → Refuses (λ k. 1 ≤ k) v → numberOf v ≡ 0 → v ≡ accepted
+      go : (v : Verdict) → Late v → numberOf v ≡ 0 → v ≡ accepted
       go accepted p e = refl
       go (refused k) p e = absurd (omega arith)
 

@@ -1,19 +1,15 @@
 -- From the number of a verdict to the answer
-use Prim.Native.Nat.{ℕ, _≤_}
+use Prim.Native.Nat.{ℕ}
 use mathlib.Core.Path.{_≡_, refl, sym, ap, _∙_}
 use mathlib.Core.List.{List}
 use native.Mathlib.Omega.{arith}
 use lib.Dec.{leb}
 use Rattle.bytecode.proofs.Choice.{if-cases}
 use Rattle.model.specs.Image.{Room, Header, Verdict, accepted, refused, imageHeader, loadVerdict}
-use Rattle.model.proofs.OrderLaws.{Refuses, load-positive}
+use Rattle.model.proofs.OrderLaws.{Positive, load-positive}
 use Rattle.store.specs.declared.Reading.the-variants.{Accepted, Refused}
 use Rattle.store.specs.Answer.{numberOf, Stored, stored, storedBy}
 use Rattle.store.specs.Readings.{readingNumber, readingOf}
-
--- no refusal has number 0
-abbrev Positive : Verdict → Type 0
-Positive = Refuses (λ k. 1 ≤ k)
 
 stored-number : (v : Verdict) (image contents bodies : List ℕ) → storedBy v image contents bodies .number ≡ numberOf v
 unfolding storedBy numberOf
