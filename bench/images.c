@@ -302,3 +302,26 @@ size_t deep(uint8_t *image) {
     while (object_count < LAST) bytes(0);
     return written(image, 2 * instance, 2 * LAST);
 }
+
+size_t climbing(uint8_t *image, size_t count, unsigned *unknown) {
+    static const uint8_t code[] = {120};
+    state = count;
+    new_image();
+    const unsigned first = object_count + 1;
+    for (unsigned i = 0; i < 2 * CLIMBING; i++) bytes(1);
+    for (unsigned i = 0; i < CLIMBING; i++) unknown[i] = first + 2 * i;
+    unsigned class = NIL;
+    for (int above = 0; above < MOST_CHAIN; above++) {
+        class = new_class(class, EMPTY, 0, 0);
+        const unsigned m = new_method(class, 0, 0, 0, NULL, 0, code, sizeof code), dictionary = new_object(CLASSES, LIST, 2 * count);
+        uint16_t *pair = body_of(dictionary);
+        // so many of all, rising
+        for (unsigned i = 0, taken = 0; taken < count; i++) {
+            if (below(CLIMBING - i) >= count - taken) continue;
+            *pair++ = 2 * (first + 2 * i + 1), *pair++ = 2 * m;
+            taken++;
+        }
+        body_of(class)[1] = 2 * dictionary;
+    }
+    return written(image, 2 * new_object(class, FIELDS, 0), 2 * first);
+}

@@ -19,3 +19,7 @@ size_t shared(uint8_t *image, size_t count);
 // other in the cache. Other mixes of pairs and classes take a little less. Random code in place of most of them takes a tenth more, but that is time
 // for the walk over code.
 size_t deep(uint8_t *image);
+// A correct image with a chain of 24 classes, each with so many selectors out of CLIMBING. Between these stand as many that no class has, which are
+// given. The start words are an instance of the lowest class and one of the unknown selectors.
+enum { CLIMBING = 240 };
+size_t climbing(uint8_t *image, size_t count, unsigned unknown[CLIMBING]);

@@ -31,13 +31,14 @@ static inline unsigned literals_of(unsigned header) { return header >> 1 & 63; }
 // The words of a frame, its first six included.
 static inline unsigned frame_of(unsigned header) { return header & 128 ? 38 : 18; }
 
-// The method under a selector in a class or above it, 0 if there is none. Of objects that were judged: no walk up is longer than MOST_CHAIN.
+// The method under a selector in a class or above it, 0 if there is none. Of objects that were judged: no walk up is longer than MOST_CHAIN, and
+// selectors rise.
 static inline unsigned lookup(const objects *o, unsigned selector, unsigned class) {
     for (; class != NIL_WORD; class = body(o, class)[0]) {
         const unsigned dictionary = body(o, class)[1];
         const uint16_t *pair = body(o, dictionary), *end = pair + of(o, dictionary)->size;
-        for (; pair < end; pair += 2)
-            if (*pair == selector) return pair[1];
+        while (pair < end && *pair < selector) pair += 2;
+        if (pair < end && *pair == selector) return pair[1];
     }
     return 0;
 }

@@ -64,7 +64,8 @@ pub fn begin(
         return Beginning::Refused(8);
     }
     let class = objects::class_of(contents, n, receiver);
-    let found = objects::lookup(contents, bodies, n, b, selector, class);
+    let search = objects::lookup(contents, bodies, n, b, selector, class);
+    let found = search.found;
     let Found::Method(method) = found else {
         return Beginning::Refused(9);
     };

@@ -1,15 +1,15 @@
 -- An entry of the cache that has a selector and a class, and one that is filled.
 use Prim.Native.Nat.{ℕ, suc, _+_, _/_, _%_, _≤_, _<_}
 use mathlib.Core.Path.{_≡_, refl, sym, ap, ap₂, _∙_, subst}
-use mathlib.Core.Bool.{Bool, _&&_}
+use mathlib.Core.Bool.{Bool, true, false, _&&_}
 use mathlib.Core.List.{List}
 use native.Mathlib.Omega.{arith}
-use borrow.Author.Tests.{ne-eqb}
+use borrow.Author.Tests.{eq-eqb, ne-eqb}
 use lib.Dec.{T, eqb, eqb→eq}
 use lib.ListN.{getD, set}
 use lib.Seq.{set-getD}
 use lib.Bits.{bitAnd}
-use Rattle.bytecode.proofs.TestLaws.{below-at}
+use Rattle.bytecode.proofs.TestLaws.{true→T, and-left, and-right, below-at}
 use Rattle.model.specs.declared.Found.{Found}
 use Rattle.model.specs.declared.Found.the-variants.{Method, Nothing}
 use Rattle.model.specs.Limits.{cacheEntries}
@@ -22,6 +22,18 @@ use Rattle.plain.specs.Cache.{cacheEntryOf, cachePlace, filled, finds, emptyOr,
 pub entry-is : (s c : ℕ) → bitAnd s c / 2 % cacheEntries ≡ cacheEntryOf s c
 unfolding cacheEntryOf
 entry-is s c = refl
+
+-- the test of an entry, and what it says
+pub test-no : (x y s c : ℕ) → (x ≡ s → ⊥) → false ≡ (eqb x s && eqb y c)
+test-no x y s c h = ap (λ (b : Bool). b && eqb y c) (sym (ne-eqb x s h))
+
+pub test-yes : (x y s c : ℕ) → x ≡ s → eqb y c ≡ (eqb x s && eqb y c)
+test-yes x y s c h = ap (λ (b : Bool). b && eqb y c) (sym (eq-eqb x s h))
+
+pub entry-of : {b : Bool} (x y s c : ℕ) → b ≡ (eqb x s && eqb y c) → b ≡ true → (x ≡ s) × (y ≡ c)
+entry-of x y s c e h =
+    let t : T (eqb x s && eqb y c) = true→T (sym e ∙ h) in
+    (eqb→eq x s (and-left (eqb x s) (eqb y c) t), eqb→eq y c (and-right (eqb x s) (eqb y c) t))
 
 module _ (o : Objects) where
   found-is : (x : Found) (m : ℕ) → T (finds x m) → found m ≡ x

@@ -1,9 +1,9 @@
 // The cache of lookups: an entry's place, a lookup through it, how it is filled, what is right of it. No other code knows the words of an entry.
 ghost use mathlib.Core.Path.{_≡_};
 ghost use mathlib.Core.Bool.{_&&_};
-ghost use Prim.Native.Nat.{_<_};
+ghost use Prim.Native.Nat.{_+_, _<_};
 ghost use lib.Dec.{eqb};
-ghost use lib.ListN.{length};
+ghost use lib.ListN.{length, getD};
 ghost use Rattle.model.specs.Limits.{cacheEntries, cacheWords};
 ghost use Rattle.model.specs.Objects.{objectsAt};
 ghost use Rattle.model.specs.Lookup.{lookup};
@@ -26,6 +26,17 @@ fn entry(selector: u16, class: u16) -> usize
     ((selector & class) / 2) as usize % CACHE_ENTRIES
 }
 
+// Whether the entry at a place is of a selector and a class.
+fn is_of(cache: &[u16], at: usize, selector: u16, class: u16) -> bool
+    requires { ⌜ at + 1 < length (now cache) ⌝ }
+    ensures { λ r. ⌜ r ≡ (eqb (getD (now (cache .entry)) at 0) selector && eqb (getD (now (cache .entry)) (at + 1) 0) class) ⌝ }
+{
+    if cache[at] != selector {
+        return false;
+    }
+    cache[at + 1] == class
+}
+
 // A lookup, by the cache where it has it.
 pub fn cached(
     contents: &[u16],
@@ -40,13 +51,12 @@ pub fn cached(
     ensures { λ r. ⌜ r ≡ lookup (objectsAt n b (now (contents .entry)) (now (bodies .entry))) selector (class .0) ⌝ }
 {
     let at = CACHE_ENTRY_WORDS * entry(selector, class.0);
-    if cache[at] != selector {
-        return objects::lookup(contents, bodies, n, b, selector, class);
+    if is_of(cache, at, selector, class.0) {
+        return Found::Method(Pointer(cache[at + 2]));
     }
-    if cache[at + 1] != class.0 {
-        return objects::lookup(contents, bodies, n, b, selector, class);
-    }
-    Found::Method(Pointer(cache[at + 2]))
+    // the only place: a second one would stand in the run loop once more
+    let search = objects::lookup(contents, bodies, n, b, selector, class);
+    search.found
 }
 
 // A lookup that found is kept. Where it came from the cache, its words stand there.
@@ -55,10 +65,8 @@ pub fn fill(cache: &mut [u16], selector: u16, class: Pointer, method: Pointer)
     ensures { λ _. ⌜ now (cache .exit) ≡ filled (now (cache .entry)) (looked selector (class .0) (method .0)) ⌝ }
 {
     let at = CACHE_ENTRY_WORDS * entry(selector, class.0);
-    if cache[at] == selector {
-        if cache[at + 1] == class.0 {
-            return;
-        }
+    if is_of(cache, at, selector, class.0) {
+        return;
     }
     cache[at] = selector;
     cache[at + 1] = class.0;
@@ -96,7 +104,9 @@ fn cached_right(
     if !readers::is_kind(contents, n, limits::CLASS, class) {
         return false;
     }
-    match objects::lookup(contents, bodies, n, b, s, Pointer(class)) {
+    let search = objects::lookup(contents, bodies, n, b, s, Pointer(class));
+    let found = search.found;
+    match found {
         Found::Method(k) => k.0 == m,
         Found::Nothing => false,
     }

@@ -5,7 +5,7 @@ use mathlib.Core.Logic.{_≢_, _⊎_, inl, inr}
 use mathlib.Core.Bool.{Bool, true, false, _&&_, _||_, not}
 use native.Mathlib.Omega.{arith}
 use native.Mathlib.Decide.{ℕ-discrete}
-use borrow.Author.Tests.{eq-eqb, ne-eqb, eqb-true, eqb-false}
+use borrow.Author.Tests.{eq-eqb, ne-eqb, eqb-true, eqb-false, ltb-true, ltb-false}
 use lib.Dec.{T, T-not, not-T, leb, ltb, eqb, leb→le, le→leb, ltb→lt, lt→ltb, eqb→eq}
 use lib.ListN.{length}
 use Rattle.bytecode.specs.Test.{if_then_else_, upTo, every, implies, allOf}
@@ -496,6 +496,25 @@ module _ {e : ℕ} {o : Objects} (r : Right e o) where
 
   pub pair-facts : (c i : ℕ) → T (isKind o classKind c) → i < pairCount o (dictionaryWord o c) → PairFacts o (dictionaryWord o c) i
   pair-facts c i t l = class-facts c t .pairs i l
+
+  -- each selector of a dictionary is below every later one
+  pub selectors-rise : (c i j : ℕ) → T (isKind o classKind c) → i < j → j < pairCount o (dictionaryWord o c)
+      → pairSelector o (dictionaryWord o c) i < pairSelector o (dictionaryWord o c) j
+  selectors-rise c i zero t h l = absurd (omega arith)
+  selectors-rise c i (suc j) t h l = go (ltb i j) refl (selectors-rise c i j t)
+    where
+      next : pairSelector o (dictionaryWord o c) j < pairSelector o (dictionaryWord o c) (suc j)
+      next =
+          let e : suc j - 1 ≡ j = omega arith in
+          subst (λ (k : ℕ). pairSelector o (dictionaryWord o c) k < pairSelector o (dictionaryWord o c) (suc j)) e (pair-facts c (suc j) t l .rises (omega arith))
+
+      go : (x : Bool) → ltb i j ≡ x → (i < j → j < pairCount o (dictionaryWord o c) → pairSelector o (dictionaryWord o c) i < pairSelector o (dictionaryWord o c) j)
+          → pairSelector o (dictionaryWord o c) i < pairSelector o (dictionaryWord o c) (suc j)
+      go true p ih = let m = next in let r = ih (ltb-true i j p) (omega arith) in omega arith
+      go false p ih =
+          let q = ltb-false i j p in
+          let e : j ≡ i = omega arith in
+          subst (λ (k : ℕ). pairSelector o (dictionaryWord o c) k < pairSelector o (dictionaryWord o c) (suc j)) e next
 
   pub fine-methods : (c : ℕ) → T (isKind o classKind c) → T (dictionaryMethodsFine o c)
   fine-methods c t =

@@ -1,11 +1,13 @@
 pub mod Marks
 pub mod WalkLaws
 pub mod DepthLaws
+pub mod PairLaws
 pub mod ChainLaws
 pub mod Parts
 pub mod Facts
 pub mod LookupLaws
 pub mod ChainExamples
+pub mod PairExamples
 pub mod OrderLaws
 pub mod Extends
 pub mod Unchanged

@@ -8,7 +8,7 @@ use Rattle.bytecode.proofs.TestLaws.{true→T}
 use Rattle.model.specs.declared.Found.the-variants.{Nothing}
 use Rattle.model.specs.Limits.{classKind, longestChain}
 use Rattle.model.specs.Objects.{Objects, isKind, superclassWord}
-use Rattle.model.specs.Lookup.{lookup, inChain, endsWithin, Chain, InChain, same, higher, ReadsFew}
+use Rattle.model.specs.Lookup.{lookup, pairsRead, inChain, endsWithin, Chain, InChain, same, higher, ReadsFew}
 use Rattle.model.specs.Rules.{rule14}
 use Rattle.model.proofs.ChainLaws.{no-class, ends-none, decides-chain, looks, looks-few, test→in, in→test}
 use Rattle.model.proofs.Facts.{Right, short-chain, chains-rule, chain-ends}
@@ -36,8 +36,8 @@ module _ {e : ℕ} {o : Objects} (r : Right e o) where
       go false p = true→T (ends-none o longestChain c p)
 
   pub reads-few : (s c : ℕ) → ReadsFew o s c
-  unfolding lookup
-  reads-few s c = record { ends = looks o longestChain s c (ends c); few = λ f k l. looks-few o longestChain s c k f (ends c) l }
+  unfolding lookup pairsRead
+  reads-few s c = record { ends = looks o longestChain s c (ends c); few = λ f k p l. looks-few o longestChain s c k f (ends c) l }
 
   pub decides-in : (a c : ℕ) → T (inChain o a c) ↔ InChain o a c
   unfolding inChain

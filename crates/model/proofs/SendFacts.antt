@@ -68,10 +68,10 @@ pub record FoundFacts (o : Objects) (s c m : ℕ) : Type 0 where
   pub counts : (n : ℕ) → T (takesCount o s n) → argumentCount o m ≡ n
 
 module _ {e : ℕ} {o : Objects} (r : Right e o) where
-  holder-by : (s c m k : ℕ) (f : Found) → Looks o s c f k → f ≡ found m → Holder o s c m
+  holder-by : (s c m k : ℕ) (f : Found) {p : ℕ} → Looks o s c f k p → f ≡ found m → Holder o s c m
   holder-by s c m k f (ended p) e = absurd (nothing-found m e)
-  holder-by s c m k f (here p q) e = record { holder = c; classes = true→T p; chain = same p refl; pair = found-in o (dictionaryWord o c) s m (q ∙ e) }
-  holder-by s c m k f (above {k = j} p q l) e =
+  holder-by s c m k f (here p q u) e = record { holder = c; classes = true→T p; chain = same p refl; pair = found-in o (dictionaryWord o c) s m (q ∙ e) }
+  holder-by s c m k f (above {k = j} p q u l) e =
       let h = holder-by s (superclassWord o c) m j f l e in
       record { holder = h .holder; classes = h .classes; chain = higher p (h .chain); pair = h .pair }
 

@@ -6,8 +6,9 @@ use mathlib.Core.Bool.{Bool, true, false, _||_}
 use mathlib.Core.List.{List}
 use native.Mathlib.Omega.{arith}
 use native.Mathlib.Numerals.{add-one}
-use borrow.Author.Tests.{eq-eqb, ne-eqb}
-use lib.Dec.{T, eqb, eqb→eq}
+use borrow.Author.Tests.{eq-eqb, ne-eqb, ltb-true, ltb-false}
+use borrow.Author.Count.{below-more}
+use lib.Dec.{T, ltb, eqb, eqb→eq}
 use lib.ListN.{length, getD}
 use Rattle.bytecode.specs.Constant.{nilWord}
 use Rattle.bytecode.proofs.TestLaws.{true→T, T→true, or-cases}
@@ -17,14 +18,16 @@ use Rattle.model.specs.declared.Found.the-variants.{Method, Nothing}
 use Rattle.model.specs.Limits.{classKind, listKind, longestChain}
 use Rattle.model.specs.Word.{objectNumber}
 use Rattle.model.specs.Objects.{Objects, objectsAt, start, size, isKind, isNilOr, superclassWord, dictionaryWord, pairSelector, pairMethod}
-use Rattle.model.specs.Lookup.{found, findFrom, findIn, lookupWithin, lookup, inChainWithin, inChain}
-use Rattle.model.specs.Rules.{Right}
-use Rattle.model.proofs.Facts.{nil-no-class, class-facts}
+use Rattle.model.specs.Lookup.{found, findFrom, findIn, lookupWithin, lookup, pairsIn, pairsWithin, pairsRead, inChainWithin, inChain, first, all}
+use Rattle.model.specs.Rules.{Right, IsRight}
+use Rattle.model.proofs.Facts.{nil-no-class, most-words, class-facts, selectors-rise}
+use Rattle.model.proofs.PairLaws.{pairs-are, pairs-few, pairs-hit, pairs-miss, pairs-none}
 use Rattle.model.proofs.ChainLaws.{class-hit, class-miss, no-class, chain-class, chain-none}
 use Rattle.model.proofs.Unchanged.{find-hit, find-miss}
 use Rattle.readers.proofs.Bodies.{word-at}
 use Rattle.readers.proofs.InsideLaws.{word-inside}
 use Rattle.objects.specs.Lent.{Holds}
+use Rattle.objects.specs.Searches.{IsDictionary, FirstPlace}
 use Rattle.objects.proofs.Bodies.{holds-laid}
 
 left-one : (count i : ℕ) → i < count → count - i ≡ suc (count - (i + 1))
@@ -54,8 +57,8 @@ module _ {n b : ℕ} {contents bodies : List ℕ} {d : ℕ} (h : Holds listKind 
   pair-room : (k : ℕ) → k < count → from + 2 * k + 1 < b
   pair-room k l = let r = word-inside (holds-laid h) listKind {i = 2 * k + 1} tt (h .kinds) (omega arith) .below in omega arith
 
-  pub pair-fits : (k : ℕ) → k < count → from + 2 * k + 1 < length bodies
-  pair-fits k l = let r = pair-room k l in let s = holds-laid h .words in omega arith
+  pub pairs-fit : 0 < count → from + 2 * count ≤ length bodies
+  pairs-fit l = let r = pair-room (count - 1) (omega arith) in let s = holds-laid h .words in omega arith
 
   selector-at : (k : ℕ) → k < count → getD bodies (from + 2 * k) 0 ≡ pairSelector (objectsAt n b contents bodies) d k
   selector-at k l = let r = pair-room k l in word-at n b contents bodies (objectNumber d) (2 * k) (from + 2 * k) (omega arith) (omega arith)
@@ -82,6 +85,144 @@ module _ {n b : ℕ} {contents bodies : List ℕ} {d : ℕ} (h : Holds listKind 
       none : 0 ≡ count - i
       none = omega arith
 
+-- The search in a dictionary: it has come to the place of a pair, and all before that have smaller selectors.
+pub record Passed (bodies : List ℕ) (from count s at : ℕ) : Type 0 where
+  pub index : ℕ
+  pub place : at ≡ from + 2 * index
+  pub inside : index < count
+  pub below : (j : ℕ) → j < index → getD bodies (from + 2 * j) 0 < s
+
+module _ {bodies : List ℕ} {from count s : ℕ} where
+  pub passed-none : 0 < count → Passed bodies from count s from
+  passed-none h = record { index = 0; place = omega arith; inside = h; below = λ j l. absurd (omega arith) }
+
+  pub passed-more : {at : ℕ} → Passed bodies from count s at → at < from + 2 * (count - 1) → getD bodies at 0 < s → Passed bodies from count s (at + 2)
+  passed-more {at = at} x l g =
+      record {
+        index = x .index + 1;
+        place = let e = x .place in omega arith;
+        inside = let e = x .place in omega arith;
+        below = below-more (λ (j : ℕ). getD bodies (from + 2 * j) 0 < s) (x .index) (x .below) (subst (λ (k : ℕ). getD bodies k 0 < s) (x .place) g);
+      }
+
+  pub passed-stop : {at : ℕ} → Passed bodies from count s at → s ≤ getD bodies at 0 → FirstPlace bodies from count s at
+  passed-stop x l = record { index = x .index; place = x .place; inside = x .inside; below = x .below; stops = λ _. l }
+
+  pub passed-all : {at : ℕ} → Passed bodies from count s at → from + 2 * (count - 1) ≤ at → FirstPlace bodies from count s (from + 2 * (count - 1))
+  passed-all {at = at} x l =
+      let e = x .place in
+      let i = x .inside in
+      record { index = x .index; place = omega arith; inside = i; below = x .below; stops = λ h. absurd (omega arith) }
+
+-- What it leaves, by the definitions
+module _ {n b : ℕ} {contents bodies : List ℕ} {d : ℕ} (h : IsDictionary n b contents bodies d) (s : ℕ) {from count : ℕ} (p : from ≡ start (objectsAt n b contents bodies) (objectNumber d))
+    (q : count ≡ size (objectsAt n b contents bodies) (objectNumber d) / 2) where
+  selector-is : (k : ℕ) → k < count → getD bodies (from + 2 * k) 0 ≡ pairSelector (objectsAt n b contents bodies) d k
+  selector-is = selector-at (h .holds) s p q
+
+  below-selector : (i : ℕ) → i ≤ count → ((j : ℕ) → j < i → getD bodies (from + 2 * j) 0 < s) → (j : ℕ) → j < i → pairSelector (objectsAt n b contents bodies) d j < s
+  below-selector i l f j g = subst (λ (w : ℕ). w < s) (selector-is j (omega arith)) (f j g)
+
+  pub pairs-inside : 0 < count → from + 2 * count ≤ length bodies
+  pairs-inside = pairs-fit (h .holds) s p q
+
+  pairs-most : pairsIn (objectsAt n b contents bodies) d s ≤ 12000
+  pairs-most = go (ltb 0 count) refl
+    where
+      few : pairsIn (objectsAt n b contents bodies) d s ≤ count
+      few = let l = pairs-few (objectsAt n b contents bodies) d s in omega arith
+
+      go : (x : Bool) → ltb 0 count ≡ x → pairsIn (objectsAt n b contents bodies) d s ≤ 12000
+      go true e =
+          let r = pair-room (h .holds) s p q (count - 1) (let l = ltb-true 0 count e in omega arith) in
+          let m = most-words (h .holds .right .1) in
+          let l = few in
+          omega arith
+      go false e = let l = ltb-false 0 count e in let g = few in omega arith
+
+  -- a dictionary without pairs
+  pub none-found : count ≡ 0 → Nothing ≡ findIn (objectsAt n b contents bodies) d s
+  none-found e = no-pair (h .holds) s p q 0 (omega arith) (omega arith) (λ k l. absurd (omega arith))
+
+  pub none-read : count ≡ 0 → 0 ≡ pairsIn (objectsAt n b contents bodies) d s
+  none-read e = sym e ∙ q ∙ pairs-are (objectsAt n b contents bodies) d s (all (λ j l. absurd (omega arith)))
+
+  module _ {at : ℕ} (f : FirstPlace bodies from count s at) where
+    at-place : getD bodies (from + 2 * f .index) 0 ≡ getD bodies at 0
+    at-place = ap (λ (k : ℕ). getD bodies k 0) (sym (f .place))
+
+    pub place-fits : at + 1 < length bodies
+    place-fits = let r = pairs-inside (let i = f .inside in omega arith) in let i = f .inside in let e = f .place in omega arith
+
+    pub place-found : getD bodies at 0 ≡ s → found (getD bodies (at + 1) 0) ≡ findIn (objectsAt n b contents bodies) d s
+    place-found e =
+        ap (λ (k : ℕ). found (getD bodies (k + 1) 0)) (f .place)
+        ∙ found-pair (h .holds) s p q (f .index) (f .inside) (λ k l g. let x = f .below k l in absurd (omega arith)) (at-place ∙ e)
+
+    -- the selectors behind it are above the one sought
+    pub place-missed : (getD bodies at 0 ≡ s → ⊥) → Nothing ≡ findIn (objectsAt n b contents bodies) d s
+    place-missed e = no-pair (h .holds) s p q count (omega arith) (omega arith) other
+      where
+        other : (k : ℕ) → k < count → getD bodies (from + 2 * k) 0 ≡ s → ⊥
+        other k l g = go (ltb k (f .index)) (ltb (f .index) k) refl refl
+          where
+            go : (x y : Bool) → ltb k (f .index) ≡ x → ltb (f .index) k ≡ y → ⊥
+            go true y u v = let w = f .below k (ltb-true k (f .index) u) in omega arith
+            go false true u v =
+                let r = ltb-true (f .index) k v in
+                let w = f .stops (omega arith) in
+                let z = h .rises (f .index) k r (omega arith) in
+                let a = selector-is k l in
+                let c = selector-is (f .index) (f .inside) in
+                let t = at-place in
+                omega arith
+            go false false u v =
+                let x = ltb-false k (f .index) u in
+                let y = ltb-false (f .index) k v in
+                let same : k ≡ f .index = omega arith in
+                e (sym at-place ∙ ap (λ (i : ℕ). getD bodies (from + 2 * i) 0) (sym same) ∙ g)
+
+    -- pairs up to it are read
+    read-to : f .index + 1 ≡ pairsIn (objectsAt n b contents bodies) d s
+    read-to = go (ltb (getD bodies at 0) s) refl
+      where
+        stopped : s ≤ pairSelector (objectsAt n b contents bodies) d (f .index) → f .index + 1 ≡ pairsIn (objectsAt n b contents bodies) d s
+        stopped l =
+            add-one (f .index)
+            ∙ pairs-are (objectsAt n b contents bodies) d s (first (let i = f .inside in omega arith) (below-selector (f .index) (let i = f .inside in omega arith) (f .below)) l)
+
+        last : getD bodies at 0 < s → f .index + 1 ≡ count
+        last l = go′ (ltb (f .index + 1) count) refl
+          where
+            go′ : (x : Bool) → ltb (f .index + 1) count ≡ x → f .index + 1 ≡ count
+            go′ true u = let w = f .stops (ltb-true (f .index + 1) count u) in absurd (omega arith)
+            go′ false u = let w = ltb-false (f .index + 1) count u in let i = f .inside in omega arith
+
+        go : (x : Bool) → ltb (getD bodies at 0) s ≡ x → f .index + 1 ≡ pairsIn (objectsAt n b contents bodies) d s
+        go false u = stopped (subst (λ (w : ℕ). s ≤ w) (sym at-place ∙ selector-is (f .index) (f .inside)) (ltb-false (getD bodies at 0) s u))
+        go true u =
+            let l = ltb-true (getD bodies at 0) s u in
+            last l ∙ q
+            ∙ pairs-are (objectsAt n b contents bodies) d s (all (λ j g. below-selector count (omega arith) (under l) j (omega arith)))
+          where
+            under : getD bodies at 0 < s → (j : ℕ) → j < count → getD bodies (from + 2 * j) 0 < s
+            under l j g = go″ (ltb j (f .index)) refl
+              where
+                go″ : (x : Bool) → ltb j (f .index) ≡ x → getD bodies (from + 2 * j) 0 < s
+                go″ true v = f .below j (ltb-true j (f .index) v)
+                go″ false v =
+                    let w = ltb-false j (f .index) v in
+                    let i = last l in
+                    let same : f .index ≡ j = omega arith in
+                    subst (λ (k : ℕ). getD bodies (from + 2 * k) 0 < s) same (subst (λ (w : ℕ). w < s) (sym at-place) l)
+
+    pub place-read : (at - from) / 2 + 1 ≡ pairsIn (objectsAt n b contents bodies) d s
+    place-read = let e = f .place in let r = read-to in omega arith
+
+-- A search reads no more pairs than the bodies have room for.
+pub few-read : {n b : ℕ} {contents bodies : List ℕ} {d : ℕ} → IsDictionary n b contents bodies d → (s k : ℕ) → k ≡ pairsIn (objectsAt n b contents bodies) d s → k ≤ 12000
+few-read h s k e = let m = pairs-most h s refl refl in omega arith
+
 -- A class chain: nil ends it, and all before is a class with a dictionary.
 module _ {e : ℕ} {o : Objects} (r : Right e o) where
   pub class-here : (c : ℕ) → T (isNilOr o classKind c) → (c ≡ 2 → ⊥) → T (isKind o classKind c)
@@ -95,33 +236,12 @@ module _ {e : ℕ} {o : Objects} (r : Right e o) where
   class-above c a e h =
       subst (λ (x : ℕ). T (isNilOr o classKind x)) (sym e) (class-facts r c h .superclass)
 
-  pub dictionary-here : (c d : ℕ) → d ≡ dictionaryWord o c → T (isKind o classKind c) → T (isKind o listKind d)
-  dictionary-here c d e h =
-      subst (λ (x : ℕ). T (isKind o listKind x)) (sym e) (class-facts r c h .dictionary)
-
   nil-none : (c : ℕ) → c ≡ 2 → isKind o classKind c ≡ false
   nil-none c e = go (isKind o classKind c) refl
     where
       go : (x : Bool) → isKind o classKind c ≡ x → isKind o classKind c ≡ false
       go true p = absurd (nil-no-class r (subst (λ (y : ℕ). T (isKind o classKind y)) e (true→T p)))
       go false p = p
-
-  pub lookup-nil : (left s c : ℕ) → c ≡ 2 → Nothing ≡ lookupWithin left o s c
-  lookup-nil left s c e = sym (no-class o left s c (nil-none c e))
-
-  pub lookup-hit : (left s c d : ℕ) (f : Found) (m : Pointer) → 0 < left → T (isKind o classKind c) → d ≡ dictionaryWord o c
-      → f ≡ findIn o d s → f ≡ Method m → Method m ≡ lookupWithin left o s c
-  lookup-hit left s c d f m l h e p q =
-      sym (class-hit o (left - 1) s c (m .0) (T→true (isKind o classKind c) h) (ap (λ (x : ℕ). findIn o x s) (sym e) ∙ sym p ∙ q))
-      ∙ ap (λ (k : ℕ). lookupWithin k o s c) (one-left left l)
-
-  pub lookup-up : (left s c d a : ℕ) (f : Found) → 0 < left → T (isKind o classKind c) → d ≡ dictionaryWord o c
-      → a ≡ superclassWord o c → f ≡ findIn o d s → f ≡ Nothing
-      → lookupWithin (left - 1) o s a ≡ lookupWithin left o s c
-  lookup-up left s c d a f l h e g p q =
-      ap (lookupWithin (left - 1) o s) g
-      ∙ sym (class-miss o (left - 1) s c (T→true (isKind o classKind c) h) (ap (λ (x : ℕ). findIn o x s) (sym e) ∙ sym p ∙ q))
-      ∙ ap (λ (k : ℕ). lookupWithin k o s c) (one-left left l)
 
   pub chain-nil : (left a c : ℕ) → c ≡ 2 → false ≡ inChainWithin left o a c
   chain-nil left a c e = sym (chain-none o left a c (nil-none c e))
@@ -138,18 +258,14 @@ module _ {e : ℕ} {o : Objects} (r : Right e o) where
       ∙ sym (chain-class o (left - 1) a c (T→true (isKind o classKind c) h) ∙ ap (λ (x : Bool). x || inChainWithin (left - 1) o a (superclassWord o c)) (ne-eqb a c e))
       ∙ ap (λ (k : ℕ). inChainWithin k o a c) (one-left left l)
 
+-- a class's dictionary
+pub dictionary-of : {n b : ℕ} {contents bodies : List ℕ} {d : ℕ} (c : ℕ) → IsRight (objectsAt n b contents bodies) → d ≡ dictionaryWord (objectsAt n b contents bodies) c
+    → T (isKind (objectsAt n b contents bodies) classKind c) → IsDictionary n b contents bodies d
+dictionary-of {n = n} {b = b} {contents = contents} {bodies = bodies} c r e h =
+    subst (IsDictionary n b contents bodies) (sym e)
+    (record { holds = record { right = r; kinds = class-facts (r .1) c h .dictionary }; rises = λ i j l m. selectors-rise (r .1) c i j h l m })
+
 -- at the start, and where no turn is left
-pub lookup-first : (o : Objects) (s c : ℕ) → lookupWithin longestChain o s c ≡ lookup o s c
-unfolding lookup
-lookup-first o s c = refl
-
-pub lookup-over : (left : ℕ) (o : Objects) (s c : ℕ) → left ≤ 0 → Nothing ≡ lookupWithin left o s c
-unfolding lookupWithin
-lookup-over left o s c h = ap (λ (k : ℕ). lookupWithin k o s c) (none left h)
-  where
-    none : (left : ℕ) → left ≤ 0 → 0 ≡ left
-    none left h = omega arith
-
 pub chain-first : (o : Objects) (a c : ℕ) → inChainWithin longestChain o a c ≡ inChain o a c
 unfolding inChain
 chain-first o a c = refl
@@ -160,3 +276,73 @@ chain-over left o a c h = ap (λ (k : ℕ). inChainWithin k o a c) (none left h)
   where
     none : (left : ℕ) → left ≤ 0 → 0 ≡ left
     none left h = omega arith
+
+-- A lookup that has come to class c with so many turns left, and has read so many pairs: what is found from here, and read from here on, is what is
+-- found and read from the start. The last field bounds the sum.
+pub record Turn (o : Objects) (s start left pairs c : ℕ) : Type 0 where
+  pub classes : T (isNilOr o classKind c)
+  pub finds : lookupWithin left o s c ≡ lookup o s start
+  pub reads : pairs + pairsWithin left o s c ≡ pairsRead o s start
+  pub few : pairs + 12000 * left ≤ 288000
+
+pub turn-first : {o : Objects} {s c : ℕ} → T (isNilOr o classKind c) → Turn o s c longestChain 0 c
+unfolding lookup pairsRead
+turn-first t = record { classes = t; finds = refl; reads = omega arith; few = omega arith }
+
+module _ {e : ℕ} {o : Objects} (r : Right e o) {s a left pairs c : ℕ} (t : Turn o s a left pairs c) where
+  -- the chain is over, or no turn is left
+  pub turn-nil : c ≡ 2 → (Nothing ≡ lookup o s a) × (pairs ≡ pairsRead o s a)
+  turn-nil h =
+      let k = nil-none r c h in
+      let z = pairs-none o left s c k in
+      let w = t .reads in
+      (sym (no-class o left s c k) ∙ t .finds, omega arith)
+
+  pub turn-over : left ≤ 0 → (Nothing ≡ lookup o s a) × (pairs ≡ pairsRead o s a)
+  unfolding lookupWithin pairsWithin
+  turn-over h = (ap (λ (k : ℕ). lookupWithin k o s c) none ∙ t .finds, sum)
+    where
+      none : 0 ≡ left
+      none = omega arith
+
+      sum : pairs ≡ pairsRead o s a
+      sum =
+          let z : 0 ≡ pairsWithin left o s c = ap (λ (k : ℕ). pairsWithin k o s c) none in
+          let w = t .reads in
+          omega arith
+
+  -- a class whose dictionary was searched
+  module _ {d p : ℕ} {f : Found} (l : 0 < left) (h : T (isKind o classKind c)) (g : d ≡ dictionaryWord o c) (x : f ≡ findIn o d s) (y : p ≡ pairsIn o d s) where
+    search-here : f ≡ findIn o (dictionaryWord o c) s
+    search-here = x ∙ ap (λ (w : ℕ). findIn o w s) g
+
+    pairs-here : p ≡ pairsIn o (dictionaryWord o c) s
+    pairs-here = y ∙ ap (λ (w : ℕ). pairsIn o w s) g
+
+    is-class : isKind o classKind c ≡ true
+    is-class = T→true (isKind o classKind c) h
+
+    pub turn-hit : (m : Pointer) → f ≡ Method m → (Method m ≡ lookup o s a) × (pairs + p ≡ pairsRead o s a)
+    turn-hit m q =
+        let k : findIn o (dictionaryWord o c) s ≡ found (m .0) = sym search-here ∙ q in
+        let z = pairs-hit o (left - 1) s c (m .0) is-class k in
+        let u = ap (λ (k : ℕ). pairsWithin k o s c) (one-left left l) in
+        let v = pairs-here in
+        let w = t .reads in
+        (sym (class-hit o (left - 1) s c (m .0) is-class k) ∙ ap (λ (k : ℕ). lookupWithin k o s c) (one-left left l) ∙ t .finds, omega arith)
+
+    pub turn-up : (w : ℕ) → p ≤ 12000 → w ≡ superclassWord o c → f ≡ Nothing → Turn o s a (left - 1) (pairs + p) w
+    turn-up w few e q =
+        let k : findIn o (dictionaryWord o c) s ≡ Nothing = sym search-here ∙ q in
+        let z = pairs-miss o (left - 1) s c is-class k in
+        let u = ap (λ (k : ℕ). pairsWithin k o s c) (one-left left l) in
+        let v = pairs-here in
+        let i = ap (pairsWithin (left - 1) o s) e in
+        let j = t .reads in
+        let n = t .few in
+        record {
+          classes = class-above r c w e h;
+          finds = ap (lookupWithin (left - 1) o s) e ∙ sym (class-miss o (left - 1) s c is-class k) ∙ ap (λ (k : ℕ). lookupWithin k o s c) (one-left left l) ∙ t .finds;
+          reads = omega arith;
+          few = omega arith;
+        }

@@ -10,11 +10,12 @@ ghost use Rattle.model.specs.Limits.{entryWords, classKind, listKind, methodKin
 ghost use Rattle.model.specs.Word.{isValid, objectNumber};
 ghost use Rattle.model.specs.Objects.{objectsAt, classOf, isNilOr, superclassWord, dictionaryWord, fieldCount, form, atFront};
 ghost use Rattle.model.specs.Method.{header, home, literal, flag, literalCount, extension, primitiveNumber, argumentCount};
-ghost use Rattle.model.specs.Lookup.{findIn, lookup, inChain};
+ghost use Rattle.model.specs.Lookup.{findIn, lookup, pairsIn, pairsRead, inChain};
 ghost use Rattle.model.specs.Rules.{IsRight};
 ghost use Rattle.model.specs.Primitive.{storeWord, objectByte, storeByte};
 ghost use Rattle.readers.specs.Places.{Inside};
 ghost use Rattle.objects.specs.Lent.{Holds, CodeAt};
+ghost use Rattle.objects.specs.Searches.{IsDictionary, FirstPlace, SearchIs};
 use bytecode::Decoded;
 use model::Found;
 use model::Pointer;
@@ -25,6 +26,12 @@ pub struct Code {
     pub from: usize,
     pub end: usize,
     pub size: usize,
+}
+
+// What a search for a method comes to: what it found, and how many pairs of dictionaries it read.
+pub struct Search {
+    pub found: Found,
+    pub pairs: usize,
 }
 
 // The class of a valid word. No body is read, so it is the same whatever the bodies hold.
@@ -194,47 +201,97 @@ pub fn instruction_at(bodies: &[u16], from: usize, end: usize, at: usize) -> Dec
     bytecode::instruction_at(&bodies[from..end], at)
 }
 
-// The method under a selector in a dictionary.
-pub fn find_in(contents: &[u16], bodies: &[u16], n: usize, b: usize, d: Pointer, s: u16) -> Found
-    requires { ⌜ Holds listKind n b (now contents) (now bodies) (d .0) ⌝ }
-    ensures { λ r. ⌜ r ≡ findIn (objectsAt n b (now (contents .entry)) (now (bodies .entry))) (d .0) s ⌝ }
+// Where the first of a dictionary's pairs stands whose selector is not below the one sought; the last pair where all before it are below.
+// The last need not be compared: whether it is above or below, no more pairs are read.
+fn first_place(bodies: &[u16], from: usize, count: usize, s: u16) -> usize
+    requires { ⌜ (0 < count) × (from + 2 * count ≤ length (now bodies)) ⌝ }
+    ensures { λ r. ⌜ FirstPlace (now (bodies .entry)) from count s r ⌝ }
+{
+    let last = from + 2 * (count - 1);
+    let mut at = from;
+    while at < last {
+        if s <= bodies[at] {
+            return at;
+        }
+        at += 2;
+    }
+    last
+}
+
+// The method under a selector in a dictionary. Selectors rise, so none behind the first that is not below is the one sought.
+fn find_in(contents: &[u16], bodies: &[u16], n: usize, b: usize, d: Pointer, s: u16) -> Search
+    requires { ⌜ IsDictionary n b (now contents) (now bodies) (d .0) ⌝ }
+    ensures { λ r. ⌜ SearchIs (findIn (objectsAt n b (now (contents .entry)) (now (bodies .entry))) (d .0) s)
+        (pairsIn (objectsAt n b (now (contents .entry)) (now (bodies .entry))) (d .0) s) r ⌝ }
 {
     let k = d.0 as usize / 2;
     let from = readers::start(contents, n, k) as usize;
     let count = readers::size(contents, n, k) as usize / 2;
-    let mut i: usize = 0;
-    while i < count {
-        let at = from + 2 * i;
-        if bodies[at] == s {
-            return Found::Method(Pointer(bodies[at + 1]));
-        }
-        i += 1;
+    if count == 0 {
+        return Search {
+            found: Found::Nothing,
+            pairs: 0,
+        };
     }
-    Found::Nothing
+    let at = first_place(bodies, from, count, s);
+    let pairs = (at - from) / 2 + 1;
+    if bodies[at] == s {
+        return Search {
+            found: Found::Method(Pointer(bodies[at + 1])),
+            pairs: pairs,
+        };
+    }
+    Search {
+        found: Found::Nothing,
+        pairs: pairs,
+    }
 }
 
 // The method under a selector in a class or the nearest class above it that has one.
-pub fn lookup(contents: &[u16], bodies: &[u16], n: usize, b: usize, s: u16, class: Pointer) -> Found
+pub fn lookup(
+    contents: &[u16],
+    bodies: &[u16],
+    n: usize,
+    b: usize,
+    s: u16,
+    class: Pointer,
+) -> Search
     requires { ⌜ IsRight (objectsAt n b (now contents) (now bodies)) × T (isNilOr (objectsAt n b (now contents) (now bodies)) classKind (class .0)) ⌝ }
-    ensures { λ r. ⌜ r ≡ lookup (objectsAt n b (now (contents .entry)) (now (bodies .entry))) s (class .0) ⌝ }
+    ensures { λ r. ⌜ SearchIs (lookup (objectsAt n b (now (contents .entry)) (now (bodies .entry))) s (class .0))
+        (pairsRead (objectsAt n b (now (contents .entry)) (now (bodies .entry))) s (class .0)) r ⌝ }
 {
     let mut c = class;
     let mut left = limits::LONGEST_CHAIN;
+    let mut pairs: usize = 0;
     while 0 < left {
         if c.0 == limits::NIL {
-            return Found::Nothing;
+            return Search {
+                found: Found::Nothing,
+                pairs: pairs,
+            };
         }
+        // read before the search, so that the next turn need not wait for its end
+        let above = superclass(contents, bodies, n, b, c);
         let d = dictionary(contents, bodies, n, b, c);
-        match find_in(contents, bodies, n, b, d, s) {
+        let search = find_in(contents, bodies, n, b, d, s);
+        pairs += search.pairs;
+        let found = search.found;
+        match found {
             Found::Method(m) => {
-                return Found::Method(m);
+                return Search {
+                    found: Found::Method(m),
+                    pairs: pairs,
+                };
             }
             Found::Nothing => {}
         }
-        c = superclass(contents, bodies, n, b, c);
+        c = above;
         left -= 1;
     }
-    Found::Nothing
+    Search {
+        found: Found::Nothing,
+        pairs: pairs,
+    }
 }
 
 // Whether class a is another class or above it.

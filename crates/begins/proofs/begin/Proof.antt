@@ -69,7 +69,7 @@ returns-2 c =
     let args = at-start .args in
     refused-9 (at-start .pre) (sym (at-words-fine .words-fine .ensures (args .b) (args .bodies .now)) ∙ not-false _ (at-if1 .if1 .left))
     ((ap (lookup (objectsAt (args .n) (args .b) (args .contents .now) (args .bodies .now)) (args .selector))
-    (sym (at-class-of .class-of .ensures (args .b) (args .bodies .now))) ∙ sym (c .before .before .lookup .ensures)) ∙ c .enum-told .given .1)
+    (sym (at-class-of .class-of .ensures (args .b) (args .bodies .now))) ∙ sym (c .before .before .lookup .ensures .finds)) ∙ c .enum-told .given .1)
 
 argument-count-requires : tie.Need-argument-count-requires
 argument-count-requires c κs =
@@ -83,7 +83,7 @@ argument-count-requires c κs =
       kinds = (lookup-facts (at-start .pre .right) (args .selector)
           (classOf (objectsAt (args .n) (args .b) (args .contents .now) (args .bodies .now)) (args .receiver)) (at-found .found .given .0 .0 .0)
           ((ap (lookup (objectsAt (args .n) (args .b) (args .contents .now) (args .bodies .now)) (args .selector))
-          (sym (at-class-of .class-of .ensures (args .b) (args .bodies .now))) ∙ sym (at-lookup .lookup .ensures)) ∙ at-found .found .given .1) .method);
+          (sym (at-class-of .class-of .ensures (args .b) (args .bodies .now))) ∙ sym (at-lookup .lookup .ensures .finds)) ∙ at-found .found .given .1) .method);
     }
 
 same-length-4 : tie.Need-same-length-4
@@ -103,7 +103,7 @@ returns-3 c =
     let args = at-start .args in
     refused-10 (at-start .pre) (sym (at-words-fine .words-fine .ensures (args .b) (args .bodies .now)) ∙ not-false _ (at-if1 .if1 .left)) _
     ((ap (lookup (objectsAt (args .n) (args .b) (args .contents .now) (args .bodies .now)) (args .selector))
-    (sym (at-class-of .class-of .ensures (args .b) (args .bodies .now))) ∙ sym (at-lookup .lookup .ensures)) ∙ at-found .found .given .1)
+    (sym (at-class-of .class-of .ensures (args .b) (args .bodies .now))) ∙ sym (at-lookup .lookup .ensures .finds)) ∙ at-found .found .given .1)
     (λ q. c .if2 .taken (c .before .argument-count .ensures ∙ q))
 
 header-requires : tie.Need-header-requires
@@ -118,7 +118,7 @@ header-requires c κs =
       kinds = (lookup-facts (at-start .pre .right) (args .selector)
           (classOf (objectsAt (args .n) (args .b) (args .contents .now) (args .bodies .now)) (args .receiver)) (at-found .found .given .0 .0 .0)
           ((ap (lookup (objectsAt (args .n) (args .b) (args .contents .now) (args .bodies .now)) (args .selector))
-          (sym (at-class-of .class-of .ensures (args .b) (args .bodies .now))) ∙ sym (at-lookup .lookup .ensures)) ∙ at-found .found .given .1) .method);
+          (sym (at-class-of .class-of .ensures (args .b) (args .bodies .now))) ∙ sym (at-lookup .lookup .ensures .finds)) ∙ at-found .found .given .1) .method);
     }
 
 argument-requires : tie.Need-argument-requires
@@ -141,7 +141,7 @@ activate-requires c κs =
       method = (lookup-facts (at-start .pre .right) (args .selector)
           (classOf (objectsAt (args .n) (args .b) (args .contents .now) (args .bodies .now)) (args .receiver)) (at-found .found .given .0 .0 .0)
           ((ap (lookup (objectsAt (args .n) (args .b) (args .contents .now) (args .bodies .now)) (args .selector))
-          (sym (at-class-of .class-of .ensures (args .b) (args .bodies .now))) ∙ sym (at-lookup .lookup .ensures)) ∙ at-found .found .given .1) .method);
+          (sym (at-class-of .class-of .ensures (args .b) (args .bodies .now))) ∙ sym (at-lookup .lookup .ensures .finds)) ∙ at-found .found .given .1) .method);
       valid =
           receiver-valid (at-start .pre) (sym (at-words-fine .words-fine .ensures (args .b) (args .bodies .now)) ∙ not-false _ (at-if1 .if1 .left));
     }
@@ -186,7 +186,7 @@ returns-4 c =
       starts = at-start .pre;
       words = (sym (at-words-fine .words-fine .ensures (args .b) (args .bodies .now)) ∙ not-false _ (at-if1 .if1 .left));
       finds = ((ap (lookup (objectsAt (args .n) (args .b) (args .contents .now) (args .bodies .now)) (args .selector))
-          (sym (at-class-of .class-of .ensures (args .b) (args .bodies .now))) ∙ sym (at-lookup .lookup .ensures)) ∙ at-found .found .given .1);
+          (sym (at-class-of .class-of .ensures (args .b) (args .bodies .now))) ∙ sym (at-lookup .lookup .ensures .finds)) ∙ at-found .found .given .1);
       count =
           (sym (at-argument-count .argument-count .ensures) ∙ at-if2 .if2 .left);
     }) _ _ _ _ _ (at-activate .activate .ensures) (at-argument .argument .ensures)
@@ -218,7 +218,7 @@ write-frame-requires c κs =
       words = (sym (at-words-fine .words-fine .ensures (args .b) (args .bodies .now))
           ∙ not-false _ (at-if1 .if1 .left));
       finds = ((ap (lookup (objectsAt (args .n) (args .b) (args .contents .now) (args .bodies .now)) (args .selector))
-          (sym (at-class-of .class-of .ensures (args .b) (args .bodies .now))) ∙ sym (at-lookup .lookup .ensures)) ∙ at-found .found .given .1);
+          (sym (at-class-of .class-of .ensures (args .b) (args .bodies .now))) ∙ sym (at-lookup .lookup .ensures .finds)) ∙ at-found .found .given .1);
       count =
           (sym (at-argument-count .argument-count .ensures) ∙ at-if2 .if2 .left);
     }) _ _ _ _ _ (at-activate .activate .ensures) (at-argument .argument .ensures)
@@ -251,7 +251,7 @@ returns-5 c =
       starts = at-start .pre;
       words = (sym (at-words-fine .words-fine .ensures (args .b) (args .bodies .now)) ∙ not-false _ (at-if1 .if1 .left));
       finds = ((ap (lookup (objectsAt (args .n) (args .b) (args .contents .now) (args .bodies .now)) (args .selector))
-          (sym (at-class-of .class-of .ensures (args .b) (args .bodies .now))) ∙ sym (at-lookup .lookup .ensures)) ∙ at-found .found .given .1);
+          (sym (at-class-of .class-of .ensures (args .b) (args .bodies .now))) ∙ sym (at-lookup .lookup .ensures .finds)) ∙ at-found .found .given .1);
       count =
           (sym (at-argument-count .argument-count .ensures) ∙ at-if2 .if2 .left);
     }) _ _ _ _ _ (at-activate .activate .ensures) (at-argument .argument .ensures)
@@ -281,7 +281,7 @@ returns-6 c =
       starts = at-start .pre;
       words = (sym (at-words-fine .words-fine .ensures (args .b) (args .bodies .now)) ∙ not-false _ (at-if1 .if1 .left));
       finds = ((ap (lookup (objectsAt (args .n) (args .b) (args .contents .now) (args .bodies .now)) (args .selector))
-          (sym (at-class-of .class-of .ensures (args .b) (args .bodies .now))) ∙ sym (at-lookup .lookup .ensures)) ∙ at-found .found .given .1);
+          (sym (at-class-of .class-of .ensures (args .b) (args .bodies .now))) ∙ sym (at-lookup .lookup .ensures .finds)) ∙ at-found .found .given .1);
       count =
           (sym (at-argument-count .argument-count .ensures) ∙ at-if2 .if2 .left);
     }) _ _ _ _ _ (at-activate .activate .ensures) (at-argument .argument .ensures)
@@ -319,7 +319,7 @@ returns-7 c =
       starts = at-start .pre;
       words = (sym (at-words-fine .words-fine .ensures (args .b) (args .bodies .now)) ∙ not-false _ (at-if1 .if1 .left));
       finds = ((ap (lookup (objectsAt (args .n) (args .b) (args .contents .now) (args .bodies .now)) (args .selector))
-          (sym (at-class-of .class-of .ensures (args .b) (args .bodies .now))) ∙ sym (at-lookup .lookup .ensures)) ∙ at-found .found .given .1);
+          (sym (at-class-of .class-of .ensures (args .b) (args .bodies .now))) ∙ sym (at-lookup .lookup .ensures .finds)) ∙ at-found .found .given .1);
       count =
           (sym (at-argument-count .argument-count .ensures) ∙ at-if2 .if2 .left);
     }) _ _ _ _ _ (at-activate .activate .ensures) (at-argument .argument .ensures)

@@ -1,4 +1,4 @@
-use Rattle.cache.proofs.Caching.{cached-found}
+use Rattle.cache.proofs.Caching.{entry-of, cached-found}
 use borrow.Author.Needs.{needs}
 use Rattle.cache.proofs.cached.Statement.{statement}
 use Rattle.cache.proofs.cached.Tie as tie
@@ -9,48 +9,31 @@ entry-requires c κs = search needs
 mul-at : tie.Need-mul-at
 mul-at c = search needs
 
-mul-if1 : tie.Need-mul-if1
-mul-if1 c = search needs
+is-of-requires : tie.Need-is-of-requires
+is-of-requires c κs = search needs
 
-shared-slice-read-if1 : tie.Need-shared-slice-read-if1
-shared-slice-read-if1 c = search needs
-
-lookup-requires : tie.Need-lookup-requires
-lookup-requires c κs = search needs
-
-returns : tie.Need-returns
-returns c = search needs
-
-add-if2 : tie.Need-add-if2
-add-if2 c = search needs
-
-mul-if2 : tie.Need-mul-if2
-mul-if2 c = search needs
-
-shared-slice-read-if2 : tie.Need-shared-slice-read-if2
-shared-slice-read-if2 c = search needs
-
-lookup-requires-2 : tie.Need-lookup-requires-2
-lookup-requires-2 c κs = search needs
-
-returns-2 : tie.Need-returns-2
-returns-2 c = search needs
-
-add-t9 : tie.Need-add-t9
-add-t9 c = search needs
+add-t12 : tie.Need-add-t12
+add-t12 c = search needs
 
 mul-t13 : tie.Need-mul-t13
 mul-t13 c = search needs
 
-shared-slice-read-t11 : tie.Need-shared-slice-read-t11
-shared-slice-read-t11 c = search needs
+shared-slice-read-t15 : tie.Need-shared-slice-read-t15
+shared-slice-read-t15 c = search needs
 
-returns-3 : tie.Need-returns-3
-returns-3 c =
-    let at-if1 = c .before .before .before .before in
-    let at-entry = at-if1 .before .before in
+returns : tie.Need-returns
+returns c =
+    let at-is-of = c .before .before in
+    let at-entry = at-is-of .before in
     let at-start = at-entry .before .before .before .before in
-    cached-found _ _ _ _ _ (at-start .pre .caches .fine) (at-start .pre .named) (at-entry .entry .ensures .1) (at-if1 .if1 .left) (c .before .if2 .left)
+    let h = entry-of _ _ _ _ (at-is-of .is-of .ensures) (c .before .if1 .taken) in
+    cached-found _ _ _ _ _ (at-start .pre .caches .fine) (at-start .pre .named) (at-entry .entry .ensures .1) (h .0) (h .1)
+
+lookup-requires : tie.Need-lookup-requires
+lookup-requires c κs = search needs
+
+returns-2 : tie.Need-returns-2
+returns-2 c = search needs
 
 pub cached-spec : {M : Type 1} → statement M
 cached-spec =
@@ -58,16 +41,10 @@ cached-spec =
     (tie.spec
     entry-requires
     mul-at
-    mul-if1
-    shared-slice-read-if1
-    lookup-requires
-    returns
-    add-if2
-    mul-if2
-    shared-slice-read-if2
-    lookup-requires-2
-    returns-2
-    add-t9
+    is-of-requires
+    add-t12
     mul-t13
-    shared-slice-read-t11
-    returns-3)
+    shared-slice-read-t15
+    returns
+    lookup-requires
+    returns-2)

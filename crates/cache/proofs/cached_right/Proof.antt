@@ -42,8 +42,8 @@ lookup-requires c κs =
           (true→T (sym (c .before .is-kind .ensures (a .b) (a .bodies .now)) ∙ not-false _ (c .if2 .left))),
     )
 
-enum-known-k : tie.Need-enum-known-k
-enum-known-k c = search needs
+enum-known-found : tie.Need-enum-known-found
+enum-known-found c = search needs
 
 enum-told : tie.Need-enum-told
 enum-told c = search needs
@@ -56,7 +56,7 @@ returns-3 c =
     let at-start = at-is-empty .before .before .before in
     let a = at-start .args in
     entry-found (objectsAt (a .n) (a .b) (a .contents .now) (a .bodies .now)) (a .s) (a .class) (a .m) _ (at-is-empty .is-empty .ensures) _ _
-    (at-if1 .if1 .left) (at-lookup .lookup .ensures) (c .before .before .k .given .1)
+    (at-if1 .if1 .left) (at-lookup .lookup .ensures .finds) (c .before .before .found .given .1)
 
 returns-4 : tie.Need-returns-4
 returns-4 c =
@@ -65,7 +65,7 @@ returns-4 c =
     let at-start = at-is-empty .before .before .before in
     let a = at-start .args in
     entry-nothing (objectsAt (a .n) (a .b) (a .contents .now) (a .bodies .now)) (a .s) (a .class) (a .m) _ (at-is-empty .is-empty .ensures) _
-    (at-if1 .if1 .left) (c .before .before .lookup .ensures) (c .enum-told .given .1)
+    (at-if1 .if1 .left) (c .before .before .lookup .ensures .finds) (c .enum-told .given .1)
 
 pub cached-right-spec : {M : Type 1} → statement M
 cached-right-spec =
@@ -76,7 +76,7 @@ cached-right-spec =
     is-kind-requires
     returns-2
     lookup-requires
-    enum-known-k
+    enum-known-found
     enum-told
     returns-3
     returns-4)

@@ -1,6 +1,6 @@
 use native.Mathlib.Omega.{arith}
 use lib.ListN.{length-set}
-use Rattle.cache.proofs.Caching.{entry-filled, entry-there}
+use Rattle.cache.proofs.Caching.{entry-of, entry-filled, entry-there}
 use borrow.Author.Needs.{needs}
 use Rattle.cache.proofs.fill.Statement.{statement}
 use Rattle.cache.proofs.fill.Tie as tie
@@ -11,26 +11,18 @@ entry-requires c κs = search needs
 mul-at : tie.Need-mul-at
 mul-at c = search needs
 
-mul-if1 : tie.Need-mul-if1
-mul-if1 c = search needs
+is-of-requires : tie.Need-is-of-requires
+is-of-requires c κs = search needs
 
-slice-read-if1 : tie.Need-slice-read-if1
-slice-read-if1 c = search needs
-
-add-if2 : tie.Need-add-if2
-add-if2 c = search needs
-
-mul-if2 : tie.Need-mul-if2
-mul-if2 c = search needs
-
-slice-read-if2 : tie.Need-slice-read-if2
-slice-read-if2 c = search needs
+same-length : tie.Need-same-length
+same-length c = search needs
 
 returns : tie.Need-returns
 returns c =
-    let at-if1 = c .before .before .before in
-    let at-entry = at-if1 .before .before in
-    entry-there _ _ _ _ _ (at-entry .entry .ensures .0) (at-entry .before .before .pre .1) (at-if1 .if1 .taken) (c .if2 .taken)
+    let at-is-of = c .before in
+    let at-entry = at-is-of .before .before in
+    let h = entry-of _ _ _ _ (at-is-of .is-of .ensures) (c .if1 .taken) in
+    entry-there _ _ _ _ _ (at-entry .entry .ensures .0) (at-entry .before .before .pre .1) (h .0) (h .1)
 
 mul-cache : tie.Need-mul-cache
 mul-cache c = search needs
@@ -56,11 +48,11 @@ mul-cache-3 c = search needs
 slice-write-cache-3 : tie.Need-slice-write-cache-3
 slice-write-cache-3 c = simp length-set (omega arith)
 
-same-length : tie.Need-same-length
-same-length c = search needs
+same-length-2 : tie.Need-same-length-2
+same-length-2 c = search needs
 
 returns-2 : tie.Need-returns-2
-returns-2 c = entry-filled _ _ _ _ _ (c .before .before .entry .ensures .0)
+returns-2 c = entry-filled _ _ _ _ _ (c .before .before .before .entry .ensures .0)
 
 pub fill-spec : {M : Type 1} → statement M
 fill-spec =
@@ -68,11 +60,8 @@ fill-spec =
     (tie.spec
     entry-requires
     mul-at
-    mul-if1
-    slice-read-if1
-    add-if2
-    mul-if2
-    slice-read-if2
+    is-of-requires
+    same-length
     returns
     mul-cache
     slice-write-cache
@@ -82,5 +71,5 @@ fill-spec =
     add-cache-2
     mul-cache-3
     slice-write-cache-3
-    same-length
+    same-length-2
     returns-2)
