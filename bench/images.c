@@ -303,7 +303,7 @@ size_t deep(uint8_t *image) {
     return written(image, 2 * instance, 2 * LAST);
 }
 
-size_t climbing(uint8_t *image, size_t count, unsigned *unknown) {
+size_t climbing(uint8_t *image, size_t count, unsigned unknown[CLIMBING]) {
     static const uint8_t code[] = {120};
     state = count;
     new_image();

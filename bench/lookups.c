@@ -1,14 +1,18 @@
 // Times lookups that fail along 24 classes, ours and C's by turns; the least of all runs counts. Each is a begin that is refused by 9, put into one
-// list, so that a check is made once for all of them.
+// list, so that a check is made once for all of them. One selector sought again and again is what a processor foresees best, many in random order
+// what it foresees least. Then lookups of all sorts in random images: both sides have to find the same and to read as many pairs.
 #include "images.h"
 #include "machine.h"
 #include "measure.h"
 #include <stdio.h>
 #include <string.h>
 
-enum { CALLS = 10 * CLIMBING, RUNS = 200, STACK = 64 };
+enum { CALLS = 10 * CLIMBING, RUNS = 200, STACK = 64, IMAGES = 200, LOOKUPS = 100 };
 
 void bench_table(uint16_t *table);
+bool bench_lookup(const uint16_t *contents, size_t contents_length, const uint16_t *bodies, size_t bodies_length, const uint16_t *stack,
+                  size_t stack_length, const uint16_t *cache, size_t cache_length, const uint16_t registers[REGISTERS], uint16_t selector,
+                  uint16_t class, uint16_t *method, size_t *pairs);
 
 static uint16_t entries[256], list[4 * CALLS];
 static uint8_t image[MOST_IMAGE];
@@ -16,11 +20,35 @@ static uint16_t contents[SOFADUCK_CONTENTS], bodies[SOFADUCK_BODIES], stack[STAC
 static uint32_t answers[2][CALLS][SOFADUCK_ANSWER];
 static uint64_t seed = 5;
 
+static unsigned below(unsigned n) { return random_below(&seed, n); }
+
 static double now(void) { return nanoseconds(CLOCK_MONOTONIC); }
+
+static machine empty(void) {
+    return (machine){contents, SOFADUCK_CONTENTS, bodies, SOFADUCK_BODIES, stack, STACK, cache, SOFADUCK_CACHE, {0}};
+}
+
+static objects objects_in(const machine *m) {
+    return (objects){(const entry *)m->contents, m->bodies, m->registers[N], m->registers[B]};
+}
+
+// The pairs that a lookup reads: in each dictionary those below the selector, and the next.
+static size_t pairs_read(const objects *o, unsigned selector, unsigned class) {
+    size_t count = 0;
+    for (; class != NIL_WORD; class = body(o, class)[0]) {
+        const unsigned dictionary = body(o, class)[1];
+        const uint16_t *pair = body(o, dictionary), *const end = pair + of(o, dictionary)->size;
+        for (; pair < end && *pair < selector; pair += 2) count++;
+        if (pair == end) continue;
+        count++;
+        if (*pair == selector) break;
+    }
+    return count;
+}
 
 // Play as one writes it in C, of begins whose lookups fail. How many were made.
 static uint32_t c_begins(const machine *m, const sofaduck_calls *calls, uint32_t to[][SOFADUCK_ANSWER]) {
-    const objects o = {(const entry *)m->contents, m->bodies, m->registers[N], m->registers[B]};
+    const objects o = objects_in(m);
     if (c_check(entries, m) != 0) return 0;
     uint32_t made = 0;
     for (const uint16_t *w = calls->words; w < calls->words + calls->length; w += 4 + w[3], made++) {
@@ -32,13 +60,20 @@ static uint32_t c_begins(const machine *m, const sofaduck_calls *calls, uint32_t
     return made;
 }
 
-static bool measure(size_t count) {
+// So many selectors in each class, and so many that are sought.
+static bool measure(size_t count, unsigned sought) {
     unsigned unknown[CLIMBING];
     double a = 1e18, b = 1e18;
-    machine m = {contents, SOFADUCK_CONTENTS, bodies, SOFADUCK_BODIES, stack, STACK, cache, SOFADUCK_CACHE, {0}};
+    size_t read = 0;
+    machine m = empty();
     sofaduck_calls calls = {list, 4 * CALLS, 0, 0};
     if (sofaduck_state_load(&m, image, climbing(image, count, unknown)) != 0) return printf("lookup: the image is refused\n"), false;
-    for (int i = 0; i < CALLS; i++) sofaduck_put_begin(&calls, m.registers[START_RECEIVER], 2 * unknown[random_below(&seed, CLIMBING)], NULL, 0);
+    const objects o = objects_in(&m);
+    for (int i = 0; i < CALLS; i++) {
+        const unsigned selector = 2 * unknown[sought == 1 ? CLIMBING / 2 : below(sought)];
+        sofaduck_put_begin(&calls, m.registers[START_RECEIVER], selector, NULL, 0);
+        read += pairs_read(&o, selector, class_of(&o, m.registers[START_RECEIVER]));
+    }
     for (int run = 0; run < RUNS; run++) {
         uint32_t made = 0;
         const double t0 = now();
@@ -50,11 +85,59 @@ static bool measure(size_t count) {
         if (r != 0 || made != CALLS || other != CALLS || answers[0][0][SOFADUCK_ANSWER_NUMBER] != 9 || memcmp(answers[0], answers[1], sizeof answers[0]) != 0)
             return printf("lookup: the begins differ, or are not refused by 9; made %u and %u, answer %u\n", made, other, r), false;
     }
-    printf("lookup that fails in 24 classes, %2zu selectors each   ours %7.1f ns   C %7.1f   speed relative to C: %.2f\n", count, a / CALLS, b / CALLS, b / a);
+    printf("lookup that fails in 24 classes, %2zu selectors each, %3u sought, %6.1f pairs read   ours %6.1f ns   C %6.1f   speed relative to C: %.2f\n", count,
+           sought, (double)read / CALLS, a / CALLS, b / CALLS, b / a);
+    return true;
+}
+
+// A selector that stands in a class of the chain or next to one that does, another selector, or any word.
+static unsigned any_selector(const objects *o, unsigned class) {
+    for (; class != NIL_WORD; class = body(o, class)[0]) {
+        const unsigned dictionary = body(o, class)[1], pairs = of(o, dictionary)->size / 2;
+        if (pairs > 0 && below(3) == 0) return body(o, dictionary)[2 * below(pairs)] + (below(2) == 0 ? 0 : below(5) - 2);
+    }
+    return below(4) == 0 ? below(65536) : 2 * (1 + below(o->n));
+}
+
+static unsigned any_class(const objects *o) {
+    for (;;) {
+        const unsigned class = 2 * (1 + below(o->n));
+        if (is(o, CLASS, class)) return class;
+    }
+}
+
+static bool differential(void) {
+    size_t found = 0, failed = 0, early = 0, refused = 0;
+    for (int i = 0; i < IMAGES; i++) {
+        unsigned unknown[CLIMBING];
+        machine m = empty();
+        const size_t length = i % 3 == 0 ? climbing(image, 1 + below(60), unknown) : i % 3 == 1 ? ordinary(image, 400 + below(1000), i) : lively(image, 900 + below(1000), i);
+        if (sofaduck_state_load(&m, image, length) != 0) return printf("lookup: an image is refused\n"), false;
+        const objects o = objects_in(&m);
+        for (int k = 0; k < LOOKUPS; k++) {
+            const unsigned class = below(20) == 0 ? below(65536) : any_class(&o), selector = is(&o, CLASS, class) ? any_selector(&o, class) : below(65536);
+            uint16_t method = 65535;
+            size_t pairs = 99999;
+            const bool made = bench_lookup(m.contents, m.contents_length, m.bodies, m.bodies_length, m.stack, m.stack_length, m.cache, m.cache_length,
+                                           m.registers, selector, class, &method, &pairs);
+            const unsigned expected = is(&o, CLASS, class) ? lookup(&o, selector, class) : 65535;
+            const size_t read = is(&o, CLASS, class) ? pairs_read(&o, selector, class) : 99999;
+            if (made != is(&o, CLASS, class) || method != expected || pairs != read)
+                return printf("lookup: of %u from %u finds %u and %u, and reads %zu and %zu pairs\n", selector, class, method, expected, pairs, read), false;
+            refused += !made, found += made && method != 0, failed += made && method == 0;
+            early += made && pairs < pairs_read(&o, 65535, class);
+        }
+    }
+    printf("%zu lookups agree in what they find and in the pairs they read: %zu found, %zu failed, %zu left pairs unread; %zu from no class\n", found + failed, found,
+           failed, early, refused);
+    if (found == 0 || failed == 0 || early == 0 || refused == 0) return printf("lookup: one of these was never met\n"), false;
     return true;
 }
 
 int main(void) {
+    static const size_t counts[] = {1, 8, 60};
     bench_table(entries);
-    return measure(1) && measure(8) && measure(60) ? 0 : 1;
+    for (int i = 0; i < 3; i++)
+        if (!measure(counts[i], 1) || !measure(counts[i], CLIMBING)) return 1;
+    return differential() ? 0 : 1;
 }

@@ -35,7 +35,7 @@ extern "C" {
 /* The version of header and library, and the edition of the images that load accepts. */
 #define SOFADUCK_VERSION_MAJOR 2
 #define SOFADUCK_VERSION_MINOR 1
-#define SOFADUCK_VERSION_PATCH 0
+#define SOFADUCK_VERSION_PATCH 1
 #define SOFADUCK_EDITION 1
 
 /* Sizes */
