@@ -75,13 +75,9 @@ static uint32_t both(machine *ours, machine *theirs, uint32_t n, uint32_t *made)
     return 99;
 }
 
-static objects objects_in(const machine *m) {
-    return (objects){(const entry *)m->contents, m->bodies, m->registers[N], m->registers[B]};
-}
-
 // A handler begun on a random receiver, with random arguments, its method having so many bytes. Whether one was found that has a frame.
 static bool begin_any(machine *m, unsigned least) {
-    const objects o = objects_in(m);
+    const objects o = objects_of(m);
     for (int i = 0; i < 20000; i++) {
         const unsigned selector = 2 * (1 + below(o.n)), receiver = below(8) == 0 ? 2 * below(32768) + 1 : 2 * (1 + below(o.n));
         const unsigned method = is(&o, BYTES, selector) ? lookup(&o, selector, class_of(&o, receiver)) : 0;
@@ -103,14 +99,14 @@ static void keep(machine *m, const objects *o, unsigned selector, unsigned class
 
 // Lookups of one selector from all classes.
 static void fill_cache_by(machine *m, unsigned selector) {
-    const objects o = objects_in(m);
+    const objects o = objects_of(m);
     for (unsigned class = 2; class <= 2 * o.n; class += 2)
         if (is(&o, CLASS, class)) keep(m, &o, selector, class);
 }
 
 // Lookups of all classes and selectors.
 static void fill_cache(machine *m) {
-    const objects o = objects_in(m);
+    const objects o = objects_of(m);
     for (unsigned class = 2; class <= 2 * o.n; class += 2) {
         if (!is(&o, CLASS, class)) continue;
         for (unsigned above = class; above != NIL_WORD; above = body(&o, above)[0]) {
@@ -192,7 +188,7 @@ static void spoil(machine *m) {
     const unsigned n = m->registers[N], where = below(13);
     // a superclass
     if (where == 12) {
-        const objects o = objects_in(m);
+        const objects o = objects_of(m);
         const unsigned class = any_class(&o);
         m->bodies[of(&o, class)->start] = any_class(&o);
         return;

@@ -1,7 +1,6 @@
 // The run as one writes it in C: position, stack pointer, base and method in locals, and a switch on the byte. Position and depth are written
 // into the frame's words at a send that makes a frame, a return, a halt and the end.
 #include "machine.h"
-#include "objects.h"
 
 static inline int integer(uint16_t w) { return (int16_t)w >> 1; }
 
@@ -45,10 +44,6 @@ static inline bool arithmetic(unsigned k, uint16_t v, uint16_t w, uint16_t *answ
     case 17: return number(b < 0 ? a >> (b < -15 ? 15 : -b) : a * (1 << (b > 15 ? 15 : b)), answer);
     default: return false;
     }
-}
-
-static inline objects objects_of(const machine *m) {
-    return (objects){(const entry *)m->contents, m->bodies, m->registers[N], m->registers[B]};
 }
 
 static bool make(machine *m, uint16_t class, uint16_t kind, unsigned size, unsigned count, uint16_t word, uint16_t *answer) {

@@ -28,10 +28,6 @@ static machine empty(void) {
     return (machine){contents, SOFADUCK_CONTENTS, bodies, SOFADUCK_BODIES, stack, STACK, cache, SOFADUCK_CACHE, {0}};
 }
 
-static objects objects_in(const machine *m) {
-    return (objects){(const entry *)m->contents, m->bodies, m->registers[N], m->registers[B]};
-}
-
 // The pairs that a lookup reads: in each dictionary those below the selector, and the next.
 static size_t pairs_read(const objects *o, unsigned selector, unsigned class) {
     size_t count = 0;
@@ -48,7 +44,7 @@ static size_t pairs_read(const objects *o, unsigned selector, unsigned class) {
 
 // Play as one writes it in C, of begins whose lookups fail. How many were made.
 static uint32_t c_begins(const machine *m, const sofaduck_calls *calls, uint32_t to[][SOFADUCK_ANSWER]) {
-    const objects o = objects_in(m);
+    const objects o = objects_of(m);
     if (c_check(entries, m) != 0) return 0;
     uint32_t made = 0;
     for (const uint16_t *w = calls->words; w < calls->words + calls->length; w += 4 + w[3], made++) {
@@ -68,7 +64,7 @@ static bool measure(size_t count, unsigned sought) {
     machine m = empty();
     sofaduck_calls calls = {list, 4 * CALLS, 0, 0};
     if (sofaduck_state_load(&m, image, climbing(image, count, unknown)) != 0) return printf("lookup: the image is refused\n"), false;
-    const objects o = objects_in(&m);
+    const objects o = objects_of(&m);
     for (int i = 0; i < CALLS; i++) {
         const unsigned selector = 2 * unknown[sought == 1 ? CLIMBING / 2 : below(sought)];
         sofaduck_put_begin(&calls, m.registers[START_RECEIVER], selector, NULL, 0);
@@ -113,7 +109,7 @@ static bool differential(void) {
         machine m = empty();
         const size_t length = i % 3 == 0 ? climbing(image, 1 + below(60), unknown) : i % 3 == 1 ? ordinary(image, 400 + below(1000), i) : lively(image, 900 + below(1000), i);
         if (sofaduck_state_load(&m, image, length) != 0) return printf("lookup: an image is refused\n"), false;
-        const objects o = objects_in(&m);
+        const objects o = objects_of(&m);
         for (int k = 0; k < LOOKUPS; k++) {
             const unsigned class = below(20) == 0 ? below(65536) : any_class(&o), selector = is(&o, CLASS, class) ? any_selector(&o, class) : below(65536);
             uint16_t method = 65535;

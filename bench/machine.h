@@ -1,4 +1,5 @@
 // The state that the library's calls take, and the C peers of these calls.
+#include "objects.h"
 #include "walk.h"
 #include "../include/sofaduck.h"
 
@@ -7,6 +8,10 @@ enum { N, B, START_RECEIVER, START_SELECTOR, PHASE, TOP, VALUE, REGISTERS };
 
 // The library's state serves the peers as well.
 typedef sofaduck_state machine;
+
+static inline objects objects_of(const machine *m) {
+    return (objects){(const entry *)m->contents, m->bodies, m->registers[N], m->registers[B]};
+}
 
 // The peers take the table's entries beside what the library takes. Refused calls write nothing.
 uint32_t c_check(const uint16_t *entries, const machine *m);

@@ -1,4 +1,6 @@
 // Contents and bodies as C reads them.
+#ifndef OBJECTS_H
+#define OBJECTS_H
 #include <stdbool.h>
 #include <stddef.h>
 #include <stdint.h>
@@ -48,3 +50,4 @@ static inline bool in_chain(const objects *o, unsigned home, unsigned class) {
         if (class == home) return true;
     return false;
 }
+#endif

@@ -1,7 +1,6 @@
 // Check as one writes it in C: the image check of image.c, then registers, frames and cache.
 #include "image.h"
 #include "machine.h"
-#include "objects.h"
 
 // The frames from the top one down to the one at 0, each by the notes of its method's code.
 static bool frames_fine(const objects *o, const uint16_t *stack, size_t length, const uint8_t *notes, size_t top) {
@@ -35,7 +34,7 @@ static bool cache_fine(const objects *o, const uint16_t *cache) {
 
 static bool fine(const uint16_t *entries, const machine *m) {
     const uint16_t *const r = m->registers;
-    const objects o = {(const entry *)m->contents, m->bodies, r[N], r[B]};
+    const objects o = objects_of(m);
     uint8_t notes[2 * MOST_WORDS];
     if (r[N] < 5 || r[N] > MOST_OBJECTS || r[B] > MOST_WORDS || r[PHASE] > 5) return false;
     if (r[PHASE] == 2 ? !valid(&o, r[VALUE]) : r[VALUE] != 0) return false;

@@ -13,10 +13,10 @@ use Rattle.model.specs.declared.Found.{Found}
 use Rattle.model.specs.Limits.{entryWords, classKind}
 use Rattle.model.specs.Objects.{Objects, objectsAt, isKind, isNilOr}
 use Rattle.model.specs.Lookup.{lookup, pairsRead}
-use Rattle.model.specs.Rules.{Right, IsRight}
-use Rattle.model.specs.Image.{Verdict, accepted, refused}
+use Rattle.model.specs.Rules.{IsRight}
+use Rattle.model.specs.Image.{Verdict, accepted}
 use Rattle.model.proofs.Parts.{or-right}
-use Rattle.plain.specs.Flat.{Flat, plainOf}
+use Rattle.plain.specs.Flat.{Flat, flatObjects, plainOf}
 use Rattle.plain.specs.Check.{check}
 use Rattle.plain.proofs.FlatLaws.{check-right}
 use Rattle.sofaduck.specs.Border.{sevenWords, stateOf, verdictOf}
@@ -33,7 +33,7 @@ module _ (words contents bodies stack cache : List ℕ) (selector class m p : �
   pub unchecked : (r : ℕ) → verdictOf r ≡ check s → (r ≡ 0 → ⊥) → LookupIs s selector class m p m p false
   unfolding if_then_else_
   unchecked zero e h = absurd (h refl)
-  unchecked (suc k) e h = record { made = ap (λ (v : Verdict). isAccepted v && isKind (objectsAt (sevenWords words .n) (sevenWords words .b) contents bodies) classKind class) e; found = refl; read = refl }
+  unchecked (suc k) e h = record { made = ap (λ (v : Verdict). isAccepted v && isKind (flatObjects s) classKind class) e; found = refl; read = refl }
 
   module _ {r : ℕ} (e : verdictOf r ≡ check s) (h : r ≡ 0) where
     yes : check s ≡ accepted

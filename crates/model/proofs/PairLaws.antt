@@ -1,12 +1,11 @@
 -- How many pairs a lookup reads (02, M-102): the number in a dictionary is what is said of it, and how it adds up along a chain.
 use Prim.Native.Nat.{ℕ, zero, suc, _+_, _-_, _≤_, _<_}
-use mathlib.Core.Path.{_≡_, refl, sym, ap, _∙_, subst}
-use mathlib.Core.Logic.{_↔_, _⊎_, inl, inr}
+use mathlib.Core.Path.{_≡_, refl, sym, subst}
 use mathlib.Core.Bool.{Bool, true, false}
 use native.Mathlib.Omega.{arith}
-use borrow.Author.Tests.{lt-ltb, le-ltb, ltb-true, ltb-false}
+use borrow.Author.Tests.{ltb-true, ltb-false}
 use lib.Dec.{ltb}
-use Rattle.model.specs.declared.Found.the-variants.{Method, Nothing}
+use Rattle.model.specs.declared.Found.the-variants.{Nothing}
 use Rattle.model.specs.Limits.{classKind}
 use Rattle.model.specs.Objects.{Objects, isKind, superclassWord, dictionaryWord, pairCount, pairSelector}
 use Rattle.model.specs.Lookup.{found, findIn, pairsFrom, pairsIn, pairsWithin, PairsUpTo, first, all}

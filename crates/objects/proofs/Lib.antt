@@ -1,4 +1,5 @@
 pub mod Buffers
 pub mod Bodies
 pub mod Methods
+pub mod Searches
 pub mod Chains

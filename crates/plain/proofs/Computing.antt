@@ -6,7 +6,7 @@ use Rattle.model.specs.Word.{wordOf, valueOf, isPointer, isValid}
 use Rattle.model.specs.Objects.{bodyWords, bodyOf, isKind, classOf}
 use Rattle.model.specs.Method.{codeWords, codeSize, frameWords, argumentCount}
 use Rattle.model.specs.Depth.{walk, walkFrom, successorsAt, depthAfterAt, rulesAt, fineAt, depthTable}
-use Rattle.model.specs.Lookup.{findFrom, findIn, lookupWithin, lookup, inChainWithin, inChain, endsWithin}
+use Rattle.model.specs.Lookup.{findFrom, findIn, lookupWithin, lookup, pairsFrom, pairsIn, pairsWithin, pairsRead, inChainWithin, inChain, endsWithin}
 use Rattle.model.specs.Rules.{startFine, paddingFine, layoutRules, rule4, wordsFine, rule5, chainFine, rule14, fits, entryFine, pairFine, dictionaryFine, classRules, knownObjectRules, objectFine, rule6, takesCount, sendFine, variableFine, placeFine, allowed, methodTable, methodRules, dictionaryMethodsFine, rule7, rule8}
 use Rattle.model.specs.Image.{wordsOf, bytesOf, headerOf, objectsIn, imageHeader, imageObjects, imageOf, lengthFine, buffersFine, objectsVerdict, loadVerdict}
 use Rattle.model.specs.Arithmetic.{floorQuotient, floorRemainder, shifted, number, divided, exactQuotient, onIntegers, onBits, arithmetic}
@@ -23,7 +23,7 @@ use Rattle.plain.specs.Program.{step80}
 unfoldable pub computing : Unit {0}
 unfolding if_then_else_ byteAt placeOf shortOf constantOf extendedOf jumpOf sendOf instructionOf lengthOf nextAt decodeAt specialCount need leaves usable successors wordOf valueOf isPointer
     isValid bodyWords bodyOf isKind classOf codeWords codeSize frameWords argumentCount walk walkFrom successorsAt depthAfterAt rulesAt fineAt depthTable findFrom findIn lookupWithin lookup
-    inChainWithin inChain endsWithin startFine paddingFine layoutRules rule4 wordsFine rule5 chainFine rule14 fits entryFine pairFine dictionaryFine classRules knownObjectRules objectFine rule6 takesCount
+    pairsFrom pairsIn pairsWithin pairsRead inChainWithin inChain endsWithin startFine paddingFine layoutRules rule4 wordsFine rule5 chainFine rule14 fits entryFine pairFine dictionaryFine classRules knownObjectRules objectFine rule6 takesCount
     sendFine variableFine placeFine allowed methodTable methodRules dictionaryMethodsFine rule7 rule8 wordsOf bytesOf headerOf objectsIn imageHeader imageObjects imageOf lengthFine buffersFine
     objectsVerdict loadVerdict floorQuotient floorRemainder shifted number divided exactQuotient onIntegers onBits arithmetic storeWord objectByte storeByte isIndexable at atPut sizeAnswer
     appended hasRoom make new newWith perform primitiveCount primitive newFrame fitsStack operand fieldOf literalOf pushed read storedField stored returned entering activate framed sends

@@ -1,8 +1,8 @@
 use Prim.Native.Nat.{ℕ, _/_, _<_}
-use mathlib.Core.Path.{ap, _∙_}
+use mathlib.Core.Path.{ap}
 use native.Mathlib.Omega.{arith}
 use Rattle.objects.proofs.Bodies.{holds-entry}
-use Rattle.objects.proofs.Chains.{pairs-inside, none-found, none-read, place-fits, place-found, place-missed, place-read}
+use Rattle.objects.proofs.Searches.{pairs-inside, none-found, none-read, place-fits, place-found, place-missed, place-read}
 use borrow.Author.Needs.{needs}
 use Rattle.objects.proofs.find_in.Statement.{statement}
 use Rattle.objects.proofs.find_in.Tie as tie

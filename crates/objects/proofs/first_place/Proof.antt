@@ -1,7 +1,7 @@
 -- All pairs before a place have smaller selectors.
-use Prim.Native.Nat.{_+_, _*_, _-_}
+use Prim.Native.Nat.{_-_}
 use native.Mathlib.Omega.{arith}
-use Rattle.objects.proofs.Chains.{Passed, passed-none, passed-more, passed-stop, passed-all}
+use Rattle.objects.proofs.Searches.{Passed, passed-none, passed-more, passed-stop, passed-all}
 use Rattle.objects.proofs.first_place.Statement.{statement}
 use Rattle.objects.proofs.first_place.Tie as tie
 

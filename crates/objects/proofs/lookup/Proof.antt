@@ -1,23 +1,24 @@
 -- What is found and read from here, with what was read before, is what is found and read from the start.
 use native.Mathlib.Omega.{arith}
 use Rattle.model.specs.Objects.{objectsAt}
-use Rattle.objects.proofs.Chains.{few-read, class-here, dictionary-of, Turn, turn-first, turn-nil, turn-hit, turn-up, turn-over}
+use Rattle.objects.proofs.Searches.{few-read}
+use Rattle.objects.proofs.Chains.{class-here, dictionary-of, LookupAt, lookup-first, lookup-nil, lookup-hit, lookup-up, lookup-over}
 use Rattle.objects.proofs.lookup.Statement.{statement}
 use Rattle.objects.proofs.lookup.Tie as tie
 
 abbrev Inv-loop : tie.InvT-loop
-Inv-loop contents bodies n b s c₀ left₀ pairs₀ c left pairs = Turn (objectsAt n b contents bodies) s (c₀ .0) left pairs (c .0)
+Inv-loop contents bodies n b s c₀ left₀ pairs₀ c left pairs = LookupAt (objectsAt n b contents bodies) s (c₀ .0) left pairs (c .0)
 
 abbrev μ-loop : tie.MeasureT-loop
 μ-loop contents bodies n b s c₀ left₀ pairs₀ c left pairs = left
 
 loop-holds : tie.Need-loop-holds Inv-loop μ-loop
-loop-holds c = turn-first (c .before .before .pre .1)
+loop-holds c = lookup-first (c .before .before .pre .1)
 
 returns : tie.Need-returns Inv-loop μ-loop
 returns c =
     let at-loop = c .before .before .before in
-    let r = turn-nil (at-loop .before .before .before .pre .0 .1) (at-loop .loop .inv) (c .if1 .taken) in
+    let r = lookup-nil (at-loop .before .before .before .pre .0 .1) (at-loop .loop .inv) (c .if1 .taken) in
     record { finds = r .0; reads = r .1 }
 
 superclass-requires : tie.Need-superclass-requires Inv-loop μ-loop
@@ -59,7 +60,7 @@ returns-2 c =
     let at-loop-test = at-if1 .before .before in
     let at-loop = at-loop-test .before in
     let right = at-loop .before .before .before .pre .0 .1 in
-    let r = turn-hit right (at-loop .loop .inv) (at-loop-test .loop-test .taken) (class-here right _ (at-loop .loop .inv .classes) (at-if1 .if1 .left))
+    let r = lookup-hit right (at-loop .loop .inv) (at-loop-test .loop-test .taken) (class-here right _ (at-loop .loop .inv .classes) (at-if1 .if1 .left))
     (at-dictionary .dictionary .ensures) (at-find-in .find-in .ensures .finds) (at-find-in .find-in .ensures .reads) _ (c .before .found .given .1) in
     record { finds = r .0; reads = r .1 }
 
@@ -82,13 +83,13 @@ loop-again c =
     let right = at-loop .before .before .before .pre .0 in
     let class = class-here (right .1) _ (at-loop .loop .inv .classes) (at-if1 .if1 .left) in
     let read = at-find-in .find-in .ensures .reads in
-    turn-up (right .1) (at-loop .loop .inv) (at-loop-test .loop-test .taken) class (at-dictionary .dictionary .ensures) (at-find-in .find-in .ensures .finds) read _
+    lookup-up (right .1) (at-loop .loop .inv) (at-loop-test .loop-test .taken) class (at-dictionary .dictionary .ensures) (at-find-in .find-in .ensures .finds) read _
     (few-read (dictionary-of _ right (at-dictionary .dictionary .ensures) class) _ _ read) (at-dictionary .before .superclass .ensures) (c .enum-told .given .1)
 
 returns-3 : tie.Need-returns-3 Inv-loop μ-loop
 returns-3 c =
     let at-loop = c .before in
-    let r = turn-over (at-loop .before .before .before .pre .0 .1) (at-loop .loop .inv) (c .loop-test .left) in
+    let r = lookup-over (at-loop .before .before .before .pre .0 .1) (at-loop .loop .inv) (c .loop-test .left) in
     record { finds = r .0; reads = r .1 }
 
 pub lookup-spec : {M : Type 1} → statement M
