@@ -202,7 +202,7 @@ pub fn instruction_at(bodies: &[u16], from: usize, end: usize, at: usize) -> Dec
 }
 
 // Where the first of a dictionary's pairs stands whose selector is not below the one sought; the last pair where all before it are below.
-// The last need not be compared: whether it is above or below, no more pairs are read.
+// Of the last the order is not asked: whether it is above or below, no more pairs are read.
 fn first_place(bodies: &[u16], from: usize, count: usize, s: u16) -> usize
     requires { ⌜ (0 < count) × (from + 2 * count ≤ length (now bodies)) ⌝ }
     ensures { λ r. ⌜ FirstPlace (now (bodies .entry)) from count s r ⌝ }
