@@ -100,7 +100,8 @@ proved() {
   if [ "$new" -gt 0 ]; then echo "proved: $2, in $((SECONDS - began)) seconds" >&2; fi
 }
 
-# PROGRAM...: programs of apart/ are built, in target/apart/release. `compare` and `runner` are linked with the proved library, which has to be there.
+# PROGRAM...: programs of apart/ are built, in target/apart/release. `compare` and `runner` are linked with the proved library, which has to be there,
+# and `compare` with that of `benchmark` too.
 built() {
   local program options=()
   for program; do options+=(--bin "$program"); done

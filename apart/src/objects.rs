@@ -153,6 +153,34 @@ impl Objects {
         self.chain(class).take(MOST_CHAIN).find_map(|word| self.own(&self.class(word)?, selector))
     }
 
+    /// The selectors of one class's own dictionary, one for each pair.
+    pub fn selectors(&self, class: u16) -> Vec<u16> {
+        let dictionary = self.class(class).and_then(|class| self.get(class.dictionary));
+        dictionary.map_or(vec![], |dictionary| dictionary.body.chunks(2).map(|pair| pair[0]).collect())
+    }
+
+    /// How many pairs a lookup reads. Of a dictionary those up to and with the first selector not below the one sought, or all; the dictionaries are those up
+    /// to and with the one that holds the method, or all of the chain.
+    pub fn pairs_read(&self, class: u16, selector: u16) -> usize {
+        let mut read = 0;
+        for word in self.chain(class).take(MOST_CHAIN) {
+            let selectors = self.selectors(word);
+            read += match selectors.iter().position(|other| *other >= selector) {
+                Some(index) => index + 1,
+                None => selectors.len(),
+            };
+            if selectors.contains(&selector) {
+                break;
+            }
+        }
+        read
+    }
+
+    /// All pairs along the chain of a class: no lookup from there reads more.
+    pub fn pairs_along(&self, class: u16) -> usize {
+        self.chain(class).take(MOST_CHAIN).map(|word| self.selectors(word).len()).sum()
+    }
+
     /// Whether a class is in the chain of a receiver's class.
     pub fn in_chain(&self, receiver: u16, sought: u16) -> bool {
         self.chain(self.class_of(receiver)).take(MOST_CHAIN).any(|word| word == sought)

@@ -139,6 +139,15 @@ pub enum Call {
     },
     /// The lengths from here on: contents, bodies, stack, cache.
     Lengths([usize; 4]),
+    /// Lookups, each on the state as it is. No function of the library proper makes one; `compare` has the function that does.
+    Lookups(Vec<Sought>),
+}
+
+/// A selector, and the class where its lookup starts.
+#[derive(Clone, Copy, Debug, PartialEq)]
+pub struct Sought {
+    pub selector: u16,
+    pub class: u16,
 }
 
 pub const CALLS: [&str; 8] = ["load", "begin", "run", "drop", "forget", "check", "save", "play"];
@@ -217,6 +226,21 @@ pub struct Buffers {
     pub registers: Registers,
 }
 
+impl Buffers {
+    /// As they are lent to a call.
+    pub fn lent(&mut self) -> Lent<'_> {
+        let [a, b, c, d] = self.lengths;
+        let [contents, bodies, stack, cache] = &mut self.words;
+        Lent {
+            contents: &mut contents[..a],
+            bodies: &mut bodies[..b],
+            stack: &mut stack[..c],
+            cache: &mut cache[..d],
+            registers: &mut self.registers,
+        }
+    }
+}
+
 pub const UNWRITTEN: u32 = 0xDEAD_BEEF;
 
 #[derive(Clone)]
@@ -264,15 +288,7 @@ pub fn plain(call: &Call, buffers: &mut Buffers, counts: &mut Counts) -> Outcome
 pub fn plain_watched<W: Watch>(call: &Call, buffers: &mut Buffers, counts: &mut Counts, watch: &mut W) -> Outcome {
     let mut outcome = outcome(call);
     changed(call, buffers);
-    let [a, b, c, d] = buffers.lengths;
-    let [contents, bodies, stack, cache] = &mut buffers.words;
-    let mut lent = Lent {
-        contents: &mut contents[..a],
-        bodies: &mut bodies[..b],
-        stack: &mut stack[..c],
-        cache: &mut cache[..d],
-        registers: &mut buffers.registers,
-    };
+    let mut lent = buffers.lent();
     let answer = match call {
         Call::Load(image) => calls::load(image, &mut lent),
         Call::Begin { receiver, selector, arguments } => calls::begin(&mut lent, *receiver, *selector, arguments, counts),
@@ -285,7 +301,7 @@ pub fn plain_watched<W: Watch>(call: &Call, buffers: &mut Buffers, counts: &mut 
         Call::Check => calls::check(&lent),
         Call::Save(bytes) => calls::save(&lent, &mut outcome.output[..*bytes]).map(|length| outcome.length = length),
         Call::Play { words, room } => play::play(&mut lent, words, &mut outcome.answers[..*room], counts).map(|made| outcome.made = made),
-        Call::Write { .. } | Call::Lengths(_) => Ok(()),
+        Call::Write { .. } | Call::Lengths(_) | Call::Lookups(_) => Ok(()),
     };
     if let Err(refusal) = answer {
         outcome.number = refusal.number;
@@ -319,7 +335,7 @@ pub fn library(call: &Call, buffers: &mut Buffers) -> Outcome {
                 let (list, length, answers) = (words.as_ptr(), words.len(), outcome.answers.as_mut_ptr());
                 sofaduck_play(contents, a, bodies, b, stack, c, cache, d, registers, list, length, answers, *room, &mut outcome.made)
             }
-            Call::Write { .. } | Call::Lengths(_) => 0,
+            Call::Write { .. } | Call::Lengths(_) | Call::Lookups(_) => 0,
         }
     };
     outcome

@@ -242,6 +242,43 @@ fn what_a_chain_leaves() {
     assert_eq!(spoiled.unwrap_err().number, 11);
 }
 
+/// Object 1 is nil, then come classes, each below the next, and then their dictionaries, with these selectors. What the methods are does not matter here.
+fn classes(dictionaries: &[&[u16]]) -> Objects {
+    let object = |kind: u16, body: Vec<u16>| Object { class: 4, kind, start: 0, size: body.len() as u16, body };
+    let (nil, count) = (object(FIELDS, vec![]), dictionaries.len());
+    let above = |index: usize| if index + 1 < count { pointer(index + 3) } else { NIL };
+    let class = |index: usize| object(CLASS, vec![above(index), pointer(index + 2 + count), 1, 1]);
+    let dictionary = |selectors: &&[u16]| object(LIST, selectors.iter().flat_map(|selector| [*selector, 100]).collect());
+    Objects { list: [nil].into_iter().chain((0..count).map(class)).chain(dictionaries.iter().map(dictionary)).collect() }
+}
+
+#[test]
+fn pairs_of_one_dictionary() {
+    let three = classes(&[&[20, 24, 30]]);
+    assert_eq!([18, 20, 22, 24, 30, 32].map(|selector| three.pairs_read(4, selector)), [1, 1, 2, 2, 3, 3]);
+    // Words that name no selector.
+    assert_eq!([0, NIL, 19, 21, 31, 32_768, 65_535].map(|word| three.pairs_read(4, word)), [1, 1, 1, 2, 3, 3, 3]);
+    assert_eq!([18, 20, 22].map(|selector| classes(&[&[20]]).pairs_read(4, selector)), [1, 1, 1]);
+    assert_eq!([0, 20, 65_535].map(|word| classes(&[&[]]).pairs_read(4, word)), [0, 0, 0]);
+}
+
+#[test]
+fn pairs_along_a_chain() {
+    let four = classes(&[&[20, 24, 30], &[], &[18, 22], &[22, 30, 40]]);
+    // Found in the first class, where those above do not count, also under a selector that they have.
+    assert_eq!([20, 24, 30].map(|selector| four.pairs_read(4, selector)), [1, 2, 3]);
+    // Found above: 2 + 0 + 2, 1 + 0 + 1, and 3 + 0 + 2 + 3.
+    assert_eq!([22, 18, 40].map(|selector| four.pairs_read(4, selector)), [4, 2, 8]);
+    // Not found: 1 + 0 + 1 + 1, 3 + 0 + 2 + 2, and all of them.
+    assert_eq!([16, 26, 42].map(|selector| four.pairs_read(4, selector)), [3, 7, 8]);
+    // 24, which the first has, from each class on, and from what is no class.
+    assert_eq!([4, 6, 8, 10, NIL, 0, 5].map(|word| four.pairs_read(word, 24)), [2, 4, 4, 2, 0, 0, 0]);
+    assert_eq!([4, 6, 8, 10, NIL].map(|word| four.pairs_along(word)), [8, 5, 5, 3, 0]);
+    let longest = classes(&[&[20, 30][..]; MOST_CHAIN]);
+    assert_eq!([10, 20, 25, 30, 35].map(|word| longest.pairs_read(4, word)), [24, 1, 48, 2, 48]);
+    assert_eq!(longest.pairs_along(4), 48);
+}
+
 /// 40 + 2 in two runs, with refused calls around them; the last begin lacks a word.
 #[test]
 fn list_is_played() {

@@ -4,6 +4,7 @@ use crate::damage::*;
 use crate::draft::*;
 use crate::generate;
 use crate::laws::*;
+use crate::lookups;
 use crate::random::Random;
 use crate::report::Report;
 use crate::sides::*;
@@ -41,6 +42,11 @@ impl<'a> Pair<'a> {
         let ours = plain(call, &mut self.ours, &mut self.report.counts);
         let theirs = library(call, &mut self.theirs);
         self.report.note(call, &ours, &self.ours);
+        if let Call::Lookups(all) = call {
+            if let Some(what) = lookups::difference(all, &mut self.ours, &self.theirs, &mut self.report.counts) {
+                return Err(what);
+            }
+        }
         if let Some(what) = difference(&ours, &theirs, &self.ours, &self.theirs) {
             return Err(what);
         }
@@ -92,12 +98,17 @@ fn buffers(random: &mut Random, image: &[u8]) -> Buffers {
     Buffers { words, lengths, registers }
 }
 
+/// The kind of a case whose dictionaries are long.
+const WIDE: usize = 94;
+
 /// One case; what differs, with the pair that shows it.
 pub fn case(random: &mut Random, report: &mut Report) -> Result<(), (Buffers, Vec<Call>, String)> {
     let kind = random.below(100);
     let mut draft = if kind < 10 { noisy(random) } else { generate::draft(random) };
-    if kind >= 96 {
-        fill(random, &mut draft);
+    match kind {
+        96.. => fill(random, &mut draft),
+        WIDE => lookups::widen(random, &mut draft),
+        _ => {}
     }
     let tall = kind == 95 && random.percent(40);
     let deep = kind == 95 && !tall && random.percent(50) && recurse(random, &mut draft);
@@ -121,6 +132,7 @@ pub fn case(random: &mut Random, report: &mut Report) -> Result<(), (Buffers, Ve
         _ if deep => deep_case(random, &mut pair, &draft),
         0..=9 => noisy_case(random, &mut pair, image),
         10..=39 => damaged_case(random, &mut pair, &draft),
+        WIDE => wide_case(random, &mut pair, image),
         40..=49 | 97.. => primitive_case(random, &mut pair, image),
         _ => list_case(random, &mut pair, image),
     };
@@ -239,6 +251,7 @@ fn likely_byte(random: &mut Random) -> u8 {
 
 fn noisy_case(random: &mut Random, pair: &mut Pair, image: Vec<u8>) -> Compared<()> {
     if pair.make(Call::Load(image))?.number == 0 {
+        look_up(random, pair)?;
         calls(random, pair, 6)?;
     }
     Ok(())
@@ -255,6 +268,7 @@ fn damaged_case(random: &mut Random, pair: &mut Pair, draft: &Draft) -> Compared
         }
         let image = damaged(random, draft);
         if pair.make(Call::Load(image))?.number == 0 && random.percent(50) {
+            look_up(random, pair)?;
             calls(random, pair, 3)?;
         }
         if random.percent(5) {
@@ -267,8 +281,30 @@ fn damaged_case(random: &mut Random, pair: &mut Pair, draft: &Draft) -> Compared
 
 fn list_case(random: &mut Random, pair: &mut Pair, image: Vec<u8>) -> Compared<()> {
     pair.make(Call::Load(image))?;
+    look_up(random, pair)?;
     let most = random.from(3, 24);
     calls(random, pair, most)
+}
+
+fn wide_case(random: &mut Random, pair: &mut Pair, image: Vec<u8>) -> Compared<()> {
+    pair.make(Call::Load(image))?;
+    for most in [2, 3, 0] {
+        look_up(random, pair)?;
+        calls(random, pair, most)?;
+    }
+    Ok(())
+}
+
+/// Lookups on the state as it is.
+fn look_up(random: &mut Random, pair: &mut Pair) -> Compared<()> {
+    let call = some_lookups(random, pair);
+    pair.make(call)?;
+    Ok(())
+}
+
+fn some_lookups(random: &mut Random, pair: &Pair) -> Call {
+    let n = pair.ours.registers[0].clamp(1, 2_047) as usize;
+    lookups::some(random, pair.world().as_ref().map(|world| &world.objects), n)
 }
 
 /// Begins of methods with primitives, most on receivers and arguments that they can take.
@@ -358,6 +394,7 @@ fn calls(random: &mut Random, pair: &mut Pair, most: usize) -> Compared<()> {
             2 if random.percent(30) => shortened(random, pair)?,
             4 | 5 if random.percent(50) => made_up(random, pair)?,
             3 if random.percent(30) => saved_and_loaded(random, pair)?,
+            6 => look_up(random, pair)?,
             _ => {
                 let call = some_call(random, pair);
                 pair.make(call)?;
@@ -534,15 +571,16 @@ fn shortened(random: &mut Random, pair: &mut Pair) -> Compared<()> {
     Ok(())
 }
 
-/// Each of the calls but load as often as the others.
+/// Each of the calls but load, and lookups, as often as the others.
 fn any_call(random: &mut Random, pair: &Pair) -> Call {
-    match random.below(7) {
+    match random.below(8) {
         0 => Call::Drop,
         1 => Call::Forget,
         2 => Call::Save(image_length(pair).min(600_000)),
         3 => message(random, pair.world().as_ref()),
         4 => run(random),
         5 => list(random, pair),
+        6 => some_lookups(random, pair),
         _ => Call::Check,
     }
 }

@@ -6,6 +6,7 @@ mod damage;
 mod draft;
 mod generate;
 mod laws;
+mod lookups;
 mod random;
 mod report;
 mod shrink;
@@ -30,8 +31,9 @@ const HELP: &str = "usage: compare [SEED [SECONDS]]
 Makes the same calls on the machine written apart and on the proved library, and compares what each gives: answers, registers, every word of
 contents, bodies, stack and cache, the bytes that save writes, and the answers of play. What play comes to has also to be what the library's
 single calls come to. A run in parts has to come to the same, with the largest reach of the parts, and so has a run on a stack of reach words;
-on a word less it must not. Without SECONDS it makes a fixed number of cases and asks that all of the machine was covered; with SECONDS it goes
-on for so long. A difference is printed with the calls that show it, its image is written to target/apart/difference.image, and the status is 1.
+on a word less it must not. In between lookups are made on both: what is found, and how many pairs of the dictionaries are read. Without SECONDS
+it makes a fixed number of cases and asks that all of the machine was covered; with SECONDS it goes on for so long. A difference is printed with
+the calls that show it, its image is written to target/apart/difference.image, and the status is 1.
 --case makes one case again.";
 
 enum Extent {

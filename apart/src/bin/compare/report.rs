@@ -2,6 +2,7 @@
 
 use crate::chains::{self, CHAINS};
 use crate::laws::{CUTS, SHORT};
+use crate::lookups::LOOKUPS;
 use crate::sides::*;
 use apart::counts::{Counts, REACHES, SENDS, SUPER_SENDS};
 use apart::play::{ANSWER_WORDS, ENDS};
@@ -148,7 +149,7 @@ impl Report {
                 missing.push(format!("refusal {} by {}", reason.0, reason.1));
             }
         }
-        let events = ENDS.iter().chain(&REACHES).chain(&CUTS).chain(&SHORT).chain(&CHAINS).chain(&SENDS).chain(&SUPER_SENDS);
+        let events = ENDS.iter().chain(&REACHES).chain(&CUTS).chain(&SHORT).chain(&CHAINS).chain(&LOOKUPS).chain(&SENDS).chain(&SUPER_SENDS);
         missing.extend(events.filter(|event| !self.counts.events.contains_key(*event)).map(|event| event.to_string()));
         for byte in (0..256).filter(|byte| !(125..128).contains(byte) && !(137..144).contains(byte)) {
             if self.counts.bytecodes[byte] == 0 {

@@ -33,6 +33,7 @@ fn less_of(call: &Call) -> Vec<Call> {
     match call {
         Call::Run(n) => [n / 2, n.saturating_sub(1)].into_iter().filter(|less| less < n).map(Call::Run).collect(),
         Call::Play { words, room } => shorter_lists(words).into_iter().map(|words| Call::Play { words, room: *room }).collect(),
+        Call::Lookups(all) if all.len() > 1 => all.iter().map(|sought| Call::Lookups(vec![*sought])).collect(),
         _ => vec![],
     }
 }

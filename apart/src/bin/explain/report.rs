@@ -235,6 +235,10 @@ fn right(header: &Header, image: &Image, world: &World) -> String {
     if let Some(longest) = (1..=header.n).rev().max_by_key(length) {
         out += &format!("longest chain: {}, of at most {MOST_CHAIN}\n", image.chain_shown(longest, MOST_CHAIN));
     }
+    let classes = (1..=header.n).filter(|number| image.of_kind(*number, CLASS));
+    if let Some(most) = classes.rev().max_by_key(|number| world.objects.pairs_along(pointer(*number))) {
+        out += &format!("most pairs along a chain: {}, that of {}\n", world.objects.pairs_along(pointer(most)), image.object_name(most));
+    }
     out += &selectors::warnings(header, image);
     for number in 1..=header.n {
         out += &match image.entry(number).map_or(FIELDS, |entry| entry[1]) {
@@ -256,7 +260,8 @@ fn class_shown(image: &Image, world: &World, number: usize) -> String {
     let names: Vec<String> = pairs.map(|pair| image.text(pair[0] as usize / 2)).collect();
     out += &format!("  understands: {}", if names.is_empty() { "nothing of its own".to_string() } else { names.join(" ") });
     out += &if class.superclass == NIL { "\n".to_string() } else { format!(", and what {above} understands\n") };
-    out + &format!("  chain: {}\n", image.chain_shown(number, MOST_CHAIN))
+    let pairs = world.objects.pairs_along(pointer(number));
+    out + &format!("  chain: {}, {pairs} pair{}\n", image.chain_shown(number, MOST_CHAIN), if pairs == 1 { "" } else { "s" })
 }
 
 fn method_shown(image: &Image, world: &World, number: usize) -> String {

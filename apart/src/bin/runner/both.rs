@@ -7,7 +7,7 @@ use crate::out::Out;
 use crate::sends::*;
 use crate::sides::*;
 use crate::trace::Trace;
-use apart::calls::{self, Lent, CACHE_WORDS, PHASE, VALUE};
+use apart::calls::{self, CACHE_WORDS, PHASE, VALUE};
 use apart::counts::Counts;
 use apart::machine::*;
 use apart::objects::Objects;
@@ -129,15 +129,7 @@ impl<'a> Both<'a> {
 
     /// The state of the plain machine, taken apart.
     fn opened(&mut self) -> Result<(World, Vec<Frame>), Refusal> {
-        let [a, b, c, d] = self.plain.lengths;
-        let [contents, bodies, stack, cache] = &mut self.plain.words;
-        calls::opened(&Lent {
-            contents: &mut contents[..a],
-            bodies: &mut bodies[..b],
-            stack: &mut stack[..c],
-            cache: &mut cache[..d],
-            registers: &mut self.plain.registers,
-        })
+        calls::opened(&self.plain.lent())
     }
 
     fn phase(&self) -> u16 {
@@ -218,9 +210,10 @@ impl<'a> Both<'a> {
         let found =
             opened.as_ref().and_then(|(world, _)| world.objects.lookup(world.objects.class_of(receiver), selector).map(|found| (world, found)));
         if let (true, 0, Some((world, found))) = (self.options.trace, began.number, found) {
-            let (start, method) = (self.names.name(world.objects.class_of(receiver)), world.method(found));
+            let (class, method) = (world.objects.class_of(receiver), world.method(found));
+            let (start, pairs) = (self.names.name(class), world.objects.pairs_read(class, selector));
             let came = if self.phase() == FINISHED { answered(&self.names, method, self.proved.registers[VALUE]) } else { framed(method, 0) };
-            self.out.line(&format!("         lookup from {start} finds {}: {came}", self.names.name(found)));
+            self.out.line(&format!("         lookup from {start}, pairs read: {pairs}, finds {}: {came}", self.names.name(found)));
         }
         Ok(began.number == 0)
     }

@@ -21,7 +21,8 @@ pub fn cause(names: &Names, world: &World, frames: &[Frame], phase: u16, stack: 
             if !lookup.arguments.is_empty() {
                 out += &format!("  arguments: {}\n", names.list(&lookup.arguments));
             }
-            out += &format!("  lookup: {}\n", found(names, world, &lookup, phase));
+            let pairs = lookup.pairs.map_or(String::new(), |pairs| format!("; pairs read: {pairs}"));
+            out += &format!("  lookup: {}{pairs}\n", found(names, world, &lookup, phase));
             if let (NO_STACK_ROOM, Some(found)) = (phase, lookup.found) {
                 let base = frame.base + 6 + world.method(frame.method).room();
                 let needed = 6 + world.method(found).room();

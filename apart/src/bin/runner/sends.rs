@@ -18,6 +18,8 @@ pub struct Lookup {
     pub start: u16,
     pub is_super: bool,
     pub found: Option<u16>,
+    /// Pairs that the walk reads, where it is made. None for nil, which is no selector.
+    pub pairs: Option<usize>,
 }
 
 /// What an instruction of a frame asks for.
@@ -59,7 +61,8 @@ pub fn asked(world: &World, frame: &Frame) -> Asked {
     let above = world.objects.class(method.home).map_or(NIL, |home| home.superclass);
     let start = if is_super { above } else { world.objects.class_of(receiver) };
     let found = world.objects.lookup(start, selector);
-    Asked::Lookup(Lookup { selector, receiver, arguments, start, is_super, found })
+    let pairs = (selector != NIL).then(|| world.objects.pairs_read(start, selector));
+    Asked::Lookup(Lookup { selector, receiver, arguments, start, is_super, found, pairs })
 }
 
 /// The instruction at a position; what listings have behind `;` stands in brackets.

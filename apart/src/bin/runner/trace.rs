@@ -49,7 +49,11 @@ impl<'a> Trace<'a> {
 
     fn looked_up(&self, machine: &Machine, lookup: &Lookup, grown: bool, answer: Option<u16>) -> String {
         let start = if lookup.start == NIL { "above the last class".to_string() } else { format!("from {}", self.names.name(lookup.start)) };
-        let cached = if self.before.cached { "in the cache" } else { "not in the cache" };
+        let cached = match lookup.pairs {
+            _ if self.before.cached => "in the cache".to_string(),
+            Some(pairs) => format!("not in the cache, pairs read: {pairs}"),
+            None => "not in the cache".to_string(),
+        };
         let found = match lookup.found {
             Some(found) => found,
             None => return format!("lookup {start}, {cached}, finds nothing"),
