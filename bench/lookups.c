@@ -78,11 +78,12 @@ static bool measure(size_t count, unsigned sought) {
         const uint32_t other = c_begins(&m, &calls, answers[1]);
         const double t2 = now();
         least(&a, t1 - t0), least(&b, t2 - t1);
-        if (r != 0 || made != CALLS || other != CALLS || answers[0][0][SOFADUCK_ANSWER_NUMBER] != 9 || memcmp(answers[0], answers[1], sizeof answers[0]) != 0)
+        if (r != 0 || made != CALLS || other != CALLS || answers[0][0][SOFADUCK_ANSWER_NUMBER] != 9
+            || memcmp(answers[0], answers[1], sizeof answers[0]) != 0)
             return printf("lookup: the begins differ, or are not refused by 9; made %u and %u, answer %u\n", made, other, r), false;
     }
-    printf("lookup that fails in 24 classes, %2zu selectors each, %3u sought, %6.1f pairs read   ours %6.1f ns   C %6.1f   speed relative to C: %.2f\n", count,
-           sought, (double)read / CALLS, a / CALLS, b / CALLS, b / a);
+    printf("lookup failing in 24 classes, %2zu selectors each, %3u sought, %5.1f pairs read   ours %6.1f ns   C %6.1f   speed relative to C: %.2f\n",
+           count, sought, (double)read / CALLS, a / CALLS, b / CALLS, b / a);
     return true;
 }
 
@@ -107,25 +108,30 @@ static bool differential(void) {
     for (int i = 0; i < IMAGES; i++) {
         unsigned unknown[CLIMBING];
         machine m = empty();
-        const size_t length = i % 3 == 0 ? climbing(image, 1 + below(60), unknown) : i % 3 == 1 ? ordinary(image, 400 + below(1000), i) : lively(image, 900 + below(1000), i);
+        const size_t length = i % 3 == 0 ? climbing(image, 1 + below(60), unknown)
+                            : i % 3 == 1 ? ordinary(image, 400 + below(1000), i)
+                                         : lively(image, 900 + below(1000), i);
         if (sofaduck_state_load(&m, image, length) != 0) return printf("lookup: an image is refused\n"), false;
         const objects o = objects_of(&m);
         for (int k = 0; k < LOOKUPS; k++) {
-            const unsigned class = below(20) == 0 ? below(65536) : any_class(&o), selector = is(&o, CLASS, class) ? any_selector(&o, class) : below(65536);
+            const unsigned class = below(20) == 0 ? below(65536) : any_class(&o);
+            const bool starts = is(&o, CLASS, class);
+            const unsigned selector = starts ? any_selector(&o, class) : below(65536);
             uint16_t method = 65535;
             size_t pairs = 99999;
             const bool made = bench_lookup(m.contents, m.contents_length, m.bodies, m.bodies_length, m.stack, m.stack_length, m.cache, m.cache_length,
                                            m.registers, selector, class, &method, &pairs);
-            const unsigned expected = is(&o, CLASS, class) ? lookup(&o, selector, class) : 65535;
-            const size_t read = is(&o, CLASS, class) ? pairs_read(&o, selector, class) : 99999;
-            if (made != is(&o, CLASS, class) || method != expected || pairs != read)
-                return printf("lookup: of %u from %u finds %u and %u, and reads %zu and %zu pairs\n", selector, class, method, expected, pairs, read), false;
+            const unsigned found_there = starts ? lookup(&o, selector, class) : 65535;
+            const size_t read = starts ? pairs_read(&o, selector, class) : 99999;
+            if (made != starts || method != found_there || pairs != read)
+                return printf("lookup: of %u from %u finds %u and %u, and reads %zu and %zu pairs\n", selector, class, method, found_there, pairs, read),
+                       false;
             refused += !made, found += made && method != 0, failed += made && method == 0;
             early += made && pairs < pairs_read(&o, 65535, class);
         }
     }
-    printf("%zu lookups agree in what they find and in the pairs they read: %zu found, %zu failed, %zu left pairs unread; %zu from no class\n", found + failed, found,
-           failed, early, refused);
+    printf("%zu lookups agree in what they find and in pairs read: %zu found, %zu failed, %zu left pairs unread; %zu from no class\n",
+           found + failed, found, failed, early, refused);
     if (found == 0 || failed == 0 || early == 0 || refused == 0) return printf("lookup: one of these was never met\n"), false;
     return true;
 }

@@ -118,7 +118,7 @@ lastState s (c ∷ cs) = lastState (nextState s (flatCall s c)) cs
 abbrev pub KeepsAll : Type 0
 KeepsAll = (s : Flat) → check s ≡ accepted → (cs : List Call) → Keeps (flatObjects s) (flatObjects (lastState s cs))
 
--- A lookup reads at most 24 dictionaries, there and after every list of calls (02, M-101).
+-- A lookup reads at most 24 dictionaries, and of each the pairs that 02 says, there and after every list of calls (02, M-101, M-102).
 abbrev pub LookupsReadFew : Type 0
 LookupsReadFew = (s : Flat) → check s ≡ accepted → (cs : List Call) (selector class : ℕ) → ReadsFew (flatObjects (lastState s cs)) selector class
 
