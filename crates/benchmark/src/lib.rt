@@ -25,6 +25,7 @@ pub extern "C" fn bench_table(table: &mut [u16; 256])
     *table = bytecode::table();
 }
 
+// Registers hold N and B as words; below they are taken as usize.
 fn is_class(contents: &[u16], n: u16, class: u16) -> bool
     requires { ⌜ entryWords * n ≤ length (now contents) ⌝ }
     ensures { λ r. ⌜ ((b : ℕ) (bodies : List ℕ) → r ≡ isKind (objectsAt n b (now (contents .entry)) bodies) classKind class) ⌝ }

@@ -54,7 +54,7 @@ pub fn cached(
     if is_of(cache, at, selector, class.0) {
         return Found::Method(Pointer(cache[at + 2]));
     }
-    // the only place: a second one would stand in the run loop once more
+    // called at one place: from a second the compiler would put the walk into the run loop once more
     let search = objects::lookup(contents, bodies, n, b, selector, class);
     search.found
 }
