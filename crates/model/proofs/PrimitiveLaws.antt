@@ -1,12 +1,12 @@
 -- A primitive that answers leaves right objects right, extends them, and answers a valid word.
 use Prim.Native.Nat.{ℕ, _+_, _-_, _*_, _/_, _%_, _≤_, _<_, min, max}
 use mathlib.Core.Path.{_≡_, refl, sym, ap, ap₂, _∙_, subst}
-use mathlib.Core.Logic.{_⊎_, inl, inr}
-use mathlib.Core.Bool.{Bool, true, false, _&&_, _||_, not}
+use mathlib.Core.Logic.{inl, inr}
+use mathlib.Core.Bool.{Bool, true, false, _&&_, not}
 use mathlib.Core.List.{List}
 use native.Mathlib.Omega.{arith}
 use borrow.Author.Tests.{eq-eqb, ne-eqb, eqb-true, eqb-false}
-use lib.Dec.{T, T-not, leb, eqb, leb→le, eqb→eq}
+use lib.Dec.{T, eqb, leb→le, eqb→eq}
 use lib.ListN.{length, getD, replicate, length-replicate, getD-replicate}
 use lib.IntN.{ℤ, pos, negsuc}
 use lib.Signed.{ltZ, leZ}
@@ -14,18 +14,19 @@ use lib.Bits.{bitAnd, bitOr, bitXor, differ, and-step, or-step, xor-step}
 use Rattle.bytecode.specs.Test.{if_then_else_, every}
 use Rattle.bytecode.specs.Constant.{nilWord, falseWord, trueWord}
 use Rattle.bytecode.proofs.Choice.{if-yes, if-no, if-cases}
-use Rattle.bytecode.proofs.TestLaws.{true→T, and-left, and-right, or-cases, every-at}
+use Rattle.bytecode.proofs.TestLaws.{true→T, and-left, and-right, every-at}
 use Rattle.model.specs.declared.Computed.{Computed}
 use Rattle.model.specs.declared.Computed.the-variants.{Word, Failed}
-use Rattle.model.specs.Limits.{mostBodyWords, entryWords, fieldsKind, bytesKind, classKind, fixedForm, indexedForm, bytesForm, largestInteger, mostElements}
+use Rattle.model.specs.Limits.{mostBodyWords, entryWords, fieldsKind, bytesKind, classKind, fixedForm, indexedForm, bytesForm, largestInteger}
 use Rattle.model.specs.Word.{isInteger, isNatural, isValid, inRange, wordOf, valueOf, pointer, booleanWord, integerClass}
 use Rattle.model.specs.Objects.{Objects, classWord, kind, size, bodyWord, isKind, classOf, fieldCount, form}
 use Rattle.model.specs.Image.{Room}
 use Rattle.model.specs.Arithmetic.{number, divided, exactQuotient, onIntegers, onBits, arithmetic}
 use Rattle.model.specs.Primitive.{Outcome, answers, fails, storeWord, objectByte, storeByte, isIndexable, holdsBytes, elementCount, isIndex, placeOfIndex, at, atPut, sizeAnswer, appended, hasRoom, make, new, newWith, computed, perform, primitiveCount, primitive}
 use Rattle.model.proofs.Marks.{blank}
-use Rattle.model.proofs.Facts.{Right, Valid, odd, names, valid-cases, valid-odd, valid-name, valid-kind, Fits, fixed, indexed, bytes, other, in-words, least, word-valid, entry-class, entry-fits}
+use Rattle.model.proofs.Facts.{Right, Valid, odd, names, valid-cases, valid-odd, valid-name, valid-kind, in-words, least, word-valid, entry-class}
 use Rattle.model.proofs.Extends.{Extends, extends-refl, valid-grows}
+use Rattle.model.proofs.ElementLaws.{Forms, Indexable, indexable-facts, index-facts, place-inside, listed, bytes-kind, words-kind}
 use Rattle.model.proofs.StoreLaws.{stored-extends, stored-right, byte-extends, byte-right}
 use Rattle.model.proofs.AppendLaws.{HasRoom, room-facts, Suits, asMany, atLeast, ofBytes, suits-free, appended-extends, appended-right}
 
@@ -45,13 +46,6 @@ Kept room e o fails = Unit {0}
 abbrev pub ValidWord : Objects → Computed → Type 0
 ValidWord o (Word w) = T (isValid (o .n) w)
 ValidWord o Failed = Unit {0}
-
--- an object that 60 to 62 take
-record Element (o : Objects) (w : ℕ) : Type 0 where
-  first : 1 ≤ w / 2
-  last : w / 2 ≤ o .n
-  classed : classOf o w ≡ classWord o (w / 2)
-  forms : (form o (classOf o w) ≡ indexedForm) ⊎ (form o (classOf o w) ≡ bytesForm)
 
 module _ {e : ℕ} {o : Objects} (r : Right e o) where
   boolean-valid : (b : Bool) → T (isValid (o .n) (booleanWord b))
@@ -143,71 +137,36 @@ module _ {e : ℕ} {o : Objects} (r : Right e o) where
           go (names a b c) =
               subst (λ (x : ℕ). T (isValid (o .n) x)) (sym (if-no _ _ (ne-eqb (w % 2) 1 (omega arith)))) (valid-kind o classKind (classWord o (w / 2)) (entry-class r (w / 2) b c))
 
-      element : T (isIndexable o w) → Element o w
-      unfolding isIndexable classOf
-      element t = go (valid-cases (o .n) w v)
+      -- what the two tests say
+      taken : (x : ℕ) → (isIndexable o w && isIndex (elementCount o w) x) ≡ true → Indexable o w
+      taken x p = indexable-facts o w (and-left (isIndexable o w) (isIndex (elementCount o w) x) (true→T p))
+
+      place : (x : ℕ) → (isIndexable o w && isIndex (elementCount o w) x) ≡ true → placeOfIndex o w x < size o (w / 2)
+      place x p = place-inside o w x (index-facts (elementCount o w) x (and-right (isIndexable o w) (isIndex (elementCount o w) x) (true→T p)))
+
+      in-fields : Indexable o w → holdsBytes o w ≡ false → kind o (w / 2) ≡ fieldsKind
+      in-fields h p = go (h .forms)
         where
-          rest : T ((eqb (form o (classOf o w)) indexedForm || eqb (form o (classOf o w)) bytesForm) && leb (size o (w / 2)) mostElements)
-          rest = and-right (not (isInteger w)) ((eqb (form o (classOf o w)) indexedForm || eqb (form o (classOf o w)) bytesForm) && leb (size o (w / 2)) mostElements) t
+          go : Forms o w → kind o (w / 2) ≡ fieldsKind
+          go (inl q) = words-kind r w v (h .even) q
+          go (inr q) = absurd (eqb-false (form o (classOf o w)) bytesForm p q)
 
-          forms : (T (eqb (form o (classOf o w)) indexedForm) ⊎ T (eqb (form o (classOf o w)) bytesForm)) → (form o (classOf o w) ≡ indexedForm) ⊎ (form o (classOf o w) ≡ bytesForm)
-          forms (inl q) = inl (eqb→eq (form o (classOf o w)) indexedForm q)
-          forms (inr q) = inr (eqb→eq (form o (classOf o w)) bytesForm q)
+      in-bytes : Indexable o w → holdsBytes o w ≡ true → kind o (w / 2) ≡ bytesKind
+      in-bytes h p = bytes-kind r w v (h .even) (eqb-true (form o (classOf o w)) bytesForm p)
 
-          go : Valid (o .n) w → Element o w
-          go (odd h) = absurd (T-not (isInteger w) (and-left (not (isInteger w))
-              ((eqb (form o (classOf o w)) indexedForm || eqb (form o (classOf o w)) bytesForm) && leb (size o (w / 2)) mostElements) t) (true→T (eq-eqb (w % 2) 1 h)))
-          go (names a b c) =
-              record {
-                first = b;
-                last = c;
-                classed = if-no _ _ (ne-eqb (w % 2) 1 (omega arith));
-                forms = forms (or-cases (eqb (form o (classOf o w)) indexedForm) (eqb (form o (classOf o w)) bytesForm)
-                    (and-left (eqb (form o (classOf o w)) indexedForm || eqb (form o (classOf o w)) bytesForm) (leb (size o (w / 2)) mostElements) rest));
-              }
-
-      fits-class : (h : Element o w) → Fits o (w / 2) (classOf o w)
-      fits-class h = subst (Fits o (w / 2)) (sym (h .classed)) (entry-fits r (w / 2) (h .first) (h .last))
-
-      bytes-kind : Element o w → holdsBytes o w ≡ true → kind o (w / 2) ≡ bytesKind
-      bytes-kind h p = go (fits-class h) (eqb-true (form o (classOf o w)) bytesForm p)
-        where
-          go : Fits o (w / 2) (classOf o w) → form o (classOf o w) ≡ bytesForm → kind o (w / 2) ≡ bytesKind
-          go (fixed a b c) q = absurd (omega arith)
-          go (indexed a b c) q = absurd (omega arith)
-          go (bytes a b) q = b
-          go (other a b) q = absurd (omega arith)
-
-      fields-kind : Element o w → holdsBytes o w ≡ false → kind o (w / 2) ≡ fieldsKind
-      fields-kind h p = go (fits-class h) (eqb-false (form o (classOf o w)) bytesForm p) (h .forms)
-        where
-          go : Fits o (w / 2) (classOf o w) → (form o (classOf o w) ≡ bytesForm → ⊥) → (form o (classOf o w) ≡ indexedForm) ⊎ (form o (classOf o w) ≡ bytesForm) → kind o (w / 2) ≡ fieldsKind
-          go (fixed a b c) q s = b
-          go (indexed a b c) q s = b
-          go (bytes a b) q s = absurd (q a)
-          go (other a b) q (inl s) = absurd (omega arith)
-          go (other a b) q (inr s) = absurd (q s)
-
-      place : (x : ℕ) → T (isIndex o w x) → placeOfIndex x < size o (w / 2)
-      place x t =
-          let q : T (leb 1 (x / 2) && leb (x / 2) (elementCount o w)) = and-right (isNatural largestInteger x) (leb 1 (x / 2) && leb (x / 2) (elementCount o w)) t in
-          let a = leb→le 1 (x / 2) (and-left (leb 1 (x / 2)) (leb (x / 2) (elementCount o w)) q) in
-          let b = leb→le (x / 2) (elementCount o w) (and-right (leb 1 (x / 2)) (leb (x / 2) (elementCount o w)) q) in
-          omega arith
-
-      element-valid : (i : ℕ) → Element o w → holdsBytes o w ≡ false → i < size o (w / 2) → T (isValid (o .n) (bodyWord o (w / 2) i))
+      element-valid : (i : ℕ) → Indexable o w → holdsBytes o w ≡ false → i < size o (w / 2) → T (isValid (o .n) (bodyWord o (w / 2) i))
       element-valid i h p l =
-          let k = fields-kind h p in
+          let k = in-fields h p in
           let q = in-words o (w / 2) (omega arith) (omega arith) in
-          word-valid r (w / 2) i (h .first) (h .last) (omega arith) (omega arith) (omega arith)
+          let s = listed r w v (h .even) in
+          word-valid r (w / 2) i (s .first) (s .last) (omega arith) (omega arith) (omega arith)
 
       pub at-law : (x : ℕ) → Kept room e o (at o w x)
       unfolding at
       at-law x =
-          if-cases (Kept room e o) (isIndexable o w && isIndex o w x) _ fails
-          (λ p. same-objects _ (if-cases (λ (z : ℕ). T (isValid (o .n) z)) (holdsBytes o w) (2 * objectByte o (w / 2) (placeOfIndex x) + 1) (bodyWord o (w / 2) (placeOfIndex x))
-          (λ q. valid-odd (o .n) (2 * objectByte o (w / 2) (placeOfIndex x) + 1) (omega arith))
-          (λ q. element-valid (placeOfIndex x) (element (and-left (isIndexable o w) (isIndex o w x) (true→T p))) q (place x (and-right (isIndexable o w) (isIndex o w x) (true→T p))))))
+          if-cases (Kept room e o) (isIndexable o w && isIndex (elementCount o w) x) _ fails
+          (λ p. same-objects _ (if-cases (λ (z : ℕ). T (isValid (o .n) z)) (holdsBytes o w) (2 * objectByte o (w / 2) (placeOfIndex o w x) + 1) (bodyWord o (w / 2) (placeOfIndex o w x))
+          (λ q. valid-odd (o .n) (2 * objectByte o (w / 2) (placeOfIndex o w x) + 1) (omega arith)) (λ q. element-valid (placeOfIndex o w x) (taken x p) q (place x p))))
           (λ p. tt)
 
       pub size-law : Kept room e o (sizeAnswer o w)
@@ -215,10 +174,10 @@ module _ {e : ℕ} {o : Objects} (r : Right e o) where
       size-law =
           if-cases (Kept room e o) (isIndexable o w) _ fails (λ p. same-objects (2 * elementCount o w + 1) (valid-odd (o .n) (2 * elementCount o w + 1) (omega arith))) (λ p. tt)
 
-      byte-stored : (i b y : ℕ) → T (isValid (o .n) y) → Element o w → holdsBytes o w ≡ true → i < size o (w / 2) → Performed room e o y (storeByte o (w / 2) i b)
+      byte-stored : (i b y : ℕ) → T (isValid (o .n) y) → Indexable o w → holdsBytes o w ≡ true → i < size o (w / 2) → Performed room e o y (storeByte o (w / 2) i b)
       byte-stored i b y u h p l =
           record {
-            right = byte-right r (w / 2) i b (h .first) (h .last) (bytes-kind h p) l;
+            right = let s = listed r w v (h .even) in byte-right r (w / 2) i b (s .first) (s .last) (in-bytes h p) l;
             extends = x;
             valid = valid-grows x y u;
             contents = λ q. (unfold storeByte storeWord in q);
@@ -226,12 +185,12 @@ module _ {e : ℕ} {o : Objects} (r : Right e o) where
           }
         where
           x : Extends o (storeByte o (w / 2) i b)
-          x = byte-extends r (w / 2) i b (h .first) (h .last) (bytes-kind h p) l
+          x = let s = listed r w v (h .even) in byte-extends r (w / 2) i b (s .first) (s .last) (in-bytes h p) l
 
-      word-stored : (i y : ℕ) → T (isValid (o .n) y) → Element o w → holdsBytes o w ≡ false → i < size o (w / 2) → Performed room e o y (storeWord o (w / 2) i y)
+      word-stored : (i y : ℕ) → T (isValid (o .n) y) → Indexable o w → holdsBytes o w ≡ false → i < size o (w / 2) → Performed room e o y (storeWord o (w / 2) i y)
       word-stored i y u h p l =
           record {
-            right = stored-right r (w / 2) i y (h .first) (h .last) (fields-kind h p) l u;
+            right = let s = listed r w v (h .even) in stored-right r (w / 2) i y (s .first) (s .last) (in-fields h p) l u;
             extends = x;
             valid = valid-grows x y u;
             contents = λ q. (unfold storeWord in q);
@@ -239,17 +198,15 @@ module _ {e : ℕ} {o : Objects} (r : Right e o) where
           }
         where
           x : Extends o (storeWord o (w / 2) i y)
-          x = stored-extends r (w / 2) i y (h .first) (h .last) (fields-kind h p) l
+          x = let s = listed r w v (h .even) in stored-extends r (w / 2) i y (s .first) (s .last) (in-fields h p) l
 
       pub atPut-law : (x y : ℕ) → T (isValid (o .n) y) → Kept room e o (atPut o w x y)
       unfolding atPut
       atPut-law x y u =
-          if-cases (Kept room e o) (isIndexable o w && isIndex o w x) _ fails
-          (λ p. let h = element (and-left (isIndexable o w) (isIndex o w x) (true→T p)) in
-          let l = place x (and-right (isIndexable o w) (isIndex o w x) (true→T p)) in
-          if-cases (Kept room e o) (holdsBytes o w) _ _
-          (λ q. if-cases (Kept room e o) (isNatural 255 y) _ fails (λ s. byte-stored (placeOfIndex x) (y / 2) y u h q l) (λ s. tt))
-          (λ q. word-stored (placeOfIndex x) y u h q l))
+          if-cases (Kept room e o) (isIndexable o w && isIndex (elementCount o w) x) _ fails
+          (λ p. if-cases (Kept room e o) (holdsBytes o w) _ _
+          (λ q. if-cases (Kept room e o) (isNatural 255 y) _ fails (λ s. byte-stored (placeOfIndex o w x) (y / 2) y u (taken x p) q (place x p)) (λ s. tt))
+          (λ q. word-stored (placeOfIndex o w x) y u (taken x p) q (place x p)))
           (λ p. tt)
 
     -- 70 and 71

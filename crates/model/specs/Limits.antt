@@ -119,7 +119,7 @@ mostStackWords = 65536
 abbrev pub largestInteger : ℕ
 largestInteger = 16383
 
--- the largest object that primitives 60 to 62 take
+-- the most elements of an object that primitives 60 to 62 take
 abbrev pub mostElements : ℕ
 mostElements = 16383
 

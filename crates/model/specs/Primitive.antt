@@ -33,40 +33,47 @@ storeByte o k i v =
     storeWord o k (i / 2)
     (if eqb (i % 2) 0 then v * 256 + bodyWord o k (i / 2) % 256 else bodyWord o k (i / 2) / 256 * 256 + v)
 
--- 60 to 62 take an object of form 1 or 2 whose size is at most 16,383.
+-- 02, M-103: elements stand behind the F named fields of the object's class, of which form 2 has none: where in the body they start, and how
+-- many there are. Right objects of forms 1 and 2 have no fewer words or bytes than F (`elements-fill`, proofs/ElementLaws.antt).
+abbrev pub elementStart : Objects → ℕ → ℕ
+elementStart o w = fieldCount o (classOf o w)
+
+abbrev pub elementCount : Objects → ℕ → ℕ
+elementCount o w = size o (objectNumber w) - elementStart o w
+
+-- 60 to 62 take an object of form 1 or 2 with at most 16,383 elements.
+abbrev pub hasElements : ℕ → Bool
+hasElements form = eqb form indexedForm || eqb form bytesForm
+
 unfoldable pub isIndexable : Objects → ℕ → Bool
-isIndexable o w =
-    not (isInteger w)
-    && ((eqb (form o (classOf o w)) indexedForm || eqb (form o (classOf o w)) bytesForm) && leb (size o (objectNumber w)) mostElements)
+isIndexable o w = not (isInteger w) && (hasElements (form o (classOf o w)) && leb (elementCount o w) mostElements)
 
 abbrev pub holdsBytes : Objects → ℕ → Bool
 holdsBytes o w = eqb (form o (classOf o w)) bytesForm
 
--- Elements are counted from 1, the body's first word or byte being the first: their number, a right index, and its place from 0
-abbrev pub elementCount : Objects → ℕ → ℕ
-elementCount o w = size o (objectNumber w)
+-- Elements are counted from 1: a right index of so many, and the place in the body, from 0, that it stands for
+unfoldable pub isIndex : ℕ → ℕ → Bool
+isIndex count x = isNatural largestInteger x && (leb 1 (x / 2) && leb (x / 2) count)
 
-abbrev pub isIndex : Objects → ℕ → ℕ → Bool
-isIndex o w x = isNatural largestInteger x && (leb 1 (x / 2) && leb (x / 2) (elementCount o w))
-
-abbrev pub placeOfIndex : ℕ → ℕ
-placeOfIndex x = x / 2 - 1
+abbrev pub placeOfIndex : Objects → ℕ → ℕ → ℕ
+placeOfIndex o w x = elementStart o w + (x / 2 - 1)
 
 -- 60 at:
 unfoldable pub at : Objects → ℕ → ℕ → Outcome
 at o w x =
-    if isIndexable o w && isIndex o w x
-    then answers (if holdsBytes o w then 2 * objectByte o (objectNumber w) (placeOfIndex x) + 1 else bodyWord o (objectNumber w) (placeOfIndex x)) o
+    if isIndexable o w && isIndex (elementCount o w) x
+    then
+    answers (if holdsBytes o w then 2 * objectByte o (objectNumber w) (placeOfIndex o w x) + 1 else bodyWord o (objectNumber w) (placeOfIndex o w x)) o
     else fails
 
 -- 61 at:put: answers what it stored; a byte is 0 to 255.
 unfoldable pub atPut : Objects → ℕ → ℕ → ℕ → Outcome
 atPut o w x v =
-    if isIndexable o w && isIndex o w x
+    if isIndexable o w && isIndex (elementCount o w) x
     then
     (if holdsBytes o w
-    then (if isNatural 255 v then answers v (storeByte o (objectNumber w) (placeOfIndex x) (v / 2)) else fails)
-    else answers v (storeWord o (objectNumber w) (placeOfIndex x) v))
+    then (if isNatural 255 v then answers v (storeByte o (objectNumber w) (placeOfIndex o w x) (v / 2)) else fails)
+    else answers v (storeWord o (objectNumber w) (placeOfIndex o w x) v))
     else fails
 
 -- 62 size

@@ -10,7 +10,7 @@ use Rattle.model.specs.Lookup.{findFrom, findIn, lookupWithin, lookup, pairsFro
 use Rattle.model.specs.Rules.{startFine, paddingFine, layoutRules, rule4, wordsFine, rule5, chainFine, rule14, fits, entryFine, pairFine, dictionaryFine, classRules, knownObjectRules, objectFine, rule6, takesCount, sendFine, variableFine, placeFine, allowed, methodTable, methodRules, dictionaryMethodsFine, rule7, rule8}
 use Rattle.model.specs.Image.{wordsOf, bytesOf, headerOf, objectsIn, imageHeader, imageObjects, imageOf, lengthFine, buffersFine, objectsVerdict, loadVerdict}
 use Rattle.model.specs.Arithmetic.{floorQuotient, floorRemainder, shifted, number, divided, exactQuotient, onIntegers, onBits, arithmetic}
-use Rattle.model.specs.Primitive.{storeWord, objectByte, storeByte, isIndexable, at, atPut, sizeAnswer, appended, hasRoom, make, new, newWith, perform, primitiveCount, primitive}
+use Rattle.model.specs.Primitive.{storeWord, objectByte, storeByte, isIndexable, isIndex, at, atPut, sizeAnswer, appended, hasRoom, make, new, newWith, perform, primitiveCount, primitive}
 use Rattle.plain.specs.State.{newFrame, fitsStack}
 use Rattle.plain.specs.Step.{operand, fieldOf, literalOf, pushed, read, storedField, stored, returned, entering, activate, framed, sends, arithmeticSends, specialSends, jumps, execute, stepFrame, step}
 use Rattle.plain.specs.Calls.{loaded, begin, steps, largestEnd, standingEnd, reachOf, dropped, call}
@@ -25,7 +25,7 @@ unfolding if_then_else_ byteAt placeOf shortOf constantOf extendedOf jumpOf send
     isValid bodyWords bodyOf isKind classOf codeWords codeSize frameWords argumentCount walk walkFrom successorsAt depthAfterAt rulesAt fineAt depthTable findFrom findIn lookupWithin lookup
     pairsFrom pairsIn pairsWithin pairsRead inChainWithin inChain endsWithin startFine paddingFine layoutRules rule4 wordsFine rule5 chainFine rule14 fits entryFine pairFine dictionaryFine classRules knownObjectRules objectFine rule6 takesCount
     sendFine variableFine placeFine allowed methodTable methodRules dictionaryMethodsFine rule7 rule8 wordsOf bytesOf headerOf objectsIn imageHeader imageObjects imageOf lengthFine buffersFine
-    objectsVerdict loadVerdict floorQuotient floorRemainder shifted number divided exactQuotient onIntegers onBits arithmetic storeWord objectByte storeByte isIndexable at atPut sizeAnswer
+    objectsVerdict loadVerdict floorQuotient floorRemainder shifted number divided exactQuotient onIntegers onBits arithmetic storeWord objectByte storeByte isIndexable isIndex at atPut sizeAnswer
     appended hasRoom make new newWith perform primitiveCount primitive newFrame fitsStack operand fieldOf literalOf pushed read storedField stored returned entering activate framed sends
     arithmeticSends specialSends jumps execute stepFrame step loaded begin steps largestEnd standingEnd reachOf dropped call cacheEntryOf filled cachedRight cacheFine frameAt framesFrom plainOf imageRules noteOf frameRules
     framesFine plainRules plainFine stateFine check laid stackAfter cacheAfter flatBegin flatRun flatDrop flatForget flatCall zeroed flatLoad savedImage saveVerdict

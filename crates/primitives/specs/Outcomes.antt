@@ -1,20 +1,19 @@
 -- What a primitive's outcome is in the code's answer and in the buffers.
 use Prim.Native.Nat.{ℕ, _/_}
 use mathlib.Core.Path.{_≡_}
-use mathlib.Core.Bool.{_&&_}
 use mathlib.Core.List.{List}
-use lib.Dec.{T, leb}
+use lib.Dec.{T}
 use lib.ListN.{length}
 use Rattle.bytecode.specs.Test.{if_then_else_}
 use Rattle.model.specs.declared.Computed.{Computed}
 use Rattle.model.specs.declared.Computed.the-variants.{Word, Failed}
-use Rattle.model.specs.Limits.{largestInteger}
-use Rattle.model.specs.Word.{isNatural, isValid}
+use Rattle.model.specs.Word.{isValid}
 use Rattle.model.specs.Objects.{Objects, objectsAt, classOf, form, atFront}
 use Rattle.model.specs.Rules.{IsRight}
 use Rattle.model.specs.Image.{Room}
-use Rattle.model.specs.Primitive.{Outcome, answers, fails, isIndexable}
+use Rattle.model.specs.Primitive.{Outcome, answers, fails, elementStart, elementCount, isIndexable, isIndex}
 use Rattle.primitives.specs.declared.Done.{Done}
+use Rattle.primitives.specs.declared.Elements.{Elements}
 
 unfoldable pub answerOf : Outcome → Computed
 answerOf (answers w o) = Word w
@@ -58,10 +57,13 @@ abbrev pub DoesAt : ℕ → ℕ → List ℕ → List ℕ → (Room → Objects 
 DoesAt n b contents bodies z r contents′ bodies′ =
     Does (objectsAt n b contents bodies) (z (roomOf contents bodies) (objectsAt n b contents bodies)) r contents bodies contents′ bodies′
 
--- How 60 to 62 take w: 1 by words, 2 by bytes, 0 not at all
-unfoldable pub elementsOf : Objects → ℕ → ℕ
-elementsOf o w = if isIndexable o w then form o (classOf o w) else 0
+-- What 60 to 62 take of w: by the form of its class, where its elements start and how many there are; by 0 where they do not take it
+abbrev pub noElements : Elements
+noElements = record { by = 0; start = 0; count = 0 }
+
+unfoldable pub elementsOf : Objects → ℕ → Elements
+elementsOf o w = if isIndexable o w then record { by = form o (classOf o w); start = elementStart o w; count = elementCount o w } else noElements
 
 -- The number that an index holds, 0 where it is none
 unfoldable pub indexOf : ℕ → ℕ → ℕ
-indexOf count x = if isNatural largestInteger x && (leb 1 (x / 2) && leb (x / 2) count) then x / 2 else 0
+indexOf count x = if isIndex count x then x / 2 else 0

@@ -6,10 +6,10 @@ ghost use lib.ListN.{length};
 ghost use Rattle.model.specs.Limits.{entryWords, mostObjects, mostBodyWords};
 ghost use Rattle.model.specs.Objects.{objectsAt, part};
 ghost use Rattle.model.specs.Rules.{IsRight};
-ghost use Rattle.model.specs.Primitive.{answers, at, atPut, sizeAnswer, appended, hasRoom, make, new, newWith, computed, perform, primitiveCount, primitive};
+ghost use Rattle.model.specs.Primitive.{answers, hasElements, at, atPut, sizeAnswer, appended, hasRoom, make, new, newWith, computed, perform, primitiveCount, primitive};
 ghost use Rattle.model.specs.Word.{pointer, booleanWord};
 ghost use lib.Dec.{eqb};
-ghost use Rattle.primitives.specs.Outcomes.{roomFor, doneWith, Receives, Puts, Does, DoesAt, elementsOf, indexOf};
+ghost use Rattle.primitives.specs.Outcomes.{roomFor, doneWith, Receives, Puts, Does, DoesAt, noElements, elementsOf, indexOf};
 use model::Computed;
 use model::Pointer;
 use model::limits;
@@ -20,7 +20,7 @@ const MOST_BODY_WORDS: usize = 24000;
 
 const LARGEST_INTEGER: usize = 16383;
 
-// Objects that are larger are none for 60 to 62.
+// Objects that have more are none for 60 to 62.
 const MOST_ELEMENTS: usize = 16383;
 
 // Forms
@@ -35,6 +35,13 @@ pub struct Done {
     pub answer: Computed,
     pub n: usize,
     pub b: usize,
+}
+
+// What 60 to 62 take of a receiver: 1 by words, 2 by bytes, 0 not at all; where in the body its elements start, and how many there are.
+pub struct Elements {
+    pub by: usize,
+    pub start: usize,
+    pub count: usize,
 }
 
 // What is computed, or failure, with as many objects and body words as before.
@@ -54,27 +61,47 @@ pub fn failed(n: usize, b: usize) -> Done
     computed(Computed::Failed, n, b)
 }
 
-// How 60 to 62 take a receiver: 1 by words, 2 by bytes, 0 not at all.
-fn elements(contents: &[u16], bodies: &[u16], n: usize, b: usize, w: u16) -> usize
+// Whether 60 to 62 take objects of a form.
+fn has_elements(form: usize) -> bool
+    ensures { λ r. ⌜ r ≡ hasElements form ⌝ }
+{
+    (form == INDEXED) | (form == OF_BYTES)
+}
+
+fn no_elements() -> Elements
+    ensures { λ r. ⌜ r ≡ noElements ⌝ }
+{
+    Elements {
+        by: 0,
+        start: 0,
+        count: 0,
+    }
+}
+
+// The elements of a receiver, behind the named fields of its class.
+fn elements_of(contents: &[u16], bodies: &[u16], n: usize, b: usize, w: u16) -> Elements
     requires { ⌜ Receives n b (now contents) (now bodies) w ⌝ }
     ensures { λ r. ⌜ r ≡ elementsOf (objectsAt n b (now (contents .entry)) (now (bodies .entry))) w ⌝ }
 {
     if w % 2 == 1 {
-        return 0;
-    }
-    let size = readers::size(contents, n, w as usize / 2) as usize;
-    if MOST_ELEMENTS < size {
-        return 0;
+        return no_elements();
     }
     let class = objects::class_of(contents, n, w);
     let form = objects::form_of(contents, bodies, n, b, class);
-    if form == INDEXED {
-        return 1;
+    if !has_elements(form) {
+        return no_elements();
     }
-    if form == OF_BYTES {
-        return 2;
+    let start = objects::field_count(contents, bodies, n, b, class);
+    let size = readers::size(contents, n, w as usize / 2) as usize;
+    let count = size - start;
+    if MOST_ELEMENTS < count {
+        return no_elements();
     }
-    0
+    Elements {
+        by: form,
+        start: start,
+        count: count,
+    }
 }
 
 // The number of an index word from 1 to a count, else 0.
@@ -102,20 +129,21 @@ pub fn at(contents: &[u16], bodies: &[u16], n: usize, b: usize, w: u16, x: u16) 
     requires { ⌜ Receives n b (now contents) (now bodies) w ⌝ }
     ensures { λ r. ⌜ computed (objectsAt n b (now (contents .entry)) (now (bodies .entry))) r ≡ at (objectsAt n b (now (contents .entry)) (now (bodies .entry))) w x ⌝ }
 {
-    let by = elements(contents, bodies, n, b, w);
-    if by == 0 {
+    let e = elements_of(contents, bodies, n, b, w);
+    if e.by == 0 {
         return Computed::Failed;
     }
-    let size = readers::size(contents, n, w as usize / 2) as usize;
-    let i = index(size, x);
+    let i = index(e.count, x);
     if i == 0 {
         return Computed::Failed;
     }
-    if by == 2 {
-        let v = objects::byte_of(contents, bodies, n, b, Pointer(w), i - 1);
+    let start = e.start;
+    let from = start + (i - 1);
+    if e.by == OF_BYTES {
+        let v = objects::byte_of(contents, bodies, n, b, Pointer(w), from);
         return Computed::Word(2 * (v as u16) + 1);
     }
-    Computed::Word(readers::word_of(contents, bodies, n, b, Pointer(w), i - 1))
+    Computed::Word(readers::word_of(contents, bodies, n, b, Pointer(w), from))
 }
 
 // 61
@@ -132,26 +160,27 @@ pub fn at_put(
     ensures { λ r. ⌜ Puts (objectsAt n b (now (contents .entry)) (now (bodies .entry)))
         (atPut (objectsAt n b (now (contents .entry)) (now (bodies .entry))) w x v) r (now (bodies .entry)) (now (bodies .exit)) ⌝ }
 {
-    let by = elements(contents, bodies, n, b, w);
-    if by == 0 {
+    let e = elements_of(contents, bodies, n, b, w);
+    if e.by == 0 {
         return Computed::Failed;
     }
-    let size = readers::size(contents, n, w as usize / 2) as usize;
-    let i = index(size, x);
+    let i = index(e.count, x);
     if i == 0 {
         return Computed::Failed;
     }
-    if by == 2 {
+    let start = e.start;
+    let to = start + (i - 1);
+    if e.by == OF_BYTES {
         if v % 2 != 1 {
             return Computed::Failed;
         }
         if 255 < v / 2 {
             return Computed::Failed;
         }
-        objects::store_byte(contents, bodies, n, b, Pointer(w), i - 1, (v / 2) as u8);
+        objects::store_byte(contents, bodies, n, b, Pointer(w), to, (v / 2) as u8);
         return Computed::Word(v);
     }
-    objects::store_word(contents, bodies, n, b, Pointer(w), i - 1, v);
+    objects::store_word(contents, bodies, n, b, Pointer(w), to, v);
     Computed::Word(v)
 }
 
@@ -160,12 +189,11 @@ pub fn size_answer(contents: &[u16], bodies: &[u16], n: usize, b: usize, w: u16)
     requires { ⌜ Receives n b (now contents) (now bodies) w ⌝ }
     ensures { λ r. ⌜ computed (objectsAt n b (now (contents .entry)) (now (bodies .entry))) r ≡ sizeAnswer (objectsAt n b (now (contents .entry)) (now (bodies .entry))) w ⌝ }
 {
-    let by = elements(contents, bodies, n, b, w);
-    if by == 0 {
+    let e = elements_of(contents, bodies, n, b, w);
+    if e.by == 0 {
         return Computed::Failed;
     }
-    let size = readers::size(contents, n, w as usize / 2) as usize;
-    Computed::Word((2 * size + 1) as u16)
+    Computed::Word((2 * e.count + 1) as u16)
 }
 
 // Room for one more object of so many body words, in buffers of these lengths.
