@@ -151,9 +151,9 @@ uint32_t sofaduck_load(const uint8_t *image, size_t image_length,
  * lookups that read 9,200 pairs each. Of 100 contacts in a frame, with handlers of about 50 bytecodes and 6,000 words of bodies, each took 43
  * microseconds singly and half of one by play (bench/run prints it).
  *
- * What an engine may write itself, between calls and in any phase: into a field or element of an object of kind SOFADUCK_FIELDS, any integer and any
- * word that names an object; into an object of kind SOFADUCK_BYTES, any bytes, but for the one behind an odd number of them, which stays 0. Check accepts it.
- * A global variable of the image is a field as well. Classes, lists, methods, contents, cache, registers and frames are for the calls alone.
+ * What an engine may write itself, between calls and in any phase: into a field of an object of kind SOFADUCK_FIELDS, any integer and any word that
+ * names an object; into an object of kind SOFADUCK_BYTES, any bytes, but for the one behind an odd number of them, which stays 0. Check accepts it.
+ * Elements and global variables of the image are fields as well. Classes, lists, methods, contents, cache, registers and frames are for the calls alone.
  *
  * A copy of all buffers and registers is a snapshot, in any phase. Put back into buffers of the same lengths it goes on, a running handler too, and
  * comes to the same words. It is enough to copy 4 * N words of contents, B of bodies, the cache, the registers, and of the stack, except in phases
