@@ -1,6 +1,7 @@
 // Times check, ours and C's by turns, as a run of 0 bytecodes, on states of handlers that were begun; the least of all runs counts. What a
 // call's check costs an engine is the median of our runs. Then runs handlers of random images in both machines, spoils single words of the states
-// that they leave, and checks and runs these. Answers, registers and every word have to agree. Argument: a file to which the goals are added.
+// that they leave, and checks and runs these; and runs at:, at:put: and size at the ends of objects. Answers, registers and every word have to agree.
+// Argument: a file to which the goals are added.
 #include "image.h"
 #include "images.h"
 #include "machine.h"
@@ -224,8 +225,38 @@ static bool chain_spoiled(const machine *m, const machine *before) {
         && c_judge(entries, m->contents, m->bodies, r[N], r[B], r[START_RECEIVER], r[START_SELECTOR], notes) == 14;
 }
 
+// What at:, at:put: and size may meet in an object with elements behind named fields, the first two also by their index.
+enum { ANY, NO_ELEMENTS, INDEX_0, FIRST_ELEMENT, LAST_ELEMENT, PAST, FIELDS_COUNTED, CASES };
+
+// Adds what the next bytecode meets, if it sends one of the three to such an object.
+static void note(const machine *m, size_t met_by[CASES][3]) {
+    const objects o = objects_of(m);
+    sofaduck_frame at;
+    uint16_t selector;
+    unsigned count;
+    if (!sofaduck_top_frame(m, &at) || !sofaduck_send(m, &at, &selector, &count)) return;
+    const int code = sofaduck_code(m, at.method, at.position);
+    const uint16_t receiver = sofaduck_operand(m, &at, count), x = count > 0 ? sofaduck_operand(m, &at, count - 1) : 0;
+    if (!is(&o, FIELDS, receiver)) return;
+    const unsigned above = body(&o, body(&o, at.method)[1])[0];
+    const unsigned method = lookup(&o, selector, code == 133 || code == 134 ? above : class_of(&o, receiver));
+    if (method == 0 || flag_of(body(&o, method)[0]) != 7) return;
+    const unsigned extension = body(&o, method)[literals_of(body(&o, method)[0])], which = (extension >> 1 & 255) - 60;
+    const uint16_t *const class = body(&o, class_of(&o, receiver));
+    const unsigned named = class[2] / 2, whole = of(&o, receiver)->size, size = whole - named, i = x / 2u;
+    if (which > 2 || count != (which + 1) % 3 || class[3] / 2 != 1 || named == 0) return;
+    met_by[ANY][which]++;
+    met_by[NO_ELEMENTS][which] += size == 0;
+    if ((x & 1) == 0) return;
+    met_by[INDEX_0][which] += i == 0;
+    met_by[FIRST_ELEMENT][which] += i == 1 && size > 0;
+    met_by[LAST_ELEMENT][which] += i == size && size > 0;
+    met_by[PAST][which] += i == size + 1;
+    met_by[FIELDS_COUNTED][which] += i > size && i <= whole;
+}
+
 static bool differential(void) {
-    size_t phases[6] = {0}, answers[14] = {0}, chains = 0, handlers = 0, spoiled = 0, bytecodes = 0;
+    size_t phases[6] = {0}, answers[14] = {0}, met_by[CASES][3] = {{0}}, chains = 0, handlers = 0, spoiled = 0, bytecodes = 0;
     for (int i = 0; i < IMAGES; i++) {
         const size_t length = i % 2 == 0 ? ordinary(image, 400 + below(1000), 1000 + i) : lively(image, 900 + below(1000), 1000 + i);
         const size_t n = image[2] << 8 | image[3], b = image[4] << 8 | image[5];
@@ -238,9 +269,12 @@ static bool differential(void) {
             machine ours = copy(words[1], &loaded);
             if (!begin_any(&ours, 40 + below(40))) continue;
             machine theirs = copy(words[2], &ours);
-            for (int k = below(10); k > 0 && ours.registers[PHASE] == 1; k--) {
+            // some bytecodes singly, then more at a time
+            const int singly = i % 2 == 1 ? 40 : 0;
+            for (int k = singly + below(10); k > 0 && ours.registers[PHASE] == 1; k--) {
                 uint32_t count = 0;
-                if (both(&ours, &theirs, below(4) == 0 ? below(2000) : below(8), &count) != 0) return false;
+                note(&ours, met_by);
+                if (both(&ours, &theirs, k > 10 ? 1 : below(4) == 0 ? below(2000) : below(8), &count) != 0) return false;
                 bytecodes += count;
             }
             handlers++;
@@ -268,7 +302,38 @@ static bool differential(void) {
     bool met = answers[0] > 0 && answers[3] > 0 && answers[11] > 0 && chains > 0 && answers[12] > 0;
     for (int p = 1; p < 6; p++) met = met && phases[p] > 0;
     if (!met) printf("a phase, an answer or a spoiled chain was never met\n");
-    return met;
+    printf("before elements behind named fields stood at: %zu times, at:put: %zu, size %zu\n", met_by[ANY][0], met_by[ANY][1], met_by[ANY][2]);
+    bool ends = true;
+    for (int f = 0; f < CASES; f++)
+        for (int which = 0; which < (f < INDEX_0 ? 3 : 2); which++) ends = ends && met_by[f][which] > 0;
+    if (!ends) printf("elements behind named fields were not met at all their ends\n");
+    return met && ends;
+}
+
+// at:, at:put: and size on objects with none to 255 named fields and up to one element more than these three take, with indices at the ends.
+static bool ends_alike(void) {
+    static const unsigned named[] = {0, 1, 2, 100, 255}, counts[] = {0, 1, 2, 16382, 16383, 16384};
+    size_t runs = 0, answered = 0;
+    for (size_t n = 0; n < sizeof named / sizeof *named; n++)
+        for (size_t c = 0; c < sizeof counts / sizeof *counts; c++) {
+            const unsigned last = counts[c], indices[] = {0, 1, 2, named[n], last - 1, last, last + 1, named[n] + last, named[n] + last + 1, 32767};
+            memset(words[0], 0, sizeof words[0]);
+            machine loaded = on(words[0], CONTENTS, BODIES, 64);
+            const size_t length = elements(image, named[n], last);
+            if (sofaduck_state_load(&loaded, image, length) != 0) return printf("an object with elements is refused\n"), false;
+            for (size_t k = 0; k < 3 * sizeof indices / sizeof *indices; k++) {
+                const uint16_t arguments[] = {2 * indices[k / 3] + 1, 2 * 7777 + 1}, selector = 2 * (FIRST + 3 + k % 3);
+                machine ours = copy(words[1], &loaded);
+                const uint32_t begun = sofaduck_state_begin(&ours, loaded.registers[START_RECEIVER], selector, arguments, (k + 1) % 3);
+                if (begun != 0) return printf("a handler for elements is refused\n"), false;
+                machine theirs = copy(words[2], &ours);
+                uint32_t count = 0;
+                if (both(&ours, &theirs, 20, &count) != 0) return false;
+                runs++, answered += ours.registers[VALUE] != NIL_WORD;
+            }
+        }
+    printf("%zu runs of at:, at:put: and size at the ends of objects ran alike, %zu with an answer\n", runs, answered);
+    return true;
 }
 
 int main(int count, char **arguments) {
@@ -276,7 +341,7 @@ int main(int count, char **arguments) {
     bench_table(entries);
     const double small = measure_ordinary("1000", 1000, RUNS, 1, goals), middle = measure_ordinary("6000", 6000, 300, 1.3, goals);
     const double large = measure_ordinary("24000", 24000, 200, 1.3, goals);
-    const bool fine = small >= 0 && middle >= 0 && large >= 0 && measure_deep(goals) && differential();
+    const bool fine = small >= 0 && middle >= 0 && large >= 0 && measure_deep(goals) && differential() && ends_alike();
     if (fine && goals != NULL)
         fprintf(goals, "a call's check takes %.0f us for 1,000 words of bodies, %.0f us for 6,000, %.0f us for 24,000\n", small / 1e3, middle / 1e3,
                 large / 1e3);

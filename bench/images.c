@@ -51,20 +51,21 @@ static void send(unsigned deep, unsigned count) {
     else { emit(132 + 2 * below(2)); emit(count); emit(literal); }
 }
 
-// A special send with one or two arguments to the last literal.
+// A special send to the last literal, with the one before it as index or as value.
 static void element(void) {
-    static const uint8_t one[] = {192, 196, 200, 202, 203, 205};
-    const bool two = below(2) == 0;
+    static const uint8_t none[] = {194, 195, 197, 201, 204}, one[] = {192, 196, 200, 202, 203, 205};
+    const unsigned count = below(4) == 0 ? 0 : 1 + below(2);
     emit(32 + LITERALS - 1);
-    emit(117 + below(3));
-    if (two) emit(32 + LITERALS - 2);
-    emit(two ? 193 : one[below(6)]);
+    if (count > 0) emit(below(2) == 0 ? 117 + below(3) : 32 + LITERALS - 2);
+    if (count == 2 && below(2) == 0) value(0);
+    else if (count == 2) emit(32 + LITERALS - 2);
+    emit(count == 0 ? none[below(5)] : count == 1 ? one[below(6)] : 193);
 }
 
 // One value pushed.
 static void value(unsigned deep) {
     const unsigned kind = below(deep == 0 ? 12 : 18);
-    if (runs_on && deep > 0 && below(8) == 0) return element();
+    if (runs_on && deep > 0 && below(4) == 0) return element();
     if (kind < 2) emit(below(fields < 16 ? fields : 16));
     else if (kind < 5) emit(temporaries > 0 ? 16 + below(temporaries) : 112);
     else if (kind < 6) emit(32 + below(LITERALS));
@@ -130,6 +131,22 @@ static void statement(unsigned deep) {
 
 static unsigned first_selector, selectors, first_variable;
 
+// The first objects of form 1: how many named fields and elements each has.
+enum { ROWS = 256 };
+static struct {
+    unsigned object, named, elements;
+} rows[ROWS];
+static size_t row_count;
+
+// An object with so many words behind the named fields of its class.
+static void new_fields(unsigned class, unsigned elements) {
+    const unsigned named = body_of(class)[2] / 2, k = new_object(class, FIELDS, named + elements);
+    any_words(k, named + elements);
+    if (body_of(class)[3] / 2 == 0 || row_count == ROWS) return;
+    rows[row_count].object = k, rows[row_count].named = named, rows[row_count].elements = elements;
+    row_count++;
+}
+
 // A selector under which methods take this count.
 static unsigned selector_of(unsigned count) { return first_selector + 4 * below(selectors / 4) + count; }
 
@@ -152,6 +169,13 @@ static unsigned method(unsigned home, unsigned count) {
     // bytes or a class, for element
     const unsigned last = 1 + below(object_count);
     if (runs_on && (kind_of(last) == CLASS || kind_of(last) == BYTES)) literals[LITERALS - 1] = 2 * last;
+    // or an object with elements, and an index at their ends
+    if (runs_on && row_count > 0 && below(3) > 0) {
+        const size_t r = below(row_count);
+        const unsigned size = rows[r].elements, ends[] = {0, 1, size, size + 1, rows[r].named + size};
+        literals[LITERALS - 2] = 2 * ends[below(5)] + 1;
+        literals[LITERALS - 1] = 2 * rows[r].object;
+    }
     if (flag == 7) literals[LITERALS - 2] = count << 9 | below(256) << 1 | 1;
     return new_method(home, flag, temporaries, large, literals, LITERALS, code, end);
 }
@@ -169,9 +193,11 @@ static unsigned group(unsigned super) {
     const unsigned dictionary = new_object(CLASSES, LIST, 2 * count);
     for (unsigned i = 0; i < count; i++) body_of(dictionary)[2 * i] = 2 * pairs[i][0], body_of(dictionary)[2 * i + 1] = 2 * pairs[i][1];
     body_of(k)[1] = 2 * dictionary;
-    for (unsigned i = below(3); i > 0; i--) {
-        const unsigned size = body_of(k)[2] / 2 + form * below(8);
-        any_words(new_object(k, FIELDS, size), size);
+    for (unsigned i = below(3); i > 0; i--) new_fields(k, form * below(8));
+    // beside it a class without methods, with named fields from none to as many as there can be
+    if (runs_on && below(2) == 0) {
+        const unsigned named = below(16) == 0 ? 255 : below(3);
+        new_fields(new_class(super, EMPTY, named < above ? above : named, 1), below(4));
     }
     bytes(below(24));
     if (below(2) == 0) {
@@ -183,7 +209,7 @@ static unsigned group(unsigned super) {
 
 // A class that answers every selector, and that the classes of all images have above them. Its methods take a primitive, or answer at once.
 static unsigned root(void) {
-    static const uint8_t primitives[3][8] = {{62, 70, 111, 62, 70, 111, 0, 62}, {60, 71, 110, 60, 71, 60, 1, 17}, {61, 61, 61, 61, 61, 61, 61, 9}};
+    static const uint8_t primitives[3][8] = {{62, 70, 111, 62, 70, 111, 0, 62}, {60, 71, 110, 60, 71, 60, 60, 17}, {61, 61, 61, 61, 61, 61, 61, 9}};
     const unsigned k = new_class(NIL, EMPTY, 0, 0), dictionary = new_object(CLASSES, LIST, 2 * selectors);
     for (unsigned i = 0; i < selectors; i++) {
         const unsigned count = i % 4, how = below(4);
@@ -207,6 +233,7 @@ static unsigned chain_length(unsigned class) {
 
 static size_t classes(uint8_t *image, size_t words, uint64_t seed) {
     state = seed;
+    row_count = 0;
     new_image();
     selectors = 16 + words / 1000 * 4;
     first_selector = object_count + 1;
@@ -324,4 +351,24 @@ size_t climbing(uint8_t *image, size_t count, unsigned unknown[CLIMBING]) {
         body_of(class)[1] = 2 * dictionary;
     }
     return written(image, 2 * new_object(class, FIELDS, 0), 2 * first);
+}
+
+size_t elements(uint8_t *image, unsigned named, unsigned count) {
+    // push self and the arguments, send the literal, return top
+    static const uint8_t codes[3][5] = {{112, 16, 224, 124}, {112, 16, 17, 240, 124}, {112, 208, 124}}, fails[] = {123};
+    new_image();
+    for (unsigned i = 0; i < 6; i++) bytes(1);
+    const unsigned class = new_class(NIL, EMPTY, named, 1);
+    unsigned methods[6];
+    for (unsigned i = 0; i < 3; i++) {
+        const unsigned arguments = (i + 1) % 3;
+        const uint16_t extension[] = {arguments << 9 | (60 + i) << 1 | 1, 2 * NIL}, selector[] = {2 * (FIRST + i)};
+        methods[i] = new_method(class, 7, arguments, 0, extension, 2, fails, 1);
+        methods[3 + i] = new_method(class, arguments, arguments, 0, selector, 1, codes[i], 3 + arguments);
+    }
+    const unsigned dictionary = new_object(CLASSES, LIST, 12), k = new_object(class, FIELDS, named + count);
+    for (unsigned i = 0; i < 6; i++) body_of(dictionary)[2 * i] = 2 * (FIRST + i), body_of(dictionary)[2 * i + 1] = 2 * methods[i];
+    body_of(class)[1] = 2 * dictionary;
+    for (unsigned i = 0; i < named + count; i++) body_of(k)[i] = 2 * i + 1;
+    return written(image, 2 * k, 2 * FIRST);
 }

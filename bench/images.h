@@ -23,3 +23,6 @@ size_t deep(uint8_t *image);
 // given. The start words are an instance of the lowest class and one of the unknown selectors.
 enum { CLIMBING = 240 };
 size_t climbing(uint8_t *image, size_t count, unsigned unknown[CLIMBING]);
+// A correct image of an object with so many named fields and elements. It understands the selectors FIRST to FIRST + 2, at:, at:put: and size by their
+// primitives, which answer nil where they fail, and FIRST + 3 to FIRST + 5, methods that send it these with their own arguments.
+size_t elements(uint8_t *image, unsigned named, unsigned count);

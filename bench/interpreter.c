@@ -57,12 +57,13 @@ static bool make(machine *m, uint16_t class, uint16_t kind, unsigned size, unsig
     return true;
 }
 
-// 60 and 61 on an object with elements: false where the index or the word stored is wrong.
+// 60 and 61 on an object with elements, which stand behind the named fields of its class: false where the index or the word stored is wrong.
 static inline bool element(const objects *o, uint16_t *bodies, unsigned k, uint16_t w, uint16_t x, uint16_t v, uint16_t *answer) {
     const entry *e = of(o, w);
-    const unsigned form = body(o, e->class)[3] / 2, i = x / 2u - 1;
-    if (e->size > 16383 || (x & 1) == 0 || i >= e->size) return false;
-    uint16_t *at = bodies + e->start;
+    const uint16_t *class = body(o, e->class);
+    const unsigned form = class[3] / 2, named = class[2] / 2, size = e->size - named, i = x / 2u - 1;
+    if (size > 16383 || (x & 1) == 0 || i >= size) return false;
+    uint16_t *at = bodies + e->start + named;
     if (form == 1) {
         *answer = k == 60 ? at[i] : (at[i] = v);
         return true;
@@ -91,9 +92,10 @@ static bool primitive(machine *m, unsigned extension, const uint16_t *receiver, 
     case 62: {
         if (w & 1) return false;
         const entry *e = of(&o, w);
-        const unsigned form = body(&o, e->class)[3] / 2;
-        *answer = 2 * e->size + 1;
-        return e->size <= 16383 && (form == 1 || form == 2);
+        const uint16_t *class = body(&o, e->class);
+        const unsigned form = class[3] / 2, size = e->size - class[2] / 2;
+        *answer = 2 * size + 1;
+        return size <= 16383 && (form == 1 || form == 2);
     }
     case 70: {
         if (!is(&o, CLASS, w) || body(&o, w)[3] / 2 != 0) return false;

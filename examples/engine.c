@@ -12,7 +12,7 @@
 #include <stdlib.h>
 #include <string.h>
 
-enum { STACK = 256, GRANT = 40, CONTACTS = 4 }; /* words of stack; bytecodes that a handler gets in a frame; contacts in a list */
+enum { STACK = 256, GRANT = 48, CONTACTS = 4 }; /* words of stack; bytecodes that a handler gets in a frame; contacts in a list */
 enum { CALLS = 1 + 2 * CONTACTS, WORDS = 3 + (6 + 3) * CONTACTS, ANSWERS = SOFADUCK_ANSWER * CALLS }; /* a run; for each contact begin and run */
 
 /* A state with buffers of its own. */
@@ -63,8 +63,15 @@ static int integer(const sofaduck_state *s, uint16_t object, size_t k) { return 
 
 static void show_crate(const sofaduck_state *s) {
     const uint16_t splinter = field(s, OBJECT_crate, FIELD_Crate_splinter);
-    printf("         crate: %d planks, %d contacts, %s", integer(s, OBJECT_crate, FIELD_Crate_planks),
-           integer(s, OBJECT_crate, FIELD_Crate_contacts), field(s, OBJECT_crate, FIELD_Crate_broken) == SOFADUCK_TRUE ? "broken" : "whole");
+    const size_t contacts = (size_t)integer(s, OBJECT_crate, FIELD_Crate_contacts);
+    size_t count = 0;
+    const uint16_t *const met = sofaduck_elements(s, OBJECT_crate, &count); /* behind the named fields, filled in turns */
+    printf("         crate: %d planks, %d contacts, the last with", integer(s, OBJECT_crate, FIELD_Crate_planks), (int)contacts);
+    for (size_t k = 0; met != NULL && k < count && k < contacts; k++) {
+        const uint16_t body = met[(contacts - 1 - k) % count];
+        printf(" %s", body == OBJECT_floor ? "floor" : body == OBJECT_hammer ? "hammer" : "nothing");
+    }
+    printf(", %s", field(s, OBJECT_crate, FIELD_Crate_broken) == SOFADUCK_TRUE ? "broken" : "whole");
     if (splinter != SOFADUCK_NIL) printf(", its splinter is object %d", splinter / 2);
     printf("; wrecks: %d; objects: %d\n", integer(s, OBJECT_Wrecks, FIELD_Association_value), s->registers[SOFADUCK_N]);
 }

@@ -34,8 +34,8 @@ extern "C" {
 
 /* The version of header and library, and the edition of the images that load accepts. */
 #define SOFADUCK_VERSION_MAJOR 2
-#define SOFADUCK_VERSION_MINOR 1
-#define SOFADUCK_VERSION_PATCH 1
+#define SOFADUCK_VERSION_MINOR 2
+#define SOFADUCK_VERSION_PATCH 0
 #define SOFADUCK_EDITION 1
 
 /* Sizes */
@@ -113,7 +113,11 @@ static inline int sofaduck_integer(uint16_t word) { return (word >> 1) - (word >
 static inline uint16_t sofaduck_word(int integer) { return (uint16_t)(2 * integer + 1); }
 
 /* For a word that names an object: where its body begins in bodies, and its size. Field k, from 0, is bodies[sofaduck_start(contents, object) + k].
- * The size is in words; for objects of bytes and for methods it is in bytes, two to a word, the high one first. */
+ * The size is in words; for objects of bytes and for methods it is in bytes, two to a word, the high one first.
+ *
+ * An object of a class with form 1, a collection, has the F named fields of its class first, inherited ones counted, and then its elements: element i,
+ * from 1 as handlers count in at:, at:put: and size, is field F + i - 1, and there are size - F of them. sofaduck_elements, among the readers, finds
+ * them. (Up to version 2.1 handlers counted from the first field.) */
 static inline size_t sofaduck_start(const uint16_t *contents, uint16_t object) { return contents[4 * (object / 2u - 1) + 2]; }
 static inline size_t sofaduck_size(const uint16_t *contents, uint16_t object) { return contents[4 * (object / 2u - 1) + 3]; }
 
@@ -149,7 +153,7 @@ uint32_t sofaduck_load(const uint8_t *image, size_t image_length,
  *
  * What an engine may write itself, between calls and in any phase: into a field of an object of kind SOFADUCK_FIELDS, any integer and any word that
  * names an object; into an object of kind SOFADUCK_BYTES, any bytes, but for the one behind an odd number of them, which stays 0. Check accepts it.
- * A global variable of the image is a field as well. Classes, lists, methods, contents, cache, registers and frames are for the calls alone.
+ * Elements and global variables of the image are fields as well. Classes, lists, methods, contents, cache, registers and frames are for the calls alone.
  *
  * A copy of all buffers and registers is a snapshot, in any phase. Put back into buffers of the same lengths it goes on, a running handler too, and
  * comes to the same words. It is enough to copy 4 * N words of contents, B of bodies, the cache, the registers, and of the stack, except in phases
@@ -415,6 +419,18 @@ static inline const uint16_t *sofaduck_body(const sofaduck_state *state, uint16_
     if (entry[1] != kind || state->bodies_length == 0 || entry[2] + words > state->bodies_length) return NULL;
     *size = entry[3];
     return state->bodies + entry[2];
+}
+
+/* The elements of an object whose class has form 1, and how many there are: element i, as handlers count, is the one at i - 1. They stand behind the
+ * named fields in its body. Null for other words and objects. */
+static inline const uint16_t *sofaduck_elements(const sofaduck_state *state, uint16_t object, size_t *count) {
+    size_t size = 0, words = 0;
+    const uint16_t *const body = sofaduck_body(state, object, SOFADUCK_FIELDS, &size);
+    const uint16_t *const of_class =
+        body == NULL ? NULL : sofaduck_body(state, state->contents[4 * (object / 2u - 1)], SOFADUCK_CLASS, &words);
+    if (of_class == NULL || words < 4 || of_class[3] != sofaduck_word(1) || of_class[2] / 2u > size) return NULL;
+    *count = size - of_class[2] / 2u;
+    return body + of_class[2] / 2u;
 }
 
 /* Byte k, from 0, of a body that is bytes. */

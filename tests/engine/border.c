@@ -1,5 +1,5 @@
 /* The functions for C from outside: every call, every refusal, what is written and what is not, null pointers, lists of calls against the same calls
- * made singly, what an engine may write itself, small C stacks, two threads.
+ * made singly, elements behind named fields, what an engine may write itself, small C stacks, two threads.
  * A line for each test; the exit status says whether all passed. Usage: border IMAGE, of border.source. */
 #define _DEFAULT_SOURCE /* MAP_ANONYMOUS */
 #include "sofaduck.h"
@@ -612,6 +612,91 @@ static void saves(void) {
     test("save: while a handler runs", sofaduck_save(SOFADUCK_STATE(&s), output, sizeof output, &bytes) == 0 && bytes == length);
 }
 
+/* at:, at:put: or size on an object, by begin at once, by a method that sends it and is run, or by that method in a list. Returns what is answered, nil
+ * where it fails, or 0. */
+static uint16_t asked(unsigned how, unsigned which, uint16_t object, const uint16_t arguments[2]) {
+    static const uint16_t at_once[] = {SELECTOR_at_, SELECTOR_at_put_, SELECTOR_size}, sent[] = {SELECTOR_item_, SELECTOR_item_put_, SELECTOR_count};
+    const uint16_t selector = how == 0 ? at_once[which] : sent[which];
+    const size_t given = (which + 1) % 3;
+    uint32_t count = 0, reach = 0, number = 0;
+    if (how < 2) {
+        number = sofaduck_state_begin(&s, object, selector, arguments, given);
+        if (number == 0 && s.registers[SOFADUCK_PHASE] == SOFADUCK_RUNNING) number = sofaduck_state_run(&s, 20, &count, &reach);
+    } else {
+        uint16_t list[9];
+        sofaduck_calls calls = {list, 9, 0, 0};
+        sofaduck_put_begin(&calls, object, selector, arguments, given);
+        sofaduck_put_run(&calls, 20);
+        number = sofaduck_state_play(&s, &calls, answers, ANSWERS, &count);
+    }
+    return number == 0 && s.registers[SOFADUCK_PHASE] == SOFADUCK_FINISHED ? s.registers[SOFADUCK_VALUE] : 0;
+}
+
+/* Whether at:, at:put: and size find the elements of an object behind its named fields, and no other word changes. Each word has a number of its own. */
+static bool elements_of(uint16_t object, int named, int elements) {
+    const uint16_t value = sofaduck_word(-5);
+    const int indices[] = {-16384, -named, -1, 0, 1, 2, named, named + 1, elements - 1, elements, elements + 1, elements + named, 16383};
+    uint16_t *const body = s.bodies + sofaduck_start(s.contents, object);
+    bool fine = sofaduck_size(s.contents, object) == (size_t)(named + elements);
+    for (int k = 0; k < named + elements; k++) body[k] = sofaduck_word(k % 16000);
+    for (size_t i = 0; i < sizeof indices / sizeof *indices; i++) {
+        const int index = indices[i] > 16383 ? 16383 : indices[i];
+        const uint16_t arguments[] = {sofaduck_word(index), value};
+        for (unsigned which = 0; which < 3; which++) {
+            const bool right = elements <= 16383 && (which == 2 || (index >= 1 && index <= elements));
+            uint16_t *const at = body + (right && which < 2 ? named + index - 1 : 0), old = *at;
+            const uint16_t answer = !right ? SOFADUCK_NIL : which == 0 ? old : which == 1 ? value : sofaduck_word(elements);
+            for (unsigned how = 0; how < 3; how++) {
+                note();
+                fine = fine && asked(how, which, object, arguments) == answer;
+                if (right && which == 1) fine = fine && *at == value;
+                *at = old;
+                fine = fine && memcmp(lent.bodies, lent_before.bodies, sizeof lent.bodies) == 0
+                    && memcmp(lent.contents, lent_before.contents, sizeof lent.contents) == 0 && s.registers[SOFADUCK_N] == before.registers[SOFADUCK_N];
+            }
+        }
+    }
+    return fine;
+}
+
+/* Elements behind named fields: of objects in the image, and of new ones up to as many elements as there can be. */
+static void elements(void) {
+    static const int counts[] = {0, 1, 4, 16382, 16383, 16384}, fields[] = {FIELD_Ring_next + 1, 255};
+    const uint16_t two[] = {sofaduck_word(700), sofaduck_word(800)}, one[] = {sofaduck_word(1), sofaduck_word('b')};
+    uint32_t count, reach;
+    char line[100];
+    loaded();
+    test("elements: behind named fields, in an object of the image", elements_of(OBJECT_ring, fields[0], 3));
+    test("elements: none, in a body of named fields alone", elements_of(OBJECT_bare, fields[0], 0));
+    for (unsigned i = 0; i < 2 * sizeof counts / sizeof *counts; i++) {
+        const int named = fields[i % 2], elements = counts[i / 2];
+        const uint16_t class = i % 2 == 0 ? CLASS_Ring : CLASS_Wide, argument = sofaduck_word(elements > 16383 ? 16383 : elements);
+        loaded();
+        s.bodies[sofaduck_start(s.contents, class) + 2] = sofaduck_word(named);
+        const unsigned made = sofaduck_state_begin(&s, class, SELECTOR_new_, &argument, 1) == 0 ? s.registers[SOFADUCK_VALUE] : 0;
+        /* one more than new: makes, and than at:, at:put: and size take */
+        if (elements > 16383) s.contents[4 * (s.registers[SOFADUCK_N] - 1u) + 3]++, s.bodies[s.registers[SOFADUCK_B]++] = SOFADUCK_NIL;
+        snprintf(line, sizeof line, "elements: %d behind %d named fields", elements, named);
+        test(line, made == 2u * s.registers[SOFADUCK_N] && elements_of((uint16_t)made, named, elements));
+    }
+    bool none = true, bytes = true;
+    loaded();
+    for (unsigned how = 0; how < 3; how++) {
+        for (unsigned which = 0; which < 3; which++) none = none && asked(how, which, OBJECT_box, one) == SOFADUCK_NIL;
+        bytes = bytes && asked(how, 0, SELECTOR_a, one) == sofaduck_word(how == 0 ? 'a' : 'b') && asked(how, 1, SELECTOR_a, one) == one[1]
+            && asked(how, 2, SELECTOR_a, NULL) == sofaduck_word(1);
+    }
+    test("elements: an object of form 0 has none", none);
+    test("elements: of an object of bytes", bytes && sofaduck_byte(s.bodies + sofaduck_start(s.contents, SELECTOR_a), 0) == 'b');
+    loaded();
+    note();
+    uint16_t *const ring = lent_before.bodies + sofaduck_start(s.contents, OBJECT_ring);
+    ring[FIELD_Ring_a] = two[0], ring[FIELD_Ring_b] = two[1];
+    test("elements: a method that stores into named fields leaves them",
+         sofaduck_state_begin(&s, OBJECT_ring, SELECTOR_a_b_, two, 2) == 0 && sofaduck_state_run(&s, 20, &count, &reach) == 0
+             && s.registers[SOFADUCK_VALUE] == sofaduck_word(-100) && memcmp(lent.bodies, lent_before.bodies, sizeof lent.bodies) == 0);
+}
+
 /* What an engine may write itself: valid words into fields, bytes into objects of bytes, while a handler runs. */
 static void writes(void) {
     unsigned fields = 0, bytes = 0;
@@ -749,6 +834,7 @@ int main(int argc, char **argv) {
     runs();
     lists();
     saves();
+    elements();
     writes();
     threads();
     return failed;

@@ -130,7 +130,9 @@ static void readers(void) {
         sum += sofaduck_text(s, sofaduck_method_selector(s, frame.method), text, sizeof text) + (unsigned char)text[1];
         if (sofaduck_send(s, &frame, &selector, &arguments)) sum += selector + (unsigned long)sofaduck_operand(s, &frame, arguments);
     }
-    sum += sofaduck_find_selector(s, "a", 1);
+    size_t count = 0;
+    const uint16_t *const elements = sofaduck_elements(s, (uint16_t)(2 + 2 * below(200)), &count);
+    sum += sofaduck_find_selector(s, "a", 1) + (elements != NULL && count > 0 ? elements[count - 1] : 0u);
 }
 
 /* One word of the state changed: the calls answer something. */

@@ -6,7 +6,7 @@
 #include <stdlib.h>
 #include <string.h>
 
-#if SOFADUCK_VERSION_MAJOR != 2 || SOFADUCK_VERSION_MINOR < 1 || SOFADUCK_VERSION_PATCH < 0 || SOFADUCK_EDITION != 1
+#if SOFADUCK_VERSION_MAJOR != 2 || SOFADUCK_VERSION_MINOR < 2 || SOFADUCK_VERSION_PATCH < 0 || SOFADUCK_EDITION != 1
 #error "the version's numbers"
 #endif
 
@@ -197,6 +197,33 @@ static sofaduck_state restored(const sofaduck_state *s, size_t contents, size_t 
     return to;
 }
 
+/* The elements that a reader finds are those that handlers count. */
+static void elements(void) {
+    sofaduck_state s = loaded(border, border_length, STACK);
+    size_t count = 77;
+    const uint16_t *const ring = s.bodies + sofaduck_start(s.contents, OBJECT_ring), *const row = s.bodies + sofaduck_start(s.contents, OBJECT_row);
+    const uint16_t *const found = sofaduck_elements(&s, OBJECT_ring, &count);
+    int fine = found == ring + FIELD_Ring_next + 1 && count == 3;
+    for (int i = 1; fine && i <= 3; i++) {
+        const uint16_t index = sofaduck_word(i);
+        fine = sofaduck_state_begin(&s, OBJECT_ring, SELECTOR_at_, &index, 1) == 0 && s.registers[SOFADUCK_VALUE] == found[i - 1];
+    }
+    test("elements stand behind the named fields", fine && sofaduck_state_begin(&s, OBJECT_ring, SELECTOR_size, NULL, 0) == 0
+                                                       && s.registers[SOFADUCK_VALUE] == sofaduck_word((int)count));
+    test("without named fields they are the whole body", sofaduck_elements(&s, OBJECT_row, &count) == row && count == 2);
+    test("a body of named fields alone has none", sofaduck_elements(&s, OBJECT_bare, &count) != NULL && count == 0);
+    count = 77;
+    test("nor has what is no collection", sofaduck_elements(&s, OBJECT_box, &count) == NULL && sofaduck_elements(&s, SELECTOR_a, &count) == NULL
+                                              && sofaduck_elements(&s, CLASS_Ring, &count) == NULL && sofaduck_elements(&s, 1, &count) == NULL
+                                              && sofaduck_elements(&s, 0, &count) == NULL && sofaduck_elements(&s, 65534, &count) == NULL && count == 77);
+    const uint16_t n = s.registers[SOFADUCK_N], b = s.registers[SOFADUCK_B];
+    sofaduck_state t = restored(&s, 4 * (size_t)n, b);
+    uint16_t *const of_ring = t.contents + 4 * (CLASS_Ring / 2 - 1);
+    of_ring[2] = (uint16_t)(b - 1), of_ring[3] = 1;
+    test("nor an object whose class lacks words", sofaduck_elements(&t, OBJECT_ring, &count) == NULL && count == 77);
+    end(&s), end(&t);
+}
+
 static int stands(const sofaduck_frame *f, unsigned base, unsigned position, unsigned depth) {
     return f->base == base && f->position == position && f->depth == depth && f->receiver == OBJECT_box;
 }
@@ -321,7 +348,12 @@ static size_t read_all(const sofaduck_state *s) {
     uint16_t selector = 0;
     unsigned count = 0, frames = 0;
     char text[8];
-    size_t sum = find(s, "deeper") + second_frames(s);
+    size_t elements = 0, sum = find(s, "deeper") + second_frames(s);
+    const uint16_t collections[] = {OBJECT_ring, OBJECT_bare, OBJECT_row, (uint16_t)below(65536)};
+    for (unsigned i = 0; i < 4; i++) {
+        const uint16_t *const found = sofaduck_elements(s, collections[i], &elements);
+        for (size_t k = 0; found != NULL && k < elements; k++) sum += found[k];
+    }
     for (int more = sofaduck_top_frame(s, &f); more; more = sofaduck_next_frame(s, &f)) {
         if (++frames > 65536) test("frames end", 0);
         sum += sofaduck_method_selector(s, f.method) + (size_t)(sofaduck_code(s, f.method, f.position) + 1);
@@ -379,6 +411,7 @@ int main(int argc, char **argv) {
     texts();
     lists();
     selectors();
+    elements();
     frames();
     every_send();
     snapshots();
