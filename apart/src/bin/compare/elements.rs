@@ -123,8 +123,8 @@ fn put_accessors(random: &mut Random, draft: &mut Draft, added: &Added, class: u
     for ((_, primitive, arguments), selector) in ACCESSORS.into_iter().zip(added.selectors) {
         if random.percent(chance) {
             let extension = (arguments as u16) << 9 | primitive << 1 | 1;
-            let code: &[u8] = if arguments > 0 && random.percent(50) { &[16, 124] } else { &[random.pick(&[120, 121, 122, 123])] };
-            understand(draft, class, selector, vec![header(7, arguments, 2), class, extension, NIL], code);
+            let code = if arguments > 0 && random.percent(50) { vec![16, 124] } else { vec![random.pick(&[120, 121, 122, 123])] };
+            understand(draft, class, selector, vec![header(7, arguments, 2), class, extension, NIL], &code);
         }
     }
 }
