@@ -55,11 +55,22 @@ pub fn add(random: &mut Random, draft: &mut Draft, large: bool) {
             put_accessors(random, draft, &added, class, 100);
         }
     }
+    if large {
+        put_large(random, draft, &added, bytes, &classes);
+    }
+}
+
+/// An object of about as many elements as can be: bytes, or of one of these classes, which stand here with their F.
+fn put_large(random: &mut Random, draft: &mut Draft, added: &Added, bytes: u16, classes: &[(u16, usize)]) {
+    let count = random.pick(&[16_382, 16_383, 16_383, 16_384, 16_384, 16_385]);
     let used: usize = draft.objects.iter().map(|made| made.body.len()).sum();
-    let (class, count) = random.pick(&classes);
-    if large && used + count + 16_385 <= MOST_BODY_WORDS {
-        let size = count + random.pick(&[16_382, 16_383, 16_383, 16_384, 16_384, 16_385]);
-        put_object(random, draft, class, size);
+    let (class, fields) = random.pick(classes);
+    if random.percent(25) {
+        put_accessors(random, draft, added, bytes, 100);
+        let own = draft.add(bytes, BYTES, vec![]);
+        draft.put_bytes(own, bytes, &vec![random.byte(); count]);
+    } else if used + fields + count <= MOST_BODY_WORDS {
+        put_object(random, draft, class, fields + count);
     }
 }
 
