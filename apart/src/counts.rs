@@ -1,5 +1,6 @@
 //! What was executed, for the report on coverage.
 
+use crate::accesses::Accesses;
 use crate::machine::{FINISHED, MOST_STACK, NO_STACK_ROOM};
 use std::collections::BTreeMap;
 
@@ -24,12 +25,13 @@ pub struct Counts {
     /// By primitive number: how often it answered, and how often it failed.
     pub answered: [u64; 256],
     pub failed: [u64; 256],
+    pub accesses: Accesses,
     pub events: BTreeMap<&'static str, u64>,
 }
 
 impl Default for Counts {
     fn default() -> Counts {
-        Counts { bytecodes: [0; 256], answered: [0; 256], failed: [0; 256], events: BTreeMap::new() }
+        Counts { bytecodes: [0; 256], answered: [0; 256], failed: [0; 256], accesses: Accesses::default(), events: BTreeMap::new() }
     }
 }
 

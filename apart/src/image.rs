@@ -25,6 +25,15 @@ fn object_number(word: u16) -> Option<usize> {
     (!is_integer(word) && word != 0).then_some(word as usize / 2)
 }
 
+/// The first 16 of these; dots stand for the others.
+fn shortened(texts: impl Iterator<Item = String>, between: &str) -> String {
+    let mut texts: Vec<String> = texts.take(17).collect();
+    if texts.len() > 16 {
+        texts[16] = "...".to_string();
+    }
+    texts.join(between)
+}
+
 impl Image {
     /// Of the bytes after the header.
     pub fn new(n: usize, bytes: &[u8]) -> Image {
@@ -158,7 +167,10 @@ impl Image {
             METHOD if index < 2 => ["header", "home"][index].to_string(),
             METHOD if self.method(number).map_or(false, |method| index - 2 < method.literals.len()) => format!("literal {}", index - 2),
             METHOD | BYTES => format!("bytes {} and {}", 2 * index, 2 * index + 1),
-            FIELDS => format!("field {index}"),
+            FIELDS => match self.fields_before_elements(number) {
+                Some(fields) if index >= fields => format!("element {}", index - fields + 1),
+                _ => format!("field {index}"),
+            },
             _ => format!("word {index}"),
         }
     }
@@ -170,18 +182,37 @@ impl Image {
             None => return self.object_name(number),
         };
         let kind_name = KINDS.get(kind as usize).unwrap_or(&"none");
-        let words = (0..self.length(number)).map_while(|index| self.word(number, index));
-        let mut parts: Vec<String> = match kind {
-            BYTES | METHOD => self.bytes(number).iter().take(17).map(u8::to_string).collect(),
-            _ => words.take(17).map(|word| self.name(word)).collect(),
+        let body = match (kind, self.fields_before_elements(number)) {
+            (BYTES | METHOD, _) => shortened(self.bytes(number).iter().map(u8::to_string), " "),
+            (_, Some(fields)) if 0 < fields && fields <= self.length(number) => self.fields_and_elements(number, fields),
+            _ => self.names_from(number, 0, self.length(number)),
         };
-        if parts.len() > 16 {
-            parts[16] = "...".to_string();
-        }
-        let body = parts.join(if kind == BYTES || kind == METHOD { " " } else { ", " });
         let name = if kind == FIELDS && number > 5 || kind > METHOD { format!("object {number}") } else { self.object_name(number) };
-        let colon = if parts.is_empty() { "" } else { ": " };
+        let colon = if body.is_empty() { "" } else { ": " };
         format!("{name}: class {}, kind {kind} ({kind_name}), start {start}, size {size}{colon}{body}", self.class_shown(class))
+    }
+
+    /// F of the class, where the object has form 1.
+    fn fields_before_elements(&self, number: usize) -> Option<usize> {
+        let class = object_number(self.entry(number)?[0]).filter(|class| self.of_kind(*class, CLASS) && self.of_kind(number, FIELDS))?;
+        let (fields, form) = (self.word(class, 2)?, self.word(class, 3)?);
+        (word(1) == Some(form) && is_integer(fields) && (0..=255).contains(&integer(fields))).then(|| integer(fields) as usize)
+    }
+
+    /// The words of a body from one up to another, shortened.
+    fn names_from(&self, number: usize, first: usize, end: usize) -> String {
+        shortened((first..end).map_while(|index| self.word(number, index)).map(|word| self.name(word)), ", ")
+    }
+
+    /// A body whose first words are named fields.
+    fn fields_and_elements(&self, number: usize, fields: usize) -> String {
+        let size = self.length(number);
+        let named = format!("{} {}", if fields == 1 { "field" } else { "fields" }, self.names_from(number, 0, fields));
+        match (size - fields, self.names_from(number, fields, size)) {
+            (0, _) => format!("{named}; no elements"),
+            (1, element) => format!("{named}; element 1: {element}"),
+            (count, elements) => format!("{named}; elements 1 to {count}: {elements}"),
+        }
     }
 
     /// A class with what decides on its instances.

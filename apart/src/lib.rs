@@ -1,6 +1,7 @@
 //! The machine of the scope paper once more, in the plainest style: objects and frames are structs with vectors, every call judges the whole
 //! state anew. `compare` makes the same calls on it and on the proved library; the refusals say where, for a reader of an image.
 
+pub mod accesses;
 pub mod calls;
 pub mod code;
 pub mod counts;

@@ -1,5 +1,6 @@
 //! Frames and the step. The frames are structs; `stack` is their flat view, in which the words of frames that are gone stay as they were.
 
+use crate::accesses::{Access, By, ANSWERED, PUSHED, STORED};
 use crate::code::*;
 use crate::counts::{Counts, SENDS, SUPER_SENDS};
 use crate::objects::*;
@@ -201,6 +202,7 @@ impl Machine<'_> {
         match place {
             Place::Field(index) => {
                 let receiver = self.top().receiver;
+                self.counts.field(receiver, PUSHED);
                 self.world.objects.get(receiver).unwrap().body[index]
             }
             Place::Temporary(index) => self.top().temporaries[index],
@@ -216,6 +218,7 @@ impl Machine<'_> {
         match place {
             Place::Field(index) => {
                 let receiver = self.top().receiver;
+                self.counts.field(receiver, STORED);
                 self.world.objects.get_mut(receiver).unwrap().body[index] = word;
             }
             Place::Temporary(index) => self.top().temporaries[index] = word,
@@ -337,6 +340,7 @@ impl Machine<'_> {
             return self.field_answer(receiver, temporaries);
         }
         if flag == 7 {
+            self.count_access(number, home, receiver, arguments);
             let answer = primitive(&mut self.world.objects, self.room, number, receiver, arguments);
             self.counts.primitive(number, answer.is_some());
             if let Some(word) = answer {
@@ -350,11 +354,28 @@ impl Machine<'_> {
         Ok(Activation::Frame)
     }
 
+    /// Counts a call of at:, at:put: or size with as many arguments as it takes.
+    fn count_access(&mut self, number: u16, home: u16, receiver: u16, arguments: &[u16]) {
+        if !(60..=62).contains(&number) || arguments.len() != [1, 2, 0][number as usize - 60] {
+            return;
+        }
+        // A send has not moved its frame's position yet.
+        let sent = self.frames.last().and_then(|frame| decode(&self.world.method(frame.method).code, frame.position));
+        let by = match sent {
+            None => By::Begin,
+            Some((Instruction::Special(_), _)) => By::Special,
+            Some((Instruction::SuperSend { .. }, _)) => By::Super,
+            _ => By::Send,
+        };
+        self.counts.access(&self.world.objects, &Access { number, by, home, receiver, arguments });
+    }
+
     fn field_answer(&mut self, receiver: u16, field: usize) -> Result<Activation, u16> {
         let object = self.world.objects.get(receiver).filter(|object| object.kind == FIELDS);
         match object.and_then(|object| object.body.get(field)) {
             Some(word) => {
                 self.counts.event("answered by flag 6");
+                self.counts.field(receiver, ANSWERED);
                 Ok(Activation::Answer(*word))
             }
             None => {

@@ -2,6 +2,7 @@
 
 use crate::damage::*;
 use crate::draft::*;
+use crate::elements;
 use crate::generate;
 use crate::laws::*;
 use crate::lookups;
@@ -98,13 +99,18 @@ fn buffers(random: &mut Random, image: &[u8]) -> Buffers {
     Buffers { words, lengths, registers }
 }
 
-/// The kind of a case whose dictionaries are long.
+/// The kind of a case whose dictionaries are long, and of one on objects with elements.
 const WIDE: usize = 94;
+const ELEMENTS: usize = 90;
 
 /// One case; what differs, with the pair that shows it.
 pub fn case(random: &mut Random, report: &mut Report) -> Result<(), (Buffers, Vec<Call>, String)> {
     let kind = random.below(100);
     let mut draft = if kind < 10 { noisy(random) } else { generate::draft(random) };
+    if (ELEMENTS..WIDE).contains(&kind) || random.percent(12) {
+        let large = kind >= ELEMENTS && random.percent(25);
+        elements::add(random, &mut draft, large);
+    }
     match kind {
         96.. => fill(random, &mut draft),
         WIDE => lookups::widen(random, &mut draft),
@@ -133,6 +139,7 @@ pub fn case(random: &mut Random, report: &mut Report) -> Result<(), (Buffers, Ve
         0..=9 => noisy_case(random, &mut pair, image),
         10..=39 => damaged_case(random, &mut pair, &draft),
         WIDE => wide_case(random, &mut pair, image),
+        ELEMENTS..=93 => elements_case(random, &mut pair, image),
         40..=49 | 97.. => primitive_case(random, &mut pair, image),
         _ => list_case(random, &mut pair, image),
     };
@@ -272,10 +279,84 @@ fn damaged_case(random: &mut Random, pair: &mut Pair, draft: &Draft) -> Compared
             calls(random, pair, 3)?;
         }
         if random.percent(5) {
+            moved_fields(random, pair, draft)?;
+        }
+        if random.percent(5) {
             let call = some_call(random, pair);
             pair.make(call)?;
         }
     }
+    Ok(())
+}
+
+/// A right image but for the F of a class, which may suit its objects and methods too.
+fn moved_fields(random: &mut Random, pair: &mut Pair, draft: &Draft) -> Compared<()> {
+    if let Some((class, image)) = elements::moved_image(random, draft) {
+        if pair.make(Call::Load(image))?.number == 0 {
+            let most = random.from(1, 4);
+            accesses(random, pair, Some(class), most, Some(elements::MOVED[0]))?;
+        }
+    }
+    Ok(())
+}
+
+/// Begins of methods that use elements, of objects of a class or of any, with runs. Where one of the primitives is called, that counts as an event.
+fn accesses(random: &mut Random, pair: &mut Pair, class: Option<u16>, most: usize, event: Option<&'static str>) -> Compared<()> {
+    let called = |pair: &Pair| (60..=62).map(|number| pair.report.counts.answered[number] + pair.report.counts.failed[number]).sum::<u64>();
+    let before = called(pair);
+    for _ in 0..most {
+        let world = match pair.world() {
+            Some(world) => world,
+            None => return Ok(()),
+        };
+        if random.percent(8) {
+            let messages = (0..random.from(1, 6)).flat_map(|_| [elements::message(random, &world, class), run_or_drop(random)]);
+            let calls: Vec<Call> = messages.collect();
+            pair.make(play(random, &calls))?;
+            continue;
+        }
+        if pair.ours.registers[4] == RUNNING {
+            let call = run_or_drop(random);
+            pair.make(call)?;
+        }
+        let call = elements::message(random, &world, class);
+        pair.make(call)?;
+        if pair.ours.registers[4] == RUNNING {
+            let call = run(random);
+            pair.make(call)?;
+        }
+    }
+    if let (Some(event), true) = (event, called(pair) > before) {
+        pair.report.counts.event(event);
+    }
+    Ok(())
+}
+
+fn elements_case(random: &mut Random, pair: &mut Pair, image: Vec<u8>) -> Compared<()> {
+    pair.make(Call::Load(image))?;
+    for _ in 0..3 {
+        let most = random.from(4, 10);
+        accesses(random, pair, None, most, None)?;
+        match random.below(3) {
+            0 => saved_and_loaded(random, pair)?,
+            1 => spoiled_fields(random, pair)?,
+            _ => {}
+        }
+    }
+    Ok(())
+}
+
+/// Another F of a class in a state, with which it may be right, messages to objects of the class, and the old F again.
+fn spoiled_fields(random: &mut Random, pair: &mut Pair) -> Compared<()> {
+    let (class, index, word) = match pair.world().and_then(|world| elements::moved_word(random, &world.objects)) {
+        Some(found) => found,
+        None => return Ok(()),
+    };
+    let old = word_at(pair, 1, index);
+    pair.make(Call::Write { buffer: 1, index, words: vec![word] })?;
+    let most = random.from(1, 4);
+    accesses(random, pair, Some(class), most, Some(elements::MOVED[1]))?;
+    pair.make(Call::Write { buffer: 1, index, words: vec![old] })?;
     Ok(())
 }
 
@@ -372,11 +453,9 @@ fn primitive_message(random: &mut Random, world: &World, left: i64) -> Call {
         }
         receiver = argument(random, n);
     }
-    let size = objects.get(receiver).map_or(0, |object| object.size as i64).min(16_382);
-    let index = |random: &mut Random| word(random.pick(&[0, 1, 1, 1, size - 1, size, size, size + 1])).unwrap();
     let mut arguments: Vec<u16> = (0..method.arguments).map(|_| argument(random, n)).collect();
     if [60, 61].contains(&method.primitive) && !arguments.is_empty() && random.percent(80) {
-        arguments[0] = index(random);
+        arguments[0] = elements::index(random, objects, receiver);
     }
     if method.primitive == 71 && !arguments.is_empty() && random.percent(50) {
         let fields = objects.class(receiver).map_or(0, |class| class.fields as i64);
@@ -475,7 +554,7 @@ fn run(random: &mut Random) -> Call {
     })
 }
 
-fn argument(random: &mut Random, n: usize) -> u16 {
+pub fn argument(random: &mut Random, n: usize) -> u16 {
     match random.below(8) {
         0..=2 => word(random.from(0, 12) as i64 - 3).unwrap(),
         3 => word(random.from(0, 32_767) as i64 - 16_384).unwrap(),
@@ -596,6 +675,9 @@ fn saved_and_loaded(random: &mut Random, pair: &mut Pair) -> Compared<()> {
 
 /// One word changed from outside, one or two calls, and the old word again.
 fn spoiled(random: &mut Random, pair: &mut Pair) -> Compared<()> {
+    if random.percent(10) {
+        return spoiled_fields(random, pair);
+    }
     if random.percent(40) {
         if let Some((index, word)) = pair.world().and_then(|world| spoiled_chain(random, &world)) {
             return spoiled_word(random, pair, 1, index, word);

@@ -86,27 +86,20 @@ fn chain(objects: &Objects, class: u16) -> Chain {
     Chain { classes: classes.len(), round: 0, end: objects.class(last).unwrap().superclass }
 }
 
-fn add(draft: &mut Draft, class: u16, kind: u16, body: Vec<u16>) -> u16 {
-    draft.objects.push(Made::default());
-    let own = pointer(draft.objects.len());
-    draft.put(own, class, kind, body);
-    own
-}
-
 /// So many classes with an empty dictionary, fields and form as those of a class, each below the one before, the first below a word.
 fn add_classes(draft: &mut Draft, above: u16, like: usize, count: usize) -> Vec<u16> {
     let Made { class: meta, body, .. } = draft.objects[like].clone();
-    let dictionary = add(draft, meta, LIST, vec![]);
+    let dictionary = draft.add(meta, LIST, vec![]);
     let mut classes: Vec<u16> = vec![];
     for _ in 0..count {
         let superclass = classes.last().copied().unwrap_or(above);
-        classes.push(add(draft, meta, CLASS, vec![superclass, dictionary, body[2], body[3]]));
+        classes.push(draft.add(meta, CLASS, vec![superclass, dictionary, body[2], body[3]]));
     }
     classes
 }
 
 /// The number of classes in a chain that ends.
-fn length(draft: &Draft, class: usize) -> usize {
+pub fn length(draft: &Draft, class: usize) -> usize {
     let mut at = class;
     for length in 1..=draft.objects.len() {
         let above = draft.objects[at].body[0];
@@ -161,7 +154,7 @@ fn instance(draft: &mut Draft, class: Option<u16>) {
         let body = &draft.objects[class as usize / 2 - 1].body;
         if body[3] == word(0).unwrap() || body[3] == word(1).unwrap() {
             let fields = integer(body[2]) as usize;
-            add(draft, class, FIELDS, vec![NIL; fields]);
+            draft.add(class, FIELDS, vec![NIL; fields]);
         }
     }
 }
@@ -173,17 +166,17 @@ fn no_class(random: &mut Random, draft: &mut Draft, class: u16) -> u16 {
     let bytes = draft.objects[draft.selector as usize / 2 - 1].class;
     match random.below(5) {
         0 => class + 1,
-        1 => add(draft, meta, LIST, like),
-        2 => add(draft, bytes, BYTES, like),
+        1 => draft.add(meta, LIST, like),
+        2 => draft.add(bytes, BYTES, like),
         3 => pointer(1 + random.below(draft.objects.len())),
-        _ => add(draft, random.pick(&[class, meta]), FIELDS, like),
+        _ => draft.add(random.pick(&[class, meta]), FIELDS, like),
     }
 }
 
 /// nil gets fields, of which the first is a class.
 fn nil_names(draft: &mut Draft, class: usize) {
     let Made { class: meta, body, .. } = draft.objects[class].clone();
-    let dictionary = add(draft, meta, LIST, vec![]);
-    let of = add(draft, meta, CLASS, vec![NIL, dictionary, word(4).unwrap(), word(0).unwrap()]);
+    let dictionary = draft.add(meta, LIST, vec![]);
+    let of = draft.add(meta, CLASS, vec![NIL, dictionary, word(4).unwrap(), word(0).unwrap()]);
     draft.put(NIL, of, FIELDS, vec![pointer(class + 1), dictionary, body[2], body[3]]);
 }

@@ -262,8 +262,8 @@ fn header_out_of_range(random: &mut Random, image: &mut Vec<u8>) {
 
 /// Makes an image nearly as full as one can be: in objects, in words, or with an object too large to index.
 pub fn fill(random: &mut Random, draft: &mut Draft) {
-    let is_indexed = |made: &Made| made.kind == CLASS && made.body[3] == word(1).unwrap();
-    let indexed = draft.objects.iter().position(is_indexed).map(|index| pointer(index + 1));
+    let is_indexed = |index: &usize| draft.objects[*index].kind == CLASS && draft.objects[*index].body[3] == word(1).unwrap();
+    let indexed: Vec<usize> = (0..draft.objects.len()).filter(is_indexed).collect();
     let bytes = draft.objects[draft.selector as usize / 2 - 1].class;
     let used: usize = draft.objects.iter().map(|made| made.body.len()).sum();
     let slack = random.below(6);
@@ -277,12 +277,14 @@ pub fn fill(random: &mut Random, draft: &mut Draft) {
             draft.objects.push(Made { class: bytes, kind: BYTES, size: 2 * words, body: vec![0; words] });
         }
         _ => {
-            // Sizes 16,383 and 16,384 lie on both sides of what an integer can hold.
-            let size = random.from(16_382, 16_385);
-            draft.objects.push(Made { class: bytes, kind: BYTES, size, body: vec![0; (size + 1) / 2] });
-            if let Some(class) = indexed {
-                let words = random.from(16_382, 16_385).min(MOST_BODY_WORDS - used - (size + 1) / 2);
-                draft.objects.push(Made { class, kind: FIELDS, size: words, body: vec![NIL; words] });
+            // 16,383 and 16,384 elements lie on both sides of what an integer can hold.
+            let count = random.from(16_382, 16_385);
+            if indexed.is_empty() || random.percent(50) {
+                draft.objects.push(Made { class: bytes, kind: BYTES, size: count, body: vec![0; (count + 1) / 2] });
+            } else {
+                let class = random.pick(&indexed);
+                let words = (integer(draft.objects[class].body[2]) as usize + count).min(MOST_BODY_WORDS - used);
+                draft.objects.push(Made { class: pointer(class + 1), kind: FIELDS, size: words, body: vec![NIL; words] });
             }
         }
     }

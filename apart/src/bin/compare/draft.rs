@@ -1,6 +1,7 @@
 //! Images under construction: objects with bodies, numbered from 1, whose starts are computed when the image is written.
 
 use apart::objects::*;
+use apart::words::pointer;
 
 #[derive(Clone, Default)]
 pub struct Made {
@@ -27,6 +28,14 @@ impl Draft {
     pub fn put(&mut self, pointer: u16, class: u16, kind: u16, body: Vec<u16>) {
         let size = if kind == BYTES || kind == METHOD { 2 * body.len() } else { body.len() };
         self.objects[pointer as usize / 2 - 1] = Made { class, kind, size, body };
+    }
+
+    /// Another object, behind the others; its pointer.
+    pub fn add(&mut self, class: u16, kind: u16, body: Vec<u16>) -> u16 {
+        self.objects.push(Made::default());
+        let own = pointer(self.objects.len());
+        self.put(own, class, kind, body);
+        own
     }
 
     pub fn put_bytes(&mut self, pointer: u16, class: u16, bytes: &[u8]) {

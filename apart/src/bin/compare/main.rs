@@ -4,6 +4,7 @@ mod cases;
 mod chains;
 mod damage;
 mod draft;
+mod elements;
 mod generate;
 mod laws;
 mod lookups;

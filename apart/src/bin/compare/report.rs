@@ -1,9 +1,11 @@
 //! What was covered.
 
 use crate::chains::{self, CHAINS};
+use crate::elements::MOVED;
 use crate::laws::{CUTS, SHORT};
 use crate::lookups::LOOKUPS;
 use crate::sides::*;
+use apart::accesses::{self, NAMES, NO_BYTES, OTHERS, RECEIVERS, SHOWN, THEN};
 use apart::counts::{Counts, REACHES, SENDS, SUPER_SENDS};
 use apart::play::{ANSWER_WORDS, ENDS};
 use apart::rules::{CIRCLE, TOO_LONG};
@@ -105,6 +107,7 @@ impl Report {
             *self.reasons.entry((refusal.number, refusal.why)).or_insert(0) += 1;
         }
         if let Call::Load(image) = call {
+            self.counts.accesses.put = None;
             self.counts.events_met(CHAINS, chains::met(image, outcome.number));
         }
         if outcome.number == 0 && (index == 1 || index == 2) {
@@ -150,7 +153,18 @@ impl Report {
             }
         }
         let events = ENDS.iter().chain(&REACHES).chain(&CUTS).chain(&SHORT).chain(&CHAINS).chain(&LOOKUPS).chain(&SENDS).chain(&SUPER_SENDS);
+        let events = events.chain(&THEN).chain(&NO_BYTES).chain(&MOVED);
         missing.extend(events.filter(|event| !self.counts.events.contains_key(*event)).map(|event| event.to_string()));
+        for (primitive, name) in NAMES.iter().enumerate() {
+            let found = &self.counts.accesses;
+            for (receiver, shown) in (0..RECEIVERS.len()).flat_map(|receiver| (0..SHOWN.len()).map(move |shown| (receiver, shown))) {
+                if accesses::possible(primitive, receiver, shown) && found.shown[primitive][receiver][shown] == 0 {
+                    missing.push(format!("{name} on {}: {}", RECEIVERS[receiver], SHOWN[shown]));
+                }
+            }
+            let others = OTHERS.iter().zip(found.others[primitive]).filter(|(_, count)| *count == 0);
+            missing.extend(others.map(|(other, _)| format!("{name} on {other}")));
+        }
         for byte in (0..256).filter(|byte| !(125..128).contains(byte) && !(137..144).contains(byte)) {
             if self.counts.bytecodes[byte] == 0 {
                 missing.push(format!("bytecode {byte}"));
@@ -187,6 +201,7 @@ impl Report {
         for line in texts.chunks(6) {
             println!("  {}", line.join("; "));
         }
+        self.print_accesses();
         println!("events:");
         for (name, count) in &self.counts.events {
             println!("  {name}: {count}");
@@ -194,6 +209,27 @@ impl Report {
         println!("what was wrong, by refusal:");
         for ((number, why), count) in &self.reasons {
             println!("  {number:2} {why}: {count}");
+        }
+    }
+
+    fn print_accesses(&self) {
+        println!("at:, at:put: and size on {}:", RECEIVERS.join("; "));
+        let found = &self.counts.accesses;
+        for (primitive, name) in NAMES.iter().enumerate() {
+            for (shown, what) in SHOWN.iter().enumerate() {
+                let count = |receiver: usize| {
+                    if accesses::possible(primitive, receiver, shown) {
+                        found.shown[primitive][receiver][shown].to_string()
+                    } else {
+                        "-".to_string()
+                    }
+                };
+                if accesses::possible(primitive, RECEIVERS.len() - 1, shown) {
+                    println!("  {name}, {what}: {}", (0..RECEIVERS.len()).map(count).collect::<Vec<_>>().join("; "));
+                }
+            }
+            let others: Vec<String> = OTHERS.iter().zip(found.others[primitive]).map(|(other, count)| format!("{other}: {count}")).collect();
+            println!("  {name} on {}", others.join("; "));
         }
     }
 

@@ -13,6 +13,7 @@ For each image: its classes, methods, other objects and start words; or, where l
 what was found there, then up to ten other places that break rules of this number. Selectors with equal bytes get a warning, since lookup compares objects;
 words that look byte-swapped a hint. Code is in the words of examples/assemble, with jump targets as positions and the depth of the operands at each reached position.
 The line of a chain ends with the number of pairs in all its dictionaries: no lookup from the class reads more.
+An object whose elements come behind named fields is shown with both, the elements counted as at: counts them.
 Nothing in an image has a name but selectors, so a class is known by its object number.
 The status is 0 if all images are right, 1 if one is refused, 2 if one cannot be read.
 ";

@@ -212,7 +212,11 @@ impl<'a> Both<'a> {
         if let (true, 0, Some((world, found))) = (self.options.trace, began.number, found) {
             let (class, method) = (world.objects.class_of(receiver), world.method(found));
             let (start, pairs) = (self.names.name(class), world.objects.pairs_read(class, selector));
-            let came = if self.phase() == FINISHED { answered(&self.names, method, self.proved.registers[VALUE]) } else { framed(method, 0) };
+            let came = if self.phase() == FINISHED {
+                answered(&self.names, method, self.proved.registers[VALUE])
+            } else {
+                framed(&self.names, &world.objects, method, 0, receiver, &arguments)
+            };
             self.out.line(&format!("         lookup from {start}, pairs read: {pairs}, finds {}: {came}", self.names.name(found)));
         }
         Ok(began.number == 0)

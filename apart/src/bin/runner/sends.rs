@@ -4,8 +4,8 @@ use crate::names::Names;
 use apart::code::*;
 use apart::listing::instruction_words;
 use apart::machine::Frame;
-use apart::objects::Method;
-use apart::primitives::arithmetic;
+use apart::objects::{Method, Objects, BYTES};
+use apart::primitives::{arithmetic, elements, MOST_ELEMENTS};
 use apart::rules::World;
 use apart::words::*;
 
@@ -84,8 +84,30 @@ pub fn answered(names: &Names, method: &Method, answer: u16) -> String {
     }
 }
 
-/// The frame that a method has, or would have.
-pub fn framed(method: &Method, base: usize) -> String {
-    let fails = if method.flag == 7 { format!("primitive {} fails, ", method.primitive) } else { String::new() };
-    format!("{fails}a frame of {} words at {base}", 6 + method.room())
+/// The frame of a method that was sent to a receiver; nothing has changed since.
+pub fn framed(names: &Names, objects: &Objects, method: &Method, base: usize, receiver: u16, arguments: &[u16]) -> String {
+    let frame = format!("a frame of {} words at {base}", 6 + method.room());
+    if method.flag != 7 {
+        return frame;
+    }
+    let why = failed_access(names, objects, method.primitive, receiver, arguments).map_or(String::new(), |why| format!(" ({why})"));
+    format!("primitive {} fails{why}, {frame}", method.primitive)
+}
+
+/// Why at:, at:put: or size fails; none for another primitive, and with another count of arguments.
+fn failed_access(names: &Names, objects: &Objects, number: u16, receiver: u16, arguments: &[u16]) -> Option<String> {
+    if !matches!((number, arguments.len()), (60, 1) | (61, 2) | (62, 0)) {
+        return None;
+    }
+    let count = match elements(objects, receiver) {
+        Some(elements) => elements.count,
+        None => return Some("the receiver has no elements".to_string()),
+    };
+    let inside = |index: u16| is_integer(index) && (1..=count as i64).contains(&(integer(index) as i64));
+    match arguments {
+        _ if count > MOST_ELEMENTS => Some(format!("size {count}, above {MOST_ELEMENTS}")),
+        [index, ..] if !inside(*index) => Some(format!("index {}, size {count}", names.name(*index))),
+        [_, stored] if objects.has_kind(receiver, BYTES) => Some(format!("{} is no byte", names.name(*stored))),
+        _ => None,
+    }
 }

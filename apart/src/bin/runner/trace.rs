@@ -61,7 +61,10 @@ impl<'a> Trace<'a> {
         let what = format!("lookup {start}, {cached}, finds {}", self.names.name(found));
         let method = machine.world.method(found);
         match (grown, answer) {
-            (true, _) => format!("{what}: {}", framed(method, machine.frames.last().map_or(0, |frame| frame.base))),
+            (true, _) => {
+                let base = machine.frames.last().map_or(0, |frame| frame.base);
+                format!("{what}: {}", framed(self.names, &machine.world.objects, method, base, lookup.receiver, &lookup.arguments))
+            }
             (false, Some(answer)) => format!("{what}: {}", answered(self.names, method, answer)),
             _ => what,
         }
