@@ -16,13 +16,25 @@ use Rattle.model.specs.Primitive.{Outcome, answers, fails, storeWord, st
 use Rattle.model.proofs.Parts.{or-left, or-right}
 use Rattle.model.proofs.Facts.{Right, Valid, odd, names, valid-cases, Fits, fixed, indexed, bytes, other, entry-class, entry-fits, class-facts}
 
-abbrev pub Forms : Objects → ℕ → Type 0
-Forms o w = (form o (classOf o w) ≡ indexedForm) ⊎ (form o (classOf o w) ≡ bytesForm)
+-- The tests as facts: the forms that are taken
+abbrev pub Forms : ℕ → Type 0
+Forms f = (f ≡ indexedForm) ⊎ (f ≡ bytesForm)
 
--- The tests as facts: a receiver that is taken
+pub has-forms : (f : ℕ) → T (hasElements f) → Forms f
+has-forms f t = go (or-cases (eqb f indexedForm) (eqb f bytesForm) t)
+  where
+    go : T (eqb f indexedForm) ⊎ T (eqb f bytesForm) → Forms f
+    go (inl q) = inl (eqb→eq f indexedForm q)
+    go (inr q) = inr (eqb→eq f bytesForm q)
+
+pub forms-have : (f : ℕ) → Forms f → T (hasElements f)
+forms-have f (inl q) = or-left (eqb f indexedForm) (eqb f bytesForm) (true→T (eq-eqb f indexedForm q))
+forms-have f (inr q) = or-right (eqb f indexedForm) (eqb f bytesForm) (true→T (eq-eqb f bytesForm q))
+
+-- a receiver that is taken
 pub record Indexable (o : Objects) (w : ℕ) : Type 0 where
   pub even : w % 2 ≢ 1
-  pub forms : Forms o w
+  pub forms : Forms (form o (classOf o w))
   pub small : elementCount o w ≤ mostElements
 
 module _ (o : Objects) (w : ℕ) where
@@ -35,28 +47,18 @@ module _ (o : Objects) (w : ℕ) where
   pub indexable-facts : T (isIndexable o w) → Indexable o w
   unfolding isIndexable
   indexable-facts t =
+      let rest : T (formTest && countTest) = and-right (not (isInteger w)) (formTest && countTest) t in
       record {
         even = λ h. T-not (isInteger w) (and-left (not (isInteger w)) (formTest && countTest) t) (true→T (eq-eqb (w % 2) 1 h));
-        forms = go (or-cases (eqb (form o (classOf o w)) indexedForm) (eqb (form o (classOf o w)) bytesForm) (and-left formTest countTest rest));
+        forms = has-forms (form o (classOf o w)) (and-left formTest countTest rest);
         small = leb→le (elementCount o w) mostElements (and-right formTest countTest rest);
       }
-    where
-      rest : T (formTest && countTest)
-      rest = and-right (not (isInteger w)) (formTest && countTest) t
-
-      go : T (eqb (form o (classOf o w)) indexedForm) ⊎ T (eqb (form o (classOf o w)) bytesForm) → Forms o w
-      go (inl q) = inl (eqb→eq (form o (classOf o w)) indexedForm q)
-      go (inr q) = inr (eqb→eq (form o (classOf o w)) bytesForm q)
 
   pub facts-indexable : Indexable o w → T (isIndexable o w)
   unfolding isIndexable
   facts-indexable h =
       and-both (not (isInteger w)) (formTest && countTest) (not-T (isInteger w) (λ q. h .even (eqb→eq (w % 2) 1 q)))
-      (and-both formTest countTest (go (h .forms)) (le→leb (elementCount o w) mostElements (h .small)))
-    where
-      go : Forms o w → T formTest
-      go (inl q) = or-left (eqb (form o (classOf o w)) indexedForm) (eqb (form o (classOf o w)) bytesForm) (true→T (eq-eqb (form o (classOf o w)) indexedForm q))
-      go (inr q) = or-right (eqb (form o (classOf o w)) indexedForm) (eqb (form o (classOf o w)) bytesForm) (true→T (eq-eqb (form o (classOf o w)) bytesForm q))
+      (and-both formTest countTest (forms-have (form o (classOf o w)) (h .forms)) (le→leb (elementCount o w) mostElements (h .small)))
 
 -- and an index of so many elements
 pub record Index (count x : ℕ) : Type 0 where
@@ -135,7 +137,7 @@ module _ {e : ℕ} {o : Objects} (r : Right e o) (w : ℕ) (v : T (isValid (o .n
   none-named d p = class-facts r (classOf o w) (class-kind d) .none (omega arith)
 
   -- The body holds the named fields and the elements.
-  pub named-inside : w % 2 ≢ 1 → Forms o w → elementStart o w ≤ size o (objectNumber w)
+  pub named-inside : w % 2 ≢ 1 → Forms (form o (classOf o w)) → elementStart o w ≤ size o (objectNumber w)
   named-inside d (inr p) = let z = none-named d p in omega arith
   named-inside d (inl p) = go (fits-class d)
     where

@@ -147,7 +147,7 @@ module _ {e : ℕ} {o : Objects} (r : Right e o) where
       in-fields : Indexable o w → holdsBytes o w ≡ false → kind o (w / 2) ≡ fieldsKind
       in-fields h p = go (h .forms)
         where
-          go : Forms o w → kind o (w / 2) ≡ fieldsKind
+          go : Forms (form o (classOf o w)) → kind o (w / 2) ≡ fieldsKind
           go (inl q) = words-kind r w v (h .even) q
           go (inr q) = absurd (eqb-false (form o (classOf o w)) bytesForm p q)
 

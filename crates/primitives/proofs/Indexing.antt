@@ -1,22 +1,21 @@
 -- Elements of an object (60 to 62) by the tests of the code.
 use Prim.Native.Nat.{ℕ, _+_, _*_, _-_, _/_, _%_, _≤_, _<_}
 use mathlib.Core.Path.{_≡_, refl, sym, ap, ap₂, _∙_, subst}
-use mathlib.Core.Logic.{_≢_, _⊎_, inl, inr}
+use mathlib.Core.Logic.{_≢_, inl, inr}
 use mathlib.Core.Bool.{Bool, true, false, _&&_}
 use mathlib.Core.List.{List}
 use native.Mathlib.Omega.{arith}
 use borrow.Author.Tests.{eq-eqb, ne-eqb, le-leb, lt-leb}
-use lib.Dec.{T, leb, eqb, eqb→eq}
+use lib.Dec.{T, leb}
 use Rattle.bytecode.proofs.Choice.{if-yes, if-no}
-use Rattle.bytecode.proofs.TestLaws.{true→T, T→true, or-cases}
+use Rattle.bytecode.proofs.TestLaws.{true→T, T→true}
 use Rattle.model.specs.declared.Computed.the-variants.{Word, Failed}
-use Rattle.model.specs.Limits.{mostElements, bytesKind, indexedForm, bytesForm}
+use Rattle.model.specs.Limits.{mostElements, bytesKind, bytesForm}
 use Rattle.model.specs.Word.{objectNumber}
 use Rattle.model.specs.Objects.{Objects, objectsAt, classOf, kind, size, bodyWords, bodyWord, form, isKind, atFront}
 use Rattle.model.specs.Primitive.{Outcome, answers, fails, storeWord, storeByte, objectByte, elementStart, elementCount, hasElements, isIndexable, holdsBytes, isIndex, placeOfIndex, at, atPut, sizeAnswer}
-use Rattle.model.proofs.Parts.{or-left, or-right}
 use Rattle.model.proofs.Facts.{in-words, in-bytes, sized-at, class-facts}
-use Rattle.model.proofs.ElementLaws.{Forms, Indexable, indexable-facts, facts-indexable, Index, index-facts, facts-index, class-kind, bytes-kind, words-kind, named-inside}
+use Rattle.model.proofs.ElementLaws.{Forms, has-forms, forms-have, Indexable, indexable-facts, facts-indexable, Index, index-facts, facts-index, class-kind, bytes-kind, words-kind, named-inside}
 use Rattle.readers.specs.Places.{Entry, Inside}
 use Rattle.objects.specs.Lent.{Holds}
 use Rattle.primitives.specs.declared.Elements.{Elements}
@@ -43,18 +42,10 @@ module _ (o : Objects) (w : ℕ) where
 
   module _ {f : ℕ} (e : f ≡ form o (classOf o w)) where
     pub elements-other : hasElements f ≡ false → noElements ≡ elementsOf o w
-    elements-other p = none (λ q. go (q .forms))
-      where
-        go : Forms o w → ⊥
-        go (inl q) = subst T p (or-left (eqb f indexedForm) (eqb f bytesForm) (true→T (eq-eqb f indexedForm (e ∙ q))))
-        go (inr q) = subst T p (or-right (eqb f indexedForm) (eqb f bytesForm) (true→T (eq-eqb f bytesForm (e ∙ q))))
+    elements-other p = none (λ q. subst T p (forms-have f (subst Forms (sym e) (q .forms))))
 
-    pub by-form : hasElements f ≡ true → Forms o w
-    by-form p = go (or-cases (eqb f indexedForm) (eqb f bytesForm) (true→T p))
-      where
-        go : T (eqb f indexedForm) ⊎ T (eqb f bytesForm) → Forms o w
-        go (inl q) = inl (sym e ∙ eqb→eq f indexedForm q)
-        go (inr q) = inr (sym e ∙ eqb→eq f bytesForm q)
+    pub by-form : hasElements f ≡ true → Forms (form o (classOf o w))
+    by-form p = subst Forms e (has-forms f (true→T p))
 
     pub elements-some : {start count : ℕ} → w % 2 ≢ 1 → hasElements f ≡ true → start ≡ elementStart o w → count ≡ elementCount o w → count ≤ mostElements
         → record { by = f; start = start; count = count } ≡ elementsOf o w
@@ -68,7 +59,7 @@ module _ (o : Objects) (w : ℕ) where
 pub record Taken (o : Objects) (w : ℕ) (e : Elements) : Type 0 where
   pub test : isIndexable o w ≡ true
   pub even : w % 2 ≢ 1
-  pub forms : Forms o w
+  pub forms : Forms (form o (classOf o w))
   pub by : e .by ≡ form o (classOf o w)
   pub start : e .start ≡ elementStart o w
   pub count : e .count ≡ elementCount o w
@@ -79,7 +70,7 @@ module _ (o : Objects) (w : ℕ) {e : Elements} (p : e ≡ elementsOf o w) where
   unfolding elementsOf
   not-taken z = not-test (isIndexable o w) (λ t. go (indexable-facts o w t .forms) (sym (ap (λ (x : Elements). x .by) (if-yes _ _ (T→true (isIndexable o w) t))) ∙ sym (ap (λ (x : Elements). x .by) p) ∙ z))
     where
-      go : Forms o w → form o (classOf o w) ≡ 0 → ⊥
+      go : Forms (form o (classOf o w)) → form o (classOf o w) ≡ 0 → ⊥
       go (inl q) s = omega arith
       go (inr q) s = omega arith
 
@@ -163,7 +154,7 @@ module _ {n b : ℕ} {contents bodies : List ℕ} {w : ℕ} (r : Receives n b co
     pub word-inside : e .by ≢ 2 → Inside n b contents bodies w (e .start + (i - 1))
     word-inside d = inside (go (t .forms))
       where
-        go : Forms (objectsAt n b contents bodies) w → e .start + (i - 1) < bodyWords (objectsAt n b contents bodies) (objectNumber w)
+        go : Forms (form (objectsAt n b contents bodies) (classOf (objectsAt n b contents bodies) w)) → e .start + (i - 1) < bodyWords (objectsAt n b contents bodies) (objectNumber w)
         go (inl q) =
             let f = words-kind (r .right .1) w (r .valid) (t .even) q in
             let z = in-words (objectsAt n b contents bodies) (objectNumber w) (omega arith) (omega arith) in
