@@ -302,7 +302,7 @@ static bool differential(void) {
     bool met = answers[0] > 0 && answers[3] > 0 && answers[11] > 0 && chains > 0 && answers[12] > 0;
     for (int p = 1; p < 6; p++) met = met && phases[p] > 0;
     if (!met) printf("a phase, an answer or a spoiled chain was never met\n");
-    printf("before elements behind named fields stood at: %zu times, at:put: %zu, size %zu\n", met_by[ANY][0], met_by[ANY][1], met_by[ANY][2]);
+    printf("elements behind named fields were met by at: %zu times, by at:put: %zu, by size %zu\n", met_by[ANY][0], met_by[ANY][1], met_by[ANY][2]);
     bool ends = true;
     for (int f = 0; f < CASES; f++)
         for (int which = 0; which < (f < INDEX_0 ? 3 : 2); which++) ends = ends && met_by[f][which] > 0;
