@@ -17,6 +17,11 @@ pub T→true : (b : Bool) → T b → b ≡ true
 T→true true t = refl
 T→true false t = absurd t
 
+-- a test that cannot pass
+pub never : (b : Bool) → (T b → ⊥) → b ≡ false
+never true f = absurd (f tt)
+never false f = refl
+
 pub and-left : (a b : Bool) → T (a && b) → T a
 and-left true b t = tt
 and-left false b t = t

@@ -10,7 +10,7 @@ use lib.Dec.{T, eqb, leb→le, eqb→eq}
 use lib.ListN.{length, getD}
 use Rattle.bytecode.specs.Test.{every, allOf}
 use Rattle.bytecode.specs.Constant.{nilWord}
-use Rattle.bytecode.proofs.TestLaws.{true→T, and-left, and-right, and-both, rule, every-at, at-every}
+use Rattle.bytecode.proofs.TestLaws.{true→T, and-left, and-right, and-both, rule, every-at, at-every, never}
 use Rattle.bytecode.proofs.Choice.{if-yes, if-no}
 use Rattle.model.specs.Limits.{classKind, methodKind}
 use Rattle.model.specs.Word.{isValid, pointer, objectNumber}
@@ -25,7 +25,7 @@ use Rattle.model.proofs.ChainLaws.{named}
 use Rattle.model.proofs.DepthLaws.{spot, fine-inside}
 use Rattle.model.proofs.Facts.{inside, method-words, method-facts}
 use Rattle.model.proofs.SendFacts.{class-kind}
-use Rattle.readers.proofs.Loops.{never, failed}
+use Rattle.readers.proofs.Loops.{failed}
 use Rattle.readers.specs.Header.{temporariesOf}
 use Rattle.objects.specs.Lent.{Holds, CodeAt}
 use Rattle.objects.specs.declared.Code.{Code}

@@ -7,12 +7,12 @@ use native.Mathlib.Omega.{arith}
 use borrow.Author.Tests.{not-true, not-false}
 use lib.Dec.{T}
 use lib.ListN.{length}
-use Rattle.bytecode.proofs.TestLaws.{true→T, T→true, and-left, and-right, and-both}
+use Rattle.bytecode.proofs.TestLaws.{true→T, T→true, and-left, and-right, and-both, never}
 use Rattle.bytecode.proofs.Choice.{if-yes, if-no, if-either}
 use Rattle.model.specs.Limits.{methodKind, mostStackWords, largeFrameWords, smallFrameWords}
 use Rattle.model.specs.Objects.{Objects, isKind}
 use Rattle.model.specs.Method.{header, isLarge, frameWords, frameSize}
-use Rattle.readers.proofs.Loops.{never, failed}
+use Rattle.readers.proofs.Loops.{failed}
 use Rattle.plain.specs.State.{fitsStack}
 use Rattle.plain.specs.Flat.{frameMethod}
 use Rattle.plain.proofs.FrameLaws.{Fits, fits, fitting}

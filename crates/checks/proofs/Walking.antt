@@ -8,11 +8,11 @@ use borrow.Author.Tests.{eq-eqb, not-true, not-false}
 use lib.Dec.{T, eqb, eqb→eq}
 use lib.ListN.{length, getD}
 use Rattle.bytecode.specs.Test.{allOf}
-use Rattle.bytecode.proofs.TestLaws.{T→true, and-left, and-right}
+use Rattle.bytecode.proofs.TestLaws.{T→true, and-left, and-right, never}
 use Rattle.model.specs.Limits.{methodKind}
 use Rattle.model.specs.Objects.{Objects, isKind}
 use Rattle.model.specs.Method.{frameSize}
-use Rattle.readers.proofs.Loops.{never, failed, pass}
+use Rattle.readers.proofs.Loops.{failed, pass}
 use Rattle.plain.specs.State.{Frame, fitsStack}
 use Rattle.plain.specs.Flat.{frameAt, frameMethod, frameSender, framesFrom, unlessBottom}
 use Rattle.plain.specs.Check.{frameRules, framesFine}

@@ -10,7 +10,7 @@ use borrow.Author.Tests.{eq-eqb, ne-eqb}
 use lib.Dec.{T, eqb}
 use lib.ListN.{getD, replicate}
 use Rattle.bytecode.specs.Test.{implies, allOf}
-use Rattle.bytecode.proofs.TestLaws.{true→T, T→true, implied, upTo-at}
+use Rattle.bytecode.proofs.TestLaws.{true→T, T→true, implied, upTo-at, never}
 use Rattle.model.specs.Limits.{methodKind}
 use Rattle.model.specs.Word.{pointer}
 use Rattle.model.specs.Objects.{Objects, objectsAt, kind, start, bodyWords, bodyEnd}
@@ -20,7 +20,7 @@ use Rattle.model.specs.Rules.{methodTable, rule4}
 use Rattle.model.specs.Notes.{notesFrom, MethodNoted, NotedBefore}
 use Rattle.rules.proofs.Laid.{layout-at}
 use Rattle.readers.proofs.Names.{names-kind}
-use Rattle.readers.proofs.Loops.{UpBefore, up-none, up-more, up-all, up-no, never, stop, pass}
+use Rattle.readers.proofs.Loops.{UpBefore, up-none, up-more, up-all, up-no, stop, pass}
 use Rattle.methods.specs.Passes.{shapeRules, shapeFine, codeFine, shapes, holders, codes}
 use Rattle.methods.specs.Counts.{Held, Counts}
 use Rattle.methods.proofs.PassLaws.{passes}

@@ -9,12 +9,13 @@ use lib.Dec.{T, T-not, not-T, leb, eqb, leb→le, le→leb, eqb→eq}
 use lib.Seq.{getD-set-other}
 use Rattle.bytecode.proofs.Choice.{if-no, if-cases}
 use Rattle.bytecode.proofs.TestLaws.{true→T, and-left, and-right, and-both, or-cases}
-use Rattle.model.specs.Limits.{fieldsKind, bytesKind, classKind, indexedForm, bytesForm, largestInteger, mostElements}
+use Rattle.model.specs.Limits.{fieldsKind, bytesKind, indexedForm, bytesForm, largestInteger, mostElements}
 use Rattle.model.specs.Word.{isInteger, isNatural, isValid, objectNumber}
-use Rattle.model.specs.Objects.{Objects, classWord, kind, start, size, bodyWord, isKind, classOf, form}
+use Rattle.model.specs.Objects.{Objects, classWord, kind, start, size, bodyWord, classOf, form}
 use Rattle.model.specs.Primitive.{Outcome, answers, fails, storeWord, storeByte, elementStart, elementCount, hasElements, isIndexable, holdsBytes, isIndex, placeOfIndex, atPut}
 use Rattle.model.proofs.Parts.{or-left, or-right}
-use Rattle.model.proofs.Facts.{Right, Valid, odd, names, valid-cases, Fits, fixed, indexed, bytes, other, entry-class, entry-fits, class-facts}
+use Rattle.model.proofs.Facts.{Right, Valid, odd, names, valid-cases, Fits, fixed, indexed, bytes, other, entry-fits, class-facts}
+use Rattle.model.proofs.SendFacts.{class-kind}
 
 -- The tests as facts: the forms that are taken
 abbrev pub Forms : ℕ → Type 0
@@ -108,9 +109,6 @@ module _ {e : ℕ} {o : Objects} (r : Right e o) (w : ℕ) (v : T (isValid (o .n
       go (odd h) = absurd (d h)
       go (names a b c) = record { first = b; last = c; classed = if-no _ _ (ne-eqb (w % 2) 1 d) }
 
-  pub class-kind : w % 2 ≢ 1 → T (isKind o classKind (classOf o w))
-  class-kind d = let l = listed d in subst (λ (c : ℕ). T (isKind o classKind c)) (sym (l .classed)) (entry-class r (objectNumber w) (l .first) (l .last))
-
   pub fits-class : w % 2 ≢ 1 → Fits o (objectNumber w) (classOf o w)
   fits-class d = let l = listed d in subst (Fits o (objectNumber w)) (sym (l .classed)) (entry-fits r (objectNumber w) (l .first) (l .last))
 
@@ -134,7 +132,7 @@ module _ {e : ℕ} {o : Objects} (r : Right e o) (w : ℕ) (v : T (isValid (o .n
 
   -- no named fields in bytes
   pub none-named : w % 2 ≢ 1 → form o (classOf o w) ≡ bytesForm → elementStart o w ≡ 0
-  none-named d p = class-facts r (classOf o w) (class-kind d) .none (omega arith)
+  none-named d p = class-facts r (classOf o w) (class-kind r w v) .none (omega arith)
 
   -- The body holds the named fields and the elements.
   pub named-inside : w % 2 ≢ 1 → Forms (form o (classOf o w)) → elementStart o w ≤ size o (objectNumber w)

@@ -14,8 +14,8 @@ pub mod Unchanged
 pub mod RightLaws
 pub mod StoreLaws
 pub mod AppendLaws
+pub mod SendFacts
 pub mod ElementLaws
 pub mod ElementExamples
 pub mod PrimitiveLaws
-pub mod SendFacts
 pub mod Lent

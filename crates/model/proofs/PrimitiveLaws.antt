@@ -5,28 +5,29 @@ use mathlib.Core.Logic.{inl, inr}
 use mathlib.Core.Bool.{Bool, true, false, _&&_, not}
 use mathlib.Core.List.{List}
 use native.Mathlib.Omega.{arith}
-use borrow.Author.Tests.{eq-eqb, ne-eqb, eqb-true, eqb-false}
+use borrow.Author.Tests.{eq-eqb, eqb-true, eqb-false}
 use lib.Dec.{T, eqb, leb→le, eqb→eq}
 use lib.ListN.{length, getD, replicate, length-replicate, getD-replicate}
 use lib.IntN.{ℤ, pos, negsuc}
 use lib.Signed.{ltZ, leZ}
 use lib.Bits.{bitAnd, bitOr, bitXor, differ, and-step, or-step, xor-step}
-use Rattle.bytecode.specs.Test.{if_then_else_, every}
+use Rattle.bytecode.specs.Test.{every}
 use Rattle.bytecode.specs.Constant.{nilWord, falseWord, trueWord}
-use Rattle.bytecode.proofs.Choice.{if-yes, if-no, if-cases}
+use Rattle.bytecode.proofs.Choice.{if-yes, if-cases}
 use Rattle.bytecode.proofs.TestLaws.{true→T, and-left, and-right, every-at}
 use Rattle.model.specs.declared.Computed.{Computed}
 use Rattle.model.specs.declared.Computed.the-variants.{Word, Failed}
 use Rattle.model.specs.Limits.{mostBodyWords, entryWords, fieldsKind, bytesKind, classKind, fixedForm, indexedForm, bytesForm, largestInteger}
-use Rattle.model.specs.Word.{isInteger, isNatural, isValid, inRange, wordOf, valueOf, pointer, booleanWord, integerClass}
-use Rattle.model.specs.Objects.{Objects, classWord, kind, size, bodyWord, isKind, classOf, fieldCount, form}
+use Rattle.model.specs.Word.{isInteger, isNatural, isValid, inRange, wordOf, valueOf, pointer, booleanWord}
+use Rattle.model.specs.Objects.{Objects, kind, size, bodyWord, isKind, classOf, fieldCount, form}
 use Rattle.model.specs.Image.{Room}
 use Rattle.model.specs.Arithmetic.{number, divided, exactQuotient, onIntegers, onBits, arithmetic}
 use Rattle.model.specs.Primitive.{Outcome, answers, fails, storeWord, objectByte, storeByte, isIndexable, holdsBytes, elementCount, isIndex, placeOfIndex, at, atPut, sizeAnswer, appended, hasRoom, make, new, newWith, computed, perform, primitiveCount, primitive}
 use Rattle.model.proofs.Marks.{blank}
-use Rattle.model.proofs.Facts.{Right, Valid, odd, names, valid-cases, valid-odd, valid-name, valid-kind, in-words, least, word-valid, entry-class}
+use Rattle.model.proofs.Facts.{Right, valid-odd, valid-name, in-words, least, word-valid}
 use Rattle.model.proofs.Extends.{Extends, extends-refl, valid-grows}
 use Rattle.model.proofs.ElementLaws.{Forms, Indexable, indexable-facts, index-facts, place-inside, listed, bytes-kind, words-kind}
+use Rattle.model.proofs.SendFacts.{class-valid}
 use Rattle.model.proofs.StoreLaws.{stored-extends, stored-right, byte-extends, byte-right}
 use Rattle.model.proofs.AppendLaws.{HasRoom, room-facts, Suits, asMany, atLeast, ofBytes, suits-free, appended-extends, appended-right}
 
@@ -126,17 +127,6 @@ module _ {e : ℕ} {o : Objects} (r : Right e o) where
 
     -- 60 to 62: the receiver is an object of fields or of bytes
     module _ (w : ℕ) (v : T (isValid (o .n) w)) where
-      class-valid : T (isValid (o .n) (classOf o w))
-      unfolding classOf
-      class-valid = go (valid-cases (o .n) w v)
-        where
-          go : Valid (o .n) w → T (isValid (o .n) (if isInteger w then integerClass else classWord o (w / 2)))
-          go (odd h) =
-              let l = least r in
-              subst (λ (x : ℕ). T (isValid (o .n) x)) (sym (if-yes _ _ (eq-eqb (w % 2) 1 h))) (valid-name (o .n) integerClass (omega arith) (omega arith) (omega arith))
-          go (names a b c) =
-              subst (λ (x : ℕ). T (isValid (o .n) x)) (sym (if-no _ _ (ne-eqb (w % 2) 1 (omega arith)))) (valid-kind o classKind (classWord o (w / 2)) (entry-class r (w / 2) b c))
-
       -- what the two tests say
       taken : (x : ℕ) → (isIndexable o w && isIndex (elementCount o w) x) ≡ true → Indexable o w
       taken x p = indexable-facts o w (and-left (isIndexable o w) (isIndex (elementCount o w) x) (true→T p))
@@ -270,7 +260,7 @@ module _ {e : ℕ} {o : Objects} (r : Right e o) where
         (λ p. if-cases (Kept room e o) _ _ _ (λ p. new-law w)
         (λ p. if-cases (Kept room e o) _ _ _ (λ p. newWith-law w x)
         (λ p. if-cases (Kept room e o) _ _ _ (λ p. same-objects (booleanWord (eqb w x)) (boolean-valid (eqb w x)))
-        (λ p. if-cases (Kept room e o) _ _ fails (λ p. same-objects (classOf o w) (class-valid w v)) (λ p. tt))))))))
+        (λ p. if-cases (Kept room e o) _ _ fails (λ p. same-objects (classOf o w) (class-valid r w v)) (λ p. tt))))))))
 
     pub answer-law : (k count w : ℕ) (arguments : List ℕ) → count ≡ length arguments → T (isValid (o .n) w) → T (every (isValid (o .n)) arguments)
         → Kept room e o (primitive e room o k count w arguments)

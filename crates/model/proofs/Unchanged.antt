@@ -40,10 +40,6 @@ pub implies-same : (a a′ b b′ : Bool) → a′ ≡ a → (T a → b′ ≡ b
 implies-same true a′ b b′ p q = ap₂ implies p (q tt)
 implies-same false a′ b b′ p q = ap (λ (z : Bool). implies z b′) p
 
-no-test : (b : Bool) → (T b → ⊥) → b ≡ false
-no-test true f = absurd (f tt)
-no-test false f = refl
-
 -- How a search in a dictionary turns
 module _ (o : Objects) where
   pub find-hit : (d s i left : ℕ) → eqb (pairSelector o d i) s ≡ true → findFrom o d s i (suc left) ≡ found (pairMethod o d i)

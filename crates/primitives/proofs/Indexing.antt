@@ -8,14 +8,15 @@ use native.Mathlib.Omega.{arith}
 use borrow.Author.Tests.{eq-eqb, ne-eqb, le-leb, lt-leb}
 use lib.Dec.{T, leb}
 use Rattle.bytecode.proofs.Choice.{if-yes, if-no}
-use Rattle.bytecode.proofs.TestLaws.{true→T, T→true}
+use Rattle.bytecode.proofs.TestLaws.{true→T, T→true, never}
 use Rattle.model.specs.declared.Computed.the-variants.{Word, Failed}
 use Rattle.model.specs.Limits.{mostElements, bytesKind, bytesForm}
 use Rattle.model.specs.Word.{objectNumber}
 use Rattle.model.specs.Objects.{Objects, objectsAt, classOf, kind, size, bodyWords, bodyWord, form, isKind, atFront}
 use Rattle.model.specs.Primitive.{Outcome, answers, fails, storeWord, storeByte, objectByte, elementStart, elementCount, hasElements, isIndexable, holdsBytes, isIndex, placeOfIndex, at, atPut, sizeAnswer}
 use Rattle.model.proofs.Facts.{in-words, in-bytes, sized-at, class-facts}
-use Rattle.model.proofs.ElementLaws.{Forms, has-forms, forms-have, Indexable, indexable-facts, facts-indexable, Index, index-facts, facts-index, class-kind, bytes-kind, words-kind, named-inside}
+use Rattle.model.proofs.ElementLaws.{Forms, has-forms, forms-have, Indexable, indexable-facts, facts-indexable, Index, index-facts, facts-index, bytes-kind, words-kind, named-inside}
+use Rattle.model.proofs.SendFacts.{class-kind}
 use Rattle.readers.specs.Places.{Entry, Inside}
 use Rattle.objects.specs.Lent.{Holds}
 use Rattle.primitives.specs.declared.Elements.{Elements}
@@ -24,15 +25,11 @@ use Rattle.readers.proofs.InsideLaws.{body-inside, right-laid}
 use Rattle.objects.proofs.Buffers.{contents-room, bodies-room, front-same}
 use Rattle.objects.proofs.Bodies.{valid-entry}
 
-not-test : (t : Bool) → (T t → ⊥) → t ≡ false
-not-test true f = absurd (f tt)
-not-test false f = refl
-
 -- The elements of a receiver, test by test
 module _ (o : Objects) (w : ℕ) where
   none : (Indexable o w → ⊥) → noElements ≡ elementsOf o w
   unfolding elementsOf
-  none f = sym (if-no _ _ (not-test (isIndexable o w) (λ t. f (indexable-facts o w t))))
+  none f = sym (if-no _ _ (never (isIndexable o w) (λ t. f (indexable-facts o w t))))
 
   pub elements-odd : w % 2 ≡ 1 → noElements ≡ elementsOf o w
   elements-odd h = none (λ q. q .even h)
@@ -68,7 +65,7 @@ pub record Taken (o : Objects) (w : ℕ) (e : Elements) : Type 0 where
 module _ (o : Objects) (w : ℕ) {e : Elements} (p : e ≡ elementsOf o w) where
   pub not-taken : e .by ≡ 0 → isIndexable o w ≡ false
   unfolding elementsOf
-  not-taken z = not-test (isIndexable o w) (λ t. go (indexable-facts o w t .forms) (sym (ap (λ (x : Elements). x .by) (if-yes _ _ (T→true (isIndexable o w) t))) ∙ sym (ap (λ (x : Elements). x .by) p) ∙ z))
+  not-taken z = never (isIndexable o w) (λ t. go (indexable-facts o w t .forms) (sym (ap (λ (x : Elements). x .by) (if-yes _ _ (T→true (isIndexable o w) t))) ∙ sym (ap (λ (x : Elements). x .by) p) ∙ z))
     where
       go : Forms (form o (classOf o w)) → form o (classOf o w) ≡ 0 → ⊥
       go (inl q) s = omega arith
@@ -92,7 +89,7 @@ module _ {o : Objects} {w : ℕ} {e : Elements} (p : e ≡ elementsOf o w) where
 module _ (count x : ℕ) where
   pub no-index : (Index count x → ⊥) → 0 ≡ indexOf count x
   unfolding indexOf
-  no-index f = sym (if-no _ _ (not-test (isIndex count x) (λ t. f (index-facts count x t))))
+  no-index f = sym (if-no _ _ (never (isIndex count x) (λ t. f (index-facts count x t))))
 
   pub an-index : Index count x → x / 2 ≡ indexOf count x
   unfolding indexOf
@@ -108,7 +105,7 @@ module _ {o : Objects} {w : ℕ} {e : Elements} (t : Taken o w e) where
   pub not-indexed : (x : ℕ) {i : ℕ} → i ≡ indexOf (e .count) x → i ≡ 0 → isIndex (elementCount o w) x ≡ false
   unfolding indexOf
   not-indexed x {i} p z =
-      not-test (isIndex (elementCount o w) x) (λ q. absurd (go (index-facts (elementCount o w) x q) (sym (if-yes _ _ (T→true (isIndex (elementCount o w) x) q))
+      never (isIndex (elementCount o w) x) (λ q. absurd (go (index-facts (elementCount o w) x q) (sym (if-yes _ _ (T→true (isIndex (elementCount o w) x) q))
       ∙ sym (p ∙ ap (λ (k : ℕ). indexOf k x) (t .count)) ∙ z)))
     where
       go : Index (elementCount o w) x → x / 2 ≡ 0 → ⊥
@@ -135,9 +132,9 @@ module _ {n b : ℕ} {contents bodies : List ℕ} {w : ℕ} (r : Receives n b co
   pub receiver-listed : w % 2 ≢ 1 → Entry n (objectNumber w) contents
   receiver-listed d = valid-entry n contents w (r .valid) d (contents-room n b contents bodies (r .right .1))
 
-  pub receiver-class : {c : ℕ} → w % 2 ≢ 1 → c ≡ classOf (objectsAt n b contents bodies) w → Holds 2 n b contents bodies c
-  receiver-class d e =
-      record { right = r .right; kinds = subst (λ (x : ℕ). T (isKind (objectsAt n b contents bodies) 2 x)) (sym e) (class-kind (r .right .1) w (r .valid) d) }
+  pub receiver-class : {c : ℕ} → c ≡ classOf (objectsAt n b contents bodies) w → Holds 2 n b contents bodies c
+  receiver-class e =
+      record { right = r .right; kinds = subst (λ (x : ℕ). T (isKind (objectsAt n b contents bodies) 2 x)) (sym e) (class-kind (r .right .1) w (r .valid)) }
 
   -- no count of elements is below 0
   pub named-first : {f s z : ℕ} → w % 2 ≢ 1 → f ≡ form (objectsAt n b contents bodies) (classOf (objectsAt n b contents bodies) w) → hasElements f ≡ true
@@ -145,7 +142,7 @@ module _ {n b : ℕ} {contents bodies : List ℕ} {w : ℕ} (r : Receives n b co
   named-first d e p s z = let l = named-inside (r .right .1) w (r .valid) d (by-form (objectsAt n b contents bodies) w e p) in omega arith
 
   pub start-small : {e : Elements} → Taken (objectsAt n b contents bodies) w e → e .start ≤ 255
-  start-small t = let l = class-facts (r .right .1) (classOf (objectsAt n b contents bodies) w) (class-kind (r .right .1) w (r .valid) (t .even)) .fields in let s = t .start in omega arith
+  start-small t = let l = class-facts (r .right .1) (classOf (objectsAt n b contents bodies) w) (class-kind (r .right .1) w (r .valid)) .fields in let s = t .start in omega arith
 
   module _ {x i : ℕ} {e : Elements} (t : Taken (objectsAt n b contents bodies) w e) (k : Indexed (objectsAt n b contents bodies) w x i) where
     inside : {j : ℕ} → j < bodyWords (objectsAt n b contents bodies) (objectNumber w) → Inside n b contents bodies w j

@@ -8,12 +8,7 @@ use native.Mathlib.Decide.{ℕ-discrete}
 use lib.Dec.{T}
 use lib.ListN.{getD, length}
 use Rattle.bytecode.specs.Test.{upTo, below, every}
-use Rattle.bytecode.proofs.TestLaws.{true→T, T→true, upTo-at, at-upTo, below-at, at-below, every-at, at-every}
-
--- a test that cannot pass
-pub never : (b : Bool) → (T b → ⊥) → b ≡ false
-never true f = absurd (f tt)
-never false f = refl
+use Rattle.bytecode.proofs.TestLaws.{true→T, T→true, never, upTo-at, at-upTo, below-at, at-below, every-at, at-every}
 
 -- a test that failed did not pass
 pub failed : {b : Bool} → b ≡ false → T b → ⊥

@@ -11,14 +11,13 @@ use lib.ListN.{length}
 use lib.Seq.{length-take-le}
 use Rattle.bytecode.specs.Test.{if_then_else_, allOf}
 use Rattle.bytecode.proofs.Choice.{if-yes, if-no}
-use Rattle.bytecode.proofs.TestLaws.{true→T, T→true, and-right, and-both}
+use Rattle.bytecode.proofs.TestLaws.{true→T, T→true, and-right, and-both, never}
 use Rattle.model.specs.Limits.{entryWords, cacheWords}
 use Rattle.model.specs.Word.{isValid}
 use Rattle.model.specs.Objects.{Objects, objectsAt}
 use Rattle.model.specs.Rules.{Right, headerFine}
 use Rattle.model.specs.Image.{Verdict, accepted, refused, inOrder, testsOf, buffersFine, objectTests, objectsVerdict}
 use Rattle.model.proofs.OrderLaws.{accepted→all, all→accepted}
-use Rattle.readers.proofs.Loops.{never}
 use Rattle.rules.specs.Lent.{Lent}
 use Rattle.store.specs.Answer.{numberOf, roomFor}
 use Rattle.store.specs.Judged.{Judged}

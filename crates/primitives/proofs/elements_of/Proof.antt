@@ -23,7 +23,7 @@ class-of-requires c κs =
     (at-start .pre .valid, contents-room (args .n) (args .b) (args .contents .now) (args .bodies .now) (at-start .pre .right .1))
 
 form-of-requires : tie.Need-form-of-requires
-form-of-requires c κs = receiver-class (c .before .before .before .before .pre) (c .before .if1 .left) (c .class-of .ensures _ _)
+form-of-requires c κs = receiver-class (c .before .before .before .before .pre) (c .class-of .ensures _ _)
 
 has-elements-requires : tie.Need-has-elements-requires
 has-elements-requires c κs = search needs
@@ -46,9 +46,8 @@ returns-2 c =
 field-count-requires : tie.Need-field-count-requires
 field-count-requires c κs =
     let at-class-of = c .before .before .before in
-    let at-if1 = at-class-of .before in
-    let at-start = at-if1 .before .before .before in
-    receiver-class (at-start .pre) (at-if1 .if1 .left) (at-class-of .class-of .ensures _ _)
+    let at-start = at-class-of .before .before .before .before in
+    receiver-class (at-start .pre) (at-class-of .class-of .ensures _ _)
 
 size-requires : tie.Need-size-requires
 size-requires c κs =
