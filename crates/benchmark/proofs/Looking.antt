@@ -19,7 +19,7 @@ use Rattle.model.proofs.Parts.{or-right}
 use Rattle.plain.specs.Flat.{Flat, flatObjects, plainOf}
 use Rattle.plain.specs.Check.{check}
 use Rattle.plain.proofs.FlatLaws.{check-right}
-use Rattle.sofaduck.specs.Border.{sevenWords, stateOf, verdictOf}
+use Rattle.sofaduck.specs.Border.{registersAt, stateOf, verdictOf}
 use Rattle.benchmark.specs.Lookups.{isAccepted, wordFound, LookupIs}
 
 module _ (words contents bodies stack cache : List ℕ) (selector class m p : ℕ) where
@@ -40,16 +40,16 @@ module _ (words contents bodies stack cache : List ℕ) (selector class m p : �
     yes = sym e ∙ ap verdictOf h
 
     pub right : IsRight o
-    unfolding sevenWords plainOf
-    right = (1, check-right s yes .plain .image)
+    unfolding registersAt plainOf
+    right = (getD words 7 0, check-right s yes .plain .image)
 
     pub entries : entryWords * getD words 0 0 ≤ length contents
-    unfolding sevenWords
+    unfolding registersAt
     entries = check-right s yes .contents
 
     module _ {x : Bool} (k : x ≡ isKind o classKind class) where
       pub no-class : not x ≡ true → LookupIs s selector class m p m p false
-      unfolding sevenWords if_then_else_
+      unfolding registersAt if_then_else_
       no-class q = record { made = sym (ap₂ (λ (v : Verdict) (b : Bool). isAccepted v && b) yes (sym k ∙ not-true x q)); found = refl; read = refl }
 
       is-class : not x ≡ false → isKind o classKind class ≡ true
@@ -59,6 +59,6 @@ module _ (words contents bodies stack cache : List ℕ) (selector class m p : �
       starts q = or-right (eqb class nilWord) (isKind o classKind class) (true→T (is-class q))
 
       pub looked : {f g : Found} {j : ℕ} → not x ≡ false → f ≡ lookup o selector class → j ≡ pairsRead o selector class → f ≡ g → LookupIs s selector class m p (wordFound g) j true
-      unfolding sevenWords if_then_else_
+      unfolding registersAt if_then_else_
       looked q a b c =
           record { made = sym (ap₂ (λ (v : Verdict) (t : Bool). isAccepted v && t) yes (is-class q)); found = ap wordFound (sym c ∙ a); read = b }

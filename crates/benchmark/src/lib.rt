@@ -55,7 +55,7 @@ pub extern "C" fn bench_lookup(
     bodies: &[u16],
     stack: &[u16],
     cache: &[u16],
-    registers: &[u16; 7],
+    registers: &[u16; 8],
     selector: u16,
     class: u16,
     method: &mut u16,

@@ -16,7 +16,7 @@ use Rattle.model.specs.Word.{pointer}
 use Rattle.model.specs.Objects.{Objects, objectsAt, kind, start, bodyWords, bodyEnd}
 use Rattle.model.specs.Method.{codeSize, runsCode}
 use Rattle.model.specs.Depth.{isSome}
-use Rattle.model.specs.Rules.{methodTable, rule4}
+use Rattle.model.specs.Rules.{methodTable, failureMethodsFine, rule4, rule7}
 use Rattle.model.specs.Notes.{notesFrom, MethodNoted, NotedBefore}
 use Rattle.rules.proofs.Laid.{layout-at}
 use Rattle.readers.proofs.Names.{names-kind}
@@ -149,24 +149,31 @@ module _ (edition : ℕ) (o : Objects) where
       last m h = omega arith
 
   -- rule 7 by the passes
+  abbrev F : Bool
+  F = failureMethodsFine edition o
+
+  refused-seven : (ns : List ℕ) → rule7 edition o ≡ false → MethodsNoted edition o ns false
+  refused-seven ns e = record { answer = sym e; noted = λ q. absurd (subst T (sym q) tt) }
+
   pub seven-shapes : (ns : List ℕ) → shapes o ≡ false → MethodsNoted edition o ns false
-  seven-shapes ns e = record { answer = sym (passes edition o ∙ stop (shapes o) (holders o && codes edition o) e); noted = λ q. absurd (subst T (sym q) tt) }
+  seven-shapes ns e = refused-seven ns (passes edition o ∙ stop (shapes o) (holders o && (F && codes edition o)) e)
+
+  after-shapes : shapes o ≡ true → rule7 edition o ≡ (holders o && (F && codes edition o))
+  after-shapes e = passes edition o ∙ pass (shapes o) (holders o && (F && codes edition o)) e
 
   pub seven-holders : (ns counts : List ℕ) (r : Bool) → shapes o ≡ true → Held o counts r → r ≡ false → MethodsNoted edition o ns false
   unfolding Held
   seven-holders ns counts true e h q = absurd (subst T q tt)
-  seven-holders ns counts false e h q =
-      record {
-        answer = sym (passes edition o ∙ pass (shapes o) (holders o && codes edition o) e ∙ stop (holders o) (codes edition o) (never (holders o) h));
-        noted = λ x. absurd (subst T (sym x) tt);
-      }
+  seven-holders ns counts false e h q = refused-seven ns (after-shapes e ∙ stop (holders o) (F && codes edition o) (never (holders o) h))
 
-  pub seven-codes : (ns : List ℕ) (r : Bool) → shapes o ≡ true → T (holders o) → CodesNoted edition o ns r → MethodsNoted edition o ns r
-  seven-codes ns r e h c =
-      record {
-        answer = c .answer ∙ sym (passes edition o ∙ pass (shapes o) (holders o && codes edition o) e ∙ pass (holders o) (codes edition o) (T→true (holders o) h));
-        noted = c .noted;
-      }
+  after-holders : shapes o ≡ true → T (holders o) → rule7 edition o ≡ (F && codes edition o)
+  after-holders e h = after-shapes e ∙ pass (holders o) (F && codes edition o) (T→true (holders o) h)
+
+  pub seven-failures : (ns : List ℕ) → shapes o ≡ true → T (holders o) → F ≡ false → MethodsNoted edition o ns false
+  seven-failures ns e h f = refused-seven ns (after-holders e h ∙ stop F (codes edition o) f)
+
+  pub seven-codes : (ns : List ℕ) (r : Bool) → shapes o ≡ true → T (holders o) → F ≡ true → CodesNoted edition o ns r → MethodsNoted edition o ns r
+  seven-codes ns r e h f c = record { answer = c .answer ∙ sym (after-holders e h ∙ pass F (codes edition o) f); noted = c .noted }
 
 module _ {table contents bodies counts : List ℕ} {n b notes pending : ℕ} (l : PassLent table n b contents bodies counts notes pending) where
   abbrev o : Objects

@@ -665,6 +665,9 @@ pub fn methods_fine(
     if !methods::count_methods(contents, bodies, n, b, &mut counts) {
         return false;
     }
+    if !methods::failures_fine(edition, &counts) {
+        return false;
+    }
     let table = bytecode::table();
     codes_noted(edition, &table, contents, bodies, n, b, &counts, notes)
 }

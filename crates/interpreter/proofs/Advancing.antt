@@ -9,9 +9,10 @@ use Rattle.model.specs.Objects.{objectsAt}
 use Rattle.model.specs.Method.{temporaryCount, frameSize}
 use Rattle.model.specs.declared.CodePosition.{CodePosition}
 use Rattle.model.specs.declared.StackPosition.{StackPosition}
+use Rattle.plain.specs.Registers.{noStackRoom, phaseOf}
 use Rattle.plain.specs.Step.{Stepped, returned}
 use Rattle.plain.specs.Flat.{frameSender, frameDepth, frameMethod}
-use Rattle.plain.specs.Running.{Runs, Sending, Made, runningWith, finishedWith, runningAt, roomAt, topFrame, restFrames, sendStep}
+use Rattle.plain.specs.Running.{Runs, Sending, Made, runningWith, finishedWith, runningAt, roomAt, topFrame, restFrames, sendStep, failedStep}
 use Rattle.plain.proofs.MadeLaws.{moved-made, made-as}
 use Rattle.plain.proofs.ReturnLaws.{sender-bounds, bottom-returns, sender-returns}
 use Rattle.frames.specs.declared.Active.{Active}
@@ -24,8 +25,8 @@ use Rattle.steps.specs.declared.Event.{Event}
 use Rattle.steps.specs.declared.Event.the-variants.{Next, Send, Return, Halt}
 use Rattle.steps.specs.Events.{Says, Becomes, Halting}
 use Rattle.sends.specs.declared.Sent.{Sent}
-use Rattle.sends.specs.declared.Sent.the-variants.{Answered, Entered, Halted}
-use Rattle.sends.specs.Sends.{Halts, Sends, SentIs}
+use Rattle.sends.specs.declared.Sent.the-variants.{Answered, Entered, Full, Failed}
+use Rattle.sends.specs.Sends.{Halts, Fails, Sends, SentIs}
 use Rattle.interpreter.specs.Advances.{Returned, pushedOn, AdvancedIs, stepOf}
 use Rattle.interpreter.specs.declared.Advanced.the-variants as A
 
@@ -140,6 +141,10 @@ module _ {n b : ℕ} {contents bodies stack : List ℕ} {a : Active} (r : IsActi
     send-step cache l s edition receiver selector =
         sendStep (roomAt contents l (written a s) cache) edition receiver selector n b top contents l (written a s) (m .selector) (m .count) (m .class .0) (m .next .0)
 
+    abbrev failed-step : List ℕ → List ℕ → List ℕ → ℕ → ℕ → ℕ → Stepped
+    failed-step cache l s edition receiver selector =
+        failedStep (roomAt contents l (written a s) cache) edition receiver selector n b top contents l (written a s) (m .selector) (m .count) (m .class .0) (m .next .0)
+
     abbrev Sent-by : Type 0
     Sent-by = Sending n b top contents bodies v (m .selector) (m .count) (m .class .0) (m .next .0) (m .sure)
         × Becomes n b contents a bodies stack bodies₁ stack₁
@@ -168,11 +173,11 @@ module _ {n b : ℕ} {contents bodies stack : List ℕ} {a : Active} (r : IsActi
       where
         -- what the send says, of the buffers before the step
         said : (y : Sent) → answer ≡ y → (receiver selector : ℕ)
-            → SentIs (send-step cache bodies stack edition receiver selector) edition receiver selector n b a m contents bodies stack cache contents′ bodies′ stack′ cache′ y
+            → SentIs (send-step cache bodies stack edition receiver selector) (failed-step cache bodies stack edition receiver selector) edition receiver selector n b a m contents bodies stack cache contents′ bodies′ stack′ cache′ y
         said y d receiver selector =
             let x = sends-it .1 in
-            subst (SentIs (send-step cache bodies stack edition receiver selector) edition receiver selector n b a m contents bodies stack cache contents′ bodies′ stack′ cache′) d
-            (back (x .words) (x .frames) (λ (l s : List ℕ). SentIs (send-step cache l s edition receiver selector) edition receiver selector n b a m contents l s cache
+            subst (SentIs (send-step cache bodies stack edition receiver selector) (failed-step cache bodies stack edition receiver selector) edition receiver selector n b a m contents bodies stack cache contents′ bodies′ stack′ cache′) d
+            (back (x .words) (x .frames) (λ (l s : List ℕ). SentIs (send-step cache l s edition receiver selector) (failed-step cache l s edition receiver selector) edition receiver selector n b a m contents l s cache
             contents′ bodies′ stack′ cache′ answer) (h receiver selector))
 
         as-sent : (receiver selector : ℕ) → stepFrom cache edition receiver selector ≡ send-step cache bodies stack edition receiver selector
@@ -181,26 +186,27 @@ module _ {n b : ℕ} {contents bodies stack : List ℕ} {a : Active} (r : IsActi
         pub answers : (n′ b′ : ℕ) → answer ≡ Answered n′ b′ → (receiver selector : ℕ)
             → AdvancedIs edition receiver selector n b a contents bodies stack cache contents′ bodies′ stack′ cache′ (A.Answered n′ b′ (m .next) (record { 0 = a .end .0 - m .count }))
         answers n′ b′ d receiver selector =
-            let x : SentIs (send-step cache bodies stack edition receiver selector) edition receiver selector n b a m contents bodies stack cache contents′ bodies′ stack′ cache′
+            let x : SentIs (send-step cache bodies stack edition receiver selector) (failed-step cache bodies stack edition receiver selector) edition receiver selector n b a m contents bodies stack cache contents′ bodies′ stack′ cache′
             (Answered n′ b′) = said (Answered n′ b′) d receiver selector in
             (made-as (as-sent receiver selector) (x .0), x .1)
 
         pub enters : (f : Active) (end : ℕ) → answer ≡ Entered f end → (receiver selector : ℕ)
             → AdvancedIs edition receiver selector n b a contents bodies stack cache contents′ bodies′ stack′ cache′ (A.Top f end)
         enters f end d receiver selector =
-            let x : SentIs (send-step cache bodies stack edition receiver selector) edition receiver selector n b a m contents bodies stack cache contents′ bodies′ stack′ cache′
+            let x : SentIs (send-step cache bodies stack edition receiver selector) (failed-step cache bodies stack edition receiver selector) edition receiver selector n b a m contents bodies stack cache contents′ bodies′ stack′ cache′
             (Entered f end) = said (Entered f end) d receiver selector in
             (made-as (as-sent receiver selector) (x .0), x .1, x .2)
 
-        module _ (k : ℕ) (d : answer ≡ Halted k) where
-          stopped : (receiver selector : ℕ) → Halts (send-step cache bodies stack edition receiver selector) k contents bodies stack cache contents′ bodies′ stack′ cache′
-          stopped receiver selector = said (Halted k) d receiver selector
+        -- a stack that is full
+        module _ (d : answer ≡ Full) where
+          stopped : (receiver selector : ℕ) → Halts (send-step cache bodies stack edition receiver selector) (phaseOf noStackRoom) contents bodies stack cache contents′ bodies′ stack′ cache′
+          stopped receiver selector = said Full d receiver selector
 
           pub leaves-stopped : Leaving stack′ a
           leaves-stopped = subst (λ (s : List ℕ). Leaving s a) (sym (stopped 0 0 .stays .frames)) (leaving r)
 
           pub stops : (stack″ : List ℕ) → stack″ ≡ written a stack′ → (receiver selector : ℕ)
-              → AdvancedIs edition receiver selector n b a contents bodies stack cache contents′ bodies′ stack″ cache′ (A.Halted k)
+              → AdvancedIs edition receiver selector n b a contents bodies stack cache contents′ bodies′ stack″ cache′ (A.Halted (phaseOf noStackRoom))
           stops stack″ l receiver selector =
               let x = stopped receiver selector in
               record {
@@ -209,3 +215,23 @@ module _ {n b : ℕ} {contents bodies stack : List ℕ} {a : Active} (r : IsActi
                 phase = x .phase;
                 stays = record { entries = x .stays .entries; words = x .stays .words; frames = l ∙ ap (written a) (x .stays .frames); cached = x .stays .cached };
               }
+
+        -- a send that fails
+        module _ (d : answer ≡ Failed) where
+          missed : (receiver selector : ℕ)
+              → Fails (send-step cache bodies stack edition receiver selector) (failed-step cache bodies stack edition receiver selector) contents bodies stack cache contents′ bodies′ stack′ cache′
+          missed receiver selector = said Failed d receiver selector
+
+          pub leaves-missed : Leaving stack′ a
+          leaves-missed = subst (λ (s : List ℕ). Leaving s a) (sym (missed 0 0 .stays .frames)) (leaving r)
+
+          pub misses : (stack″ : List ℕ) → stack″ ≡ written a stack′ → (receiver selector : ℕ)
+              → AdvancedIs edition receiver selector n b a contents bodies stack cache contents′ bodies′ stack″ cache′ (A.Failed m)
+          misses stack″ l receiver selector =
+              let x = missed receiver selector in (
+                record {
+                  steps = as-sent receiver selector ∙ x .steps;
+                  stays = record { entries = x .stays .entries; words = x .stays .words; frames = l ∙ ap (written a) (x .stays .frames); cached = x .stays .cached };
+                },
+                sends-it .0,
+              )

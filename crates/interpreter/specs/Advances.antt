@@ -7,12 +7,12 @@ use Rattle.model.specs.Objects.{objectsAt}
 use Rattle.model.specs.Method.{temporaryCount}
 use Rattle.plain.specs.Flat.{frameSender, frameDepth, frameMethod}
 use Rattle.plain.specs.Step.{Stepped, step}
-use Rattle.plain.specs.Running.{runningWith, runningAt, roomAt, finishedWith, Made}
+use Rattle.plain.specs.Running.{runningWith, runningAt, roomAt, finishedWith, Made, Sending, failedStep}
 use Rattle.frames.specs.declared.Active.{Active}
 use Rattle.frames.specs.Active.{written, movedOn, Stands, Onward, Held, frameEnd}
-use Rattle.sends.specs.Sends.{Halts}
+use Rattle.sends.specs.Sends.{Halts, Fails}
 use Rattle.interpreter.specs.declared.Advanced.{Advanced}
-use Rattle.interpreter.specs.declared.Advanced.the-variants.{Next, Answered, Top, Below, Finished, Halted}
+use Rattle.interpreter.specs.declared.Advanced.the-variants.{Next, Answered, Top, Below, Finished, Failed, Halted}
 
 -- The step that the buffers are about to make
 abbrev pub stepOf : ℕ → ℕ → ℕ → ℕ → ℕ → Active → List ℕ → List ℕ → List ℕ → List ℕ → Stepped
@@ -55,3 +55,8 @@ AdvancedIs edition receiver selector n b a contents bodies stack cache contents�
     Made (stepOf edition receiver selector n b a contents bodies stack cache) (finishedWith edition receiver selector n b w) contents bodies (written a stack) cache contents′ bodies′ stack′ cache′
 AdvancedIs edition receiver selector n b a contents bodies stack cache contents′ bodies′ stack′ cache′ (Halted k) =
     Halts (stepOf edition receiver selector n b a contents bodies stack cache) k contents bodies (written a stack) cache contents′ bodies′ stack′ cache′
+AdvancedIs edition receiver selector n b a contents bodies stack cache contents′ bodies′ stack′ cache′ (Failed m) =
+    Fails (stepOf edition receiver selector n b a contents bodies stack cache)
+    (failedStep (roomAt contents bodies (written a stack) cache) edition receiver selector n b (a .base .0) contents bodies (written a stack) (m .selector) (m .count) (m .class .0) (m .next .0))
+    contents bodies (written a stack) cache contents′ bodies′ stack′ cache′
+    × Sending n b (a .base .0) contents bodies (written a stack) (m .selector) (m .count) (m .class .0) (m .next .0) (m .sure)

@@ -5,14 +5,16 @@ ghost use Rattle.cache.specs.Caches.{Caches};
 ghost use Rattle.frames.specs.Active.{IsActive};
 ghost use Rattle.interpreter.specs.Advances.{Returned, AdvancedIs};
 use frames::Active;
+use frames::Message;
 use model::CodePosition;
 use model::StackPosition;
+use model::limits;
 use sends::Sent;
 use steps::Event;
 
 // What a bytecode leads to: the running frame goes on, at another position and with operands up to another end, after a send that was
 // answered with the number of objects and body words then; or a new frame is on top, which ends at `end`; or the frame below is, after a
-// return; or the value that the run finishes with; or a halt, with the phase that says why.
+// return; or the value that the run finishes with; or a send that failed, whose message may be sent; or a halt, with the phase that says why.
 pub enum Advanced {
     Next {
         position: CodePosition,
@@ -30,6 +32,7 @@ pub enum Advanced {
     },
     Below(Active),
     Finished(u16),
+    Failed(Message),
     Halted(u16),
 }
 
@@ -104,9 +107,13 @@ pub fn advance(
                     frame: frame,
                     end: end,
                 },
-                Sent::Halted(k) => {
+                Sent::Full => {
                     frames::leave(stack, active);
-                    Advanced::Halted(k)
+                    Advanced::Halted(limits::NO_STACK_ROOM)
+                }
+                Sent::Failed => {
+                    frames::leave(stack, active);
+                    Advanced::Failed(message)
                 }
             }
         }

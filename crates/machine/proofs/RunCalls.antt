@@ -21,7 +21,8 @@ use Rattle.plain.proofs.FlatLaws.{FlatRight, check-right}
 use Rattle.plain.proofs.TurnLaws.{run-passes, whole-run}
 use Rattle.machine.specs.declared.Registers.{Registers}
 use Rattle.runs.specs.declared.Ended.{Ended}
-use Rattle.runs.specs.Ends.{startOf, endedWith, Goes, RunsTo, RunsOn}
+use Rattle.runs.specs.Ends.{startOf, endedWith, Goes, RunsTo}
+use Rattle.grants.specs.Grants.{RunsOn}
 use Rattle.machine.specs.State.{registersOf, state, runGives}
 use Rattle.machine.specs.declared.Ran.the-variants as N
 

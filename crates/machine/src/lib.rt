@@ -382,7 +382,7 @@ impl Registers {
         }
     }
 
-    // At most `grant` bytecodes; 12 outside phase 1. It alone calls `runs::run`, so that the loop is compiled once.
+    // At most `grant` bytecodes; 12 outside phase 1. It alone calls `grants::run`, so that the loop is compiled once.
     fn run_checked(
         self,
         contents: &mut [u16],
@@ -398,7 +398,7 @@ impl Registers {
         if self.phase != 1 {
             return Ran::Refused(12, self);
         }
-        let ended = runs::run(
+        let ended = grants::run(
             contents,
             bodies,
             stack,

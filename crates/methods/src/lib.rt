@@ -1,18 +1,18 @@
 // The image rules of methods (refusal 7). A method is given by its word.
 ghost use mathlib.Core.Path.{_≡_};
 ghost use mathlib.Core.List.{List};
-ghost use Prim.Native.Nat.{ℕ, _+_, _*_, _/_, _<_, _≤_};
+ghost use Prim.Native.Nat.{ℕ, _+_, _*_, _/_, _%_, _<_, _≤_};
 ghost use lib.Dec.{T};
 ghost use lib.ListN.{length, getD};
 ghost use Rattle.bytecode.specs.Test.{below, allOf};
-ghost use Rattle.model.specs.Limits.{entryWords, methodKind};
+ghost use Rattle.model.specs.Limits.{entryWords, methodKind, failureSelectorObject};
 ghost use Rattle.model.specs.Word.{isValid};
-ghost use Rattle.model.specs.Objects.{objectsAt, isKind};
+ghost use Rattle.model.specs.Objects.{Objects, objectsAt, isKind};
 ghost use Rattle.model.specs.Method.{literal, literalCount};
-ghost use Rattle.model.specs.Rules.{extensionFine, variableFine, sendFine};
+ghost use Rattle.model.specs.Rules.{extensionFine, variableFine, takesCount, sendFine, failureMethodsFine};
 ghost use Rattle.readers.specs.Places.{Laid};
 ghost use Rattle.methods.specs.Asked.{Ready, Literals, ClassAsked, PairAsked, ObjectAsked, FlagAsked, SendAsked};
-ghost use Rattle.methods.specs.Counts.{Noted, Turned, Held};
+ghost use Rattle.methods.specs.Counts.{Counts, Noted, Turned, Held};
 ghost use Rattle.methods.specs.Passes.{shapeRules, fieldRule, primitiveRule, flagRules, shapeFine, shapes};
 use model::Pointer;
 use model::limits;
@@ -295,6 +295,19 @@ pub fn variable_fine(contents: &[u16], n: usize, w: u16) -> bool
     2 <= readers::size(contents, n, (w / 2) as usize)
 }
 
+// Whether the methods under a selector take so many arguments, by their counts.
+fn takes_count(counts: &[u8], selector: u16, arguments: u8) -> bool
+    requires { ⌜ selector / 2 < length (now counts) ⌝ }
+    ensures { λ r. ⌜ ((o : Objects) → Counts o (now (counts .entry)) → selector % 2 ≡ 0 → r ≡ takesCount o selector arguments) ⌝ }
+{
+    let j = (selector / 2) as usize;
+    let note = counts[j];
+    if note == 0 {
+        return true;
+    }
+    note as usize == arguments as usize + 1
+}
+
 // A send's selector is nil or of kind 1, and the methods under it take its count.
 pub fn send_fine(
     contents: &[u16],
@@ -311,10 +324,16 @@ pub fn send_fine(
     if !readers::is_nil_or(contents, n, limits::BYTES, selector) {
         return false;
     }
-    let j = (selector / 2) as usize;
-    let note = counts[j];
-    if note == 0 {
+    takes_count(counts, selector, arguments)
+}
+
+// In editions that have messages the methods under object 6 take one argument.
+pub fn failures_fine(edition: u16, counts: &[u8]) -> bool
+    requires { ⌜ failureSelectorObject < length (now counts) ⌝ }
+    ensures { λ r. ⌜ ((o : Objects) → Counts o (now (counts .entry)) → r ≡ failureMethodsFine edition o) ⌝ }
+{
+    if !readers::edition::has_messages(edition) {
         return true;
     }
-    note as usize == arguments as usize + 1
+    takes_count(counts, limits::FAILURE_SELECTOR, 1)
 }

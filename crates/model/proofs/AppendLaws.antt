@@ -14,7 +14,7 @@ use Rattle.model.specs.Word.{isValid}
 use Rattle.model.specs.Objects.{Objects, entryWord, classWord, kind, start, size, sizedInBytes, bodyWords, bodyWord, isKind, fieldCount, form}
 use Rattle.model.specs.Image.{Room}
 use Rattle.model.specs.Primitive.{appended, hasRoom}
-use Rattle.model.proofs.Facts.{Right, Padded, Layout, Fits, fixed, indexed, bytes, in-words, in-bytes, sized-at, least, layout, last-end, inside, word-valid}
+use Rattle.model.proofs.Facts.{Right, Padded, Layout, Fits, fixed, indexed, bytes, in-words, in-bytes, sized-at, least-of, least, layout, last-end, inside, word-valid}
 use Rattle.model.proofs.Extends.{Free, Extends, words-same, valid-grows, kind-kept, fields-same, form-same}
 use Rattle.model.proofs.RightLaws.{Renewed, right-kept}
 
@@ -212,7 +212,7 @@ module _ {e : ℕ} {o : Objects} (r : Right e o) (c kd sz : ℕ) (body : List �
       fine-sizes : T (leb (leastObjects e) (grown .n) && (leb (grown .n) mostObjects && leb (grown .b) mostBodyWords))
       unfolding appended
       fine-sizes =
-          let l = least r in
+          let l = least-of r in
           and-both (leb (leastObjects e) (o .n + 1)) (leb (o .n + 1) mostObjects && leb (o .b + length body) mostBodyWords) (le→leb (leastObjects e) (o .n + 1) (omega arith))
           (and-both (leb (o .n + 1) mostObjects) (leb (o .b + length body) mostBodyWords) (le→leb (o .n + 1) mostObjects (omega arith)) (le→leb (o .b + length body) mostBodyWords g))
 

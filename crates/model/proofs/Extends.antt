@@ -17,7 +17,7 @@ use Rattle.model.specs.Objects.{Objects, entryWord, classWord, kind, sta
 use Rattle.model.specs.Method.{header, home, literal, flag, temporaryCount, literalCount, codeWords, codeSize, frameWords, extension, primitiveNumber, argumentCount, runsCode}
 use Rattle.model.proofs.ChainLaws.{Named, named}
 use Rattle.model.proofs.Parts.{same-test, part-same}
-use Rattle.model.proofs.Facts.{Right, Valid, odd, names, naming, valid-cases, valid-odd, valid-name, least, inside, class-words, method-words, list-words, method-facts}
+use Rattle.model.proofs.Facts.{Right, Valid, odd, names, naming, valid-cases, valid-more, least, inside, class-words, method-words, list-words, method-facts}
 
 -- a kind that is none of classes, lists and methods
 abbrev pub Free : ℕ → Type 0
@@ -42,11 +42,7 @@ module _ {o o′ : Objects} (x : Extends o o′) where
       ap₂ (λ (a b : ℕ). if sizedInBytes a then (b + 1) / 2 else b) (x .entries k 1 h g (omega arith)) (x .entries k 3 h g (omega arith))
 
   pub valid-grows : (w : ℕ) → T (isValid (o .n) w) → T (isValid (o′ .n) w)
-  valid-grows w t = go (valid-cases (o .n) w t)
-    where
-      go : Valid (o .n) w → T (isValid (o′ .n) w)
-      go (odd h) = valid-odd (o′ .n) w h
-      go (names a b c) = let g = x .grows in valid-name (o′ .n) w a b (omega arith)
+  valid-grows w t = valid-more (o .n) (o′ .n) w (x .grows) t
 
   pub kind-kept : (k w : ℕ) → T (isKind o k w) → T (isKind o′ k w)
   kind-kept k w t =

@@ -12,13 +12,14 @@ use Rattle.bytecode.specs.Test.{if_then_else_, upTo, every, implies, allOf}
 use Rattle.bytecode.specs.Constant.{nilWord}
 use Rattle.bytecode.proofs.Choice.{if-yes, if-no, if-cases}
 use Rattle.bytecode.proofs.TestLaws.{true→T, T→true, and-left, and-right, and-both, or-cases, implied, rule, rules, upTo-at, at-upTo, below-at, every-at, at-every}
+use Rattle.model.specs.Limits.{hasMessages, failureSelectorObject, messageClassObject, arrayClassObject, messageFields}
 use Rattle.model.specs.Limits.{leastObjects, mostObjects, mostBodyWords, fieldsKind, bytesKind, classKind, listKind, methodKind, lastForm, fixedForm, indexedForm, bytesForm, otherForm, classWords, mostFields, longestChain, nilObject, falseObject, trueObject, integerClassObject, selectorsObject, specialSelectors, fieldFlag, primitiveFlag}
-use Rattle.model.specs.Word.{isInteger, isPointer, isValid, pointer, objectNumber, integerClass}
+use Rattle.model.specs.Word.{isInteger, isPointer, isValid, pointer, objectNumber, integerClass, failureSelector, messageClass, arrayClass}
 use Rattle.model.specs.Objects.{Objects, classWord, kind, start, size, sizedInBytes, bodyWords, bodyEnd, bodyWord, bodyOf, isKind, isNilOr, superclassWord, dictionaryWord, fieldsWord, formWord, fieldCount, form, pairCount, pairSelector, pairMethod}
 use Rattle.model.specs.Method.{header, home, literal, flag, temporaryCount, literalCount, extension, argumentCount, runsCode}
 use Rattle.model.specs.Lookup.{endsWithin}
 use Rattle.model.specs.Depth.{isSome}
-use Rattle.model.specs.Rules.{startFine, paddingFine, layoutRules, rule4, wordsFine, rule5, chainFine, rule14, fits, entryFine, pairFine, dictionaryFine, classRules, knownObjectRules, objectFine, rule6, takesCount, methodTable, extensionFine, methodRules, dictionaryMethodsFine, rule7}
+use Rattle.model.specs.Rules.{startFine, paddingFine, layoutRules, rule4, wordsFine, rule5, chainFine, rule14, fits, entryFine, pairFine, dictionaryFine, classRules, messageObjectRules, knownObjectRules, objectFine, rule6, takesCount, methodTable, extensionFine, methodRules, dictionaryMethodsFine, failureMethodsFine, rule7}
 pub use Rattle.model.specs.Rules.{Right}
 use Rattle.model.proofs.ChainLaws.{Named, named}
 use Rattle.model.proofs.Parts.{_also_, implying, or-left, or-right, length-part, part-at}
@@ -68,6 +69,13 @@ valid-name n w a b c =
     or-right (isInteger w) (eqb (w % 2) 0 && (leb 1 (w / 2) && leb (w / 2) n))
     (and-both (eqb (w % 2) 0) (leb 1 (w / 2) && leb (w / 2) n) (true→T (eq-eqb (w % 2) 0 a))
     (and-both (leb 1 (w / 2)) (leb (w / 2) n) (le→leb 1 (w / 2) b) (le→leb (w / 2) n c)))
+
+pub valid-more : (n k w : ℕ) → n ≤ k → T (isValid n w) → T (isValid k w)
+valid-more n k w h t = go (valid-cases n w t)
+  where
+    go : Valid n w → T (isValid k w)
+    go (odd a) = valid-odd k w a
+    go (names a b c) = valid-name k w a b (omega arith)
 
 pub valid-kind : (o : Objects) (k w : ℕ) → T (isKind o k w) → T (isValid (o .n) w)
 valid-kind o k w t = let h = named o k w t in valid-name (o .n) w (h .even) (h .least) (h .most)
@@ -326,9 +334,47 @@ method-facts-of e o m t =
       sound = implied (runsCode o m) _ (rule (methodRules e o m) t 8);
     }
 
+-- What an edition asks for: the five objects of the first, and those of messages
+pub five-least : (e : ℕ) → 5 ≤ leastObjects e
+unfolding leastObjects
+five-least e = if-cases (λ (k : ℕ). 5 ≤ k) (hasMessages e) 8 5 (λ p. omega arith) (λ p. omega arith)
+
+pub eight-least : (e : ℕ) → T (hasMessages e) → leastObjects e ≡ 8
+unfolding leastObjects
+eight-least e t = if-yes 8 5 (T→true (hasMessages e) t)
+
+-- 02, M-104: the objects of messages
+pub record MessageFacts (o : Objects) : Type 0 where
+  pub selector : kind o failureSelectorObject ≡ bytesKind
+  pub message : kind o messageClassObject ≡ classKind
+  pub message-form : form o messageClass ≡ fixedForm
+  pub message-fields : fieldCount o messageClass ≡ messageFields
+  pub array : kind o arrayClassObject ≡ classKind
+  pub array-form : form o arrayClass ≡ indexedForm
+  pub array-fields : fieldCount o arrayClass ≡ 0
+
+message-facts-of : (o : Objects) → T (allOf (messageObjectRules o)) → MessageFacts o
+unfolding messageObjectRules
+message-facts-of o t =
+    record {
+      selector = eqb→eq (kind o failureSelectorObject) bytesKind (rule (messageObjectRules o) t 0);
+      message = eqb→eq (kind o messageClassObject) classKind (rule (messageObjectRules o) t 1);
+      message-form = eqb→eq (form o messageClass) fixedForm (rule (messageObjectRules o) t 2);
+      message-fields = eqb→eq (fieldCount o messageClass) messageFields (rule (messageObjectRules o) t 3);
+      array = eqb→eq (kind o arrayClassObject) classKind (rule (messageObjectRules o) t 4);
+      array-form = eqb→eq (form o arrayClass) indexedForm (rule (messageObjectRules o) t 5);
+      array-fields = eqb→eq (fieldCount o arrayClass) 0 (rule (messageObjectRules o) t 6);
+    }
+
 module _ {e : ℕ} {o : Objects} (r : Right e o) where
-  pub least : leastObjects e ≤ o .n
-  least = leb→le (leastObjects e) (o .n) (and-left (leb (leastObjects e) (o .n)) (leb (o .n) mostObjects && leb (o .b) mostBodyWords) (r .sizes))
+  pub least-of : leastObjects e ≤ o .n
+  least-of = leb→le (leastObjects e) (o .n) (and-left (leb (leastObjects e) (o .n)) (leb (o .n) mostObjects && leb (o .b) mostBodyWords) (r .sizes))
+
+  pub least : 5 ≤ o .n
+  least = let l = five-least e in let m = least-of in omega arith
+
+  pub message-least : T (hasMessages e) → 8 ≤ o .n
+  message-least t = let l = eight-least e t in let m = least-of in omega arith
 
   pub most : o .n ≤ mostObjects
   most =
@@ -450,6 +496,20 @@ module _ {e : ℕ} {o : Objects} (r : Right e o) where
   pub known-facts : KnownFacts o
   known-facts = known-facts-of e o known
 
+  -- the objects of messages, in editions that have them
+  pub message-rules : T (hasMessages e) → T (allOf (messageObjectRules o))
+  unfolding knownObjectRules
+  message-rules t = implied (hasMessages e) (allOf (messageObjectRules o)) (rule (knownObjectRules e o) known 8) t
+
+  pub message-facts : T (hasMessages e) → MessageFacts o
+  message-facts t = message-facts-of o (message-rules t)
+
+  pub message-class : T (hasMessages e) → T (isKind o classKind messageClass)
+  message-class t = let l = message-least t in naming o classKind messageClass (record { even = omega arith; least = omega arith; most = omega arith; kinds = message-facts t .message })
+
+  pub array-class : T (hasMessages e) → T (isKind o classKind arrayClass)
+  array-class t = let l = message-least t in naming o classKind arrayClass (record { even = omega arith; least = omega arith; most = omega arith; kinds = message-facts t .array })
+
   -- nil is no class, the class of integers is one
   pub nil-no-class : T (isKind o classKind nilWord) → ⊥
   nil-no-class t = let h = named o classKind nilWord t in let k : kind o 1 ≡ 0 = known-facts .nil in let q : kind o 1 ≡ 2 = h .kinds in omega arith
@@ -475,7 +535,13 @@ module _ {e : ℕ} {o : Objects} (r : Right e o) where
   fine-seven : (k : ℕ) → 1 ≤ k → k ≤ o .n → T (implies (eqb (kind o k) methodKind) (allOf (methodRules e o (pointer k))) && implies (eqb (kind o k) classKind) (dictionaryMethodsFine o (pointer k)))
   unfolding rule7
   fine-seven k h g =
-      upTo-at (o .n) (λ k. implies (eqb (kind o k) methodKind) (allOf (methodRules e o (pointer k))) && implies (eqb (kind o k) classKind) (dictionaryMethodsFine o (pointer k))) (r .rule-7) k h g
+      upTo-at (o .n) (λ k. implies (eqb (kind o k) methodKind) (allOf (methodRules e o (pointer k))) && implies (eqb (kind o k) classKind) (dictionaryMethodsFine o (pointer k)))
+      (and-left (upTo (o .n) _) (failureMethodsFine e o) (r .rule-7)) k h g
+
+  -- methods under object 6 take one argument
+  pub failure-count : T (hasMessages e) → T (takesCount o failureSelector 1)
+  unfolding rule7 failureMethodsFine
+  failure-count t = implied (hasMessages e) (takesCount o failureSelector 1) (and-right (upTo (o .n) _) (failureMethodsFine e o) (r .rule-7)) t
 
   pub method-rules : (m : ℕ) → T (isKind o methodKind m) → T (allOf (methodRules e o m))
   method-rules m t =

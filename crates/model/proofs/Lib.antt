@@ -18,4 +18,5 @@ pub mod SendFacts
 pub mod ElementLaws
 pub mod ElementExamples
 pub mod PrimitiveLaws
+pub mod MessageLaws
 pub mod Lent

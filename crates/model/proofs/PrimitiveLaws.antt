@@ -199,24 +199,23 @@ module _ {e : ℕ} {o : Objects} (r : Right e o) where
           (λ q. word-stored (placeOfIndex o w x) y u (taken x p) q (place x p)))
           (λ p. tt)
 
-    -- 70 and 71
+    -- One more object, where there is room for it: 70 and 71, arrays and messages
+    pub append-law : (c kd sz : ℕ) (body : List ℕ) → T (isKind o classKind c) → Suits o c kd sz body → HasRoom room o (length body)
+        → Performed room e o (pointer (o .n + 1)) (appended o c kd sz body)
+    append-law c kd sz body t s h =
+        record {
+          right = appended-right r c kd sz body t s (h .objects) (h .words);
+          extends = appended-extends r c kd sz body (suits-free s);
+          valid = (unfold appended in valid-name (o .n + 1) (pointer (o .n + 1)) (omega arith) (omega arith) (omega arith));
+          contents = λ q. (unfold appended in h .contents);
+          bodies = λ q. (unfold appended in h .bodies);
+        }
+
     pub make-law : (c kd sz count fill : ℕ) → T (isKind o classKind c) → Suits o c kd sz (replicate count fill) → Kept room e o (make room o c kd sz count fill)
     unfolding make
     make-law c kd sz count fill t s =
-        if-cases (Kept room e o) (hasRoom room o count) _ fails (λ p. made (room-facts room o count (true→T p))) (λ p. tt)
-      where
-        long : length (replicate count fill) ≡ count
-        long = length-replicate count fill
-
-        made : HasRoom room o count → Performed room e o (pointer (o .n + 1)) (appended o c kd sz (replicate count fill))
-        made h =
-            record {
-              right = appended-right r c kd sz (replicate count fill) t s (h .objects) (subst (λ (z : ℕ). o .b + z ≤ mostBodyWords) (sym long) (h .words));
-              extends = appended-extends r c kd sz (replicate count fill) (suits-free s);
-              valid = (unfold appended in valid-name (o .n + 1) (pointer (o .n + 1)) (omega arith) (omega arith) (omega arith));
-              contents = λ q. (unfold appended in h .contents);
-              bodies = λ q. (unfold appended in subst (λ (z : ℕ). o .b + z ≤ room .bodies) (sym long) (h .bodies));
-            }
+        if-cases (Kept room e o) (hasRoom room o count) _ fails
+        (λ p. append-law c kd sz (replicate count fill) t s (subst (HasRoom room o) (sym (length-replicate count fill)) (room-facts room o count (true→T p)))) (λ p. tt)
 
     fill-valid : (count i : ℕ) → i < length (replicate count nilWord) → T (isValid (o .n + 1) (getD (replicate count nilWord) i 0))
     fill-valid count i l =

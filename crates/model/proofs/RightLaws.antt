@@ -11,15 +11,16 @@ use lib.ListN.{length}
 use Rattle.bytecode.specs.Test.{upTo, below, every, implies, allOf}
 use Rattle.bytecode.specs.Constant.{nilWord}
 use Rattle.bytecode.proofs.TestLaws.{true→T, and-both, or-cases, rule, rules, at-upTo, at-below}
-use Rattle.model.specs.Limits.{leastObjects, entryWords, otherForm, nilObject, falseObject, trueObject, integerClassObject, selectorsObject, specialSelectors, fieldsKind, bytesKind, classKind, listKind, methodKind, bytesForm, mostFields, longestChain, lastForm, fieldFlag, primitiveFlag}
-use Rattle.model.specs.Word.{isInteger, isNatural, isValid, pointer, integerClass}
+use Rattle.model.specs.Limits.{hasMessages, failureSelectorObject, messageClassObject, arrayClassObject, messageFields, fixedForm, indexedForm}
+use Rattle.model.specs.Limits.{entryWords, otherForm, nilObject, falseObject, trueObject, integerClassObject, selectorsObject, specialSelectors, fieldsKind, bytesKind, classKind, listKind, methodKind, bytesForm, mostFields, longestChain, lastForm, fieldFlag, primitiveFlag}
+use Rattle.model.specs.Word.{isInteger, isNatural, isValid, pointer, integerClass, failureSelector, messageClass, arrayClass}
 use Rattle.model.specs.Objects.{Objects, entryWord, classWord, kind, start, size, bodyWords, bodyEnd, bodyWord, bodyOf, isKind, isNilOr, superclassWord, dictionaryWord, fieldCount, form, pairCount, pairSelector, pairMethod}
 use Rattle.model.specs.Method.{home, literal, flag, literalCount, argumentCount}
 use Rattle.model.specs.Depth.{isSome}
-use Rattle.model.specs.Rules.{sizesFine, layoutRules, rule4, wordsFine, rule5, rule14, fits, entryFine, pairFine, dictionaryFine, classRules, knownObjectRules, objectFine, rule6, takesCount, extensionFine, methodRules, dictionaryMethodsFine, rule7}
+use Rattle.model.specs.Rules.{sizesFine, layoutRules, rule4, wordsFine, rule5, rule14, fits, entryFine, pairFine, dictionaryFine, classRules, messageObjectRules, knownObjectRules, objectFine, rule6, takesCount, extensionFine, methodRules, dictionaryMethodsFine, failureMethodsFine, rule7}
 use Rattle.model.proofs.ChainLaws.{named}
 use Rattle.model.proofs.Parts.{_also_, implying, every-more, below-same}
-use Rattle.model.proofs.Facts.{Right, Padded, Layout, layout-rules, words-rule, Fits, fixed, indexed, bytes, other, fits-rule, naming, named-pointer, valid-kind, least, layout, inside, word-valid, chains-rule, chain-ends, entry-class, entry-fits, known, known-facts, integer-class, class-rules, class-facts, method-rules, method-facts, pair-facts, fine-methods}
+use Rattle.model.proofs.Facts.{Right, Padded, Layout, layout-rules, words-rule, Fits, fixed, indexed, bytes, other, fits-rule, naming, named-pointer, valid-kind, least, layout, inside, word-valid, chains-rule, chain-ends, entry-class, entry-fits, known, known-facts, message-least, message-rules, message-class, array-class, failure-count, integer-class, class-rules, class-facts, method-rules, method-facts, pair-facts, fine-methods}
 use Rattle.model.proofs.Extends.{Extends, words-same, valid-grows, kind-kept, kind-same, nil-or-same, body-same, class-word-same, superclass-same, dictionary-same, fields-same, form-same, pair-count-same, pair-selector-same, pair-method-same, method-size-same, header-same, home-same, home-fields-same, flag-same, temporaries-same, literal-count-same, literal-same, extension-same, arguments-same, runs-same}
 use Rattle.model.proofs.Unchanged.{implies-same, ends-same, count-same, table-same}
 
@@ -143,21 +144,41 @@ module _ {e : ℕ} {o o′ : Objects} (x : Extends o o′) (r : Right e o) where
   rule-14-kept = chains-rule o′ (λ c t. moved (ends-same x r longestChain c) (chain-ends r c (subst T (kind-same x classKind c (omega arith) (omega arith)) t)))
 
   pub rule-7-kept : T (rule7 e o′)
-  unfolding rule7
+  unfolding rule7 failureMethodsFine
   rule-7-kept =
-      at-upTo (o′ .n) (λ k. implies (eqb (kind o′ k) methodKind) (allOf (methodRules e o′ (pointer k))) && implies (eqb (kind o′ k) classKind) (dictionaryMethodsFine o′ (pointer k)))
+      and-both (upTo (o′ .n) (λ k. implies (eqb (kind o′ k) methodKind) (allOf (methodRules e o′ (pointer k))) && implies (eqb (kind o′ k) classKind) (dictionaryMethodsFine o′ (pointer k))))
+      (failureMethodsFine e o′)
+      (at-upTo (o′ .n) (λ k. implies (eqb (kind o′ k) methodKind) (allOf (methodRules e o′ (pointer k))) && implies (eqb (kind o′ k) classKind) (dictionaryMethodsFine o′ (pointer k)))
       (λ k h g. and-both (implies (eqb (kind o′ k) methodKind) (allOf (methodRules e o′ (pointer k)))) (implies (eqb (kind o′ k) classKind) (dictionaryMethodsFine o′ (pointer k)))
       (implying (eqb (kind o′ k) methodKind) (allOf (methodRules e o′ (pointer k))) (λ q. method-kept (pointer k)
       (old-kind k methodKind (omega arith) (omega arith) h g (eqb→eq (kind o′ k) methodKind q))))
       (implying (eqb (kind o′ k) classKind) (dictionaryMethodsFine o′ (pointer k)) (λ q. methods-kept (pointer k)
-      (old-kind k classKind (omega arith) (omega arith) h g (eqb→eq (kind o′ k) classKind q)))))
+      (old-kind k classKind (omega arith) (omega arith) h g (eqb→eq (kind o′ k) classKind q))))))
+      (implying (hasMessages e) (takesCount o′ failureSelector 1) (λ q. moved (count-same x r failureSelector 1) (failure-count r q)))
+
+  -- the objects of messages
+  messages-kept : T (hasMessages e) → T (allOf (messageObjectRules o′))
+  unfolding messageObjectRules
+  messages-kept t =
+      let l = message-least r t in
+      let m = message-rules r t in
+      let same : (k : ℕ) → 1 ≤ k → k ≤ 8 → kind o′ k ≡ kind o k = λ k a b. x .entries k 1 a (omega arith) (omega arith) in
+      rules (messageObjectRules o′)
+      (moved (ap (λ (z : ℕ). eqb z bytesKind) (same failureSelectorObject (omega arith) (omega arith))) (rule (messageObjectRules o) m 0)
+      also moved (ap (λ (z : ℕ). eqb z classKind) (same messageClassObject (omega arith) (omega arith))) (rule (messageObjectRules o) m 1)
+      also moved (ap (λ (z : ℕ). eqb z fixedForm) (form-same x r messageClass (message-class r t))) (rule (messageObjectRules o) m 2)
+      also moved (ap (λ (z : ℕ). eqb z messageFields) (fields-same x r messageClass (message-class r t))) (rule (messageObjectRules o) m 3)
+      also moved (ap (λ (z : ℕ). eqb z classKind) (same arrayClassObject (omega arith) (omega arith))) (rule (messageObjectRules o) m 4)
+      also moved (ap (λ (z : ℕ). eqb z indexedForm) (form-same x r arrayClass (array-class r t))) (rule (messageObjectRules o) m 5)
+      also moved (ap (λ (z : ℕ). eqb z 0) (fields-same x r arrayClass (array-class r t))) (rule (messageObjectRules o) m 6)
+      also tt)
 
   -- the known objects
   known-kept : T (allOf (knownObjectRules e o′))
   unfolding knownObjectRules
   known-kept =
       let l = least r in
-      let same : (k i : ℕ) → 1 ≤ k → k ≤ leastObjects e → i < entryWords → entryWord o′ k i ≡ entryWord o k i = λ k i a b c. x .entries k i a (omega arith) c in
+      let same : (k i : ℕ) → 1 ≤ k → k ≤ 5 → i < entryWords → entryWord o′ k i ≡ entryWord o k i = λ k i a b c. x .entries k i a (omega arith) c in
       let list = known-facts r .selectors in
       rules (knownObjectRules e o′)
       (moved (ap (λ (z : ℕ). eqb z fieldsKind) (same nilObject 1 (omega arith) (omega arith) (omega arith))) (rule (knownObjectRules e o) (known r) 0)
@@ -169,6 +190,7 @@ module _ {e : ℕ} {o o′ : Objects} (x : Extends o o′) (r : Right e o) where
       also moved (ap (λ (z : ℕ). eqb z specialSelectors) (same selectorsObject 3 (omega arith) (omega arith) (omega arith))) (rule (knownObjectRules e o) (known r) 6)
       also moved (ap (every (isNilOr o′ bytesKind)) (body-same x r selectorsObject (omega arith) (omega arith) (omega arith)))
       (every-more (isNilOr o bytesKind) (isNilOr o′ bytesKind) (bodyOf o selectorsObject) (λ w. selector w) (rule (knownObjectRules e o) (known r) 7))
+      also implying (hasMessages e) (allOf (messageObjectRules o′)) (λ q. messages-kept q)
       also tt)
     where
       selector : (w : ℕ) → T (isNilOr o bytesKind w) → T (isNilOr o′ bytesKind w)

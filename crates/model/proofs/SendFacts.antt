@@ -1,7 +1,7 @@
 -- What a lookup finds, and the fields of a receiver whose class chain holds a method's home.
 use Prim.Native.Nat.{ℕ, zero, suc, _+_, _/_, _%_, _≤_, _<_}
 use mathlib.Core.Path.{_≡_, refl, sym, ap, _∙_, subst}
-use mathlib.Core.Logic.{_≢_}
+use mathlib.Core.Logic.{_≢_, _⊎_, inl, inr}
 use mathlib.Core.Bool.{Bool, true, false}
 use native.Mathlib.Omega.{arith}
 use borrow.Author.Tests.{eq-eqb, ne-eqb, eqb-true}
@@ -9,17 +9,17 @@ use lib.Dec.{T, eqb, eqb→eq}
 use Rattle.bytecode.specs.Constant.{nilWord}
 use Rattle.bytecode.specs.Test.{below, implies}
 use Rattle.bytecode.proofs.Choice.{if-yes, if-no}
-use Rattle.bytecode.proofs.TestLaws.{true→T, implied, upTo-at, below-at}
+use Rattle.bytecode.proofs.TestLaws.{true→T, and-left, and-right, or-cases, implied, upTo-at, below-at}
 use Rattle.model.specs.declared.Found.{Found}
 use Rattle.model.specs.declared.Found.the-variants.{Method, Nothing}
 use Rattle.model.specs.Limits.{fieldsKind, bytesKind, classKind, methodKind}
 use Rattle.model.specs.Word.{isValid, pointer, integerClass}
-use Rattle.model.specs.Objects.{Objects, classWord, kind, size, bodyWord, isKind, classOf, superclassWord, dictionaryWord, fieldCount, form, pairCount, pairSelector, pairMethod}
+use Rattle.model.specs.Objects.{Objects, classWord, kind, size, bodyWord, isKind, isNilOr, classOf, superclassWord, dictionaryWord, fieldCount, form, pairCount, pairSelector, pairMethod}
 use Rattle.model.specs.Method.{home, argumentCount}
 use Rattle.model.specs.Lookup.{found, findFrom, findIn, lookup, inChain, Looks, ended, here, above, InChain, same, higher}
-use Rattle.model.specs.Rules.{takesCount}
+use Rattle.model.specs.Rules.{takesCount, sendFine}
 use Rattle.model.proofs.ChainLaws.{named, class-below}
-use Rattle.model.proofs.Facts.{Right, Valid, odd, names, naming, valid-cases, valid-kind, pointer-of, in-words, word-valid, Fits, fixed, indexed, bytes, other, entry-class, entry-fits, class-facts, known-facts, integer-class, nil-no-class, pair-facts, pair-home}
+use Rattle.model.proofs.Facts.{Right, Valid, odd, names, naming, valid-cases, valid-name, valid-kind, pointer-of, in-words, word-valid, Fits, fixed, indexed, bytes, other, entry-class, entry-fits, class-facts, known-facts, integer-class, nil-no-class, pair-facts, pair-home}
 use Rattle.model.proofs.LookupLaws.{reads-few, decides-in}
 use Rattle.model.proofs.Unchanged.{find-hit, find-miss}
 
@@ -186,3 +186,16 @@ module _ {e : ℕ} {o : Objects} (r : Right e o) where
 
   pub class-valid : (w : ℕ) → T (isValid (o .n) w) → T (isValid (o .n) (classOf o w))
   class-valid w v = valid-kind o classKind (classOf o w) (class-kind w v)
+
+-- a send's rule: what it says of its selector
+pub selector-takes : (o : Objects) (s count : ℕ) → T (sendFine o s count) → T (takesCount o s count)
+unfolding sendFine
+selector-takes o s count t = and-right (isNilOr o bytesKind s) (takesCount o s count) t
+
+pub selector-valid : (o : Objects) (s count : ℕ) → 1 ≤ o .n → T (sendFine o s count) → T (isValid (o .n) s)
+unfolding sendFine
+selector-valid o s count l t = go (or-cases (eqb s nilWord) (isKind o bytesKind s) (and-left (isNilOr o bytesKind s) (takesCount o s count) t))
+  where
+    go : T (eqb s nilWord) ⊎ T (isKind o bytesKind s) → T (isValid (o .n) s)
+    go (inl e) = let q = eqb→eq s nilWord e in valid-name (o .n) s (omega arith) (omega arith) (omega arith)
+    go (inr k) = valid-kind o bytesKind s k

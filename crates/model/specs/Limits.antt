@@ -1,14 +1,22 @@
--- The numbers that 01 fixes, named once. Those that an edition may change take it as their argument; there is one edition today.
+-- The numbers that 01 fixes, named once. Those that an edition may change take it as their argument. What an edition has, all later ones have.
 use Prim.Native.Nat.{ℕ, _*_}
-use mathlib.Core.Bool.{Bool}
-use lib.Dec.{eqb}
+use mathlib.Core.Bool.{Bool, _&&_}
+use lib.Dec.{leb}
+use Rattle.bytecode.specs.Test.{if_then_else_}
+
+abbrev pub lastEdition : ℕ
+lastEdition = 2
 
 abbrev pub isEdition : ℕ → Bool
-isEdition e = eqb e 1
+isEdition e = leb 1 e && leb e lastEdition
 
--- 01, "Image": objects and body words of an image
-abbrev pub leastObjects : ℕ → ℕ
-leastObjects e = 5
+-- 02, M-104: from edition 2 on a send that fails is sent once more, as a message
+abbrev pub hasMessages : ℕ → Bool
+hasMessages e = leb 2 e
+
+-- 01, "Image": objects and body words of an image. Every edition has the objects with a fixed number.
+unfoldable pub leastObjects : ℕ → ℕ
+leastObjects e = if hasMessages e then 8 else 5
 
 abbrev pub mostObjects : ℕ
 mostObjects = 2047
@@ -87,6 +95,20 @@ selectorsObject = 5
 
 abbrev pub specialSelectors : ℕ
 specialSelectors = 32
+
+-- and of those, from edition 2 on: the selector doesNotUnderstand:, the class of messages, the class of arrays
+abbrev pub failureSelectorObject : ℕ
+failureSelectorObject = 6
+
+abbrev pub messageClassObject : ℕ
+messageClassObject = 7
+
+abbrev pub arrayClassObject : ℕ
+arrayClassObject = 8
+
+-- a message has its selector and the array of its arguments
+abbrev pub messageFields : ℕ
+messageFields = 2
 
 -- 01, "Image", flags of a method header: up to the first they are the argument count
 abbrev pub lastCountFlag : ℕ

@@ -9,8 +9,8 @@ use Rattle.bytecode.specs.Test.{if_then_else_}
 use Rattle.bytecode.specs.Constant.{nilWord}
 use Rattle.model.specs.declared.Computed.{Computed}
 use Rattle.model.specs.declared.Computed.the-variants.{Word, Failed}
-use Rattle.model.specs.Limits.{mostObjects, mostBodyWords, largestInteger, mostElements, entryWords, fieldsKind, bytesKind, classKind, fixedForm, indexedForm, bytesForm}
-use Rattle.model.specs.Word.{isInteger, isNatural, pointer, objectNumber, booleanWord}
+use Rattle.model.specs.Limits.{mostObjects, mostBodyWords, largestInteger, mostElements, entryWords, fieldsKind, bytesKind, classKind, fixedForm, indexedForm, bytesForm, messageFields}
+use Rattle.model.specs.Word.{isInteger, isNatural, pointer, objectNumber, booleanWord, messageClass, arrayClass}
 use Rattle.model.specs.Objects.{Objects, classOf, form, size, start, bodyWord, fieldCount, isKind}
 use Rattle.model.specs.Image.{Room}
 use Rattle.model.specs.Arithmetic.{arithmetic}
@@ -90,6 +90,21 @@ unfoldable pub hasRoom : Room → Objects → ℕ → Bool
 hasRoom room o count =
     ltb (o .n) mostObjects && (leb (o .b + count) mostBodyWords
     && (leb (entryWords * (o .n + 1)) (room .contents) && leb (o .b + count) (room .bodies)))
+
+-- 02, M-104: the array of a send's arguments and its message, in this order; where there is room for both. The message is the last object then.
+unfoldable pub arrayMade : Objects → List ℕ → Objects
+arrayMade o arguments = appended o arrayClass fieldsKind (length arguments) arguments
+
+unfoldable pub messageMade : Objects → ℕ → List ℕ → Objects
+messageMade o selector arguments = appended (arrayMade o arguments) messageClass fieldsKind messageFields (selector ∷ pointer (o .n + 1) ∷ [])
+
+abbrev pub messageWord : Objects → ℕ
+messageWord o = pointer (o .n + 2)
+
+unfoldable pub hasMessageRoom : Room → Objects → ℕ → Bool
+hasMessageRoom room o count =
+    leb (o .n + 2) mostObjects && (leb (o .b + (count + messageFields)) mostBodyWords
+    && (leb (entryWords * (o .n + 2)) (room .contents) && leb (o .b + (count + messageFields)) (room .bodies)))
 
 unfoldable pub make : Room → Objects → ℕ → ℕ → ℕ → ℕ → ℕ → Outcome
 make room o class kind size count fill =

@@ -16,7 +16,8 @@ use Rattle.bytecode.specs.declared.Instruction.{Instruction}
 use Rattle.bytecode.specs.declared.Instruction.the-variants.{Push, Store, PopStore, PushSelf, PushConstant, ReturnSelf, ReturnConstant, ReturnTop, Pop, Duplicate, Jump, JumpOn, Send, SuperSend, SpecialSend, Unused}
 use Rattle.model.specs.Limits.{isEdition, entryWords, leastObjects, mostObjects, mostBodyWords, fieldsKind, bytesKind, classKind, listKind, methodKind, lastKind, fixedForm, indexedForm}
 use Rattle.model.specs.Limits.{bytesForm, otherForm, lastForm, classWords, mostFields, longestChain, nilObject, falseObject, trueObject, integerClassObject, selectorsObject, specialSelectors, fieldFlag, primitiveFlag}
-use Rattle.model.specs.Word.{isInteger, isNatural, isValid, pointer, objectNumber, integerClass}
+use Rattle.model.specs.Limits.{hasMessages, failureSelectorObject, messageClassObject, arrayClassObject, messageFields}
+use Rattle.model.specs.Word.{isInteger, isNatural, isValid, pointer, objectNumber, integerClass, failureSelector, messageClass, arrayClass}
 use Rattle.model.specs.Objects.{Objects, classWord, kind, start, size, sizedInBytes, bodyWords, bodyEnd, bodyWord, bodyOf, isKind}
 use Rattle.model.specs.Objects.{isNilOr, superclassWord, dictionaryWord, fieldsWord, formWord, fieldCount, form, pairCount, pairSelector, pairMethod}
 use Rattle.model.specs.Method.{header, home, literal, flag, temporaryCount, literalCount, codeWords, codeSize, frameWords, extension, argumentCount, runsCode}
@@ -66,7 +67,7 @@ chainFine o k = implies (eqb (kind o k) classKind) (endsWithin longestChain o (p
 unfoldable pub rule14 : Objects → Bool
 rule14 o = upTo (o .n) (chainFine o)
 
--- 6: entries' classes, class bodies, dictionaries, objects 1 to 5.
+-- 6: entries' classes, class bodies, dictionaries, the objects with a fixed number.
 -- An object fits the form of its class.
 unfoldable pub fits : ℕ → Objects → ℕ → Bool
 fits e o k =
@@ -101,6 +102,18 @@ classRules e o c =
     dictionaryFine o (dictionaryWord o c) ∷
     []
 
+-- 02, M-104: 6 is a selector, 7 a class of form 0 with two fields, 8 one of form 1 with none.
+unfoldable pub messageObjectRules : Objects → List Bool
+messageObjectRules o =
+    eqb (kind o failureSelectorObject) bytesKind ∷
+    eqb (kind o messageClassObject) classKind ∷
+    eqb (form o messageClass) fixedForm ∷
+    eqb (fieldCount o messageClass) messageFields ∷
+    eqb (kind o arrayClassObject) classKind ∷
+    eqb (form o arrayClass) indexedForm ∷
+    eqb (fieldCount o arrayClass) 0 ∷
+    []
+
 -- nil, false and true have fields, 4 is a class of form 3, 5 a list of 32 words, each nil or a selector.
 unfoldable pub knownObjectRules : ℕ → Objects → List Bool
 knownObjectRules e o =
@@ -112,6 +125,7 @@ knownObjectRules e o =
     eqb (kind o selectorsObject) listKind ∷
     eqb (size o selectorsObject) specialSelectors ∷
     every (isNilOr o bytesKind) (bodyOf o selectorsObject) ∷
+    implies (hasMessages e) (allOf (messageObjectRules o)) ∷
     []
 
 unfoldable pub objectFine : ℕ → Objects → ℕ → Bool
@@ -212,11 +226,16 @@ dictionaryMethodsFine o c =
     eqb (home o (pairMethod o (dictionaryWord o c) i)) c
     && takesCount o (pairSelector o (dictionaryWord o c) i) (argumentCount o (pairMethod o (dictionaryWord o c) i)))
 
+-- 02, M-104: methods under object 6 take the message.
+unfoldable pub failureMethodsFine : ℕ → Objects → Bool
+failureMethodsFine e o = implies (hasMessages e) (takesCount o failureSelector 1)
+
 unfoldable pub rule7 : ℕ → Objects → Bool
 rule7 e o =
     upTo (o .n) (λ k.
     implies (eqb (kind o k) methodKind) (allOf (methodRules e o (pointer k)))
     && implies (eqb (kind o k) classKind) (dictionaryMethodsFine o (pointer k)))
+    && failureMethodsFine e o
 
 -- 8: receiver and arguments are valid, the selector is of kind 1. (The start words have no arguments.)
 unfoldable pub rule8 : Objects → ℕ → ℕ → List ℕ → Bool

@@ -7,7 +7,7 @@ use lib.IntN.{ℤ, pos, negsuc}
 use lib.Signed.{mag}
 use Rattle.bytecode.specs.Test.{if_then_else_}
 use Rattle.bytecode.specs.Constant.{falseWord, trueWord}
-use Rattle.model.specs.Limits.{largestInteger, integerClassObject}
+use Rattle.model.specs.Limits.{largestInteger, integerClassObject, failureSelectorObject, messageClassObject, arrayClassObject}
 
 -- An odd word is an integer.
 abbrev pub isInteger : ℕ → Bool
@@ -45,6 +45,15 @@ isValid n w = isInteger w || isPointer n w
 
 abbrev pub integerClass : ℕ
 integerClass = pointer integerClassObject
+
+abbrev pub failureSelector : ℕ
+failureSelector = pointer failureSelectorObject
+
+abbrev pub messageClass : ℕ
+messageClass = pointer messageClassObject
+
+abbrev pub arrayClass : ℕ
+arrayClass = pointer arrayClassObject
 
 abbrev pub booleanWord : Bool → ℕ
 booleanWord true = trueWord

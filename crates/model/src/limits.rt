@@ -108,6 +108,12 @@ pub const INTEGER_CLASS_OBJECT: usize = 4;
 
 pub const SELECTORS_OBJECT: usize = 5;
 
+pub const FAILURE_SELECTOR_OBJECT: usize = 6;
+
+pub const MESSAGE_CLASS_OBJECT: usize = 7;
+
+pub const ARRAY_CLASS_OBJECT: usize = 8;
+
 pub const NIL: u16 = 2;
 
 pub const FALSE: u16 = 4;
@@ -119,3 +125,12 @@ pub const INTEGER_CLASS: u16 = 8;
 pub const SELECTORS: u16 = 10;
 
 pub const SPECIAL_SELECTORS: u16 = 32;
+
+pub const FAILURE_SELECTOR: u16 = 12;
+
+pub const MESSAGE_CLASS: u16 = 14;
+
+pub const ARRAY_CLASS: u16 = 16;
+
+// A message: its selector and the array of its arguments.
+pub const MESSAGE_FIELDS: u16 = 2;

@@ -6,12 +6,13 @@ use mathlib.Core.List.{List, []}
 use native.Mathlib.Omega.{arith}
 use borrow.Author.Tests.{eq-eqb}
 use lib.Dec.{T, leb, eqb, leb→le, le→leb, eqb→eq}
-use lib.ListN.{length, take, drop, length-append, length-drop}
-use lib.Seq.{take-at, length-take-le}
+use lib.ListN.{length, take}
+use lib.Seq.{length-take-le}
 use Rattle.bytecode.proofs.TestLaws.{true→T, and-left, and-right, and-both}
 use Rattle.model.specs.Limits.{entryWords, cacheWords}
 use Rattle.model.specs.Objects.{Objects}
 use Rattle.model.specs.Image.{Room, Verdict, accepted, refused, unless, _then_, buffersFine}
+use Rattle.model.proofs.Lent.{front-length, front-take}
 use Rattle.plain.specs.Registers.{hasFrames}
 use Rattle.plain.specs.State.{Plain, objects}
 use Rattle.plain.specs.Cache.{cacheFine}
@@ -89,14 +90,6 @@ right-check s r =
     (stands-plain (length (s .stack)) (plainOf s) (right-image (s .registers .edition) (flatObjects s) (s .registers .startReceiver)
     (s .registers .startSelector) (r .plain .image) (r .plain .starts)) (r .plain .stands))
     (r .cached))
-
--- words at the front of a buffer that is long enough
-front-length : (ws buffer : List ℕ) → length ws ≤ length buffer → length (atFront ws buffer) ≡ length buffer
-front-length ws buffer h =
-    length-append ws (drop (length ws) buffer) ∙ ap (λ (k : ℕ). length ws + k) (length-drop (length ws) buffer) ∙ omega arith
-
-front-take : (ws buffer : List ℕ) (n : ℕ) → length ws ≡ n → take n (atFront ws buffer) ≡ ws
-front-take ws buffer n e = take-at ws (drop (length ws) buffer) n e
 
 -- a state without frames has none
 no-frames : (stack : ℕ) (p : Plain) → Stands stack p → hasFrames (p .registers .phase) ≡ false → p .frames ≡ []

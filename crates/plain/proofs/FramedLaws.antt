@@ -24,13 +24,13 @@ use Rattle.model.proofs.Facts.{method-facts}
 use Rattle.model.proofs.DepthLaws.{spot, spot-start}
 use Rattle.model.proofs.SendFacts.{FoundFacts, lookup-facts}
 use Rattle.model.proofs.Lent.{contents-room, bodies-room, front-same}
-use Rattle.plain.specs.Registers.{running, notUnderstood, noStackRoom}
+use Rattle.plain.specs.Registers.{running, noStackRoom}
 use Rattle.plain.specs.State.{Frame, Plain, withObjects, withFrames, movedTo, newFrame, fitsStack}
 use Rattle.plain.specs.Step.{looked, Stepped, leadsTo, halts, provided, without, hasWord, onTop, pushed, answered, entered, unfit, activate, framed, changed, activated, afterLookup, popped}
 use Rattle.plain.specs.Flat.{frameDepth, frameMethod, operandsStart, frameAt}
 use Rattle.plain.specs.FlatCalls.{atFront, laid}
 use Rattle.plain.specs.Cache.{filled}
-use Rattle.plain.specs.Running.{runningWith, runningAt, topFrame, restFrames, Made, Sending, sentReceiver, sendStep}
+use Rattle.plain.specs.Running.{runningWith, runningAt, topFrame, restFrames, Made, Sending, sentReceiver, sentArguments, sendStep, failedStep}
 use Rattle.plain.proofs.StepLaws.{Valid, has-word, without-length}
 use Rattle.plain.proofs.Preserve.{entered-runs}
 use Rattle.plain.proofs.RunningLaws.{stood, all-right, top-right, top-bounds}
@@ -86,8 +86,8 @@ module _ {n b top : ℕ} {contents bodies stack : List ℕ} {selector count clas
   abbrev rest : List Frame
   rest = restFrames n b top contents bodies stack
 
-  abbrev pub sentArguments : List ℕ
-  sentArguments = drop (f .depth - count) (f .operands)
+  abbrev given : List ℕ
+  given = sentArguments n b top contents bodies stack count
 
   abbrev receiver : ℕ
   receiver = sentReceiver n b top contents bodies stack count
@@ -110,7 +110,7 @@ module _ {n b top : ℕ} {contents bodies stack : List ℕ} {selector count clas
       sums : (a b c : ℕ) → a + (6 + (b + c)) ≡ a + 6 + b + c
       sums a b c = omega arith
 
-  pub arguments-here : part stack (operandsStart o (frameMethod stack top) top + (depth - suc count) + 1) count ≡ sentArguments
+  pub arguments-here : part stack (operandsStart o (frameMethod stack top) top + (depth - suc count) + 1) count ≡ given
   unfolding frameAt
   arguments-here =
       let h = s .needs in
@@ -139,10 +139,10 @@ module _ {n b top : ℕ} {contents bodies stack : List ℕ} {selector count clas
     found-arguments = let a = method-facts (s .runs .right) m (facts .method) .arguments in let c = found-count in omega arith
 
     -- a frame of it has room for its temporaries
-    pub found-fits : (edition : ℕ) (room : Room) → activate edition room o m receiver sentArguments ≡ entered → temporaryCount o m ≤ frameWords o m
+    pub found-fits : (edition : ℕ) (room : Room) → activate edition room o m receiver given ≡ entered → temporaryCount o m ≤ frameWords o m
     found-fits edition room a =
         temporaries-fit (s .runs .edition) o m (spot-start (s .runs .edition) o m
-        (method-facts (s .runs .right) m (facts .method) .sound (entered-runs edition room o m receiver sentArguments a)))
+        (method-facts (s .runs .right) m (facts .method) .sound (entered-runs edition room o m receiver given a)))
 
   -- ---- the words that are written
 
@@ -152,7 +152,14 @@ module _ {n b top : ℕ} {contents bodies stack : List ℕ} {selector count clas
   pub own-bodies : bodies ≡ atFront (take b bodies) bodies
   own-bodies = sym (front-same b bodies (bodies-room n b contents bodies (s .runs .right)))
 
-  answer-written : (w : ℕ)
+  -- the frame has a word for the answer
+  pub word-left : T (hasWord o (popped f position (suc count)) (length (without f (suc count))))
+  unfolding frameAt
+  word-left =
+      let l = without-length o f (top-right (s .runs)) (suc count) (s .needs) in
+      has-word (s .runs .edition) o (frameMethod stack top) position (length (without f (suc count))) (s .noted ∙ ap (λ (k : ℕ). suc (suc k)) (sym l))
+
+  pub answer-written : (w : ℕ)
       → set (set (set stack (operandsStart o (frameMethod stack top) top + (depth - suc count)) w) (top + 1) position) (top + 2) (depth - suc count + 1)
       ≡ laid stack top (movedTo f position (take (f .depth - suc count) (f .operands) ++ (w ∷ [])) ∷ rest)
   unfolding frameAt
@@ -168,14 +175,15 @@ module _ {n b top : ℕ} {contents bodies stack : List ℕ} {selector count clas
       one : (a : ℕ) → a + 1 ≡ suc a
       one a = omega arith
 
-  frame-written : (m base : ℕ)
-      → sets (set (set stack (top + 1) position) (top + 2) (depth - suc count)) base (newImage top m receiver (temporaryCount o m) sentArguments)
-      ≡ laid stack base (newFrame o top m receiver sentArguments ∷ popped f position (suc count) ∷ rest)
+  -- a frame in objects o₁
+  pub frame-written : (o₁ : Objects) (m base : ℕ) (arguments : List ℕ)
+      → sets (set (set stack (top + 1) position) (top + 2) (depth - suc count)) base (newImage top m receiver (temporaryCount o₁ m) arguments)
+      ≡ laid stack base (newFrame o₁ top m receiver arguments ∷ popped f position (suc count) ∷ rest)
   unfolding frameAt laid newFrame
-  frame-written m base =
+  frame-written o₁ m base arguments =
       ap₂ (λ (l ws : List ℕ). sets l base (top ∷ 0 ∷ 0 ∷ m ∷ 0 ∷ receiver ∷ ws))
       (sym (moved-writes (s .runs .edition) o stack top (suc top) f rest (all-right (s .runs)) (stood (s .runs)) position (depth - suc count) (omega arith)))
-      (sym (append-nil (sentArguments ++ replicate (temporaryCount o m - length sentArguments) nilWord)))
+      (sym (append-nil (arguments ++ replicate (temporaryCount o₁ m - length arguments) nilWord)))
 
   -- ---- the step
 
@@ -186,47 +194,44 @@ module _ {n b top : ℕ} {contents bodies stack : List ℕ} {selector count clas
     abbrev x : Stepped
     x = sendStep room edition receiver₀ selector₀ n b top contents bodies stack selector count class position
 
-    pub send-none : lookup o selector class ≡ Nothing → x ≡ halts notUnderstood
-    send-none e = ap (afterLookup room p (popped f position (suc count)) rest selector class receiver sentArguments) e
+    abbrev otherwise : Stepped
+    otherwise = failedStep room edition receiver₀ selector₀ n b top contents bodies stack selector count class position
+
+    pub send-none : lookup o selector class ≡ Nothing → x ≡ otherwise
+    send-none e = ap (afterLookup room p (popped f position (suc count)) rest selector class receiver given) e
 
     module _ (m : ℕ) (e : lookup o selector class ≡ found m) where
-      send-found : x ≡ activated room p (popped f position (suc count)) rest m receiver sentArguments (looked selector class m) (activate edition room o m receiver sentArguments)
-      send-found = ap (afterLookup room p (popped f position (suc count)) rest selector class receiver sentArguments) e
+      send-found : x ≡ activated room p (popped f position (suc count)) rest m receiver given (looked selector class m) otherwise (activate edition room o m receiver given)
+      send-found = ap (afterLookup room p (popped f position (suc count)) rest selector class receiver given) e
 
-      pub send-unfit : activate edition room o m receiver sentArguments ≡ unfit → x ≡ halts notUnderstood
-      send-unfit a = send-found ∙ ap (activated room p (popped f position (suc count)) rest m receiver sentArguments (looked selector class m)) a
+      pub send-unfit : activate edition room o m receiver given ≡ unfit → x ≡ otherwise
+      send-unfit a = send-found ∙ ap (activated room p (popped f position (suc count)) rest m receiver given (looked selector class m) otherwise) a
 
       -- an answer
       abbrev answeredTop : ℕ → Frame
       answeredTop w = movedTo f position (take (f .depth - suc count) (f .operands) ++ (w ∷ []))
 
-      send-answered : (w : ℕ) (o′ : Objects) → activate edition room o m receiver sentArguments ≡ answered w o′
+      send-answered : (w : ℕ) (o′ : Objects) → activate edition room o m receiver given ≡ answered w o′
           → x ≡ leadsTo (withObjects (onTop p (answeredTop w) rest) o′) (looked selector class m)
       unfolding pushed frameAt
       send-answered w o′ a =
-          send-found ∙ ap (activated room p (popped f position (suc count)) rest m receiver sentArguments (looked selector class m)) a
+          send-found ∙ ap (activated room p (popped f position (suc count)) rest m receiver given (looked selector class m) otherwise) a
           ∙ ap (λ (t : Bool). changed o′ (provided t (leadsTo (onTop p (answeredTop w) rest) (looked selector class m))))
-          (T→true (hasWord o (popped f position (suc count)) (length (without f (suc count)))) has)
-        where
-          long : length (without f (suc count)) ≡ depth - suc count
-          long = without-length o f (top-right (s .runs)) (suc count) (s .needs)
-
-          has : T (hasWord o (popped f position (suc count)) (length (without f (suc count))))
-          has = has-word (s .runs .edition) o (frameMethod stack top) position (length (without f (suc count))) (s .noted ∙ ap (λ (k : ℕ). suc (suc k)) (sym long))
+          (T→true (hasWord o (popped f position (suc count)) (length (without f (suc count)))) word-left)
 
       -- a frame that does not fit
-      send-entered : activate edition room o m receiver sentArguments ≡ entered → x ≡ framed room p (popped f position (suc count)) rest m receiver sentArguments (looked selector class m)
-      send-entered a = send-found ∙ ap (activated room p (popped f position (suc count)) rest m receiver sentArguments (looked selector class m)) a
+      send-entered : activate edition room o m receiver given ≡ entered → x ≡ framed room p (popped f position (suc count)) rest m receiver given (looked selector class m)
+      send-entered a = send-found ∙ ap (activated room p (popped f position (suc count)) rest m receiver given (looked selector class m) otherwise) a
 
-      pub send-full : activate edition room o m receiver sentArguments ≡ entered → fitsStack (room .stack) (top + frameSize o (frameMethod stack top)) (frameSize o m) ≡ false → x ≡ halts noStackRoom
+      pub send-full : activate edition room o m receiver given ≡ entered → fitsStack (room .stack) (top + frameSize o (frameMethod stack top)) (frameSize o m) ≡ false → x ≡ halts noStackRoom
       unfolding framed frameAt
       send-full a q = send-entered a ∙ if-no _ _ q
 
       -- one that fits
       abbrev enteredState : ℕ → Plain
-      enteredState base = withFrames p (newFrame o top m receiver sentArguments ∷ popped f position (suc count) ∷ rest) running base 0
+      enteredState base = withFrames p (newFrame o top m receiver given ∷ popped f position (suc count) ∷ rest) running base 0
 
-      send-framed : (base : ℕ) → base ≡ top + frameSize o (frameMethod stack top) → activate edition room o m receiver sentArguments ≡ entered
+      send-framed : (base : ℕ) → base ≡ top + frameSize o (frameMethod stack top) → activate edition room o m receiver given ≡ entered
           → fitsStack (room .stack) (top + frameSize o (frameMethod stack top)) (frameSize o m) ≡ true
           → x ≡ leadsTo (enteredState base) (looked selector class m)
       unfolding framed frameAt
@@ -234,7 +239,7 @@ module _ {n b top : ℕ} {contents bodies stack : List ℕ} {selector count clas
 
       -- ---- the buffers after it
 
-      pub answered-made : (cache : List ℕ) (w n′ b′ : ℕ) (o′ : Objects) (contents′ bodies′ stack′ cache′ : List ℕ) → activate edition room o m receiver sentArguments ≡ answered w o′ → o′ .n ≡ n′
+      pub answered-made : (cache : List ℕ) (w n′ b′ : ℕ) (o′ : Objects) (contents′ bodies′ stack′ cache′ : List ℕ) → activate edition room o m receiver given ≡ answered w o′ → o′ .n ≡ n′
           → o′ .b ≡ b′
           → contents′ ≡ atFront (o′ .contents) contents → bodies′ ≡ atFront (o′ .bodies) bodies
           → stack′ ≡ set (set (set stack (operandsStart o (frameMethod stack top) top + (depth - suc count)) w) (top + 1) position) (top + 2) (depth - suc count + 1)
@@ -254,9 +259,9 @@ module _ {n b top : ℕ} {contents bodies stack : List ℕ} {selector count clas
           }
 
       pub entered-made : (cache : List ℕ) (base : ℕ) (contents′ bodies′ stack′ cache′ : List ℕ) → base ≡ top + frameSize o (frameMethod stack top)
-          → activate edition room o m receiver sentArguments ≡ entered
+          → activate edition room o m receiver given ≡ entered
           → fitsStack (room .stack) (top + frameSize o (frameMethod stack top)) (frameSize o m) ≡ true → contents′ ≡ contents → bodies′ ≡ bodies
-          → stack′ ≡ sets (set (set stack (top + 1) position) (top + 2) (depth - suc count)) base (newImage top m receiver (temporaryCount o m) sentArguments)
+          → stack′ ≡ sets (set (set stack (top + 1) position) (top + 2) (depth - suc count)) base (newImage top m receiver (temporaryCount o m) given)
           → cache′ ≡ filled cache (looked selector class m)
           → Made x (runningWith edition receiver₀ selector₀ n b base) contents bodies stack cache contents′ bodies′ stack′ cache′
       entered-made cache base contents′ bodies′ stack′ cache′ g a q ec ed es ek =
@@ -268,6 +273,6 @@ module _ {n b top : ℕ} {contents bodies stack : List ℕ} {selector count clas
             entries = ec
                 ∙ own-contents;
             words = ed ∙ own-bodies;
-            frames = es ∙ frame-written m base;
+            frames = es ∙ frame-written o m base given;
             cached = ek;
           }

@@ -21,17 +21,19 @@ use Rattle.model.specs.declared.Found.{Found}
 use Rattle.model.specs.declared.Found.the-variants.{Method, Nothing}
 use Rattle.model.specs.declared.Computed.{Computed}
 use Rattle.model.specs.declared.Computed.the-variants.{Word, Failed}
-use Rattle.model.specs.Word.{booleanWord}
+use Rattle.model.specs.Limits.{hasMessages}
+use Rattle.model.specs.Word.{booleanWord, failureSelector}
 use Rattle.model.specs.Objects.{Objects, classOf}
 use Rattle.model.specs.Lookup.{lookup}
 use Rattle.model.specs.Rules.{specialSelector, isSame, isClass}
 use Rattle.model.specs.Arithmetic.{arithmetic}
 use Rattle.model.specs.Image.{Room}
+use Rattle.model.specs.Primitive.{messageWord, hasMessageRoom}
 use Rattle.plain.specs.Registers.{Cause, notUnderstood, noBoolean, noStackRoom}
 use Rattle.plain.specs.State.{Frame, Plain, objects, movedTo}
-use Rattle.plain.specs.Step.{Looked, noLookup, looked, Stepped, leadsTo, halts, missing, _>>=_, provided, operand, without, literalOf, fieldOf, hasWord, pushed, read, storedField, stored, returned, Activation, answered, entered, unfit, activate, framed, changed, activated, afterLookup, popped, sends, aboveHome, triedPrimitive, orSends, arithmeticSends, specialSends, jumps, execute, stepFrame, step}
+use Rattle.plain.specs.Step.{Looked, noLookup, looked, Stepped, leadsTo, halts, missing, _>>=_, provided, operand, without, literalOf, fieldOf, hasWord, pushed, read, storedField, stored, returned, Activation, answered, entered, unfit, activate, framed, changed, activated, messaged, resent, failed, afterLookup, popped, sends, aboveHome, triedPrimitive, orSends, arithmeticSends, specialSends, jumps, execute, stepFrame, step}
 use Rattle.plain.specs.Calls.{halted}
-use Rattle.plain.specs.Causes.{SendsOf, Sent, argumentsOf, Because, HaltsFor}
+use Rattle.plain.specs.Causes.{SendsOf, Sent, argumentsOf, Fails, withMessage, Because, HaltsFor}
 
 -- Where a step halts, something holds of its cause.
 abbrev Caused : (Cause → Type 0) → Stepped → Type 0
@@ -54,9 +56,12 @@ neither false b e = (refl, e)
 module _ (room : Room) (s : Plain) (f : Frame) (rest : List Frame) where
   -- ---- what never halts
 
-  pushes : (C : Cause → Type 0) (g : Frame) (q : ℕ) (ops : List ℕ) (w : ℕ) (l : Looked) → Caused C (pushed s g rest q ops w l)
+  pushes-in : (C : Cause → Type 0) (p : Plain) (g : Frame) (q : ℕ) (ops : List ℕ) (w : ℕ) (l : Looked) → Caused C (pushed p g rest q ops w l)
   unfolding pushed
-  pushes C g q ops w l = after-test C (hasWord (objects s) g (length ops)) _ tt
+  pushes-in C p g q ops w l = after-test C (hasWord (objects p) g (length ops)) _ tt
+
+  pushes : (C : Cause → Type 0) (g : Frame) (q : ℕ) (ops : List ℕ) (w : ℕ) (l : Looked) → Caused C (pushed s g rest q ops w l)
+  pushes C g q ops w l = pushes-in C s g q ops w l
 
   field-stored : (C : Cause → Type 0) (g : Frame) (v i w : ℕ) → Caused C (storedField s g rest v i w)
   unfolding storedField
@@ -85,19 +90,46 @@ module _ (room : Room) (s : Plain) (f : Frame) (rest : List Frame) where
     changes o (halts c) h = h
     changes o missing h = tt
 
+    -- the message of a send that failed
+    message-halts : (t : Sent (objects s) f i) (q : ℕ) → Fails room s f t → hasMessages (s .registers .edition) ≡ true
+        → hasMessageRoom room (objects s) (length (argumentsOf f (t .count))) ≡ true → (m : Pointer) → lookup (objects s) failureSelector (t .class) ≡ Method m
+        → (a : Activation) → activate (s .registers .edition) room (withMessage s f t) (m .0) (t .receiver) (messageWord (objects s) ∷ []) ≡ a → (l : Looked)
+        → Caused C (activated room (messaged s (t .selector) (argumentsOf f (t .count))) (popped f q (suc (t .count))) rest (m .0) (t .receiver) (messageWord (objects s) ∷ []) l
+        (halts notUnderstood) a)
+    unfolding framed
+    message-halts t q g h r m e (answered w o) d l =
+        let p = messaged s (t .selector) (argumentsOf f (t .count)) in
+        let k = popped f q (suc (t .count)) in
+        changes o (pushed p k rest (k .position) (k .operands) w l) (pushes-in C p k (k .position) (k .operands) w l)
+    message-halts t q g h r m e entered d l = if-cases (Caused C) _ _ _ (λ b. tt) (λ b. (t, inr (g, h, r, m, e, (d, b))))
+    message-halts t q g h r m e unfit d l = (t, g, inr (inr (inr (m, e, d))))
+
+    resent-halts : (t : Sent (objects s) f i) (q : ℕ) → Fails room s f t → hasMessages (s .registers .edition) ≡ true → (x : Found) → lookup (objects s) failureSelector (t .class) ≡ x
+        → Caused C (resent room s (popped f q (suc (t .count))) rest (t .selector) (t .class) (t .receiver) (argumentsOf f (t .count)) x)
+    resent-halts t q g h Nothing e = (t, g, inr (inl e))
+    resent-halts t q g h (Method m) e =
+        if-cases (Caused C) (hasMessageRoom room (objects s) (length (argumentsOf f (t .count)))) _ _
+        (λ b. message-halts t q g h b m e _ refl (looked failureSelector (t .class) (m .0))) (λ b. (t, g, inr (inr (inl b))))
+
+    failed-halts : (t : Sent (objects s) f i) (q : ℕ) → Fails room s f t
+        → Caused C (failed room s (popped f q (suc (t .count))) rest (t .selector) (t .class) (t .receiver) (argumentsOf f (t .count)))
+    unfolding failed
+    failed-halts t q g = if-cases (Caused C) (hasMessages (s .registers .edition)) _ _ (λ b. resent-halts t q g b _ refl) (λ b. (t, g, inl b))
+
     found-halts : (t : Sent (objects s) f i) (q : ℕ) (m : Pointer) → lookup (objects s) (t .selector) (t .class) ≡ Method m
-        → (a : Activation) → activate (s .registers .edition) room (objects s) (m .0) (t .receiver) (argumentsOf f (t .count)) ≡ a
-        → (l : Looked) → Caused C (activated room s (popped f q (suc (t .count))) rest (m .0) (t .receiver) (argumentsOf f (t .count)) l a)
+        → (a : Activation) → activate (s .registers .edition) room (objects s) (m .0) (t .receiver) (argumentsOf f (t .count)) ≡ a → (l : Looked)
+        → Caused C (activated room s (popped f q (suc (t .count))) rest (m .0) (t .receiver) (argumentsOf f (t .count)) l
+        (failed room s (popped f q (suc (t .count))) rest (t .selector) (t .class) (t .receiver) (argumentsOf f (t .count))) a)
     unfolding framed
     found-halts t q m e (answered w o) h l =
         let g = popped f q (suc (t .count)) in
         changes o (pushed s g rest (g .position) (g .operands) w l) (pushes C g (g .position) (g .operands) w l)
-    found-halts t q m e entered h l = if-cases (Caused C) _ _ _ (λ b. tt) (λ b. (t, m, e, h, b))
-    found-halts t q m e unfit h l = (t, inr (m, e, h))
+    found-halts t q m e entered h l = if-cases (Caused C) _ _ _ (λ b. tt) (λ b. (t, inl (m, e, (h, b))))
+    found-halts t q m e unfit h l = failed-halts t q (inr (m, e, h))
 
     lookup-halts : (t : Sent (objects s) f i) (q : ℕ) (x : Found) → lookup (objects s) (t .selector) (t .class) ≡ x
         → Caused C (afterLookup room s (popped f q (suc (t .count))) rest (t .selector) (t .class) (t .receiver) (argumentsOf f (t .count)) x)
-    lookup-halts t q Nothing e = (t, inl e)
+    lookup-halts t q Nothing e = failed-halts t q (inl e)
     lookup-halts t q (Method m) e = found-halts t q m e _ refl (looked (t .selector) (t .class) (m .0))
 
     send-halts : (q : ℕ) (from : ℕ → ℕ) (selector count : ℕ) → ((receiver : ℕ) → SendsOf (objects s) f receiver selector (from receiver) count i)

@@ -27,10 +27,15 @@ unfoldable pub bodiesOf : List Object → List ℕ
 bodiesOf [] = []
 bodiesOf (x ∷ xs) = x .body ++ bodiesOf xs
 
-unfoldable pub imageWith : ℕ → ℕ → List Object → List ℕ
+-- an image of an edition, with its start words
+unfoldable pub editionWith : ℕ → ℕ → ℕ → List Object → List ℕ
 unfolding contentsFrom bodiesOf
-imageWith receiver selector xs =
-    bytesOf ((1 ∷ length xs ∷ length (bodiesOf xs) ∷ receiver ∷ selector ∷ []) ++ (contentsFrom 0 xs ++ bodiesOf xs))
+editionWith edition receiver selector xs =
+    bytesOf ((edition ∷ length xs ∷ length (bodiesOf xs) ∷ receiver ∷ selector ∷ []) ++ (contentsFrom 0 xs ++ bodiesOf xs))
+
+unfoldable pub imageWith : ℕ → ℕ → List Object → List ℕ
+unfolding editionWith
+imageWith = editionWith 1
 
 -- A class of class 6: superclass, dictionary, F and form, the last two as words
 abbrev pub class : ℕ → ℕ → ℕ → ℕ → Object

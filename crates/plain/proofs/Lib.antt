@@ -2,6 +2,7 @@ pub mod Computing
 pub mod Images
 pub mod Worked
 pub mod SuperSends
+pub mod MessageSends
 pub mod Examples
 pub mod FrameLaws
 pub mod LaidLaws
@@ -22,6 +23,7 @@ pub mod Consequences
 pub mod WriteLaws
 pub mod RunningLaws
 pub mod FramedLaws
+pub mod MessageSteps
 pub mod ReturnLaws
 pub mod TurnLaws
 pub mod CheckParts

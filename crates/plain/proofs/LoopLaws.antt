@@ -12,13 +12,14 @@ use Rattle.model.specs.Objects.{objectsAt}
 use Rattle.plain.specs.Registers.{Registers, running, Cause, phaseOf, withPhase}
 use Rattle.plain.specs.Step.{halts, step}
 use Rattle.plain.specs.Cache.{filled}
-use Rattle.plain.specs.Calls.{result}
+use Rattle.plain.specs.Calls.{Ran, ran, stuck, steps, result, reachOf}
 use Rattle.plain.specs.State.{Plain, objects}
 use Rattle.plain.specs.Flat.{Flat, flat, roomOf, plainOf, frameMethod, frameAt, framesFrom}
 use Rattle.plain.specs.Check.{check}
-use Rattle.plain.specs.FlatCalls.{gives, laid, withPlain}
+use Rattle.plain.specs.FlatCalls.{gives, laid, withPlain, stackAfter, cacheAfter}
 use Rattle.plain.specs.Running.{runningWith, Made}
-use Rattle.plain.specs.RunLoop.{topEnd, runsFrom, Turn}
+use Rattle.plain.specs.RunLoop.{topEnd, flatAfterRunFrom, runsFrom, Turn}
+use Rattle.plain.specs.Reach.{added}
 use Rattle.plain.proofs.FlatLaws.{FlatRight, check-right, right-check}
 use Rattle.plain.proofs.TurnLaws.{runs-start, runs-out, runs-over, turn-plain, turn-room, turn-level, turn-right, turn-runs, halt-runs, extends-p}
 use Rattle.plain.proofs.MadeLaws.{made-flat}
@@ -125,3 +126,55 @@ module _ (s₀ : Flat) (grant : ℕ) (s : Flat) (count reach : ℕ) (t : Turn s�
         where
           highest : topEnd (plainOf s′) ≡ 0 → max reach (topEnd (plainOf s′)) ≡ reach
           highest z = omega arith
+
+-- ---- a run in two parts
+
+added-runs : (k h left k′ h′ : ℕ) (s : Flat) → added k h (runsFrom left k′ h′ s) ≡ runsFrom left (k + k′) (max h h′) s
+unfolding runsFrom
+added-runs k h left k′ h′ s = go (steps (roomOf s) left (plainOf s))
+  where
+    counts : (j : ℕ) → k + (k′ + j) ≡ k + k′ + j
+    counts j = omega arith
+
+    ends : (r : ℕ) → max h (max h′ r) ≡ max (max h h′) r
+    ends r = omega arith
+
+    go : (x : Ran) → added k h (flatAfterRunFrom k′ h′ s x) ≡ flatAfterRunFrom (k + k′) (max h h′) s x
+    go (ran j p ts) =
+        λ i. gives (result (p .registers .phase) (counts j i) (p .registers .value) (ends (reachOf (plainOf s) ts) i))
+        (withPlain s p (stackAfter (s .stack) ts) (cacheAfter (s .cache) ts))
+    go stuck = refl
+
+-- behind k bytecodes with reach h
+pub runs-behind : (left k h : ℕ) (s : Flat) → runsFrom left k h s ≡ added k h (runsFrom left 0 0 s)
+runs-behind left k h s = (λ i. runsFrom left (none i) (lowest i) s) ∙ sym (added-runs k h left 0 0 s)
+  where
+    none : k ≡ k + 0
+    none = omega arith
+
+    lowest : h ≡ max h 0
+    lowest = omega arith
+
+module _ {s₀ : Flat} {grant : ℕ} {s : Flat} {k h : ℕ} (t : Turn s₀ grant s k h) where
+  rest-is : runsFrom grant 0 0 s₀ ≡ added k h (runsFrom (grant - k) 0 0 s)
+  rest-is = t .rest ∙ runs-behind (grant - k) k h s
+
+  -- What is left of the run goes on,
+  pub turn-then : {s′ : Flat} {k′ h′ : ℕ} → Turn s (grant - k) s′ k′ h′ → Turn s₀ grant s′ (k + k′) (max h h′)
+  turn-then {s′} {k′} {h′} u =
+      record {
+        made = let m = t .made in let m′ = u .made in omega arith;
+        checked = u .checked;
+        phase = u .phase;
+        lengths = u .lengths ∙ t .lengths;
+        high = let e = u .high in omega arith;
+        rest = rest-is ∙ ap (added k h) (u .rest) ∙ added-runs k h (grant - k - k′) k′ h′ s′ ∙ ap (λ (left : ℕ). runsFrom left (k + k′) (max h h′) s′) less;
+      }
+    where
+      less : grant - k - k′ ≡ grant - (k + k′)
+      less = omega arith
+
+  -- or is over.
+  pub over-then : {phase count value reach : ℕ} {s′ : Flat} → gives (result phase count value reach) s′ ≡ runsFrom (grant - k) 0 0 s
+      → gives (result phase (k + count) value (max h reach)) s′ ≡ runsFrom grant 0 0 s₀
+  over-then e = ap (added k h) e ∙ sym rest-is

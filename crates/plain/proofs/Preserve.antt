@@ -21,8 +21,8 @@ use Rattle.model.specs.declared.Found.{Found}
 use Rattle.model.specs.declared.Found.the-variants.{Method, Nothing}
 use Rattle.model.specs.declared.Computed.{Computed}
 use Rattle.model.specs.declared.Computed.the-variants.{Word, Failed}
-use Rattle.model.specs.Limits.{fieldsKind, methodKind, receiverFlag, fieldFlag, primitiveFlag}
-use Rattle.model.specs.Word.{isPointer, isValid, objectNumber, booleanWord}
+use Rattle.model.specs.Limits.{hasMessages, fieldsKind, methodKind, receiverFlag, fieldFlag, primitiveFlag}
+use Rattle.model.specs.Word.{isPointer, isValid, objectNumber, booleanWord, failureSelector}
 use Rattle.model.specs.Objects.{Objects, classOf, isKind, size, bodyWord, fieldCount}
 use Rattle.model.specs.Method.{home, flag, temporaryCount, frameWords, frameSize, literalCount, literal, argumentCount, primitiveNumber, runsCode}
 use Rattle.model.specs.Depth.{noteAt, isSome}
@@ -30,12 +30,14 @@ use Rattle.model.specs.Lookup.{found, lookup, inChain}
 use Rattle.model.specs.Rules.{methodTable, allowed, placeFine, variableFine, isWritable, sendFine, takesCount, specialSelector, isSame, isClass}
 use Rattle.model.specs.Image.{Room}
 use Rattle.model.specs.Arithmetic.{arithmetic}
-use Rattle.model.specs.Primitive.{Outcome, answers, fails, primitive, storeWord}
+use Rattle.model.specs.Primitive.{Outcome, answers, fails, primitive, storeWord, messageMade, messageWord, hasMessageRoom}
+use Rattle.model.proofs.Facts.{valid-more}
+use Rattle.model.proofs.SendFacts.{selector-takes, selector-valid}
 use Rattle.model.proofs.DepthLaws.{spot-start}
-use Rattle.plain.specs.Registers.{running, finished}
+use Rattle.plain.specs.Registers.{running, finished, notUnderstood}
 use Rattle.plain.specs.RunLoop.{firstEnd, topEnd}
 use Rattle.plain.specs.State.{Frame, Plain, objects, withObjects, movedTo, withTemporaries, newFrame, fitsStack}
-use Rattle.plain.specs.Step.{Looked, noLookup, looked, Stepped, leadsTo, halts, missing, _>>=_, provided, operand, without, fieldOf, literalOf, onTop, hasWord, pushed, read, storedField, stored, returned, Activation, answered, entered, unfit, entering, fieldAnswered, primitiveAnswered, activate, framed, changed, activated, afterLookup, popped, sends, aboveHome, triedPrimitive, orSends, arithmeticSends, specialSends, jumps, execute}
+use Rattle.plain.specs.Step.{Looked, noLookup, looked, Stepped, leadsTo, halts, missing, _>>=_, provided, operand, without, fieldOf, literalOf, onTop, hasWord, pushed, read, storedField, stored, returned, Activation, answered, entered, unfit, entering, fieldAnswered, primitiveAnswered, activate, framed, changed, activated, resent, failed, afterLookup, popped, sends, aboveHome, triedPrimitive, orSends, arithmeticSends, specialSends, jumps, execute}
 use Rattle.plain.proofs.FrameLaws.{FrameRight, Fits, fits, FramesRight, note-is, within}
 use Rattle.plain.proofs.NowLaws.{Now}
 use Rattle.plain.proofs.StepLaws.{Valid, valid-append, valid-one, valid-replicate, Finds, element, moved-right, stored-temporary, has-word, new-top, operand-finds, without-length, without-valid, arguments-length, arguments-valid}
@@ -58,6 +60,11 @@ pub record World (After : Objects → Objects → Type 0) (e : ℕ) (room : Room
   pub runs : (m : ℕ) → T (isKind o methodKind m) → T (runsCode o m) → T (isSome (methodTable e o m))
   pub computes : (k a b w : ℕ) → arithmetic k a b ≡ Word w → T (isValid (o .n) w)
   pub stores : (w i v : ℕ) → T (isKind o fieldsKind w && ltb i (size o (objectNumber w))) → T (isValid (o .n) v) → After o (storeWord o (objectNumber w) i v)
+  pub trans : (o′ o″ : Objects) → After o o′ → After o′ o″ → After o o″
+  pub lookups : (o′ : Objects) → After o o′ → (s c : ℕ) → lookup o′ s c ≡ lookup o s c
+  pub failureCount : T (hasMessages e) → T (takesCount o failureSelector 1)
+  pub messages : T (hasMessages e) → (selector : ℕ) (arguments : List ℕ) → T (isValid (o .n) selector) → Valid (o .n) arguments → T (hasMessageRoom room o (length arguments))
+      → After o (messageMade o selector arguments) × T (isValid (messageMade o selector arguments .n) (messageWord o))
   pub performs : (k count w : ℕ) (arguments : List ℕ) (v : ℕ) (o′ : Objects) → T (isValid (o .n) w) → Valid (o .n) arguments → count ≡ length arguments
       → primitive e room o k count w arguments ≡ answers v o′ → After o o′ × T (isValid (o′ .n) v)
 
@@ -97,21 +104,7 @@ entered-runs e room o m receiver arguments =
     by-field none q = subst Entered (sym q) tt
 
 pub small-valid : (n w : ℕ) → 3 ≤ n → T (isValid 3 w) → T (isValid n w)
-unfolding isValid isPointer
-small-valid n w h t = go (eqb (w % 2) 1) t
-  where
-    more : T (eqb (w % 2) 0 && (leb 1 (w / 2) && leb (w / 2) 3)) → T (eqb (w % 2) 0 && (leb 1 (w / 2) && leb (w / 2) n))
-    more s =
-        let e = eqb (w % 2) 0 in
-        let a = leb 1 (w / 2) in
-        let b = leb (w / 2) 3 in
-        let l = lib.Dec.leb→le (w / 2) 3 (and-right a b (and-right e (a && b) s)) in
-        and-both e (a && leb (w / 2) n) (and-left e (a && b) s)
-        (and-both a (leb (w / 2) n) (and-left a b (and-right e (a && b) s)) (lib.Dec.le→leb (w / 2) n (omega arith)))
-
-    go : (b : Bool) → T (b || (eqb (w % 2) 0 && (leb 1 (w / 2) && leb (w / 2) 3))) → T (b || (eqb (w % 2) 0 && (leb 1 (w / 2) && leb (w / 2) n)))
-    go true s = tt
-    go false s = more s
+small-valid n w h t = valid-more 3 n w h t
 
 nil-valid : T (isValid 3 nilWord)
 unfolding isValid isPointer
@@ -134,6 +127,73 @@ special-same = refl
 special-class : specialCount 23 ≡ 0
 unfolding specialCount if_then_else_
 special-class = refl
+
+-- ---- activation
+module _ (After : Objects → Objects → Type 0) (room : Room) (edition : ℕ) (o : Objects) (world : World After edition room o) where
+  -- what activation gives: an answer with the objects after it, or a method whose frame can be made
+  abbrev pub Activates : ℕ → ℕ → Activation → Type 0
+  Activates m receiver (answered w o′) = After o o′ × T (isValid (o′ .n) w)
+  Activates m receiver entered = T (runsCode o m) × T (inChain o (home o m) (classOf o receiver))
+  Activates m receiver unfit = Unit {0}
+
+  enters : (m receiver : ℕ) → T (runsCode o m) → Activates m receiver (entering o m receiver)
+  unfolding entering
+  enters m receiver t = if-cases (Activates m receiver) (inChain o (home o m) (classOf o receiver)) entered unfit (λ e. (t, true→T e)) (λ e. tt)
+
+  -- a field that was found is valid
+  field-valid : (v i w : ℕ) → fieldOf o v i ≡ some w → T (isValid (o .n) w)
+  unfolding fieldOf if_then_else_
+  field-valid v i w e = by-test (isKind o fieldsKind v && ltb i (size o (objectNumber v))) refl e
+    where
+      by-test : (b : Bool) → (isKind o fieldsKind v && ltb i (size o (objectNumber v))) ≡ b → (if b then some (bodyWord o (objectNumber v) i) else none) ≡ some w → T (isValid (o .n) w)
+      by-test true q h =
+          subst (λ (k : ℕ). T (isValid (o .n) k)) (mathlib.Core.Option.Option·some-injective (bodyWord o (objectNumber v) i) w h) (world .fieldValid v i (true→T q))
+      by-test false q h = absurd (mathlib.Core.Option.Option·none-ne-some w h)
+
+  field-answers : (m receiver : ℕ) (x : Option ℕ) → fieldOf o receiver (temporaryCount o m) ≡ x → Activates m receiver (fieldAnswered o x)
+  field-answers m receiver none e = tt
+  field-answers m receiver (some w) e = (world .self, field-valid receiver (temporaryCount o m) w e)
+
+  primitive-answers : (m receiver : ℕ) (arguments : List ℕ) → T (isValid (o .n) receiver) → Valid (o .n) arguments → argumentCount o m ≡ length arguments → T (runsCode o m)
+      → (x : Outcome) → primitive edition room o (primitiveNumber o m) (argumentCount o m) receiver arguments ≡ x → Activates m receiver (primitiveAnswered o m receiver x)
+  primitive-answers m receiver arguments v va c t (answers w o′) e = world .performs (primitiveNumber o m) (argumentCount o m) receiver arguments w o′ v va c e
+  primitive-answers m receiver arguments v va c t fails e = enters m receiver t
+
+  pub activates : (m receiver : ℕ) (arguments : List ℕ) → T (isValid (o .n) receiver) → Valid (o .n) arguments → argumentCount o m ≡ length arguments
+      → Activates m receiver (activate edition room o m receiver arguments)
+  unfolding activate
+  activates m receiver arguments v va c =
+      if-cases (Activates m receiver) (eqb (flag o m) receiverFlag) _ _ (λ e. (world .self, v))
+      (λ n5. if-cases (Activates m receiver) (eqb (flag o m) fieldFlag) _ _ (λ e. field-answers m receiver (fieldOf o receiver (temporaryCount o m)) refl)
+      (λ n6.
+      let code = runs-code o m (borrow.Author.Tests.eqb-false (flag o m) receiverFlag n5) (borrow.Author.Tests.eqb-false (flag o m) fieldFlag n6) in
+      if-cases (Activates m receiver) (eqb (flag o m) primitiveFlag) _ _
+      (λ e. primitive-answers m receiver arguments v va c code (primitive edition room o (primitiveNumber o m) (argumentCount o m) receiver arguments) refl)
+      (λ e. enters m receiver code)))
+
+  -- the frame of a method that was found
+  pub new-right : (m receiver : ℕ) (arguments : List ℕ) → T (isKind o methodKind m) → T (isValid (o .n) receiver) → Valid (o .n) arguments → argumentCount o m ≡ length arguments
+      → T (runsCode o m) → T (inChain o (home o m) (classOf o receiver)) → (sender : ℕ) → FrameRight edition o true (newFrame o sender m receiver arguments)
+  unfolding newFrame
+  new-right m receiver arguments k v va c t h sender =
+      record {
+        isMethod = k;
+        unmarked = refl;
+        receiver = v;
+        chain = h;
+        note = spot-start edition o m (world .runs m k t) ∙ sym (note-is true _);
+        temporaries = temps;
+        depth = refl;
+        validTemporaries = valid-append (o .n) arguments (replicate (temporaryCount o m - length arguments) nilWord) va
+            (valid-replicate (o .n) (temporaryCount o m - length arguments) nilWord (small-valid (o .n) nilWord (world .least) nil-valid));
+        validOperands = tt;
+      }
+    where
+      temps : length (arguments ++ replicate (temporaryCount o m - length arguments) nilWord) ≡ temporaryCount o m
+      temps =
+          length-append arguments (replicate (temporaryCount o m - length arguments) nilWord)
+          ∙ ap (λ (x : ℕ). length arguments + x) (length-replicate (temporaryCount o m - length arguments) nilWord)
+          ∙ (let x = world .arguments m k in omega arith)
 
 -- a lookup that was made and found
 abbrev pub LookedRight : Objects → Looked → Type 0
@@ -173,74 +233,7 @@ module _ (After : Objects → Objects → Type 0) (room : Room) (s : Plain) wher
   goes-provided true x t g = g
   goes-provided false x t g = absurd t
 
-  -- ---- activation
-  module _ (world : World After edition room o) where
-    -- what activation gives: an answer with the objects after it, or a method whose frame can be made
-    abbrev pub Activates : ℕ → ℕ → Activation → Type 0
-    Activates m receiver (answered w o′) = After o o′ × T (isValid (o′ .n) w)
-    Activates m receiver entered = T (runsCode o m) × T (inChain o (home o m) (classOf o receiver))
-    Activates m receiver unfit = Unit {0}
-
-    enters : (m receiver : ℕ) → T (runsCode o m) → Activates m receiver (entering o m receiver)
-    unfolding entering
-    enters m receiver t = if-cases (Activates m receiver) (inChain o (home o m) (classOf o receiver)) entered unfit (λ e. (t, true→T e)) (λ e. tt)
-
-    -- a field that was found is valid
-    field-valid : (v i w : ℕ) → fieldOf o v i ≡ some w → T (isValid (o .n) w)
-    unfolding fieldOf if_then_else_
-    field-valid v i w e = by-test (isKind o fieldsKind v && ltb i (size o (objectNumber v))) refl e
-      where
-        by-test : (b : Bool) → (isKind o fieldsKind v && ltb i (size o (objectNumber v))) ≡ b → (if b then some (bodyWord o (objectNumber v) i) else none) ≡ some w → T (isValid (o .n) w)
-        by-test true q h =
-            subst (λ (k : ℕ). T (isValid (o .n) k)) (mathlib.Core.Option.Option·some-injective (bodyWord o (objectNumber v) i) w h) (world .fieldValid v i (true→T q))
-        by-test false q h = absurd (mathlib.Core.Option.Option·none-ne-some w h)
-
-    field-answers : (m receiver : ℕ) (x : Option ℕ) → fieldOf o receiver (temporaryCount o m) ≡ x → Activates m receiver (fieldAnswered o x)
-    field-answers m receiver none e = tt
-    field-answers m receiver (some w) e = (world .self, field-valid receiver (temporaryCount o m) w e)
-
-    primitive-answers : (m receiver : ℕ) (arguments : List ℕ) → T (isValid (o .n) receiver) → Valid (o .n) arguments → argumentCount o m ≡ length arguments → T (runsCode o m)
-        → (x : Outcome) → primitive edition room o (primitiveNumber o m) (argumentCount o m) receiver arguments ≡ x → Activates m receiver (primitiveAnswered o m receiver x)
-    primitive-answers m receiver arguments v va c t (answers w o′) e = world .performs (primitiveNumber o m) (argumentCount o m) receiver arguments w o′ v va c e
-    primitive-answers m receiver arguments v va c t fails e = enters m receiver t
-
-    pub activates : (m receiver : ℕ) (arguments : List ℕ) → T (isValid (o .n) receiver) → Valid (o .n) arguments → argumentCount o m ≡ length arguments
-        → Activates m receiver (activate edition room o m receiver arguments)
-    unfolding activate
-    activates m receiver arguments v va c =
-        if-cases (Activates m receiver) (eqb (flag o m) receiverFlag) _ _ (λ e. (world .self, v))
-        (λ n5. if-cases (Activates m receiver) (eqb (flag o m) fieldFlag) _ _ (λ e. field-answers m receiver (fieldOf o receiver (temporaryCount o m)) refl)
-        (λ n6.
-        let code = runs-code o m (borrow.Author.Tests.eqb-false (flag o m) receiverFlag n5) (borrow.Author.Tests.eqb-false (flag o m) fieldFlag n6) in
-        if-cases (Activates m receiver) (eqb (flag o m) primitiveFlag) _ _
-        (λ e. primitive-answers m receiver arguments v va c code (primitive edition room o (primitiveNumber o m) (argumentCount o m) receiver arguments) refl)
-        (λ e. enters m receiver code)))
-
-    -- the frame of a method that was found
-    pub new-right : (m receiver : ℕ) (arguments : List ℕ) → T (isKind o methodKind m) → T (isValid (o .n) receiver) → Valid (o .n) arguments → argumentCount o m ≡ length arguments
-        → T (runsCode o m) → T (inChain o (home o m) (classOf o receiver)) → (sender : ℕ) → FrameRight edition o true (newFrame o sender m receiver arguments)
-    unfolding newFrame
-    new-right m receiver arguments k v va c t h sender =
-        record {
-          isMethod = k;
-          unmarked = refl;
-          receiver = v;
-          chain = h;
-          note = spot-start edition o m (world .runs m k t) ∙ sym (note-is true _);
-          temporaries = temps;
-          depth = refl;
-          validTemporaries = valid-append (o .n) arguments (replicate (temporaryCount o m - length arguments) nilWord) va
-              (valid-replicate (o .n) (temporaryCount o m - length arguments) nilWord (small-valid (o .n) nilWord (world .least) nil-valid));
-          validOperands = tt;
-        }
-      where
-        temps : length (arguments ++ replicate (temporaryCount o m - length arguments) nilWord) ≡ temporaryCount o m
-        temps =
-            length-append arguments (replicate (temporaryCount o m - length arguments) nilWord)
-            ∙ ap (λ (x : ℕ). length arguments + x) (length-replicate (temporaryCount o m - length arguments) nilWord)
-            ∙ (let x = world .arguments m k in omega arith)
-
-  module _ (world : World After edition room o) (f : Frame) (rest : List Frame) (r : FrameRight edition o true f)
+  module _ (world : World After edition room o) (next : (o′ : Objects) → After o o′ → World After edition room o′) (f : Frame) (rest : List Frame) (r : FrameRight edition o true f)
       (fr : FramesRight edition o (room .stack) true (s .registers .top) (f ∷ rest)) (frames-are : s .frames ≡ f ∷ rest) where
     -- the end of the top frame
     own-end : topEnd s ≡ s .registers .top + frameSize o (f .method)
@@ -321,14 +314,16 @@ module _ (After : Objects → Objects → Type 0) (room : Room) (s : Plain) wher
         goes-provided (hasWord o f′ (length ops)) (leadsTo (onTop s (movedTo f′ q (ops ++ (w ∷ []))) rest) l) (has-word edition o (f′ .method) q (length ops) e)
         (run-on (movedTo f′ q (ops ++ (w ∷ []))) a b (pushed-right was f′ r′ o (world .self) q ops w e v u) l k)
 
-    pushes-changed : (was : Bool) (f′ : Frame) → f′ .sender ≡ f .sender → f′ .method ≡ f .method → FrameRight edition o was f′ → (o′ : Objects) → After o o′ → (q : ℕ) (ops : List ℕ) (w : ℕ)
-        → noteAt (methodTable edition o (f′ .method)) q ≡ suc (suc (length ops)) → Valid (o .n) ops → T (isValid (o′ .n) w) → (l : Looked) → LookedRight o l
-        → Goes (changed o′ (pushed s f′ rest q ops w l))
+    -- a push in objects o₁, after which there are others
+    pushes-changed : (was : Bool) (f′ : Frame) → f′ .sender ≡ f .sender → f′ .method ≡ f .method → FrameRight edition o was f′ → (o₁ o′ : Objects) → After o o₁ → After o o′
+        → (q : ℕ) (ops : List ℕ) (w : ℕ) → noteAt (methodTable edition o (f′ .method)) q ≡ suc (suc (length ops)) → Valid (o .n) ops → T (isValid (o′ .n) w) → (l : Looked) → LookedRight o l
+        → Goes (changed o′ (pushed (withObjects s o₁) f′ rest q ops w l))
     unfolding pushed
-    pushes-changed was f′ a b r′ o′ x q ops w e v u l k =
-        go (hasWord o f′ (length ops)) (has-word edition o (f′ .method) q (length ops) e)
+    pushes-changed was f′ a b r′ o₁ o′ x₁ x q ops w e v u l k =
+        go (hasWord o₁ f′ (length ops))
+        (has-word edition o₁ (f′ .method) q (length ops) (ap (λ t. noteAt t q) (world .tables o₁ x₁ (f′ .method) (r′ .isMethod)) ∙ e))
       where
-        go : (t : Bool) → T t → Goes (changed o′ (provided t (leadsTo (onTop s (movedTo f′ q (ops ++ (w ∷ []))) rest) l)))
+        go : (t : Bool) → T t → Goes (changed o′ (provided t (leadsTo (onTop (withObjects s o₁) (movedTo f′ q (ops ++ (w ∷ []))) rest) l)))
         go true y = run-on-with o′ x (movedTo f′ q (ops ++ (w ∷ []))) a b (pushed-right was f′ r′ o′ x q ops w e v u) l k
         go false y = absurd y
 
@@ -455,63 +450,85 @@ module _ (After : Objects → Objects → Type 0) (room : Room) (s : Plain) wher
       abbrev arguments′ : List ℕ
       arguments′ = drop (f .depth - n) (f .operands)
 
-      framed-goes : (m receiver : ℕ) → FrameRight edition o true (newFrame o (s .registers .top) m receiver arguments′) → (l : Looked) → LookedRight o l
-          → Goes (framed room s f′ rest m receiver arguments′ l)
+      -- a frame in objects o₁, which are those of the state or have the message
+      framed-goes : (o₁ : Objects) → After o o₁ → (m receiver : ℕ) (arguments : List ℕ) → FrameRight edition o₁ true (newFrame o₁ (s .registers .top) m receiver arguments)
+          → (l : Looked) → LookedRight o l → Goes (framed room (withObjects s o₁) f′ rest m receiver arguments l)
       unfolding framed newFrame
-      framed-goes m receiver rn l k =
-          if-cases Goes (fitsStack (room .stack) (s .registers .top + frameSize o (f .method)) (frameSize o m)) _ _
+      framed-goes o₁ x m receiver arguments rn l k =
+          if-cases Goes (fitsStack (room .stack) (s .registers .top + frameSize o₁ (f .method)) (frameSize o₁ m)) _ _
           (λ e. (
             record {
-              after = world .self;
+              after = x;
               receiver = refl;
               selector = refl;
               edition = refl;
               shape = runs refl refl (
                 rn,
-                fits (room .stack) (s .registers .top + frameSize o (f .method)) (frameSize o m) (true→T e),
+                fits (room .stack) (s .registers .top + frameSize o₁ (f .method)) (frameSize o₁ m) (true→T e),
                 refl,
-                new-top o (room .stack) true false
-                    (s .registers .top) f f′ rest refl refl right′ fr,
+                new-top o₁ (room .stack) true false
+                    (s .registers .top) f f′ rest refl refl (world .keeps o₁ x false f′ right′) (frames-keep o₁ x true (s .registers .top) (f ∷ rest) fr),
               );
-              level = λ x y. absurd (omega arith);
+              level = λ y z. absurd (omega arith);
             },
             k,
           ))
           (λ e. tt)
 
-      activated-goes : (selector class m receiver : ℕ) → lookup o selector class ≡ found m → argumentCount o m ≡ length arguments′ → T (isValid (o .n) receiver)
-          → (x : Activation) → Activates world m receiver x → Goes (activated room s f′ rest m receiver arguments′ (looked selector class m) x)
-      activated-goes selector class m receiver e c v (answered w o′) a =
-          pushes-changed false f′ refl refl right′ o′ (a .0) q (without f (suc n)) w noted′ (without-valid o f r (suc n)) (a .1) (looked selector class m) e
-      activated-goes selector class m receiver e c v entered a =
-          framed-goes m receiver (new-right world m receiver arguments′ (world .lookupMethod selector class m e) v (arguments-valid o f r n) c (a .0) (a .1)
-          (s .registers .top)) (looked selector class m) e
-      activated-goes selector class m receiver e c v unfit a = tt
+      activated-goes : (o₁ : Objects) (a₁ : After o o₁) (m receiver : ℕ) (arguments : List ℕ) (l : Looked) → LookedRight o l → T (isKind o₁ methodKind m)
+          → argumentCount o₁ m ≡ length arguments → T (isValid (o₁ .n) receiver) → Valid (o₁ .n) arguments → (otherwise : Stepped) → Goes otherwise
+          → (x : Activation) → Activates After room edition o₁ (next o₁ a₁) m receiver x → Goes (activated room (withObjects s o₁) f′ rest m receiver arguments l otherwise x)
+      activated-goes o₁ a₁ m receiver arguments l e k c v va otherwise g (answered w o′) a =
+          pushes-changed false f′ refl refl right′ o₁ o′ a₁ (world .trans o₁ o′ a₁ (a .0)) q (without f (suc n)) w noted′ (without-valid o f r (suc n)) (a .1) l e
+      activated-goes o₁ a₁ m receiver arguments l e k c v va otherwise g entered a =
+          framed-goes o₁ a₁ m receiver arguments (new-right After room edition o₁ (next o₁ a₁) m receiver arguments k v va c (a .0) (a .1) (s .registers .top)) l e
+      activated-goes o₁ a₁ m receiver arguments l e k c v va otherwise g unfit a = g
 
-      found-goes : (selector class receiver : ℕ) → T (takesCount o selector n) → T (isValid (o .n) receiver) → (x : Found) → lookup o selector class ≡ x
+      -- a send that failed: its message
+      resent-goes : (selector class receiver : ℕ) → T (hasMessages edition) → T (isValid (o .n) selector) → T (isValid (o .n) receiver)
+          → (x : Found) → lookup o failureSelector class ≡ x → Goes (resent room s f′ rest selector class receiver arguments′ x)
+      resent-goes selector class receiver t vs v Nothing e = tt
+      resent-goes selector class receiver t vs v (Method m) e =
+          if-cases Goes (hasMessageRoom room o (length arguments′)) _ _
+          (λ h.
+          let made = world .messages t selector arguments′ vs (arguments-valid o f r n) (true→T h) in
+          let o₁ = messageMade o selector arguments′ in
+          let w₁ = next o₁ (made .0) in
+          let e₁ : lookup o₁ failureSelector class ≡ found (m .0) = world .lookups o₁ (made .0) failureSelector class ∙ e in
+          let c : argumentCount o₁ (m .0) ≡ 1 = w₁ .lookupCount failureSelector class (m .0) 1 e₁ (w₁ .failureCount t) in
+          let v₁ = world .grows o₁ (made .0) receiver v in
+          let va = valid-one (o₁ .n) (messageWord o) (made .1) in
+          activated-goes o₁ (made .0) (m .0) receiver (messageWord o ∷ []) (looked failureSelector class (m .0)) e (w₁ .lookupMethod failureSelector class (m .0) e₁) c v₁ va
+          (halts notUnderstood) tt (activate edition room o₁ (m .0) receiver (messageWord o ∷ [])) (activates After room edition o₁ w₁ (m .0) receiver (messageWord o ∷ []) v₁ va c))
+          (λ h. tt)
+
+      failed-goes : (selector class receiver : ℕ) → T (isValid (o .n) selector) → T (isValid (o .n) receiver) → Goes (failed room s f′ rest selector class receiver arguments′)
+      unfolding failed
+      failed-goes selector class receiver vs v =
+          if-cases Goes (hasMessages edition) _ _ (λ h. resent-goes selector class receiver (true→T h) vs v (lookup o failureSelector class) refl) (λ h. tt)
+
+      found-goes : (selector class receiver : ℕ) → T (takesCount o selector n) → T (isValid (o .n) selector) → T (isValid (o .n) receiver) → (x : Found) → lookup o selector class ≡ x
           → Goes (afterLookup room s f′ rest selector class receiver arguments′ x)
-      found-goes selector class receiver t v Nothing e = tt
-      found-goes selector class receiver t v (Method m) e =
+      found-goes selector class receiver t vs v Nothing e = failed-goes selector class receiver vs v
+      found-goes selector class receiver t vs v (Method m) e =
           let c : argumentCount o (m .0) ≡ length arguments′ = world .lookupCount selector class (m .0) n e t ∙ sym (arguments-length o f r n (omega arith)) in
-          activated-goes selector class (m .0) receiver e c v (activate edition room o (m .0) receiver arguments′) (activates world (m .0) receiver arguments′ v (arguments-valid o f r n) c)
+          activated-goes o (world .self) (m .0) receiver arguments′ (looked selector class (m .0)) e (world .lookupMethod selector class (m .0) e) c v (arguments-valid o f r n)
+          (failed room s f′ rest selector class receiver arguments′) (failed-goes selector class receiver vs v)
+          (activate edition room o (m .0) receiver arguments′) (activates After room edition o (next o (world .self)) (m .0) receiver arguments′ v (arguments-valid o f r n) c)
 
-      send-goes : (from : ℕ → ℕ) (selector : ℕ) → T (takesCount o selector n) → Goes (sends room s f rest q from selector n)
+      send-goes : (from : ℕ → ℕ) (selector : ℕ) → T (sendFine o selector n) → Goes (sends room s f rest q from selector n)
       unfolding sends
       send-goes from selector t =
           let x = operand-finds o f r n (omega arith) in
-          goes-found (operand f n) _ (x .0) (x .1) (found-goes selector (from (x .0)) (x .0) t (x .2) (lookup o selector (from (x .0))) refl)
-
-    -- a send's rule gives the count
-    send-count : (selector n : ℕ) → T (sendFine o selector n) → T (takesCount o selector n)
-    unfolding sendFine
-    send-count selector n t = and-right (Rattle.model.specs.Objects.isNilOr o Rattle.model.specs.Limits.bytesKind selector) (takesCount o selector n) t
+          goes-found (operand f n) _ (x .0) (x .1)
+          (found-goes selector (from (x .0)) (x .0) (selector-takes o selector n t) (selector-valid o selector n (let l = world .least in omega arith) t) (x .2) (lookup o selector (from (x .0))) refl)
 
     -- the answer of a special send that looks nothing up, over the k uppermost operands
     answer-goes : (q k w : ℕ) → k ≤ f .depth → noteAt (methodTable edition o (f .method)) q ≡ suc (f .depth - k + 1) → T (isValid (o .n) w) → Goes (pushed s f rest q (without f k) w noLookup)
     answer-goes q k w h e v =
         pushes true f refl refl r q (without f k) w (e ∙ ap suc (let l = without-length o f r k h in omega arith)) (without-valid o f r k) v noLookup tt
 
-    arithmetic-goes : (q k : ℕ) → 2 ≤ f .depth → noteAt (methodTable edition o (f .method)) q ≡ suc (f .depth - 2 + 1) → T (takesCount o (specialSelector o k) 1)
+    arithmetic-goes : (q k : ℕ) → 2 ≤ f .depth → noteAt (methodTable edition o (f .method)) q ≡ suc (f .depth - 2 + 1) → T (sendFine o (specialSelector o k) 1)
         → Goes (arithmeticSends room s f rest q k)
     unfolding arithmeticSends
     arithmetic-goes q k h e t =
@@ -554,7 +571,7 @@ module _ (After : Objects → Objects → Type 0) (room : Room) (s : Plain) wher
         if-cases Goes (ltb k 16) _ _
         (λ a. let c = special-one k (ltb-true k 16 a) in
         arithmetic-goes q k (omega arith) (e ∙ ap (λ (j : ℕ). suc (f .depth - suc j + 1)) c)
-        (subst (λ (j : ℕ). T (takesCount o (specialSelector o k) j)) c (send-count (specialSelector o k) (specialCount k) (sends-rule k (ltb-true k 16 a) t))))
+        (subst (λ (j : ℕ). T (sendFine o (specialSelector o k) j)) c (sends-rule k (ltb-true k 16 a) t)))
         (λ a. if-cases Goes (isSame k) _ _
         (λ b. let c = same-count k (eqb-true k 22 b) in
         let x = operand-finds o f r 1 (omega arith) in
@@ -567,7 +584,7 @@ module _ (After : Objects → Objects → Type 0) (room : Room) (s : Plain) wher
         goes-found (operand f 0) _ (x .0) (x .1)
         (answer-goes q 1 (classOf o (x .0)) (omega arith) (e ∙ ap (λ (j : ℕ). suc (f .depth - suc j + 1)) c) (world .classValid (x .0) (x .2))))
         (λ d. send-goes q (specialCount k) h e (classOf o) (specialSelector o k)
-        (send-count (specialSelector o k) (specialCount k) (neither (isSame k) (isClass k) (sendFine o (specialSelector o k) (specialCount k)) b d t)))))
+        (neither (isSame k) (isClass k) (sendFine o (specialSelector o k) (specialCount k)) b d t))))
       where
         same-count : (k : ℕ) → k ≡ 22 → specialCount k ≡ 1
         same-count k p = ap specialCount p ∙ special-same
@@ -638,14 +655,14 @@ module _ (After : Objects → Objects → Type 0) (room : Room) (s : Plain) wher
         let x = literal-finds l (and-left a b (now .allowed)) in
         goes-found (literalOf o (f .method) l) _ (x .0) (x .1)
         (send-goes q n (let h = now .needs in omega arith) (sent-note q n (now .goes q (List·Memᴰ·head refl))) (classOf o) (x .0)
-        (subst (λ (k : ℕ). T (takesCount o k n)) (sym (literal-is l (x .0) (x .1) (and-left a b (now .allowed)))) (send-count (literal o (f .method) l) n (and-right a b (now .allowed)))))
+        (subst (λ (k : ℕ). T (sendFine o k n)) (sym (literal-is l (x .0) (x .1) (and-left a b (now .allowed)))) (and-right a b (now .allowed))))
     executes q (SuperSend l n) now =
         let a = ltb l (literalCount o (f .method)) in
         let b = sendFine o (literal o (f .method) l) n in
         let x = literal-finds l (and-left a b (now .allowed)) in
         goes-found (literalOf o (f .method) l) _ (x .0) (x .1)
         (send-goes q n (let h = now .needs in omega arith) (sent-note q n (now .goes q (List·Memᴰ·head refl))) (aboveHome s f) (x .0)
-        (subst (λ (k : ℕ). T (takesCount o k n)) (sym (literal-is l (x .0) (x .1) (and-left a b (now .allowed)))) (send-count (literal o (f .method) l) n (and-right a b (now .allowed)))))
+        (subst (λ (k : ℕ). T (sendFine o k n)) (sym (literal-is l (x .0) (x .1) (and-left a b (now .allowed)))) (and-right a b (now .allowed))))
     executes q (SpecialSend k) now =
         special-goes q k (let h = now .needs in omega arith) (now .goes q (List·Memᴰ·head refl) ∙ ap suc (omega arith)) (now .allowed)
     executes q Unused now = absurd (now .usable)

@@ -15,7 +15,7 @@ use Rattle.plain.specs.Calls.{Ran, ran, stuck, steps, Answer, done, refu
 use Rattle.plain.specs.Flat.{Flat, roomOf, plainOf}
 use Rattle.plain.specs.Check.{check}
 use Rattle.plain.specs.FlatCalls.{Given, gives, noAnswer, flatAfterRun, flatRun, flatCall}
-use Rattle.plain.specs.RunLoop.{topEnd, flatAfterRunFrom, runsFrom}
+use Rattle.plain.specs.RunLoop.{topEnd, runsFrom}
 use Rattle.plain.specs.CallLists.{nextState, IsRefused}
 use Rattle.plain.specs.Reach.{added, Continues, reachIn, reachOfRuns, granted, LargestReach}
 use Rattle.plain.proofs.Preserve.{Goes}
@@ -25,6 +25,7 @@ use Rattle.plain.proofs.FlatLaws.{FlatRight, check-right}
 use Rattle.plain.proofs.Worlds.{worlds}
 use Rattle.plain.proofs.Consequences.{call-checks}
 use Rattle.plain.proofs.TurnLaws.{flat-runs, run-passes, runs-start, runs-out, runs-over, turn-plain, turn-right, turn-runs, halt-runs, whole-run}
+use Rattle.plain.proofs.LoopLaws.{runs-behind}
 
 -- A run of n behind what a run gave: where the handler is still running
 onwards : ℕ → Given → Given
@@ -123,12 +124,7 @@ run-phased s stuck = tt
 
 -- behind another run
 behind : (n k h : ℕ) (s : Flat) → check s ≡ accepted → eqb (s .registers .phase) running ≡ true → runsFrom n k h s ≡ added k h (flatRun s n)
-unfolding runsFrom
-behind n k h s c e = go (steps (roomOf s) n (plainOf s)) ∙ ap (added k h) (sym (run-passes s c n true e))
-  where
-    go : (x : Ran) → flatAfterRunFrom k h s x ≡ added k h (flatAfterRun s x)
-    go (ran j p ts) = refl
-    go stuck = refl
+behind n k h s c e = runs-behind n k h s ∙ ap (added k h) (whole-run n s ∙ sym (run-passes s c n true e))
 
 pub continues : Continues
 continues s s₁ m n k v h c e = go (eqb (s .registers .phase) running) refl

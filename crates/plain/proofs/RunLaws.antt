@@ -108,7 +108,7 @@ module _ (room : Room) (worlds : Worlds room) where
       go [] e x = absurd x
       go (f ∷ rest) e x =
           unfold stepFrame in
-          executes (After (p .registers .edition) room) room p (world p r) f rest (head-right f rest x) x e
+          executes (After (p .registers .edition) room) room p (world p r) (λ o′ a. worlds (p .registers .edition) o′ (a .right) (a .contents) (a .bodies)) f rest (head-right f rest x) x e
           (nextAt (codeWords (objects p) (f .method)) (f .position))
           (decodeAt (codeWords (objects p) (f .method)) (codeSize (objects p) (f .method)) (f .position))
           (now (objects p) f (head-right f rest x))

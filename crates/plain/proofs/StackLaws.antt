@@ -6,7 +6,7 @@ use mathlib.Core.List.{List, [], _∷_}
 use mathlib.Core.Option.{Option, some, none}
 use native.Mathlib.Omega.{arith}
 use lib.Dec.{T, ltb, eqb}
-use lib.ListN.{drop}
+use lib.ListN.{length, drop}
 use Rattle.bytecode.specs.Test.{if_then_else_}
 use Rattle.bytecode.proofs.Choice.{if-yes, if-no}
 use Rattle.bytecode.proofs.TestLaws.{true→T, T→true}
@@ -21,13 +21,14 @@ use Rattle.model.specs.Objects.{Objects, classOf}
 use Rattle.model.specs.Method.{frameSize}
 use Rattle.model.specs.Lookup.{lookup}
 use Rattle.model.specs.Rules.{rule8, specialSelector, isSame, isClass}
-use Rattle.model.specs.Word.{booleanWord}
+use Rattle.model.specs.Limits.{hasMessages}
+use Rattle.model.specs.Word.{booleanWord, failureSelector}
 use Rattle.model.specs.Arithmetic.{arithmetic}
 use Rattle.model.specs.Image.{Room, buffersFine, loadVerdict}
-use Rattle.model.specs.Primitive.{hasRoom, make, new, newWith, perform, primitive}
+use Rattle.model.specs.Primitive.{messageWord, hasMessageRoom, hasRoom, make, new, newWith, perform, primitive}
 use Rattle.plain.specs.Registers.{running, notUnderstood, noBoolean, noStackRoom, phaseOf}
 use Rattle.plain.specs.State.{Frame, Plain, objects, newFrame, fitsStack}
-use Rattle.plain.specs.Step.{Looked, looked, Stepped, leadsTo, halts, missing, _>>=_, Activation, answered, entered, unfit, activate, framed, activated, afterLookup, sends, orSends, arithmeticSends, specialSends, noLookup, operand, without, pushed, popped, literalOf, aboveHome, triedPrimitive, execute, stepFrame, step}
+use Rattle.plain.specs.Step.{Looked, looked, Stepped, leadsTo, halts, missing, _>>=_, Activation, answered, entered, unfit, activate, framed, activated, messaged, resent, failed, afterLookup, sends, orSends, arithmeticSends, specialSends, noLookup, operand, without, pushed, popped, literalOf, aboveHome, triedPrimitive, execute, stepFrame, step}
 use Rattle.plain.specs.Calls.{loaded, Begun, begun, declined, beginActivated, beginFound, begin, taken, Ran, ran, stuck, counted, onward, ifRunning, steps, largestEnd, standingEnd, reachOf}
 use Rattle.plain.specs.Calls.{Call, beginCall, runCall, dropCall, forgetCall, afterBegin, afterRun, runIf, call}
 use Rattle.plain.specs.Flat.{roomOf}
@@ -106,19 +107,47 @@ module _ (room : Room) (k : ℕ) where
       let base : ℕ = s .registers .top + frameSize (objects s) (f .method) in
       tested (room .stack) k base (frameSize (objects s) m) _ l (above (objects s) base (newFrame (objects s) (s .registers .top) m receiver arguments) (f ∷ rest))
 
-  activated-alike : (s : Plain) (f : Frame) (rest : List Frame) (m receiver : ℕ) (arguments : List ℕ) (l : Looked) (x : Activation)
-      → Alike (room .stack) k (activated room s f rest m receiver arguments l x) (activated other s f rest m receiver arguments l x)
-  activated-alike s f rest m receiver arguments l (answered w o) = same (room .stack) k _
-  activated-alike s f rest m receiver arguments l entered = framed-alike s f rest m receiver arguments l
-  activated-alike s f rest m receiver arguments l unfit = same (room .stack) k _
+  activated-alike : (s : Plain) (f : Frame) (rest : List Frame) (m receiver : ℕ) (arguments : List ℕ) (l : Looked) (y y′ : Stepped) → Alike (room .stack) k y y′ → (x : Activation)
+      → Alike (room .stack) k (activated room s f rest m receiver arguments l y x) (activated other s f rest m receiver arguments l y′ x)
+  activated-alike s f rest m receiver arguments l y y′ h (answered w o) = same (room .stack) k _
+  activated-alike s f rest m receiver arguments l y y′ h entered = framed-alike s f rest m receiver arguments l
+  activated-alike s f rest m receiver arguments l y y′ h unfit = h
+
+  choice-alike : (b : Bool) (x x′ y y′ : Stepped) → Alike (room .stack) k x x′ → Alike (room .stack) k y y′ → Alike (room .stack) k (if b then x else y) (if b then x′ else y′)
+  unfolding if_then_else_
+  choice-alike true x x′ y y′ a b = a
+  choice-alike false x x′ y y′ a b = b
+
+  -- what a method that was found leads to
+  acts-alike : (s : Plain) (f : Frame) (rest : List Frame) (e m receiver : ℕ) (arguments : List ℕ) (l : Looked) (y y′ : Stepped) → Alike (room .stack) k y y′
+      → Alike (room .stack) k (activated room s f rest m receiver arguments l y (activate e room (objects s) m receiver arguments))
+      (activated other s f rest m receiver arguments l y′ (activate e other (objects s) m receiver arguments))
+  acts-alike s f rest e m receiver arguments l y y′ h =
+      subst (λ (x : Activation). Alike (room .stack) k (activated room s f rest m receiver arguments l y (activate e room (objects s) m receiver arguments)) (activated other s f rest m receiver arguments l y′ x))
+      (activates e (objects s) m receiver arguments) (activated-alike s f rest m receiver arguments l y y′ h (activate e room (objects s) m receiver arguments))
+
+  resent-alike : (s : Plain) (f : Frame) (rest : List Frame) (selector class receiver : ℕ) (arguments : List ℕ) (x : Found)
+      → Alike (room .stack) k (resent room s f rest selector class receiver arguments x) (resent other s f rest selector class receiver arguments x)
+  unfolding hasMessageRoom
+  resent-alike s f rest selector class receiver arguments Nothing = same (room .stack) k _
+  resent-alike s f rest selector class receiver arguments (Method m) =
+      choice-alike (hasMessageRoom room (objects s) (length arguments)) _ _ _ _
+      (acts-alike (messaged s selector arguments) f rest (s .registers .edition) (m .0) receiver (messageWord (objects s) ∷ []) (looked failureSelector class (m .0)) (halts notUnderstood)
+      (halts notUnderstood) (same (room .stack) k (halts notUnderstood)))
+      (same (room .stack) k (halts notUnderstood))
+
+  failed-alike : (s : Plain) (f : Frame) (rest : List Frame) (selector class receiver : ℕ) (arguments : List ℕ)
+      → Alike (room .stack) k (failed room s f rest selector class receiver arguments) (failed other s f rest selector class receiver arguments)
+  unfolding failed
+  failed-alike s f rest selector class receiver arguments =
+      choice-alike (hasMessages (s .registers .edition)) _ _ _ _ (resent-alike s f rest selector class receiver arguments (lookup (objects s) failureSelector class))
+      (same (room .stack) k (halts notUnderstood))
 
   looked-alike : (s : Plain) (f : Frame) (rest : List Frame) (selector class receiver : ℕ) (arguments : List ℕ) (x : Found)
       → Alike (room .stack) k (afterLookup room s f rest selector class receiver arguments x) (afterLookup other s f rest selector class receiver arguments x)
-  looked-alike s f rest selector class receiver arguments Nothing = same (room .stack) k _
+  looked-alike s f rest selector class receiver arguments Nothing = failed-alike s f rest selector class receiver arguments
   looked-alike s f rest selector class receiver arguments (Method m) =
-      subst (λ (x : Activation). Alike (room .stack) k (afterLookup room s f rest selector class receiver arguments (Method m)) (activated other s f rest (m .0) receiver arguments (looked selector class (m .0)) x))
-      (activates (s .registers .edition) (objects s) (m .0) receiver arguments)
-      (activated-alike s f rest (m .0) receiver arguments (looked selector class (m .0)) (activate (s .registers .edition) room (objects s) (m .0) receiver arguments))
+      acts-alike s f rest (s .registers .edition) (m .0) receiver arguments (looked selector class (m .0)) _ _ (failed-alike s f rest selector class receiver arguments)
 
   sends-alike : (s : Plain) (f : Frame) (rest : List Frame) (position : ℕ) (from : ℕ → ℕ) (selector count : ℕ)
       → Alike (room .stack) k (sends room s f rest position from selector count) (sends other s f rest position from selector count)
@@ -137,11 +166,6 @@ module _ (room : Room) (k : ℕ) where
   arithmetic-alike s f rest position i =
       bound (room .stack) k (operand f 1) _ _ (λ a. bound (room .stack) k (operand f 0) _ _ (λ b. or-alike (arithmetic (triedPrimitive i) a b) (λ w. pushed s f rest position (without f 2) w noLookup) _ _
       (sends-alike s f rest position (classOf (objects s)) (specialSelector (objects s) i) 1)))
-
-  choice-alike : (b : Bool) (x x′ y y′ : Stepped) → Alike (room .stack) k x x′ → Alike (room .stack) k y y′ → Alike (room .stack) k (if b then x else y) (if b then x′ else y′)
-  unfolding if_then_else_
-  choice-alike true x x′ y y′ a b = a
-  choice-alike false x x′ y y′ a b = b
 
   special-alike : (s : Plain) (f : Frame) (rest : List Frame) (position i : ℕ)
       → Alike (room .stack) k (specialSends room s f rest position i) (specialSends other s f rest position i)

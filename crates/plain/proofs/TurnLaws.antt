@@ -6,8 +6,7 @@ use mathlib.Core.List.{List, [], _∷_, _++_}
 use native.Mathlib.Omega.{arith}
 use borrow.Author.Tests.{eq-eqb}
 use lib.Dec.{T, eqb}
-use lib.ListN.{length, drop}
-use lib.Seq.{drop-append-add, drop-drop}
+use lib.ListN.{length}
 use Rattle.model.specs.Limits.{entryWords}
 use Rattle.model.specs.Image.{Room, accepted}
 use Rattle.model.proofs.Extends.{Extends}
@@ -29,15 +28,7 @@ use Rattle.plain.proofs.After.{kept-right}
 use Rattle.plain.proofs.RunLaws.{Stood, end-is-top, RanRight, RunGoes, step-goes, shape-stood, runs-right}
 use Rattle.plain.proofs.FlatLaws.{FlatRight, plain-back, room-back, flat-back}
 use Rattle.plain.proofs.Worlds.{worlds}
-use Rattle.model.proofs.Lent.{front-same}
-
--- words at the front, over other words at the front that are no more
-front-over : (ws us buffer : List ℕ) → length us ≤ length ws → length us ≤ length buffer → atFront ws (atFront us buffer) ≡ atFront ws buffer
-front-over ws us buffer h g =
-    let e : length ws ≡ length us + (length ws - length us) = omega arith in
-    ap (λ (l : List ℕ). ws ++ l)
-    (ap (λ (k : ℕ). drop k (us ++ drop (length us) buffer)) e ∙ drop-append-add us (drop (length us) buffer) (length ws - length us) ∙ drop-drop (length ws - length us) (length us) buffer
-    ∙ ap (λ (k : ℕ). drop k buffer) (sym e))
+use Rattle.model.proofs.Lent.{front-same, front-over}
 
 -- The frames of a flat state stand in its own stack.
 pub own-stood : (s : Flat) → Stood (plainOf s) (s .stack)

@@ -5,6 +5,7 @@ use mathlib.Core.Bool.{Bool, _&&_}
 use mathlib.Core.List.{List, [], _∷_}
 use native.Mathlib.Omega.{arith}
 use lib.Dec.{T, ltb, ltb→lt, lt→ltb}
+use lib.ListN.{length}
 use Rattle.bytecode.specs.Test.{every}
 use Rattle.bytecode.proofs.TestLaws.{and-left, and-right, and-both}
 use Rattle.model.specs.Limits.{fieldsKind, methodKind}
@@ -16,12 +17,13 @@ use Rattle.model.specs.Lookup.{inChain}
 use Rattle.model.specs.Image.{Room}
 use Rattle.model.specs.Primitive.{storeWord}
 use Rattle.model.proofs.ChainLaws.{named}
-use Rattle.model.proofs.Facts.{Right, least, method-facts}
-use Rattle.model.proofs.Extends.{Extends, extends-refl, valid-grows, kind-kept, class-same, home-same, temporaries-same, frame-same}
-use Rattle.model.proofs.Unchanged.{chain-same, table-same}
+use Rattle.model.proofs.Facts.{Right, least, method-facts, failure-count}
+use Rattle.model.proofs.Extends.{Extends, extends-refl, extends-trans, valid-grows, kind-kept, class-same, home-same, temporaries-same, frame-same}
+use Rattle.model.proofs.Unchanged.{lookup-same, chain-same, table-same}
 use Rattle.model.proofs.SendFacts.{lookup-facts, receiver-fields, field-valid, class-valid}
 use Rattle.model.proofs.StoreLaws.{stored-extends, stored-right}
 use Rattle.model.proofs.PrimitiveLaws.{ValidWord, arithmetic-valid, primitive-law}
+use Rattle.model.proofs.MessageLaws.{message-room, message-law}
 use Rattle.plain.specs.State.{Frame}
 use Rattle.plain.proofs.FrameLaws.{FrameRight}
 use Rattle.plain.proofs.After.{After}
@@ -83,6 +85,11 @@ worlds room e o r c b =
           m t .sound;
       computes = λ k v w x e. subst (ValidWord o) e (arithmetic-valid r k v w);
       stores = store;
+      trans = λ o′ o″ x y. record { extends = extends-trans (x .extends) (y .extends); right = y .right; contents = y .contents; bodies = y .bodies };
+      lookups = λ o′ x s k. lookup-same (x .extends) r s k;
+      failureCount = failure-count r;
+      messages = λ t selector arguments v va h. let q = message-law r t room selector arguments v va (message-room room o (length arguments) h) in
+          (record { extends = q .extends; right = q .right; contents = q .contents c; bodies = q .bodies b }, q .valid);
       performs = λ k n w arguments v o′ vw va l p. let q =
           primitive-law room k n w v arguments r l vw va p in (record { extends = q .extends; right = q .right; contents = q .contents c; bodies = q .bodies b }, q .valid);
     }

@@ -3,8 +3,8 @@
 -- Two machines are fed the same list of begin, run, drop and forget calls, refused ones included: the flat one, which works on the lent
 -- buffers and checks its state at each call, and the plain one of 01. After each call their answers are equal, the flat state stands for the
 -- plain one, and check accepts it; no call meets a bytecode that pops an empty stack, pushes past a frame, leaves its code or touches what is
--- not there; a run does all its bytecodes, or finishes, or halts where a listed cause stands: no method for a send, or by a super send one that
--- cannot run on the receiver; no boolean for a jump; no room for a frame.
+-- not there; a run does all its bytecodes, or finishes, or halts where a listed cause stands: a send that fails, for want of a method or by a super send
+-- of one that can run on the receiver, and whose message is not sent; no boolean for a jump; no room for a frame.
 use Prim.Native.Nat.{ℕ, _≤_, _<_}
 use mathlib.Core.Path.{_≡_}
 use mathlib.Core.Logic.{_⊎_, _≢_}

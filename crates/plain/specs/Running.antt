@@ -8,6 +8,7 @@ use lib.ListN.{length, getD, take, drop}
 use Rattle.bytecode.specs.Code.{nextAt, decodeAt}
 use Rattle.bytecode.specs.declared.Instruction.{Instruction}
 use Rattle.model.specs.Limits.{entryWords, classKind}
+use Rattle.model.specs.Word.{isValid}
 use Rattle.model.specs.Objects.{objectsAt, classOf, isNilOr}
 use Rattle.model.specs.Method.{home, codeWords, codeSize}
 use Rattle.model.specs.Depth.{noteAt}
@@ -16,7 +17,7 @@ use Rattle.model.specs.Rules.{Right, takesCount, methodTable}
 use Rattle.model.specs.Image.{Room}
 use Rattle.plain.specs.Registers.{Registers, running, finished}
 use Rattle.plain.specs.State.{Frame, Plain}
-use Rattle.plain.specs.Step.{Looked, noLookup, Stepped, leadsTo, afterLookup, popped, step}
+use Rattle.plain.specs.Step.{Looked, noLookup, Stepped, leadsTo, afterLookup, failed, popped, step}
 use Rattle.plain.specs.Flat.{frameSender, framePosition, frameDepth, frameMethod, operandsStart, frameAt, unlessBottom, framesFrom}
 use Rattle.plain.specs.Check.{framesFine}
 use Rattle.plain.specs.Cache.{filled}
@@ -100,6 +101,10 @@ abbrev pub sentReceiver : ℕ → ℕ → ℕ → List ℕ → List ℕ → List
 sentReceiver n b top contents bodies stack count =
     getD stack (operandsStart (objectsAt n b contents bodies) (frameMethod stack top) top + (frameDepth stack top - suc count)) 0
 
+-- and its arguments, the operands above it
+abbrev pub sentArguments : ℕ → ℕ → ℕ → List ℕ → List ℕ → List ℕ → ℕ → List ℕ
+sentArguments n b top contents bodies stack count = drop (topFrame n b top contents bodies stack .depth - count) (topFrame n b top contents bodies stack .operands)
+
 -- A send that is about to be made: its selector, its arguments' number, the class where the search starts, the position behind it. Where
 -- it is `sure`, a method that is found can run on the receiver (docs/DECISIONS.md, "Super sends to another receiver").
 pub record Sending (n b top : ℕ) (contents bodies stack : List ℕ) (selector count class position : ℕ) (sure : Bool) : Type 0 where
@@ -107,9 +112,10 @@ pub record Sending (n b top : ℕ) (contents bodies stack : List ℕ) (selector 
   pub needs : suc count ≤ frameDepth stack top
   pub noted : noteAt (methodTable (runs .edition) (objectsAt n b contents bodies) (frameMethod stack top)) position ≡ suc (suc (frameDepth stack top - suc count))
   pub named : 1 ≤ selector
+  pub valid : T (isValid n selector)
   pub starts : T (isNilOr (objectsAt n b contents bodies) classKind class)
   pub takes : T (takesCount (objectsAt n b contents bodies) selector count)
-  pub homes : sure ≡ true → (m : ℕ) → lookup (objectsAt n b contents bodies) selector class ≡ found m
+  pub homes : sure ≡ true → (s m : ℕ) → lookup (objectsAt n b contents bodies) s class ≡ found m
       → T (inChain (objectsAt n b contents bodies) (home (objectsAt n b contents bodies) m) (classOf (objectsAt n b contents bodies) (sentReceiver n b top contents bodies stack count)))
 
 -- and the step that it is
@@ -117,5 +123,12 @@ abbrev pub sendStep : Room → ℕ → ℕ → ℕ → ℕ → ℕ → ℕ → L
 sendStep room e receiver selector n b top contents bodies stack s count class position =
     afterLookup room (runningAt e receiver selector n b top contents bodies stack)
     (popped (topFrame n b top contents bodies stack) position (suc count)) (restFrames n b top contents bodies stack) s class
-    (sentReceiver n b top contents bodies stack count) (drop (topFrame n b top contents bodies stack .depth - count) (topFrame n b top contents bodies stack .operands))
+    (sentReceiver n b top contents bodies stack count) (sentArguments n b top contents bodies stack count)
     (lookup (objectsAt n b contents bodies) s class)
+
+-- or, where it fails, its message
+abbrev pub failedStep : Room → ℕ → ℕ → ℕ → ℕ → ℕ → ℕ → List ℕ → List ℕ → List ℕ → ℕ → ℕ → ℕ → ℕ → Stepped
+failedStep room e receiver selector n b top contents bodies stack s count class position =
+    failed room (runningAt e receiver selector n b top contents bodies stack)
+    (popped (topFrame n b top contents bodies stack) position (suc count)) (restFrames n b top contents bodies stack) s class
+    (sentReceiver n b top contents bodies stack count) (sentArguments n b top contents bodies stack count)

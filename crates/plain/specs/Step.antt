@@ -17,15 +17,15 @@ use Rattle.model.specs.declared.Found.{Found}
 use Rattle.model.specs.declared.Found.the-variants.{Method, Nothing}
 use Rattle.model.specs.declared.Computed.{Computed}
 use Rattle.model.specs.declared.Computed.the-variants.{Word, Failed}
-use Rattle.model.specs.Limits.{fieldsKind, receiverFlag, fieldFlag, primitiveFlag}
-use Rattle.model.specs.Word.{booleanWord, objectNumber}
+use Rattle.model.specs.Limits.{hasMessages, fieldsKind, receiverFlag, fieldFlag, primitiveFlag}
+use Rattle.model.specs.Word.{booleanWord, objectNumber, failureSelector}
 use Rattle.model.specs.Objects.{Objects, classOf, size, bodyWord, superclassWord, isKind}
 use Rattle.model.specs.Method.{home, flag, temporaryCount, literalCount, literal, codeWords, codeSize, frameWords, frameSize, primitiveNumber, argumentCount}
 use Rattle.model.specs.Lookup.{lookup, inChain}
 use Rattle.model.specs.Rules.{specialSelector, isSame, isClass}
 use Rattle.model.specs.Image.{Room}
 use Rattle.model.specs.Arithmetic.{arithmetic}
-use Rattle.model.specs.Primitive.{Outcome, answers, fails, primitive, storeWord}
+use Rattle.model.specs.Primitive.{Outcome, answers, fails, primitive, storeWord, messageMade, messageWord, hasMessageRoom}
 use Rattle.plain.specs.Registers.{running, finished, Cause, notUnderstood, noBoolean, noStackRoom}
 use Rattle.plain.specs.State.{Frame, Plain, objects, withObjects, withFrames, movedTo, withTemporaries, newFrame, fitsStack}
 
@@ -148,16 +148,39 @@ changed o (leadsTo s l) = leadsTo (withObjects s o) l
 changed o (halts c) = halts c
 changed o missing = missing
 
-abbrev pub activated : Room → Plain → Frame → List Frame → ℕ → ℕ → List ℕ → Looked → Activation → Stepped
-activated room s f rest m receiver arguments l (answered w o) = changed o (pushed s f rest (f .position) (f .operands) w l)
-activated room s f rest m receiver arguments l entered = framed room s f rest m receiver arguments l
-activated room s f rest m receiver arguments l unfit = halts notUnderstood
+-- What follows an activation; `otherwise` where the method cannot run on the receiver
+abbrev pub activated : Room → Plain → Frame → List Frame → ℕ → ℕ → List ℕ → Looked → Stepped → Activation → Stepped
+activated room s f rest m receiver arguments l otherwise (answered w o) = changed o (pushed s f rest (f .position) (f .operands) w l)
+activated room s f rest m receiver arguments l otherwise entered = framed room s f rest m receiver arguments l
+activated room s f rest m receiver arguments l otherwise unfit = otherwise
 
--- Phase 3 where no method is found
+-- 02, M-104: the state with the array and the message of a send made
+abbrev pub messaged : Plain → ℕ → List ℕ → Plain
+messaged s selector arguments = withObjects s (messageMade (objects s) selector arguments)
+
+-- The message is sent to the same receiver, with object 6 as its selector; phase 3 where that finds no method either, or one that cannot run on the
+-- receiver, or where there is no room for both objects.
+abbrev pub resent : Room → Plain → Frame → List Frame → ℕ → ℕ → ℕ → List ℕ → Found → Stepped
+resent room s f rest selector class receiver arguments Nothing = halts notUnderstood
+resent room s f rest selector class receiver arguments (Method m) =
+    if hasMessageRoom room (objects s) (length arguments)
+    then activated room (messaged s selector arguments) f rest (m .0) receiver (messageWord (objects s) ∷ []) (looked failureSelector class (m .0)) (halts notUnderstood)
+    (activate (s .registers .edition) room (messageMade (objects s) selector arguments) (m .0) receiver (messageWord (objects s) ∷ []))
+    else halts notUnderstood
+
+-- A send fails where no method is found, or one that cannot run on the receiver. Editions without messages have phase 3 there; the others seek object 6
+-- from the class where the failed search started.
+unfoldable pub failed : Room → Plain → Frame → List Frame → ℕ → ℕ → ℕ → List ℕ → Stepped
+failed room s f rest selector class receiver arguments =
+    if hasMessages (s .registers .edition)
+    then resent room s f rest selector class receiver arguments (lookup (objects s) failureSelector class)
+    else halts notUnderstood
+
 abbrev pub afterLookup : Room → Plain → Frame → List Frame → ℕ → ℕ → ℕ → List ℕ → Found → Stepped
-afterLookup room s f rest selector class receiver arguments Nothing = halts notUnderstood
+afterLookup room s f rest selector class receiver arguments Nothing = failed room s f rest selector class receiver arguments
 afterLookup room s f rest selector class receiver arguments (Method m) =
-    activated room s f rest (m .0) receiver arguments (looked selector class (m .0)) (activate (s .registers .edition) room (objects s) (m .0) receiver arguments)
+    activated room s f rest (m .0) receiver arguments (looked selector class (m .0)) (failed room s f rest selector class receiver arguments)
+    (activate (s .registers .edition) room (objects s) (m .0) receiver arguments)
 
 -- The frame at its next position without the k uppermost operands
 abbrev pub popped : Frame → ℕ → ℕ → Frame

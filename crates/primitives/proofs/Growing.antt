@@ -1,4 +1,4 @@
--- One more object at the end of the buffers (70, 71).
+-- One more object at the end of the buffers (70, 71), an array and a message (02, M-104).
 use Prim.Native.Nat.{ℕ, suc, _+_, _*_, _/_, _%_, _≤_, _<_}
 use mathlib.Core.Path.{_≡_, refl, sym, ap, ap₂, _∙_, subst}
 use mathlib.Core.Logic.{_≢_}
@@ -7,22 +7,23 @@ use mathlib.Core.List.{List, [], _∷_, _++_}
 use native.Mathlib.Omega.{arith}
 use borrow.Author.Tests.{eq-eqb, ne-eqb, le-leb, lt-leb}
 use lib.Dec.{leb, eqb}
-use lib.ListN.{length, take, set, replicate}
-use lib.Seq.{sets, length-sets, take-add}
+use lib.ListN.{length, take, set, replicate, length-append}
+use lib.Seq.{sets, length-sets, length-take-le, take-add}
 use Rattle.bytecode.specs.Constant.{nilWord}
 use Rattle.bytecode.proofs.Choice.{if-yes, if-no}
 use Rattle.model.specs.declared.Computed.{Computed}
 use Rattle.model.specs.declared.Computed.the-variants.{Word, Failed}
-use Rattle.model.specs.Limits.{entryWords, largestInteger, fieldsKind, bytesKind, classKind, fixedForm, indexedForm, bytesForm}
-use Rattle.model.specs.Word.{isNatural, pointer}
+use Rattle.model.specs.Limits.{entryWords, largestInteger, fieldsKind, bytesKind, classKind, fixedForm, indexedForm, bytesForm, messageFields}
+use Rattle.model.specs.Word.{isNatural, pointer, messageClass, arrayClass}
 use Rattle.model.specs.Objects.{Objects, objectsAt, isKind, fieldCount, form, atFront, part}
 use Rattle.model.specs.Image.{Room}
 use Rattle.model.specs.Rules.{Right}
-use Rattle.model.specs.Primitive.{Outcome, answers, fails, computed, appended, hasRoom, make, new, newWith}
+use Rattle.model.specs.Primitive.{Outcome, answers, fails, computed, appended, hasRoom, arrayMade, messageMade, make, new, newWith}
 use Rattle.model.proofs.Parts.{length-part}
+use Rattle.model.proofs.Lent.{objects-eq, front-take, front-over}
 use Rattle.words.proofs.Runs.{behind}
 use Rattle.primitives.specs.declared.Done.{Done}
-use Rattle.primitives.specs.Outcomes.{answerOf, objectsAfter, doneWith, Does}
+use Rattle.primitives.specs.Outcomes.{answerOf, objectsAfter, doneWith, Does, Stand, MessageRoom}
 use Rattle.objects.proofs.Buffers.{contents-room, bodies-room, front-same}
 
 -- Four stores are one entry.
@@ -102,6 +103,74 @@ does-written {b = b} {count = count} {bodies = bodies} {bodies′ = bodies′} c
   where
     long : b + count ≤ length bodies′
     long = let l = ap length p ∙ length-sets bodies b body in omega arith
+
+-- What was made stands in the buffers.
+pub stand-of : {o o′ : Objects} {w : ℕ} {r : Done} {contents bodies contents′ bodies′ : List ℕ} → Does o (answers w o′) r contents bodies contents′ bodies′
+    → Stand o′ contents bodies contents′ bodies′
+unfolding objectsAfter
+stand-of d = record { entries = d .entries; words = d .words }
+
+-- The array of a send's arguments
+pub stands-array : {o : Objects} {w count : ℕ} {r : Done} {contents bodies contents′ bodies′ : List ℕ} (arguments : List ℕ) → length arguments ≡ count
+    → Does o (answers w (appended o arrayClass fieldsKind count arguments)) r contents bodies contents′ bodies′ → Stand (arrayMade o arguments) contents bodies contents′ bodies′
+unfolding arrayMade
+stands-array {o} {contents = contents} {bodies} {contents′} {bodies′} arguments e d =
+    subst (λ (k : ℕ). Stand (appended o arrayClass fieldsKind k arguments) contents bodies contents′ bodies′) (sym e) (stand-of d)
+
+pub two-words : (l : List ℕ) (b v w : ℕ) → set (set l b v) (b + 1) w ≡ sets l b (v ∷ w ∷ [])
+two-words l b v w = ap (λ (k : ℕ). set (set l b v) k w) (next b)
+  where
+    next : (k : ℕ) → k + 1 ≡ suc k
+    next k = omega arith
+
+-- and the message behind it
+module _ (n b count selector : ℕ) (contents bodies contents₁ bodies₁ contents′ bodies′ arguments : List ℕ) (room : MessageRoom n b count contents bodies) (long : length arguments ≡ count)
+    (first : Stand (arrayMade (objectsAt n b contents bodies) arguments) contents bodies contents₁ bodies₁)
+    (second : Stand (appended (objectsAt (n + 1) (b + count) contents₁ bodies₁) messageClass fieldsKind messageFields (selector ∷ pointer (n + 1) ∷ [])) contents₁ bodies₁ contents′ bodies′) where
+  abbrev o₁ : Objects
+  o₁ = arrayMade (objectsAt n b contents bodies) arguments
+
+  entries-long : length (o₁ .contents) ≡ entryWords * (n + 1)
+  unfolding arrayMade appended
+  entries-long =
+      let q = room .entries in
+      length-append (take (entryWords * n) contents) (arrayClass ∷ fieldsKind ∷ b ∷ length arguments ∷ [])
+      ∙ ap (λ (k : ℕ). k + 4) (length-take-le (entryWords * n) contents (omega arith)) ∙ omega arith
+
+  words-long : length (o₁ .bodies) ≡ b + count
+  unfolding arrayMade appended
+  words-long =
+      let q = room .inside in length-append (take b bodies) arguments ∙ ap₂ _+_ (length-take-le b bodies (omega arith)) long
+
+  between : objectsAt (n + 1) (b + count) contents₁ bodies₁ ≡ o₁
+  between =
+      objects-eq (unfold arrayMade appended in refl) (unfold arrayMade appended in ap (λ (k : ℕ). b + k) (sym long))
+      (ap (take (entryWords * (n + 1))) (first .entries) ∙ front-take (o₁ .contents) contents (entryWords * (n + 1)) entries-long)
+      (ap (take (b + count)) (first .words) ∙ front-take (o₁ .bodies) bodies (b + count) words-long)
+
+  pub stands-message : Stand (messageMade (objectsAt n b contents bodies) selector arguments) contents bodies contents′ bodies′
+  unfolding messageMade
+  stands-message =
+      let d = subst (λ (o : Objects). Stand (appended o messageClass fieldsKind messageFields (selector ∷ pointer (n + 1) ∷ [])) contents₁ bodies₁ contents′ bodies′) between second in
+      record { entries = d .entries ∙ over-entries; words = d .words ∙ over-words }
+    where
+      over-entries : atFront (appended o₁ messageClass fieldsKind messageFields (selector ∷ pointer (n + 1) ∷ []) .contents) contents₁
+          ≡ atFront (appended o₁ messageClass fieldsKind messageFields (selector ∷ pointer (n + 1) ∷ []) .contents) contents
+      over-entries =
+          let ws = appended o₁ messageClass fieldsKind messageFields (selector ∷ pointer (n + 1) ∷ []) .contents in
+          let q = room .entries in
+          let l = entries-long in
+          ap (atFront ws) (first .entries) ∙ front-over ws (o₁ .contents) contents
+          (unfold appended in (let k = length-append (o₁ .contents) (messageClass ∷ fieldsKind ∷ o₁ .b ∷ messageFields ∷ []) in omega arith)) (omega arith)
+
+      over-words : atFront (appended o₁ messageClass fieldsKind messageFields (selector ∷ pointer (n + 1) ∷ []) .bodies) bodies₁
+          ≡ atFront (appended o₁ messageClass fieldsKind messageFields (selector ∷ pointer (n + 1) ∷ []) .bodies) bodies
+      over-words =
+          let ws = appended o₁ messageClass fieldsKind messageFields (selector ∷ pointer (n + 1) ∷ []) .bodies in
+          let q = room .inside in
+          let l = words-long in
+          ap (atFront ws) (first .words) ∙ front-over ws (o₁ .bodies) bodies
+          (unfold appended in (let k = length-append (o₁ .bodies) (selector ∷ pointer (n + 1) ∷ []) in omega arith)) (omega arith)
 
 -- 70 and 71, case by case
 module _ (room : Room) (o : Objects) (w : ℕ) where

@@ -1,5 +1,5 @@
 -- What a primitive's outcome is in the code's answer and in the buffers.
-use Prim.Native.Nat.{ℕ, _/_}
+use Prim.Native.Nat.{ℕ, _+_, _*_, _/_, _≤_}
 use mathlib.Core.Path.{_≡_}
 use mathlib.Core.List.{List}
 use lib.Dec.{T}
@@ -7,6 +7,7 @@ use lib.ListN.{length}
 use Rattle.bytecode.specs.Test.{if_then_else_}
 use Rattle.model.specs.declared.Computed.{Computed}
 use Rattle.model.specs.declared.Computed.the-variants.{Word, Failed}
+use Rattle.model.specs.Limits.{entryWords, mostObjects, mostBodyWords}
 use Rattle.model.specs.Word.{isValid}
 use Rattle.model.specs.Objects.{Objects, objectsAt, classOf, form, atFront}
 use Rattle.model.specs.Rules.{IsRight}
@@ -56,6 +57,18 @@ pub record Does (o : Objects) (z : Outcome) (r : Done) (contents bodies contents
 abbrev pub DoesAt : ℕ → ℕ → List ℕ → List ℕ → (Room → Objects → Outcome) → Done → List ℕ → List ℕ → Type 0
 DoesAt n b contents bodies z r contents′ bodies′ =
     Does (objectsAt n b contents bodies) (z (roomOf contents bodies) (objectsAt n b contents bodies)) r contents bodies contents′ bodies′
+
+-- Objects that stand at the fronts of the buffers, the rest of which is as it was
+pub record Stand (o : Objects) (contents bodies contents′ bodies′ : List ℕ) : Type 0 where
+  pub entries : contents′ ≡ atFront (o .contents) contents
+  pub words : bodies′ ≡ atFront (o .bodies) bodies
+
+-- Room for an array of so many arguments and a message
+pub record MessageRoom (n b count : ℕ) (contents bodies : List ℕ) : Type 0 where
+  pub objects : n + 2 ≤ mostObjects
+  pub words : b + (count + 2) ≤ mostBodyWords
+  pub entries : entryWords * (n + 2) ≤ length contents
+  pub inside : b + (count + 2) ≤ length bodies
 
 -- What 60 to 62 take of w: by the form of its class, where its elements start and how many there are; by 0 where they do not take it
 abbrev pub noElements : Elements

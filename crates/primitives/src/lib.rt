@@ -3,13 +3,13 @@ ghost use mathlib.Core.Path.{_≡_};
 ghost use mathlib.Core.List.{List, [], _∷_};
 ghost use Prim.Native.Nat.{ℕ, _+_, _*_, _<_, _≤_};
 ghost use lib.ListN.{length};
-ghost use Rattle.model.specs.Limits.{entryWords, mostObjects, mostBodyWords};
+ghost use Rattle.model.specs.Limits.{entryWords, mostObjects, mostBodyWords, fieldsKind, messageFields};
 ghost use Rattle.model.specs.Objects.{objectsAt, part};
 ghost use Rattle.model.specs.Rules.{IsRight};
-ghost use Rattle.model.specs.Primitive.{answers, hasElements, at, atPut, sizeAnswer, appended, hasRoom, make, new, newWith, computed, perform, primitiveCount, primitive};
-ghost use Rattle.model.specs.Word.{pointer, booleanWord};
+ghost use Rattle.model.specs.Primitive.{answers, hasElements, at, atPut, sizeAnswer, appended, hasRoom, arrayMade, messageMade, hasMessageRoom, make, new, newWith, computed, perform, primitiveCount, primitive};
+ghost use Rattle.model.specs.Word.{pointer, booleanWord, messageClass};
 ghost use lib.Dec.{eqb};
-ghost use Rattle.primitives.specs.Outcomes.{roomFor, doneWith, Receives, Puts, Does, DoesAt, noElements, elementsOf, indexOf};
+ghost use Rattle.primitives.specs.Outcomes.{roomFor, doneWith, Receives, Puts, Does, DoesAt, Stand, MessageRoom, noElements, elementsOf, indexOf};
 use model::Computed;
 use model::Pointer;
 use model::limits;
@@ -22,6 +22,9 @@ const LARGEST_INTEGER: usize = 16383;
 
 // Objects that have more are none for 60 to 62.
 const MOST_ELEMENTS: usize = 16383;
+
+// Words of a message.
+const MESSAGE_WORDS: usize = 2;
 
 // Forms
 const FIXED: usize = 0;
@@ -240,6 +243,102 @@ pub fn append(
         n: n + 1,
         b: b + count,
     }
+}
+
+// Room for an array of so many arguments and a message, in buffers of these lengths.
+pub fn has_message_room(contents: usize, bodies: usize, n: usize, b: usize, count: usize) -> bool
+    requires { ⌜ (n ≤ mostObjects) × (b ≤ mostBodyWords) × (count < 65536) ⌝ }
+    ensures { λ r. ⌜ ((entries words : List ℕ) → r ≡ hasMessageRoom (roomFor contents bodies) (objectsAt n b entries words) count) ⌝ }
+{
+    if MOST_OBJECTS < n + 2 {
+        return false;
+    }
+    if MOST_BODY_WORDS < b + (count + MESSAGE_WORDS) {
+        return false;
+    }
+    if contents < limits::ENTRY_WORDS * (n + 2) {
+        return false;
+    }
+    b + (count + MESSAGE_WORDS) <= bodies
+}
+
+// The array of a send's arguments, which stand in the stack.
+fn append_array(
+    contents: &mut [u16],
+    bodies: &mut [u16],
+    stack: &[u16],
+    n: usize,
+    b: usize,
+    from: usize,
+    count: usize,
+)
+    requires { ⌜ (n < mostObjects) × (b + count ≤ mostBodyWords) × (entryWords * (n + 1) ≤ length (now contents)) × (b + count ≤ length (now bodies))
+        × (from + count ≤ length (now stack)) ⌝ }
+    ensures { λ _. ⌜ Stand (arrayMade (objectsAt n b (now (contents .entry)) (now (bodies .entry))) (part (now (stack .entry)) from count))
+        (now (contents .entry)) (now (bodies .entry)) (now (contents .exit)) (now (bodies .exit)) ⌝ }
+{
+    words::copy(bodies, b, stack, from, count);
+    append(
+        contents,
+        n,
+        b,
+        Pointer(limits::ARRAY_CLASS),
+        limits::FIELDS,
+        count as u16,
+        count,
+    );
+}
+
+// A message of a selector and an array.
+fn append_message(
+    contents: &mut [u16],
+    bodies: &mut [u16],
+    n: usize,
+    b: usize,
+    selector: u16,
+    array: u16,
+)
+    requires { ⌜ (n < mostObjects) × (b + 2 ≤ mostBodyWords) × (entryWords * (n + 1) ≤ length (now contents)) × (b + 2 ≤ length (now bodies)) ⌝ }
+    ensures { λ _. ⌜ Stand (appended (objectsAt n b (now (contents .entry)) (now (bodies .entry))) messageClass fieldsKind messageFields (selector ∷ array ∷ []))
+        (now (contents .entry)) (now (bodies .entry)) (now (contents .exit)) (now (bodies .exit)) ⌝ }
+{
+    bodies[b] = selector;
+    bodies[b + 1] = array;
+    append(
+        contents,
+        n,
+        b,
+        Pointer(limits::MESSAGE_CLASS),
+        limits::FIELDS,
+        limits::MESSAGE_FIELDS,
+        MESSAGE_WORDS,
+    );
+}
+
+// The array of a send's arguments and behind it its message, where there is room for both.
+pub fn make_message(
+    contents: &mut [u16],
+    bodies: &mut [u16],
+    stack: &[u16],
+    n: usize,
+    b: usize,
+    selector: u16,
+    from: usize,
+    count: usize,
+)
+    requires { ⌜ MessageRoom n b count (now contents) (now bodies) × (from + count ≤ length (now stack)) ⌝ }
+    ensures { λ _. ⌜ Stand (messageMade (objectsAt n b (now (contents .entry)) (now (bodies .entry))) selector (part (now (stack .entry)) from count))
+        (now (contents .entry)) (now (bodies .entry)) (now (contents .exit)) (now (bodies .exit)) ⌝ }
+{
+    append_array(contents, bodies, stack, n, b, from, count);
+    append_message(
+        contents,
+        bodies,
+        n + 1,
+        b + count,
+        selector,
+        (2 * (n + 1)) as u16,
+    );
 }
 
 // One more object whose body words are all the same, if there is room for it.

@@ -1,17 +1,27 @@
-// What an edition has: model's specs/Limits.antt. There is one edition today.
+// What an edition has: model's specs/Limits.antt.
 ghost use mathlib.Core.Path.{_≡_};
-ghost use Rattle.model.specs.Limits.{isEdition, leastObjects, lastKind, lastForm};
+ghost use Rattle.model.specs.Limits.{isEdition, hasMessages, leastObjects, lastKind, lastForm};
 use model::limits;
 
 pub fn is_edition(edition: u16) -> bool
     ensures { λ r. ⌜ r ≡ isEdition edition ⌝ }
 {
-    edition == 1
+    (1 <= edition) & (edition <= 2)
+}
+
+// Whether a send that fails is sent once more, as a message.
+pub fn has_messages(edition: u16) -> bool
+    ensures { λ r. ⌜ r ≡ hasMessages edition ⌝ }
+{
+    2 <= edition
 }
 
 pub fn least_objects(edition: u16) -> u16
     ensures { λ r. ⌜ r ≡ leastObjects edition ⌝ }
 {
+    if has_messages(edition) {
+        return 8;
+    }
     5
 }
 

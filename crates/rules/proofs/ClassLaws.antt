@@ -10,14 +10,15 @@ use lib.Dec.{eqb, leb, ltb}
 use Rattle.bytecode.specs.Test.{upTo, below, every, implies, allOf}
 use Rattle.bytecode.specs.Constant.{nilWord}
 use Rattle.bytecode.proofs.TestLaws.{true→T, T→true, and-right}
+use Rattle.model.specs.Limits.{hasMessages, failureSelectorObject, messageClassObject, arrayClassObject, messageFields, fixedForm, indexedForm}
 use Rattle.model.specs.Limits.{bytesKind, classKind, listKind, methodKind, otherForm, integerClassObject, selectorsObject, specialSelectors, mostFields, longestChain, lastForm, bytesForm}
-use Rattle.model.specs.Word.{isNatural, pointer, integerClass}
+use Rattle.model.specs.Word.{isNatural, pointer, integerClass, messageClass, arrayClass}
 use Rattle.model.specs.Objects.{Objects, objectsAt, classWord, kind, size, bodyOf, isKind, isNilOr, superclassWord, dictionaryWord, fieldsWord, formWord, fieldCount, form, pairCount, pairSelector, pairMethod, entriesAt}
 use Rattle.model.specs.Lookup.{endsWithin}
-use Rattle.model.specs.Rules.{chainFine, fits, entryFine, pairFine, dictionaryFine, classRules, knownObjectRules, objectFine, rule6}
+use Rattle.model.specs.Rules.{chainFine, fits, entryFine, pairFine, dictionaryFine, classRules, messageObjectRules, knownObjectRules, objectFine, rule6}
 use Rattle.model.proofs.Parts.{or-right}
 use Rattle.model.proofs.ChainLaws.{ends-class}
-use Rattle.rules.specs.Shape.{fitsForm, numbersFine, kindsFine, selectorsFine, risesFine, shapeRules, shapeFine}
+use Rattle.rules.specs.Shape.{fitsForm, numbersFine, kindsFine, selectorsFine, risesFine, shapeRules, shapeFine, classIs}
 use Rattle.readers.proofs.Loops.{stop, pass, and-true}
 use Rattle.readers.proofs.Names.{names-kind}
 
@@ -52,35 +53,48 @@ pub by-shapes : (e : ℕ) (o : Objects) → allOf (knownObjectRules e o) ≡ tru
 by-shapes e o t = shaped e o ∙ pass (allOf (knownObjectRules e o)) (upTo (o .n) (shapeFine e o)) t
 
 -- the known objects
-known-order : (a b c d f k s e : Bool)
-    → (a && (b && (c && (d && (f && (k && (s && (e && true)))))))) ≡ ((a && (b && (c && d))) && (f && (k && (s && e))))
-known-order false b c d f k s e = refl
-known-order true false c d f k s e = refl
-known-order true true false d f k s e = refl
-known-order true true true false f k s e = refl
-known-order true true true true false k s e = refl
-known-order true true true true true false s e = refl
-known-order true true true true true true false e = refl
-known-order true true true true true true true e = and-true e
+known-order : (a b c d f k s e m : Bool)
+    → (a && (b && (c && (d && (f && (k && (s && (e && (m && true))))))))) ≡ ((a && (b && (c && d))) && (f && ((k && (s && e)) && m)))
+known-order false b c d f k s e m = refl
+known-order true false c d f k s e m = refl
+known-order true true false d f k s e m = refl
+known-order true true true false f k s e m = refl
+known-order true true true true false k s e m = refl
+known-order true true true true true false s e m = refl
+known-order true true true true true true false e m = refl
+known-order true true true true true true true false m = refl
+known-order true true true true true true true true m = and-true m
 
-known-split : (e : ℕ) (o : Objects) → allOf (knownObjectRules e o) ≡ (kindsFine o && (eqb (form o integerClass) otherForm && selectorsFine o))
-unfolding knownObjectRules selectorsFine
-known-split e o =
-    known-order (eqb (kind o 1) 0) (eqb (kind o 2) 0) (eqb (kind o 3) 0) (eqb (kind o 4) 2) (eqb (form o integerClass) otherForm)
-    (eqb (kind o selectorsObject) listKind) (eqb (size o selectorsObject) specialSelectors) (every (isNilOr o bytesKind) (bodyOf o selectorsObject))
+module _ (e : ℕ) (o : Objects) where
+  abbrev M : Bool
+  M = implies (hasMessages e) (allOf (messageObjectRules o))
 
-pub no-kinds : (e : ℕ) (o : Objects) → kindsFine o ≡ false → allOf (knownObjectRules e o) ≡ false
-no-kinds e o t = known-split e o ∙ stop (kindsFine o) (eqb (form o integerClass) otherForm && selectorsFine o) t
+  abbrev F : Bool
+  F = eqb (form o integerClass) otherForm
 
-pub no-form : (e : ℕ) (o : Objects) → kindsFine o ≡ true → form o integerClass ≢ otherForm → allOf (knownObjectRules e o) ≡ false
-no-form e o t f =
-    known-split e o ∙ pass (kindsFine o) (eqb (form o integerClass) otherForm && selectorsFine o) t
-    ∙ stop (eqb (form o integerClass) otherForm) (selectorsFine o) (ne-eqb (form o integerClass) otherForm f)
+  known-split : allOf (knownObjectRules e o) ≡ (kindsFine o && (F && (selectorsFine o && M)))
+  unfolding knownObjectRules selectorsFine
+  known-split =
+      known-order (eqb (kind o 1) 0) (eqb (kind o 2) 0) (eqb (kind o 3) 0) (eqb (kind o 4) 2) F
+      (eqb (kind o selectorsObject) listKind) (eqb (size o selectorsObject) specialSelectors) (every (isNilOr o bytesKind) (bodyOf o selectorsObject)) M
 
-pub by-selectors : (e : ℕ) (o : Objects) → kindsFine o ≡ true → form o integerClass ≡ otherForm → allOf (knownObjectRules e o) ≡ selectorsFine o
-by-selectors e o t f =
-    known-split e o ∙ pass (kindsFine o) (eqb (form o integerClass) otherForm && selectorsFine o) t
-    ∙ pass (eqb (form o integerClass) otherForm) (selectorsFine o) (eq-eqb (form o integerClass) otherForm f)
+  pub no-kinds : kindsFine o ≡ false → allOf (knownObjectRules e o) ≡ false
+  no-kinds t = known-split ∙ stop (kindsFine o) (F && (selectorsFine o && M)) t
+
+  after-kinds : kindsFine o ≡ true → allOf (knownObjectRules e o) ≡ (F && (selectorsFine o && M))
+  after-kinds t = known-split ∙ pass (kindsFine o) (F && (selectorsFine o && M)) t
+
+  pub no-form : kindsFine o ≡ true → form o integerClass ≢ otherForm → allOf (knownObjectRules e o) ≡ false
+  no-form t f = after-kinds t ∙ stop F (selectorsFine o && M) (ne-eqb (form o integerClass) otherForm f)
+
+  after-form : kindsFine o ≡ true → form o integerClass ≡ otherForm → allOf (knownObjectRules e o) ≡ (selectorsFine o && M)
+  after-form t f = after-kinds t ∙ pass F (selectorsFine o && M) (eq-eqb (form o integerClass) otherForm f)
+
+  pub no-selectors : kindsFine o ≡ true → form o integerClass ≡ otherForm → selectorsFine o ≡ false → allOf (knownObjectRules e o) ≡ false
+  no-selectors t f g = after-form t f ∙ stop (selectorsFine o) M g
+
+  pub by-messages : kindsFine o ≡ true → form o integerClass ≡ otherForm → selectorsFine o ≡ true → allOf (knownObjectRules e o) ≡ M
+  by-messages t f g = after-form t f ∙ pass (selectorsFine o) M g
 
 pub integer-class-kind : (o : Objects) → 5 ≤ o .n → kindsFine o ≡ true → isKind o classKind integerClass ≡ true
 integer-class-kind o h e = names-kind o integerClassObject classKind (omega arith) (omega arith) (last (eqb (kind o 1) 0) (eqb (kind o 2) 0) (eqb (kind o 3) 0) e)
@@ -102,6 +116,61 @@ pub selectors-words : (o : Objects) → kind o selectorsObject ≡ listKind → 
     → every (isNilOr o bytesKind) (bodyOf o selectorsObject) ≡ selectorsFine o
 unfolding selectorsFine
 selectors-words o h g = rw (eq-eqb (kind o selectorsObject) listKind h, eq-eqb (size o selectorsObject) specialSelectors g)
+
+-- a class with a fixed number
+module _ (o : Objects) (k of fields : ℕ) where
+  pub no-class : kind o k ≢ classKind → false ≡ classIs o k of fields
+  unfolding classIs
+  no-class h = rw (ne-eqb (kind o k) classKind h)
+
+  pub other-form : kind o k ≡ classKind → form o (pointer k) ≢ of → false ≡ classIs o k of fields
+  unfolding classIs
+  other-form h g = rw (eq-eqb (kind o k) classKind h, ne-eqb (form o (pointer k)) of g)
+
+  pub by-fields : kind o k ≡ classKind → form o (pointer k) ≡ of → eqb (fieldCount o (pointer k)) fields ≡ classIs o k of fields
+  unfolding classIs
+  by-fields h g = rw (eq-eqb (kind o k) classKind h, eq-eqb (form o (pointer k)) of g)
+
+-- the objects of messages
+message-order : (s k f n l g m : Bool) → (s && (k && (f && (n && (l && (g && (m && true))))))) ≡ (s && ((k && (f && n)) && (l && (g && m))))
+message-order false k f n l g m = refl
+message-order true false f n l g m = refl
+message-order true true false n l g m = refl
+message-order true true true false l g m = refl
+message-order true true true true false g m = refl
+message-order true true true true true false m = refl
+message-order true true true true true true m = and-true m
+
+module _ (e : ℕ) (o : Objects) where
+  abbrev C : Bool
+  C = classIs o messageClassObject fixedForm messageFields
+
+  abbrev A : Bool
+  A = classIs o arrayClassObject indexedForm 0
+
+  message-split : allOf (messageObjectRules o) ≡ (eqb (kind o failureSelectorObject) bytesKind && (C && A))
+  unfolding messageObjectRules classIs
+  message-split =
+      message-order (eqb (kind o 6) 1) (eqb (kind o 7) 2) (eqb (form o messageClass) 0) (eqb (fieldCount o messageClass) 2)
+      (eqb (kind o 8) 2) (eqb (form o arrayClass) 1) (eqb (fieldCount o arrayClass) 0)
+
+  pub no-messages : hasMessages e ≡ false → M e o ≡ true
+  no-messages h = ap (λ (x : Bool). implies x (allOf (messageObjectRules o))) h
+
+  with-messages : hasMessages e ≡ true → M e o ≡ (eqb (kind o failureSelectorObject) bytesKind && (C && A))
+  with-messages h = ap (λ (x : Bool). implies x (allOf (messageObjectRules o))) h ∙ message-split
+
+  pub no-failure-selector : hasMessages e ≡ true → kind o failureSelectorObject ≢ bytesKind → M e o ≡ false
+  no-failure-selector h k = with-messages h ∙ stop (eqb (kind o failureSelectorObject) bytesKind) (C && A) (ne-eqb (kind o failureSelectorObject) bytesKind k)
+
+  after-selector : hasMessages e ≡ true → kind o failureSelectorObject ≡ bytesKind → M e o ≡ (C && A)
+  after-selector h k = with-messages h ∙ pass (eqb (kind o failureSelectorObject) bytesKind) (C && A) (eq-eqb (kind o failureSelectorObject) bytesKind k)
+
+  pub no-message-class : hasMessages e ≡ true → kind o failureSelectorObject ≡ bytesKind → C ≡ false → M e o ≡ false
+  no-message-class h k c = after-selector h k ∙ stop C A c
+
+  pub by-array-class : hasMessages e ≡ true → kind o failureSelectorObject ≡ bytesKind → C ≡ true → M e o ≡ A
+  by-array-class h k c = after-selector h k ∙ pass C A c
 
 -- kinds do not depend on the bodies
 pub nil-or-entries : (n b : ℕ) (contents bodies : List ℕ) (k : ℕ) (ws : List ℕ) → every (isNilOr (entriesAt n contents) k) ws ≡ every (isNilOr (objectsAt n b contents bodies) k) ws

@@ -14,7 +14,7 @@ use Rattle.bytecode.proofs.TestLaws.{true→T, and-left, and-right, upTo-at}
 use Rattle.model.specs.Word.{isValid}
 use Rattle.model.specs.Objects.{Objects, objectsAt, classWord, kind, start, size, sizedInBytes, bodyWords, bodyEnd, bodyOf}
 use Rattle.model.specs.Rules.{startFine, paddingFine, layoutRules, wordsFine, rule4}
-use Rattle.model.proofs.Facts.{Layout, layout-facts, in-bytes}
+use Rattle.model.proofs.Facts.{Layout, layout-facts, in-bytes, five-least}
 use Rattle.readers.specs.Places.{Laid}
 use Rattle.rules.specs.Lent.{Lent, startOf}
 use Rattle.readers.proofs.Loops.{UpBefore, up-all, up-no}
@@ -105,10 +105,12 @@ module _ (e : ℕ) (o : Objects) (laid : rule4 e o ≡ true) where
 pub layout-laid : (e n b : ℕ) (contents bodies : List ℕ) → Lent e n b contents bodies → rule4 e (objectsAt n b contents bodies) ≡ true → Laid n b contents bodies
 layout-laid e n b contents bodies l t =
     let o : Objects = objectsAt n b contents bodies in
+    let five = five-least e in
+    let least = l .least in
     record {
       entries = l .entries;
       words = l .words;
-      known = l .least;
+      known = omega arith;
       most = l .most;
       most-words = l .most-words;
       inside = inside-at e o t;

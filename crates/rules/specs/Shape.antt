@@ -1,4 +1,4 @@
--- Rule 6 in the parts in which it is tested: F and form of a class together, the kinds of the objects 1 to 4 together.
+-- Rule 6 in the parts in which it is tested: F and form of a class together, the kinds of the objects 1 to 4 together, a class with a fixed number.
 use Prim.Native.Nat.{ℕ, _/_}
 use mathlib.Core.Bool.{Bool, false, _&&_, not}
 use mathlib.Core.List.{List, [], _∷_}
@@ -8,7 +8,7 @@ use Rattle.bytecode.specs.Constant.{nilWord}
 use Rattle.model.specs.Limits.{fieldsKind, bytesKind, classKind, listKind, methodKind, fixedForm, indexedForm, bytesForm, otherForm}
 use Rattle.model.specs.Limits.{lastForm, mostFields, nilObject, falseObject, trueObject, integerClassObject, selectorsObject, specialSelectors}
 use Rattle.model.specs.Word.{isNatural, pointer}
-use Rattle.model.specs.Objects.{Objects, kind, size, bodyOf, isKind, isNilOr, superclassWord, dictionaryWord, fieldsWord, formWord, fieldCount}
+use Rattle.model.specs.Objects.{Objects, kind, size, bodyOf, isKind, isNilOr, superclassWord, dictionaryWord, fieldsWord, formWord, fieldCount, form}
 use Rattle.model.specs.Rules.{entryFine, dictionaryFine}
 
 -- whether an object of this kind and size fits a class of this form and F
@@ -51,3 +51,7 @@ unfoldable pub selectorsFine : Objects → Bool
 selectorsFine o =
     eqb (kind o selectorsObject) listKind
     && (eqb (size o selectorsObject) specialSelectors && every (isNilOr o bytesKind) (bodyOf o selectorsObject))
+
+-- object k is a class of this form and F
+unfoldable pub classIs : Objects → ℕ → ℕ → ℕ → Bool
+classIs o k of fields = eqb (kind o k) classKind && (eqb (form o (pointer k)) of && eqb (fieldCount o (pointer k)) fields)

@@ -5,13 +5,13 @@ ghost use Prim.Native.Nat.{_-_, _*_, _<_, _≤_};
 ghost use lib.Dec.{ltb};
 ghost use lib.ListN.{length};
 ghost use Rattle.bytecode.specs.Test.{upTo, below, every, implies, allOf};
-ghost use Rattle.model.specs.Limits.{entryWords, classKind, listKind, longestChain};
+ghost use Rattle.model.specs.Limits.{hasMessages, leastObjects, entryWords, classKind, listKind, longestChain};
 ghost use Rattle.model.specs.Word.{isNatural};
 ghost use Rattle.model.specs.Objects.{objectsAt, isKind, isNilOr, superclassWord, pairCount, pairSelector, entriesAt};
 ghost use Rattle.model.specs.Lookup.{endsWithin};
-ghost use Rattle.model.specs.Rules.{chainFine, entryFine, pairFine, dictionaryFine, knownObjectRules};
+ghost use Rattle.model.specs.Rules.{chainFine, entryFine, pairFine, dictionaryFine, messageObjectRules, knownObjectRules};
 ghost use Rattle.readers.specs.Places.{Laid};
-ghost use Rattle.rules.specs.Shape.{fitsForm, numbersFine, kindsFine, selectorsFine, risesFine, shapeRules, shapeFine};
+ghost use Rattle.rules.specs.Shape.{fitsForm, numbersFine, kindsFine, selectorsFine, risesFine, shapeRules, shapeFine, classIs};
 use model::Pointer;
 use model::limits;
 
@@ -289,9 +289,65 @@ fn selectors_fine(contents: &[u16], bodies: &[u16], n: usize, b: usize) -> bool
     nil_or_words(contents, n, limits::BYTES, &bodies[from..end])
 }
 
-// The objects 1 to 5.
+// A class with a fixed number has this form and F.
+fn class_is(
+    contents: &[u16],
+    bodies: &[u16],
+    n: usize,
+    b: usize,
+    k: usize,
+    form: u16,
+    fields: u16,
+) -> bool
+    requires { ⌜ Laid n b (now contents) (now bodies) × (1 ≤ k) × (k ≤ n) ⌝ }
+    ensures { λ r. ⌜ r ≡ classIs (objectsAt n b (now (contents .entry)) (now (bodies .entry))) k form fields ⌝ }
+{
+    if readers::kind(contents, n, k) != limits::CLASS {
+        return false;
+    }
+    let c = Pointer((2 * k) as u16);
+    if readers::word_of(contents, bodies, n, b, c, limits::FORM_WORD) / 2 != form {
+        return false;
+    }
+    readers::word_of(contents, bodies, n, b, c, limits::FIELDS_WORD) / 2 == fields
+}
+
+// The objects of messages, in editions that have them: 6 is a selector, 7 the class of messages, 8 that of arrays.
+fn messages_fine(edition: u16, contents: &[u16], bodies: &[u16], n: usize, b: usize) -> bool
+    requires { ⌜ Laid n b (now contents) (now bodies) × (leastObjects edition ≤ n) ⌝ }
+    ensures { λ r. ⌜ r ≡ implies (hasMessages edition) (allOf (messageObjectRules (objectsAt n b (now (contents .entry)) (now (bodies .entry))))) ⌝ }
+{
+    if !readers::edition::has_messages(edition) {
+        return true;
+    }
+    if readers::kind(contents, n, limits::FAILURE_SELECTOR_OBJECT) != limits::BYTES {
+        return false;
+    }
+    if !class_is(
+        contents,
+        bodies,
+        n,
+        b,
+        limits::MESSAGE_CLASS_OBJECT,
+        limits::FIXED,
+        limits::MESSAGE_FIELDS,
+    ) {
+        return false;
+    }
+    class_is(
+        contents,
+        bodies,
+        n,
+        b,
+        limits::ARRAY_CLASS_OBJECT,
+        limits::INDEXED,
+        0,
+    )
+}
+
+// The objects with a fixed number.
 pub fn known_fine(edition: u16, contents: &[u16], bodies: &[u16], n: usize, b: usize) -> bool
-    requires { ⌜ Laid n b (now contents) (now bodies) ⌝ }
+    requires { ⌜ Laid n b (now contents) (now bodies) × (leastObjects edition ≤ n) ⌝ }
     ensures { λ r. ⌜ r ≡ allOf (knownObjectRules edition (objectsAt n b (now (contents .entry)) (now (bodies .entry)))) ⌝ }
 {
     if !known_kinds(contents, n) {
@@ -310,5 +366,8 @@ pub fn known_fine(edition: u16, contents: &[u16], bodies: &[u16], n: usize, b: u
     {
         return false;
     }
-    selectors_fine(contents, bodies, n, b)
+    if !selectors_fine(contents, bodies, n, b) {
+        return false;
+    }
+    messages_fine(edition, contents, bodies, n, b)
 }

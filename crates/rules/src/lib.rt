@@ -4,7 +4,7 @@ ghost use Prim.Native.Nat.{_≤_};
 ghost use lib.Dec.{eqb};
 ghost use lib.ListN.{length};
 ghost use Rattle.bytecode.specs.Test.{implies, allOf};
-ghost use Rattle.model.specs.Limits.{classKind, classWords};
+ghost use Rattle.model.specs.Limits.{leastObjects, classKind, classWords};
 ghost use Rattle.model.specs.Objects.{objectsAt};
 ghost use Rattle.model.specs.Rules.{paddingFine, layoutRules, wordsFine, rule4, rule5, rule14, rule6};
 ghost use Rattle.readers.specs.Places.{Entry, Laid};
@@ -128,9 +128,9 @@ pub fn chains(contents: &[u16], bodies: &[u16], n: usize, b: usize) -> bool
     true
 }
 
-// Rule 6: classes, dictionaries, the objects 1 to 5.
+// Rule 6: classes, dictionaries, the objects with a fixed number.
 pub fn classes(edition: u16, contents: &[u16], bodies: &[u16], n: usize, b: usize) -> bool
-    requires { ⌜ Laid n b (now contents) (now bodies) ⌝ }
+    requires { ⌜ Laid n b (now contents) (now bodies) × (leastObjects edition ≤ n) ⌝ }
     ensures { λ r. ⌜ r ≡ rule6 edition (objectsAt n b (now (contents .entry)) (now (bodies .entry))) ⌝ }
 {
     if !class_rules::known_fine(edition, contents, bodies, n, b) {

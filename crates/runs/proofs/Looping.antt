@@ -6,6 +6,7 @@ use native.Mathlib.Omega.{arith}
 use lib.ListN.{length}
 use Rattle.model.specs.Image.{Room, accepted}
 use Rattle.model.specs.Objects.{objectsAt}
+use Rattle.model.specs.Rules.{Right}
 use Rattle.model.proofs.Facts.{most, most-words}
 use Rattle.model.proofs.Extends.{Extends}
 use Rattle.plain.specs.Step.{Stepped, step}
@@ -21,12 +22,13 @@ use Rattle.cache.specs.Caches.{Caches}
 use Rattle.model.specs.declared.CodePosition.{CodePosition}
 use Rattle.model.specs.declared.StackPosition.{StackPosition}
 use Rattle.frames.specs.declared.Active.{Active}
+use Rattle.frames.specs.declared.Message.{Message}
 use Rattle.frames.specs.Active.{written, movedOn, Stands, IsActive, Held, Onward, Leaving, frameEnd}
 use Rattle.frames.proofs.ActiveLaws.{length-written, leaving, stands-onward}
 use Rattle.interpreter.specs.declared.Advanced.{Advanced}
 use Rattle.sends.specs.Sends.{Halts}
 use Rattle.interpreter.specs.Advances.{AdvancedIs, stepOf}
-use Rattle.runs.specs.Ends.{startOf, RunsTo}
+use Rattle.runs.specs.Ends.{startOf, RunsTo, RunsFail}
 use Rattle.interpreter.specs.declared.Advanced.the-variants as A
 
 -- The state of the loop: from s₀ the run came to a running state, and the highest end fits a word and one.
@@ -58,23 +60,27 @@ module _ (s₀ : Flat) (grant edition receiver selector n b top : ℕ) (contents
   loop-runs : Runs n b top contents bodies stack
   loop-runs = running-runs edition receiver selector n b top contents bodies stack cache rightₗ
 
-  loop-caches : Caches n b contents bodies cache
+  pub loop-right : Right edition (objectsAt n b contents bodies)
+  unfolding plainOf
+  loop-right = rightₗ .plain .image
+
+  pub loop-caches : Caches n b contents bodies cache
   loop-caches = record { long = rightₗ .cacheLength; fine = rightₗ .cached }
 
-  loop-small : (n ≤ 2047) × (b ≤ 24000) × (top < 65536)
+  pub loop-small : (n ≤ 2047) × (b ≤ 24000) × (top < 65536)
   loop-small =
       let r = loop-runs in
       let t = top-bounds r in
       (most (r .right), most-words (r .right), omega arith)
 
-  loop-lengths : (length contents ≡ length (s₀ .contents)) × (length bodies ≡ length (s₀ .bodies)) × (length stack ≡ length (s₀ .stack)) × (length cache ≡ length (s₀ .cache))
+  pub loop-lengths : (length contents ≡ length (s₀ .contents)) × (length bodies ≡ length (s₀ .bodies)) × (length stack ≡ length (s₀ .stack)) × (length cache ≡ length (s₀ .cache))
   loop-lengths =
       let e = l .turn .lengths in
       (ap (λ (x : Room). x .contents) e, ap (λ (x : Room). x .bodies) e, ap (λ (x : Room). x .stack) e, ap (λ (x : Room). x .cache) e)
 
   -- the grant is used up
   ends-at : grant ≤ count → RunsTo s₀ grant edition receiver selector contents bodies stack cache (record { n = n; b = b; phase = 1; top = top; value = 0; count = count; reach = reach })
-  ends-at h = record { gave = loop-out s₀ grant sₗ count reach (l .turn) h; small = l .low }
+  ends-at h = record { gave = loop-out s₀ grant sₗ count reach (l .turn) h; within = l .turn .made; small = l .low }
 
   module _ (more : count < grant) (contents′ bodies′ stack′ cache′ : List ℕ) where
     -- the step is that of the flat state
@@ -91,10 +97,11 @@ module _ (s₀ : Flat) (grant edition receiver selector n b top : ℕ) (contents
         let z : topEnd (plainOf (flat (finishedWith edition receiver selector n b w) contents′ bodies′ stack′ cache′)) ≡ 0 = unfold plainOf topEnd in refl in
         record {
           gave = loop-over s₀ grant sₗ count reach (l .turn) more (finishedWith edition receiver selector n b w) contents′ bodies′ stack′ cache′ m refl z;
+          within = omega arith;
           small = l .low;
         }
 
-    halted-at : (k : ℕ) → Halts x k contents bodies stack cache contents′ bodies′ stack′ cache′
+    pub halted-at : (k : ℕ) → Halts x k contents bodies stack cache contents′ bodies′ stack′ cache′
         → RunsTo s₀ grant edition receiver selector contents′ bodies′ stack′ cache′ (record { n = n; b = b; phase = k; top = top; value = 0; count = count; reach = reach })
     halted-at k h =
         let u = h .stays in
@@ -103,6 +110,7 @@ module _ (s₀ : Flat) (grant edition receiver selector n b top : ℕ) (contents
               (flat (record { n = n; b = b; startReceiver = receiver; startSelector = selector; phase = h .phase i; top = top; value = 0; edition = edition }) (u .entries i)
               (u .words i) (u .frames i) (u .cached i)))
               ∙ loop-halts s₀ grant sₗ count reach (l .turn) more (h .cause) (same-step ∙ h .steps);
+          within = omega arith;
           small = l .low;
         }
 
@@ -135,7 +143,7 @@ module _ (s₀ : Flat) (grant edition receiver selector n b top : ℕ) (contents
           record { turn = next reach (omega arith); low = l .low }
 
       -- another one
-      other-at : (reach′ : ℕ) → reach′ ≡ max reach end′ → LoopAt s₀ grant edition receiver selector n′ b′ t contents′ bodies′ stack′ cache′ (count + 1) reach′
+      pub other-at : (reach′ : ℕ) → reach′ ≡ max reach end′ → LoopAt s₀ grant edition receiver selector n′ b′ t contents′ bodies′ stack′ cache′ (count + 1) reach′
       other-at reach′ h =
           let e = top-end-is edition receiver selector n′ b′ t contents′ bodies′ stack′ cache′ in
           record { turn = next reach′ (h ∙ ap (max reach) (sym e)); low = let k = top-bounds runs-at in let g = l .low in omega arith }
@@ -217,6 +225,16 @@ module _ {s₀ : Flat} {grant edition receiver selector n b : ℕ} {a : Active} 
         → RunsTo s₀ grant edition receiver selector contents′ bodies′ stack′ cache′ (record { n = n; b = b; phase = k; top = a .base .0; value = 0; count = grant - left; reach = reach })
     loop-halted k e =
         halted-at s₀ grant edition receiver selector n b (a .base .0) contents bodies v cache (grant - left) reach (l .at) fewer contents′ bodies′ stack′ cache′ k (told (A.Halted k) e)
+
+    -- a send that failed, and the frame's words are written
+    pub loop-failed : (m : Message) → y ≡ A.Failed m → RunsFail s₀ grant edition receiver selector contents′ bodies′ stack′ cache′ m n b (a .base .0) left reach
+    loop-failed m e =
+        let f : AdvancedIs edition receiver selector n b a contents bodies stack cache contents′ bodies′ stack′ cache′ (A.Failed m) = told (A.Failed m) e in
+        let u = f .0 .stays in
+        let same : startOf edition receiver selector n b (a .base .0) contents bodies v cache ≡ startOf edition receiver selector n b (a .base .0) contents′ bodies′ stack′ cache′ =
+        λ i. startOf edition receiver selector n b (a .base .0) (sym (u .entries) i) (sym (u .words) i) (sym (u .frames) i) (sym (u .cached) i) in
+        subst (λ (s : Flat). RunsFail s₀ grant edition receiver selector (s .contents) (s .bodies) (s .stack) (s .cache) m n b (a .base .0) left reach) same
+        (record { turn = l .at .turn; sending = f .1; steps = f .0 .steps; more = more; within = l .within; small = l .at .low })
 
     -- a frame is held, with one bytecode less to make
     holds : (n′ b′ : ℕ) (f : Active) (reach′ : ℕ)

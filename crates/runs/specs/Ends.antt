@@ -1,16 +1,20 @@
 -- How the run loop ends, from a state in phase 1 given by N, B, top and the lent words.
-use Prim.Native.Nat.{ℕ, _≤_}
+use Prim.Native.Nat.{ℕ, _-_, _≤_, _<_}
 use mathlib.Core.Path.{_≡_}
 use mathlib.Core.List.{List}
 use Rattle.model.specs.Image.{accepted}
+use Rattle.plain.specs.Step.{step}
 use Rattle.plain.specs.Flat.{Flat, flat}
 use Rattle.plain.specs.Check.{check}
 use Rattle.plain.specs.Calls.{result}
 use Rattle.plain.specs.FlatCalls.{gives}
-use Rattle.plain.specs.RunLoop.{runsFrom}
-use Rattle.plain.specs.Running.{runningWith}
+use Rattle.plain.specs.RunLoop.{runsFrom, Turn}
+use Rattle.plain.specs.Running.{runningWith, runningAt, roomAt, Sending, failedStep}
 use Rattle.plain.specs.Registers as R
+use Rattle.frames.specs.declared.Message.{Message}
 use Rattle.runs.specs.declared.Ended.{Ended}
+use Rattle.runs.specs.declared.Stretched.{Stretched}
+use Rattle.runs.specs.declared.Stretched.the-variants.{Over, Failed}
 
 abbrev pub startOf : (e receiver selector n b top : ℕ) → List ℕ → List ℕ → List ℕ → List ℕ → Flat
 startOf e receiver selector n b top contents bodies stack cache = flat (runningWith e receiver selector n b top) contents bodies stack cache
@@ -28,10 +32,26 @@ pub record Goes (e n b top : ℕ) (contents bodies stack cache : List ℕ) : Typ
 -- The run from s ended so.
 pub record RunsTo (s : Flat) (grant e receiver selector : ℕ) (contents bodies stack cache : List ℕ) (r : Ended) : Type 0 where
   pub gave : gives (result (r .phase) (r .count) (r .value) (r .reach)) (flat (endedWith e receiver selector r) contents bodies stack cache) ≡ runsFrom grant 0 0 s
+  pub within : r .count ≤ grant
   pub small : r .reach ≤ 65536
 
+-- The run from s came to a send that failed, with so many bytecodes left: its step is that of its message.
+pub record RunsFail (s : Flat) (grant e receiver selector : ℕ) (contents bodies stack cache : List ℕ) (m : Message) (n b top left reach : ℕ) : Type 0 where
+  pub turn : Turn s grant (startOf e receiver selector n b top contents bodies stack cache) (grant - left) reach
+  pub sending : Sending n b top contents bodies stack (m .selector) (m .count) (m .class .0) (m .next .0) (m .sure)
+  pub steps : step (roomAt contents bodies stack cache) (runningAt e receiver selector n b top contents bodies stack)
+      ≡ failedStep (roomAt contents bodies stack cache) e receiver selector n b top contents bodies stack (m .selector) (m .count) (m .class .0) (m .next .0)
+  pub more : 0 < left
+  pub within : left ≤ grant
+  pub small : reach ≤ 65536
+
+abbrev pub StretchedIs : (s : Flat) (grant e receiver selector : ℕ) (contents bodies stack cache : List ℕ) → Stretched → Type 0
+StretchedIs s grant e receiver selector contents bodies stack cache (Over r) = RunsTo s grant e receiver selector contents bodies stack cache r
+StretchedIs s grant e receiver selector contents bodies stack cache (Failed m n b top left reach) =
+    RunsFail s grant e receiver selector contents bodies stack cache m n b (top .0) left reach
+
 -- With all start words that check accepts
-abbrev pub RunsOn : (e n b top : ℕ) (contents bodies stack cache : List ℕ) (grant : ℕ) (contents′ bodies′ stack′ cache′ : List ℕ) → Ended → Type 0
-RunsOn e n b top contents bodies stack cache grant contents′ bodies′ stack′ cache′ r =
+abbrev pub StretchesOn : (e n b top : ℕ) (contents bodies stack cache : List ℕ) (grant : ℕ) (contents′ bodies′ stack′ cache′ : List ℕ) → Stretched → Type 0
+StretchesOn e n b top contents bodies stack cache grant contents′ bodies′ stack′ cache′ r =
     (receiver selector : ℕ) → check (startOf e receiver selector n b top contents bodies stack cache) ≡ accepted
-    → RunsTo (startOf e receiver selector n b top contents bodies stack cache) grant e receiver selector contents′ bodies′ stack′ cache′ r
+    → StretchedIs (startOf e receiver selector n b top contents bodies stack cache) grant e receiver selector contents′ bodies′ stack′ cache′ r

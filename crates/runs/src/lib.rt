@@ -3,7 +3,8 @@ ghost use mathlib.Core.Path.{_≡_};
 ghost use Prim.Native.Nat.{_≤_, max};
 ghost use Rattle.plain.specs.Running.{Runs};
 ghost use Rattle.frames.specs.Active.{frameEnd};
-ghost use Rattle.runs.specs.Ends.{Goes, RunsOn};
+ghost use Rattle.runs.specs.Ends.{Goes, StretchesOn};
+use frames::Message;
 use interpreter::Advanced;
 use model::Pointer;
 use model::StackPosition;
@@ -18,6 +19,19 @@ pub struct Ended {
     pub value: u16,
     pub count: u32,
     pub reach: usize,
+}
+
+// How a stretch of a run ended: with the run, or at a send that failed, with so many bytecodes left and reach so far.
+pub enum Stretched {
+    Over(Ended),
+    Failed {
+        message: Message,
+        n: usize,
+        b: usize,
+        top: StackPosition,
+        left: u32,
+        reach: usize,
+    },
 }
 
 // Where the top frame ends.
@@ -37,7 +51,7 @@ fn frame_end(
     frames::end_of(contents, bodies, n, b, top, method)
 }
 
-fn higher(reach: usize, end: usize) -> usize
+pub fn higher(reach: usize, end: usize) -> usize
     ensures { λ r. ⌜ r ≡ max reach end ⌝ }
 {
     if reach < end {
@@ -46,8 +60,8 @@ fn higher(reach: usize, end: usize) -> usize
     reach
 }
 
-// A run of at most so many bytecodes, from a state in phase 1 that check accepts.
-pub fn run(
+// A run of at most so many bytecodes, from a state in phase 1 that check accepts, up to the first send that fails.
+pub fn stretch(
     contents: &mut [u16],
     bodies: &mut [u16],
     stack: &mut [u16],
@@ -57,9 +71,9 @@ pub fn run(
     b: usize,
     top: usize,
     grant: u32,
-) -> Ended
+) -> Stretched
     requires { ⌜ Goes edition n b top (now contents) (now bodies) (now stack) (now cache) ⌝ }
-    ensures { λ r. ⌜ RunsOn edition n b top (now (contents .entry)) (now (bodies .entry)) (now (stack .entry)) (now (cache .entry)) grant
+    ensures { λ r. ⌜ StretchesOn edition n b top (now (contents .entry)) (now (bodies .entry)) (now (stack .entry)) (now (cache .entry)) grant
         (now (contents .exit)) (now (bodies .exit)) (now (stack .exit)) (now (cache .exit)) r ⌝ }
 {
     let mut objects = n;
@@ -106,7 +120,7 @@ pub fn run(
                 left -= 1;
             }
             Advanced::Finished(w) => {
-                return Ended {
+                return Stretched::Over(Ended {
                     n: objects as u16,
                     b: words as u16,
                     phase: 2,
@@ -114,10 +128,21 @@ pub fn run(
                     value: w,
                     count: grant - left + 1,
                     reach: reach,
+                });
+            }
+            Advanced::Failed(message) => {
+                let base = active.base;
+                return Stretched::Failed {
+                    message: message,
+                    n: objects,
+                    b: words,
+                    top: base,
+                    left: left,
+                    reach: reach,
                 };
             }
             Advanced::Halted(k) => {
-                return Ended {
+                return Stretched::Over(Ended {
                     n: objects as u16,
                     b: words as u16,
                     phase: k,
@@ -125,12 +150,12 @@ pub fn run(
                     value: 0,
                     count: grant - left,
                     reach: reach,
-                };
+                });
             }
         }
     }
     frames::leave(stack, active);
-    Ended {
+    Stretched::Over(Ended {
         n: objects as u16,
         b: words as u16,
         phase: 1,
@@ -138,5 +163,5 @@ pub fn run(
         value: 0,
         count: grant,
         reach: reach,
-    }
+    })
 }

@@ -15,14 +15,14 @@ use Rattle.model.specs.Method.{home, frameSize}
 use Rattle.model.specs.Lookup.{found, lookup, inChain}
 use Rattle.model.specs.declared.Found.the-variants.{Nothing}
 use Rattle.model.specs.Image.{Room}
-use Rattle.plain.specs.Registers.{notUnderstood, noStackRoom}
+use Rattle.plain.specs.Registers.{noStackRoom}
 use Rattle.plain.specs.Step.{looked, Stepped, Activation, entered, unfit, entering, activate}
 use Rattle.plain.specs.Flat.{frameDepth, frameMethod, operandsStart}
 use Rattle.plain.specs.Cache.{filled}
-use Rattle.plain.specs.Running.{runningWith, roomAt, Made, Sending, sentReceiver, sendStep}
+use Rattle.plain.specs.Running.{runningWith, roomAt, Made, Sending, sentReceiver, sentArguments, sendStep, failedStep}
 use Rattle.plain.proofs.FrameLaws.{fits}
 use Rattle.plain.proofs.RunningLaws.{top-bounds, is-method}
-use Rattle.plain.proofs.FramedLaws.{sentArguments, receiver-valid, arguments-here, found-method, found-arguments, found-fits, send-none, send-unfit, send-full, answered-made, entered-made}
+use Rattle.plain.proofs.FramedLaws.{receiver-valid, arguments-here, found-method, found-arguments, found-fits, send-none, send-unfit, send-full, answered-made, entered-made}
 use Rattle.frames.specs.Words.{newWords}
 use Rattle.frames.specs.declared.Active.{Active}
 use Rattle.frames.specs.declared.Message.{Message}
@@ -34,7 +34,7 @@ use Rattle.activation.specs.declared.Activated.the-variants.{Answer, Frame, Unf
 use Rattle.activation.specs.Activating.{Activable, Answers, Leaves, ActivatedIs, Activates}
 use Rattle.sends.specs.declared.Base.{Base}
 use Rattle.sends.specs.declared.Base.the-variants as base
-use Rattle.sends.specs.Sends.{Framing, FrameAt, NoFrame, BaseIs, Enters, Halts, behindSend}
+use Rattle.sends.specs.Sends.{Framing, FrameAt, NoFrame, BaseIs, Enters, Halts, Fails, behindSend}
 
 one-more : (end count operands : ℕ) → suc count ≤ end - operands → end - count - operands ≡ end - 1 - count - operands + 1
 one-more end count operands h = omega arith
@@ -65,6 +65,11 @@ module _ {n b : ℕ} {contents bodies stack : List ℕ} {a : Active} {q : Messag
   step cache edition receiver₀ selector₀ =
       sendStep (roomAt contents bodies v cache) edition receiver₀ selector₀ n b top contents bodies v (q .selector) count (q .class .0) (q .next .0)
 
+  -- that of its message
+  abbrev otherwise : List ℕ → ℕ → ℕ → ℕ → Stepped
+  otherwise cache edition receiver₀ selector₀ =
+      failedStep (roomAt contents bodies v cache) edition receiver₀ selector₀ n b top contents bodies v (q .selector) count (q .class .0) (q .next .0)
+
   pub sent-needs : suc count ≤ a .end .0 - a .operands .0
   sent-needs = let d = depth-read r in let h = s .needs in omega arith
 
@@ -80,7 +85,7 @@ module _ {n b : ℕ} {contents bodies stack : List ℕ} {a : Active} {q : Messag
       let e = ends r in
       sym (word-written a stack place (omega arith)) ∙ ap (λ (i : ℕ). getD v i 0) place-is
 
-  arguments-read : part stack (place + 1) count ≡ sentArguments s
+  arguments-read : part stack (place + 1) count ≡ sentArguments n b top contents bodies v count
   arguments-read =
       let k = sent-needs in
       let e = ends r in
@@ -91,12 +96,10 @@ module _ {n b : ℕ} {contents bodies stack : List ℕ} {a : Active} {q : Messag
 
   -- no method
   pub made-nothing : (cache : List ℕ) (edition receiver₀ selector₀ : ℕ) → lookup o (q .selector) (q .class .0) ≡ Nothing
-      → Halts (step cache edition receiver₀ selector₀) 3 contents bodies stack cache contents bodies stack cache
+      → Fails (step cache edition receiver₀ selector₀) (otherwise cache edition receiver₀ selector₀) contents bodies stack cache contents bodies stack cache
   made-nothing cache edition receiver₀ selector₀ e =
       record {
-        cause = notUnderstood;
         steps = send-none s (roomAt contents bodies v cache) edition receiver₀ selector₀ e;
-        phase = refl;
         stays = record { entries = refl; words = refl; frames = refl; cached = refl };
       }
 
@@ -111,12 +114,12 @@ module _ {n b : ℕ} {contents bodies stack : List ℕ} {a : Active} {q : Messag
       room = roomAt contents bodies v cache
 
       abbrev activation : Activation
-      activation = activate edition room o m receiver (sentArguments s)
+      activation = activate edition room o m receiver (sentArguments n b top contents bodies v count)
 
       is-activated : ActivatedIs activation (entering o m receiver) contents bodies contents′ bodies′ x
       is-activated =
-          subst (λ (w : ℕ). ActivatedIs (activate edition room o m w (sentArguments s)) (entering o m w) contents bodies contents′ bodies′ x) receiver-read
-          (h (sentArguments s) (ap (λ (l : List ℕ). getD l 0 0) arguments-read) (ap (λ (l : List ℕ). getD l 1 0) arguments-read) room refl refl)
+          subst (λ (w : ℕ). ActivatedIs (activate edition room o m w (sentArguments n b top contents bodies v count)) (entering o m w) contents bodies contents′ bodies′ x) receiver-read
+          (h (sentArguments n b top contents bodies v count) (ap (λ (l : List ℕ). getD l 0 0) arguments-read) (ap (λ (l : List ℕ). getD l 1 0) arguments-read) room refl refl)
 
       by-case : (y : Activated) → x ≡ y → ActivatedIs activation (entering o m receiver) contents bodies contents′ bodies′ y
       by-case y p = subst (ActivatedIs activation (entering o m receiver) contents bodies contents′ bodies′) p is-activated
@@ -139,13 +142,11 @@ module _ {n b : ℕ} {contents bodies stack : List ℕ} {a : Active} {q : Messag
           )
 
       -- no field to answer
-      pub made-none : x ≡ Unfit → (receiver₀ selector₀ : ℕ) → Halts (step cache edition receiver₀ selector₀) 3 contents bodies stack cache contents′ bodies′ stack cache
+      pub made-none : x ≡ Unfit → (receiver₀ selector₀ : ℕ) → Fails (step cache edition receiver₀ selector₀) (otherwise cache edition receiver₀ selector₀) contents bodies stack cache contents′ bodies′ stack cache
       made-none p receiver₀ selector₀ =
           let y : Leaves activation unfit contents bodies contents′ bodies′ = by-case Unfit p in
           record {
-            cause = notUnderstood;
             steps = send-unfit s room edition receiver₀ selector₀ m e (y .leads);
-            phase = refl;
             stays = record { entries = y .entries; words = y .words; frames = refl; cached = refl };
           }
 
@@ -161,7 +162,7 @@ module _ {n b : ℕ} {contents bodies stack : List ℕ} {a : Active} {q : Messag
             (subst (λ (k : ℕ). Framing n b top contents bodies k m (getD stack place 0) (q .sure)) (method-read r)
             (subst (λ (w : ℕ). Framing n b top contents bodies (frameMethod v top) m w (q .sure)) (sym receiver-read)
             (record {
-              guarded = record { right = (s .runs .edition, s .runs .right); method = found-method s m e; valid = receiver-valid s; homes = λ t. s .homes t m e };
+              guarded = record { right = (s .runs .edition, s .runs .right); method = found-method s m e; valid = receiver-valid s; homes = λ t. s .homes t (q .selector) m e };
               below = is-method (s .runs);
               low = let t = top-bounds (s .runs) .most in omega arith;
             }))))
@@ -180,14 +181,12 @@ module _ {n b : ℕ} {contents bodies stack : List ℕ} {a : Active} {q : Messag
           unfolding entering
           enters t = leaves .leads ∙ if-yes _ _ t
 
-          pub made-unfit : y ≡ base.Unfit → (receiver₀ selector₀ : ℕ) → Halts (step cache edition receiver₀ selector₀) 3 contents bodies stack cache contents′ bodies′ stack cache
+          pub made-unfit : y ≡ base.Unfit → (receiver₀ selector₀ : ℕ) → Fails (step cache edition receiver₀ selector₀) (otherwise cache edition receiver₀ selector₀) contents bodies stack cache contents′ bodies′ stack cache
           unfolding entering
           made-unfit z receiver₀ selector₀ =
               let u : inChain o (home o m) (classOf o receiver) ≡ false = subst (BaseIs o (length v) top (frameMethod v top) m receiver) z base-is in
               record {
-                cause = notUnderstood;
                 steps = send-unfit s room edition receiver₀ selector₀ m e (leaves .leads ∙ if-no _ _ u);
-                phase = refl;
                 stays = record { entries = leaves .entries; words = leaves .words; frames = refl; cached = refl };
               }
 

@@ -11,17 +11,17 @@ use Rattle.model.specs.Objects.{Objects, objectsAt, classOf, isKind}
 use Rattle.model.specs.Method.{home, temporaryCount, frameSize}
 use Rattle.model.specs.Lookup.{inChain}
 use Rattle.model.specs.Rules.{IsRight}
-use Rattle.plain.specs.Registers.{Cause, phaseOf}
+use Rattle.plain.specs.Registers.{Cause, noStackRoom, phaseOf}
 use Rattle.plain.specs.State.{fitsStack}
 use Rattle.plain.specs.Step.{Stepped, halts}
-use Rattle.plain.specs.Running.{runningWith, Made, Stays, roomAt, sendStep}
+use Rattle.plain.specs.Running.{runningWith, Made, Stays, roomAt, sendStep, failedStep}
 use Rattle.frames.specs.declared.Active.{Active}
 use Rattle.frames.specs.declared.Message.{Message}
 use Rattle.frames.specs.Active.{written, movedOn, Onward, Fresh, Held, frameEnd}
 use Rattle.sends.specs.declared.Base.{Base}
-use Rattle.sends.specs.declared.Base.the-variants.{At, Full, Unfit}
+use Rattle.sends.specs.declared.Base.the-variants as base
 use Rattle.sends.specs.declared.Sent.{Sent}
-use Rattle.sends.specs.declared.Sent.the-variants.{Answered, Entered, Halted}
+use Rattle.sends.specs.declared.Sent.the-variants.{Answered, Entered, Full, Failed}
 
 -- A method that may get a frame: where it is `sure`, the receiver is one that the method can run on.
 pub record Guarded (n b : ℕ) (contents bodies : List ℕ) (m receiver : ℕ) (sure : Bool) : Type 0 where
@@ -50,9 +50,9 @@ pub record NoFrame (o : Objects) (room top running m receiver : ℕ) : Type 0 wh
   pub fits : fitsStack room (top + frameSize o running) (frameSize o m) ≡ false
 
 abbrev pub BaseIs : Objects → ℕ → ℕ → ℕ → ℕ → ℕ → Base → Type 0
-BaseIs o room top running m receiver (At f temporaries end) = FrameAt o room top running m receiver f temporaries end
-BaseIs o room top running m receiver Full = NoFrame o room top running m receiver
-BaseIs o room top running m receiver Unfit = inChain o (home o m) (classOf o receiver) ≡ false
+BaseIs o room top running m receiver (base.At f temporaries end) = FrameAt o room top running m receiver f temporaries end
+BaseIs o room top running m receiver base.Full = NoFrame o room top running m receiver
+BaseIs o room top running m receiver base.Unfit = inChain o (home o m) (classOf o receiver) ≡ false
 
 -- The stack with room for the frame
 pub record Enters (stack : List ℕ) (top next left base temporaries from count : ℕ) : Type 0 where
@@ -72,26 +72,35 @@ pub record Halts (x : Stepped) (k : ℕ) (contents bodies stack cache contents�
   pub phase : k ≡ phaseOf cause
   pub stays : Stays contents bodies stack cache contents′ bodies′ stack′ cache′
 
+-- A send that fails: nothing changes, and the step is y, that of its message.
+pub record Fails (x y : Stepped) (contents bodies stack cache contents′ bodies′ stack′ cache′ : List ℕ) : Type 0 where
+  pub steps : x ≡ y
+  pub stays : Stays contents bodies stack cache contents′ bodies′ stack′ cache′
+
 -- The frame behind an answered send
 abbrev pub behindSend : Active → Message → Active
 behindSend a m = movedOn a (m .next) (record { 0 = a .end .0 - m .count })
 
--- What a send by the frame that the loop holds leads to, of which x is the step
-abbrev pub SentIs : Stepped → ℕ → ℕ → ℕ → ℕ → ℕ → Active → Message → List ℕ → List ℕ → List ℕ → List ℕ → List ℕ → List ℕ → List ℕ → List ℕ → Sent → Type 0
-SentIs x e receiver selector n b a m contents bodies stack cache contents′ bodies′ stack′ cache′ (Answered n′ b′) =
+-- What a send by the frame that the loop holds leads to, of which x is the step, and y that of its message
+abbrev pub SentIs : Stepped → Stepped → ℕ → ℕ → ℕ → ℕ → ℕ → Active → Message → List ℕ → List ℕ → List ℕ → List ℕ → List ℕ → List ℕ → List ℕ → List ℕ → Sent → Type 0
+SentIs x y e receiver selector n b a m contents bodies stack cache contents′ bodies′ stack′ cache′ (Answered n′ b′) =
     Made x (runningWith e receiver selector n′ b′ (a .base .0)) contents bodies (written a stack) cache contents′ bodies′ (written (behindSend a m) stack′) cache′
     × Onward a stack stack′ (a .end .0 - m .count)
-SentIs x e receiver selector n b a m contents bodies stack cache contents′ bodies′ stack′ cache′ (Entered f end) =
+SentIs x y e receiver selector n b a m contents bodies stack cache contents′ bodies′ stack′ cache′ (Entered f end) =
     Made x (runningWith e receiver selector n b (f .base .0)) contents bodies (written a stack) cache contents′ bodies′ stack′ cache′
     × Held n b (f .base .0) contents′ bodies′ stack′ f
     × (end ≡ frameEnd n b (f .base .0) contents′ bodies′ stack′)
-SentIs x e receiver selector n b a m contents bodies stack cache contents′ bodies′ stack′ cache′ (Halted k) =
-    Halts x k contents bodies stack cache contents′ bodies′ stack′ cache′
+SentIs x y e receiver selector n b a m contents bodies stack cache contents′ bodies′ stack′ cache′ Full =
+    Halts x (phaseOf noStackRoom) contents bodies stack cache contents′ bodies′ stack′ cache′
+SentIs x y e receiver selector n b a m contents bodies stack cache contents′ bodies′ stack′ cache′ Failed =
+    Fails x y contents bodies stack cache contents′ bodies′ stack′ cache′
 
 -- What `send` promises in an edition, with whatever receiver and selector the run began
 abbrev pub Sends : (e n b : ℕ) (a : Active) (m : Message) (contents bodies stack cache contents′ bodies′ stack′ cache′ : List ℕ) → Sent → Type 0
 Sends e n b a m contents bodies stack cache contents′ bodies′ stack′ cache′ r =
     (receiver startSelector : ℕ)
     → SentIs (sendStep (roomAt contents bodies (written a stack) cache) e receiver startSelector n b (a .base .0) contents bodies (written a stack) (m .selector) (m .count) (m .class .0)
+    (m .next .0))
+    (failedStep (roomAt contents bodies (written a stack) cache) e receiver startSelector n b (a .base .0) contents bodies (written a stack) (m .selector) (m .count) (m .class .0)
     (m .next .0))
     e receiver startSelector n b a m contents bodies stack cache contents′ bodies′ stack′ cache′ r

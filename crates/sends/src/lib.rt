@@ -38,7 +38,8 @@ enum Base {
 pub enum Sent {
     Answered { n: usize, b: usize },
     Entered { frame: Active, end: usize },
-    Halted(u16),
+    Full,
+    Failed,
 }
 
 // Argument i of `count` in the stack, 0 where there is none.
@@ -89,7 +90,7 @@ fn acted(
 }
 
 // Whether the method's home is in the receiver's class chain; a sure send need not look.
-fn runs_on(
+pub fn runs_on(
     contents: &[u16],
     bodies: &[u16],
     n: usize,
@@ -212,7 +213,7 @@ pub fn send(
     let count = message.count;
     let found = cache::cached(contents, bodies, cache, n, b, selector, class);
     let Found::Method(method) = found else {
-        return Sent::Halted(limits::NOT_UNDERSTOOD);
+        return Sent::Failed;
     };
     let top = active.base;
     let place = active.end.0 - 1 - count;
@@ -232,7 +233,7 @@ pub fn send(
                 b: words,
             }
         }
-        Activated::Unfit => Sent::Halted(limits::NOT_UNDERSTOOD),
+        Activated::Unfit => Sent::Failed,
         Activated::Frame => {
             let room = stack.len();
             let fit = new_frame(
@@ -271,8 +272,8 @@ pub fn send(
                         end: end,
                     }
                 }
-                Base::Full => Sent::Halted(limits::NO_STACK_ROOM),
-                Base::Unfit => Sent::Halted(limits::NOT_UNDERSTOOD),
+                Base::Full => Sent::Full,
+                Base::Unfit => Sent::Failed,
             }
         }
     }

@@ -1,7 +1,7 @@
--- The machine's answers as C sees them.
+-- The machine's answers as C has them.
 use Prim.Native.Nat.{ℕ, zero, suc, _≤_}
 use mathlib.Core.Path.{_≡_, refl, sym, ap, _∙_, subst}
-use mathlib.Core.List.{List}
+use mathlib.Core.List.{List, [], _∷_}
 use lib.ListN.{getD}
 use native.Mathlib.Omega.{arith}
 use Rattle.model.specs.Image.{refused}
@@ -9,7 +9,7 @@ use Rattle.plain.specs.Flat.{Flat, flat}
 use Rattle.plain.specs.Calls.{Answer, refusedBy, result}
 use Rattle.plain.specs.Check.{check}
 use Rattle.plain.specs.FlatCalls.{Given, gives, saved, flatLoad, flatBegin, flatRun, flatDrop, flatForget, flatSave}
-use Rattle.sofaduck.proofs.Numbers.{NumberedIn, NumberedSaved, load-number, begin-number, run-number, drop-number, forget-number, check-number, save-number}
+use Rattle.sofaduck.proofs.Numbers.{NumberedIn, NumberedSaved, NumberedPlayed, load-number, begin-number, run-number, drop-number, forget-number, check-number, save-number, play-number}
 use Rattle.machine.specs.declared.Registers.{Registers}
 use Rattle.loads.specs.declared.Loaded.{Loaded}
 use Rattle.machine.specs.declared.Begun.{Begun}
@@ -23,8 +23,8 @@ use Rattle.machine.specs.declared.Played.{Played}
 use Rattle.machine.specs.State.{registersOf, state, beginGives, runGives, dropGives, forgetGives, checkGives}
 use Rattle.loads.specs.Answers.{loadGives, saveGives}
 use Rattle.machine.specs.Lists.{playGives, PromisedPlay}
-use Rattle.calls.specs.Plays.{flatPlay}
-use Rattle.sofaduck.specs.Border.{seven, sevenWords, stateOf, sees, seen, answerOf, verdictOf, runAnswer, RunWrites, saveAnswer, SaveWrites, seesPlay, seenPlay}
+use Rattle.calls.specs.Plays.{played, unplayed, flatPlay}
+use Rattle.sofaduck.specs.Border.{registersAt, stateOf, answerOf, verdictOf, KeptIfRefused, runAnswer, saveAnswer, playAnswer}
 use Rattle.plain.specs.Registers as R
 use Rattle.loads.specs.declared.Loaded.the-variants as L
 use Rattle.machine.specs.declared.Begun.the-variants as B
@@ -35,43 +35,44 @@ use Rattle.machine.specs.declared.Checked.the-variants as C
 use Rattle.loads.specs.declared.Saved.the-variants as S
 use Rattle.machine.specs.declared.Played.the-variants as M
 
-pub take-seven : (l : List ℕ)
-    → registersOf (record { n = getD l 0 0; b = getD l 1 0; receiver = getD l 2 0; selector = getD l 3 0; phase = getD l 4 0; top = getD l 5 0; value = getD l 6 0; edition = 1 }) ≡ sevenWords l
-unfolding sevenWords
-take-seven l = refl
+-- registers read from words, and written
+pub registers-read : (l : List ℕ)
+    → registersOf (record { n = getD l 0 0; b = getD l 1 0; receiver = getD l 2 0; selector = getD l 3 0; phase = getD l 4 0; top = getD l 5 0; value = getD l 6 0; edition = getD l 7 0 })
+    ≡ registersAt l
+unfolding registersAt
+registers-read l = refl
+
+pub registers-written : (r : Registers)
+    → registersAt (r .n ∷ r .b ∷ r .receiver ∷ r .selector ∷ r .phase ∷ r .top ∷ r .value ∷ r .edition ∷ []) ≡ registersOf r
+unfolding registersAt
+registers-written r = refl
 
 -- a refusal's number is not 0, so it is told from success
 numbered : (k : ℕ) (s : Flat) (g : Given) → gives (refusedBy k) s ≡ g → NumberedIn g → gives (answerOf k) s ≡ g
 numbered zero s g e n = absurd (let h : 1 ≤ 0 = subst NumberedIn (sym e) n in omega arith)
 numbered (suc k) s g e n = e
 
--- registers that were given back in a state, as C sees them
-shown : {a : Answer} {words : List ℕ} (r : Registers) (contents bodies stack cache : List ℕ) {g : Given} → words ≡ seven (registersOf r) → gives a (state r contents bodies stack cache) ≡ g
-    → sees a words contents bodies stack cache ≡ seen g
-shown {a} r contents bodies stack cache p e = (λ i. sees a (p i) contents bodies stack cache) ∙ ap seen e
-
--- registers that were read from words, in a state
+-- the same registers, in a state
 placed : {a : Answer} {q q′ : R.Registers} (contents bodies stack cache : List ℕ) → q ≡ q′ → gives a (flat q contents bodies stack cache) ≡ gives a (flat q′ contents bodies stack cache)
 placed {a} contents bodies stack cache e = λ i. gives a (flat (e i) contents bodies stack cache)
 
 -- ---- load
 module _ (image contents bodies cache contents′ bodies′ cache′ : List ℕ) (x : Loaded)
     (e : (g : R.Registers) (stack : List ℕ) → loadGives x contents′ bodies′ stack cache′ ≡ flatLoad (flat g contents bodies stack cache) image) (words′ : List ℕ) where
-  pub load-done : (r : Registers) → x ≡ L.Accepted r → words′ ≡ seven (registersOf r)
-      → (g : R.Registers) (stack : List ℕ) → sees (answerOf 0) words′ contents′ bodies′ stack cache′ ≡ seen (flatLoad (flat g contents bodies stack cache) image)
+  pub load-done : (r : Registers) → x ≡ L.Accepted r → registersAt words′ ≡ registersOf r
+      → (g : R.Registers) (stack : List ℕ) → gives (answerOf 0) (stateOf words′ contents′ bodies′ stack cache′) ≡ flatLoad (flat g contents bodies stack cache) image
   unfolding loadGives
-  load-done r q p g stack = shown r contents′ bodies′ stack cache′ p (ap (λ (y : Loaded). loadGives y contents′ bodies′ stack cache′) (sym q) ∙ e g stack)
+  load-done r q p g stack = placed contents′ bodies′ stack cache′ p ∙ ap (λ (y : Loaded). loadGives y contents′ bodies′ stack cache′) (sym q) ∙ e g stack
 
-  pub load-refused : (k : ℕ) (r : Registers) → x ≡ L.Refused k r → words′ ≡ seven (registersOf r)
-      → (g : R.Registers) (stack : List ℕ) → sees (answerOf k) words′ contents′ bodies′ stack cache′ ≡ seen (flatLoad (flat g contents bodies stack cache) image)
+  pub load-refused : (k : ℕ) (r : Registers) → x ≡ L.Refused k r → registersAt words′ ≡ registersOf r
+      → (g : R.Registers) (stack : List ℕ) → gives (answerOf k) (stateOf words′ contents′ bodies′ stack cache′) ≡ flatLoad (flat g contents bodies stack cache) image
   unfolding loadGives
   load-refused k r q p g stack =
-      shown r contents′ bodies′ stack cache′ p
-      (numbered k (state r contents′ bodies′ stack cache′) _ (ap (λ (y : Loaded). loadGives y contents′ bodies′ stack cache′) (sym q) ∙ e g stack)
-      (load-number (flat g contents bodies stack cache) image))
+      numbered k (stateOf words′ contents′ bodies′ stack cache′) _ (placed contents′ bodies′ stack cache′ p
+      ∙ ap (λ (y : Loaded). loadGives y contents′ bodies′ stack cache′) (sym q) ∙ e g stack) (load-number (flat g contents bodies stack cache) image)
 
--- ---- the other calls, from registers in seven words
-module _ (words contents bodies stack cache : List ℕ) (b : Registers) (t : registersOf b ≡ sevenWords words) where
+-- ---- the other calls, from registers in words
+module _ (words contents bodies stack cache : List ℕ) (b : Registers) (t : registersOf b ≡ registersAt words) where
   same : state b contents bodies stack cache ≡ stateOf words contents bodies stack cache
   same = λ i. flat (t i) contents bodies stack cache
 
@@ -79,32 +80,30 @@ module _ (words contents bodies stack cache : List ℕ) (b : Registers) (t : reg
     e′ : beginGives x contents′ bodies′ stack′ cache ≡ flatBegin (stateOf words contents bodies stack cache) w selector arguments
     e′ = e ∙ ap (λ (s : Flat). flatBegin s w selector arguments) same
 
-    pub begin-done : (r : Registers) → x ≡ B.Started r → words′ ≡ seven (registersOf r)
-        → sees (answerOf 0) words′ contents′ bodies′ stack′ cache ≡ seen (flatBegin (stateOf words contents bodies stack cache) w selector arguments)
+    pub begin-done : (r : Registers) → x ≡ B.Started r → registersAt words′ ≡ registersOf r
+        → gives (answerOf 0) (stateOf words′ contents′ bodies′ stack′ cache) ≡ flatBegin (stateOf words contents bodies stack cache) w selector arguments
     unfolding beginGives
-    begin-done r q p = shown r contents′ bodies′ stack′ cache p (ap (λ (y : Begun). beginGives y contents′ bodies′ stack′ cache) (sym q) ∙ e′)
+    begin-done r q p = placed contents′ bodies′ stack′ cache p ∙ ap (λ (y : Begun). beginGives y contents′ bodies′ stack′ cache) (sym q) ∙ e′
 
-    pub begin-refused : (k : ℕ) (r : Registers) → x ≡ B.Refused k r → words′ ≡ seven (registersOf r)
-        → sees (answerOf k) words′ contents′ bodies′ stack′ cache ≡ seen (flatBegin (stateOf words contents bodies stack cache) w selector arguments)
+    pub begin-refused : (k : ℕ) (r : Registers) → x ≡ B.Refused k r → registersAt words′ ≡ registersOf r
+        → gives (answerOf k) (stateOf words′ contents′ bodies′ stack′ cache) ≡ flatBegin (stateOf words contents bodies stack cache) w selector arguments
     unfolding beginGives
     begin-refused k r q p =
-        shown r contents′ bodies′ stack′ cache p
-        (numbered k (state r contents′ bodies′ stack′ cache) _ (ap (λ (y : Begun). beginGives y contents′ bodies′ stack′ cache) (sym q) ∙ e′)
-        (begin-number (stateOf words contents bodies stack cache) w selector arguments))
+        numbered k (stateOf words′ contents′ bodies′ stack′ cache) _ (placed contents′ bodies′ stack′ cache p
+        ∙ ap (λ (y : Begun). beginGives y contents′ bodies′ stack′ cache) (sym q) ∙ e′) (begin-number (stateOf words contents bodies stack cache) w selector arguments)
 
   module _ (words′ : List ℕ) (x : Dropped) (e : dropGives x contents bodies stack cache ≡ flatDrop (state b contents bodies stack cache)) where
-    pub drop-done : (r : Registers) → x ≡ D.Dropped r → words′ ≡ seven (registersOf r) → sees (answerOf 0) words′ contents bodies stack cache ≡
-        seen (flatDrop (stateOf words contents bodies stack cache))
+    pub drop-done : (r : Registers) → x ≡ D.Dropped r → registersAt words′ ≡ registersOf r
+        → gives (answerOf 0) (stateOf words′ contents bodies stack cache) ≡ flatDrop (stateOf words contents bodies stack cache)
     unfolding dropGives
-    drop-done r q p = shown r contents bodies stack cache p (ap (λ (y : Dropped). dropGives y contents bodies stack cache) (sym q) ∙ e ∙ ap flatDrop same)
+    drop-done r q p = placed contents bodies stack cache p ∙ ap (λ (y : Dropped). dropGives y contents bodies stack cache) (sym q) ∙ e ∙ ap flatDrop same
 
-    pub drop-refused : (k : ℕ) (r : Registers) → x ≡ D.Refused k r → words′ ≡ seven (registersOf r) → sees (answerOf k) words′ contents bodies stack cache
-        ≡ seen (flatDrop (stateOf words contents bodies stack cache))
+    pub drop-refused : (k : ℕ) (r : Registers) → x ≡ D.Refused k r → registersAt words′ ≡ registersOf r
+        → gives (answerOf k) (stateOf words′ contents bodies stack cache) ≡ flatDrop (stateOf words contents bodies stack cache)
     unfolding dropGives
     drop-refused k r q p =
-        shown r contents bodies stack cache p
-        (numbered k (state r contents bodies stack cache) _ (ap (λ (y : Dropped). dropGives y contents bodies stack cache) (sym q) ∙ e ∙ ap flatDrop same)
-        (drop-number (stateOf words contents bodies stack cache)))
+        numbered k (stateOf words′ contents bodies stack cache) _ (placed contents bodies stack cache p
+        ∙ ap (λ (y : Dropped). dropGives y contents bodies stack cache) (sym q) ∙ e ∙ ap flatDrop same) (drop-number (stateOf words contents bodies stack cache))
 
   module _ (cache′ : List ℕ) (x : Forgotten) (e : forgetGives x b contents bodies stack cache′ ≡ flatForget (state b contents bodies stack cache)) where
     pub forget-done : x ≡ F.Emptied → gives (answerOf 0) (stateOf words contents bodies stack cache′) ≡ flatForget (stateOf words contents bodies stack cache)
@@ -131,16 +130,16 @@ module _ (words contents bodies stack cache : List ℕ) (b : Registers) (t : reg
         go (suc k) p = p
 
   module _ (output output′ : List ℕ) (x : Saved) (e : saveGives x output′ ≡ flatSave (state b contents bodies stack cache) output) (before : ℕ) where
-    pub save-done : (k : ℕ) → x ≡ S.Wrote k → (saved (saveAnswer 0 k) output′ ≡ flatSave (stateOf words contents bodies stack cache) output) × SaveWrites 0 before k
+    pub save-done : (k : ℕ) → x ≡ S.Wrote k → (saved (saveAnswer 0 k) output′ ≡ flatSave (stateOf words contents bodies stack cache) output) × KeptIfRefused 0 before k
     unfolding saveGives
     save-done k q = (ap (λ (y : Saved). saveGives y output′) (sym q) ∙ e ∙ ap (λ (s : Flat). flatSave s output) same, tt)
 
-    pub save-refused : (k : ℕ) → x ≡ S.Refused k → (saved (saveAnswer k before) output′ ≡ flatSave (stateOf words contents bodies stack cache) output) × SaveWrites k before before
+    pub save-refused : (k : ℕ) → x ≡ S.Refused k → (saved (saveAnswer k before) output′ ≡ flatSave (stateOf words contents bodies stack cache) output) × KeptIfRefused k before before
     unfolding saveGives
     save-refused k q = go k (ap (λ (y : Saved). saveGives y output′) (sym q) ∙ e ∙ ap (λ (s : Flat). flatSave s output) same)
       where
         go : (k : ℕ) → saved (refusedBy k) output′ ≡ flatSave (stateOf words contents bodies stack cache) output
-            → (saved (saveAnswer k before) output′ ≡ flatSave (stateOf words contents bodies stack cache) output) × SaveWrites k before before
+            → (saved (saveAnswer k before) output′ ≡ flatSave (stateOf words contents bodies stack cache) output) × KeptIfRefused k before before
         go zero p = absurd (let h : 1 ≤ 0 = subst NumberedSaved (sym p) (save-number (stateOf words contents bodies stack cache) output) in omega arith)
         go (suc k) p = (p, refl)
 
@@ -149,43 +148,53 @@ module _ (words contents bodies stack cache : List ℕ) (b : Registers) (t : reg
     e₀ : runGives x contents′ bodies′ stack′ cache′ ≡ flatRun (stateOf words contents bodies stack cache) n
     e₀ = e ∙ ap (λ (s : Flat). flatRun s n) same
 
-    pub run-done : (r : Registers) (made highest : ℕ) → x ≡ N.Done r made highest → words′ ≡ seven (registersOf r)
-        → (sees (runAnswer 0 (sevenWords words′) made highest) words′ contents′ bodies′ stack′ cache′ ≡ seen (flatRun (stateOf words contents bodies stack cache) n))
-        × RunWrites 0 count reach made highest
-    unfolding runGives sevenWords
+    pub run-done : (r : Registers) (made highest : ℕ) → x ≡ N.Done r made highest → registersAt words′ ≡ registersOf r
+        → (gives (runAnswer 0 (registersAt words′) made highest) (stateOf words′ contents′ bodies′ stack′ cache′) ≡ flatRun (stateOf words contents bodies stack cache) n)
+        × KeptIfRefused 0 count made × KeptIfRefused 0 reach highest
+    unfolding runGives
     run-done r made highest q p = (
-      (λ i. sees (result (sevenWords (p i) .phase) made (sevenWords (p i) .value) highest) (p i) contents′ bodies′ stack′ cache′)
-          ∙ ap seen (ap (λ (y : Ran). runGives y contents′ bodies′ stack′ cache′) (sym q) ∙ e₀),
+      (λ i. gives (result (p i .phase) made (p i .value) highest) (flat (p i) contents′ bodies′ stack′ cache′))
+          ∙ ap (λ (y : Ran). runGives y contents′ bodies′ stack′ cache′) (sym q) ∙ e₀,
+      tt,
       tt,
     )
 
-    pub run-refused : (k : ℕ) (r : Registers) → x ≡ N.Refused k r → words′ ≡ seven (registersOf r)
-        → (sees (runAnswer k (sevenWords words′) count reach) words′ contents′ bodies′ stack′ cache′ ≡ seen (flatRun (stateOf words contents bodies stack cache) n))
-        × RunWrites k count reach count reach
+    pub run-refused : (k : ℕ) (r : Registers) → x ≡ N.Refused k r → registersAt words′ ≡ registersOf r
+        → (gives (runAnswer k (registersAt words′) count reach) (stateOf words′ contents′ bodies′ stack′ cache′) ≡ flatRun (stateOf words contents bodies stack cache) n)
+        × KeptIfRefused k count count × KeptIfRefused k reach reach
     unfolding runGives
-    run-refused k r q p = go k (ap (λ (y : Ran). runGives y contents′ bodies′ stack′ cache′) (sym q) ∙ e₀)
+    run-refused k r q p = go k (placed contents′ bodies′ stack′ cache′ p ∙ ap (λ (y : Ran). runGives y contents′ bodies′ stack′ cache′) (sym q) ∙ e₀)
       where
-        go : (k : ℕ) → gives (refusedBy k) (state r contents′ bodies′ stack′ cache′) ≡ flatRun (stateOf words contents bodies stack cache) n
-            → (sees (runAnswer k (sevenWords words′) count reach) words′ contents′ bodies′ stack′ cache′ ≡ seen (flatRun (stateOf words contents bodies stack cache) n))
-            × RunWrites k count reach count reach
+        go : (k : ℕ) → gives (refusedBy k) (stateOf words′ contents′ bodies′ stack′ cache′) ≡ flatRun (stateOf words contents bodies stack cache) n
+            → (gives (runAnswer k (registersAt words′) count reach) (stateOf words′ contents′ bodies′ stack′ cache′) ≡ flatRun (stateOf words contents bodies stack cache) n)
+            × KeptIfRefused k count count × KeptIfRefused k reach reach
         go zero g = absurd (let h : 1 ≤ 0 = subst NumberedIn (sym g) (run-number (stateOf words contents bodies stack cache) n) in omega arith)
-        go (suc k) g = (shown r contents′ bodies′ stack′ cache′ p g, (refl, refl))
+        go (suc k) g = (g, refl, refl)
 
   module _ (calls answers contents′ bodies′ stack′ cache′ answers′ words′ : List ℕ) (x : Played)
       (e : PromisedPlay (state b contents bodies stack cache) calls answers x contents′ bodies′ stack′ cache′ answers′) (before : ℕ) where
     e₁ : playGives x contents′ bodies′ stack′ cache′ answers′ ≡ flatPlay (stateOf words contents bodies stack cache) calls answers
     e₁ = e .0 ∙ ap (λ (s : Flat). flatPlay s calls answers) same
 
-    pub play-done : (m : Made) → x ≡ M.Made m → words′ ≡ seven (registersOf (m .registers))
-        → seesPlay 0 (m .calls) words′ contents′ bodies′ stack′ cache′ answers′ ≡ seenPlay before (flatPlay (stateOf words contents bodies stack cache) calls answers)
+    pub play-done : (m : Made) → x ≡ M.Made m → registersAt words′ ≡ registersOf (m .registers)
+        → (playAnswer 0 (m .calls) (stateOf words′ contents′ bodies′ stack′ cache′) answers′ ≡ flatPlay (stateOf words contents bodies stack cache) calls answers)
+        × KeptIfRefused 0 before (m .calls)
     unfolding playGives
-    play-done m q p =
-        (λ i. seesPlay 0 (m .calls) (p i) contents′ bodies′ stack′ cache′ answers′)
-        ∙ ap (seenPlay before) (ap (λ (y : Played). playGives y contents′ bodies′ stack′ cache′ answers′) (sym q) ∙ e₁)
+    play-done m q p = (
+      (λ i. played (m .calls) (flat (p i) contents′ bodies′ stack′ cache′) answers′)
+          ∙ ap (λ (y : Played). playGives y contents′ bodies′ stack′ cache′ answers′) (sym q) ∙ e₁,
+      tt,
+    )
 
-    pub play-refused : (k : ℕ) (r : Registers) → x ≡ M.Refused k r → words′ ≡ seven (registersOf r)
-        → seesPlay k before words′ contents′ bodies′ stack′ cache′ answers′ ≡ seenPlay before (flatPlay (stateOf words contents bodies stack cache) calls answers)
+    pub play-refused : (k : ℕ) (r : Registers) → x ≡ M.Refused k r → registersAt words′ ≡ registersOf r
+        → (playAnswer k before (stateOf words′ contents′ bodies′ stack′ cache′) answers′ ≡ flatPlay (stateOf words contents bodies stack cache) calls answers)
+        × KeptIfRefused k before before
     unfolding playGives
     play-refused k r q p =
-        (λ i. seesPlay k before (p i) contents′ bodies′ stack′ cache′ answers′)
-        ∙ ap (seenPlay before) (ap (λ (y : Played). playGives y contents′ bodies′ stack′ cache′ answers′) (sym q) ∙ e₁)
+        go k ((λ i. unplayed k (flat (p i) contents′ bodies′ stack′ cache′) answers′) ∙ ap (λ (y : Played). playGives y contents′ bodies′ stack′ cache′ answers′) (sym q) ∙ e₁)
+      where
+        go : (k : ℕ) → unplayed k (stateOf words′ contents′ bodies′ stack′ cache′) answers′ ≡ flatPlay (stateOf words contents bodies stack cache) calls answers
+            → (playAnswer k before (stateOf words′ contents′ bodies′ stack′ cache′) answers′ ≡ flatPlay (stateOf words contents bodies stack cache) calls answers)
+            × KeptIfRefused k before before
+        go zero g = absurd (let h : 1 ≤ 0 = subst NumberedPlayed (sym g) (play-number (stateOf words contents bodies stack cache) calls answers) in omega arith)
+        go (suc k) g = (g, refl)

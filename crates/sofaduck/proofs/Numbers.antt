@@ -22,6 +22,7 @@ use Rattle.plain.specs.Calls.{Begun, begun, declined, beginActivated, beginFoun
 use Rattle.plain.specs.Flat.{Flat, roomOf, plainOf}
 use Rattle.plain.specs.Check.{stateFine, check}
 use Rattle.plain.specs.FlatCalls.{Given, gives, noAnswer, checked, flatAfterBegin, flatBegin, flatAfterRun, flatRunIf, flatRun, flatDrop, flatForget, afterLoad, flatLoad, Saved, saved, afterSave, saveVerdict, flatSave}
+use Rattle.calls.specs.Plays.{Played, played, unplayed, playIf, flatPlay}
 
 abbrev pub Numbered : Answer → Type 0
 Numbered done = Unit {0}
@@ -118,5 +119,17 @@ unfolding flatSave
 save-number s output = go (saveVerdict s output) (save-numbered s output)
   where
     go : (v : Verdict) → Positive v → NumberedSaved (afterSave s output v)
+    go accepted t = tt
+    go (refused k) t = t
+
+abbrev pub NumberedPlayed : Played → Type 0
+NumberedPlayed (played k s answers) = Unit {0}
+NumberedPlayed (unplayed k s answers) = 1 ≤ k
+
+pub play-number : (s : Flat) (calls answers : List ℕ) → NumberedPlayed (flatPlay s calls answers)
+unfolding flatPlay
+play-number s calls answers = go (check s) (check-numbered s)
+  where
+    go : (v : Verdict) → Positive v → NumberedPlayed (playIf v s calls answers)
     go accepted t = tt
     go (refused k) t = t

@@ -1,4 +1,4 @@
-// The calls as C makes them: a slice is a pointer and a length, registers are seven words, and every function returns 0 or the number of the
+// The calls as C makes them: a slice is a pointer and a length, registers are eight words, and every function returns 0 or the number of the
 // refusal. include/sofaduck.h is the same for a C programmer.
 ghost use mathlib.Core.Path.{_≡_};
 ghost use mathlib.Core.List.{List};
@@ -9,7 +9,7 @@ ghost use Rattle.plain.specs.Check as K;
 ghost use Rattle.plain.specs.FlatCalls.{gives, saved, flatLoad, flatBegin, flatRun, flatDrop, flatForget, flatSave};
 ghost use Rattle.calls.specs.Plays.{flatPlay};
 ghost use Rattle.machine.specs.State.{registersOf};
-ghost use Rattle.sofaduck.specs.Border.{seven, sevenWords, stateOf, sees, seen, answerOf, verdictOf, runAnswer, RunWrites, saveAnswer, SaveWrites, seesPlay, seenPlay};
+ghost use Rattle.sofaduck.specs.Border.{registersAt, stateOf, answerOf, verdictOf, KeptIfRefused, runAnswer, saveAnswer, playAnswer};
 use loads::Loaded;
 use loads::Saved;
 use machine::Begun;
@@ -20,15 +20,24 @@ use machine::Played;
 use machine::Ran;
 use machine::Registers;
 
-// C's seven registers, written and read. While there is one edition C does not hold it.
-fn write_registers(registers: &mut [u16; 7], r: Registers)
-    ensures { λ _. ⌜ now (registers .exit) ≡ seven (registersOf r) ⌝ }
+// C's eight registers, written and read.
+fn write_registers(registers: &mut [u16; 8], r: Registers)
+    ensures { λ _. ⌜ registersAt (now (registers .exit)) ≡ registersOf r ⌝ }
 {
-    *registers = [r.n, r.b, r.receiver, r.selector, r.phase, r.top, r.value];
+    *registers = [
+        r.n,
+        r.b,
+        r.receiver,
+        r.selector,
+        r.phase,
+        r.top,
+        r.value,
+        r.edition,
+    ];
 }
 
-fn read_registers(registers: &[u16; 7]) -> Registers
-    ensures { λ r. ⌜ registersOf r ≡ sevenWords (now (registers .entry)) ⌝ }
+fn read_registers(registers: &[u16; 8]) -> Registers
+    ensures { λ r. ⌜ registersOf r ≡ registersAt (now (registers .entry)) ⌝ }
 {
     Registers {
         n: registers[0],
@@ -38,7 +47,7 @@ fn read_registers(registers: &[u16; 7]) -> Registers
         phase: registers[4],
         top: registers[5],
         value: registers[6],
-        edition: 1,
+        edition: registers[7],
     }
 }
 
@@ -48,11 +57,11 @@ pub extern "C" fn sofaduck_load(
     contents: &mut [u16],
     bodies: &mut [u16],
     cache: &mut [u16],
-    registers: &mut [u16; 7],
+    registers: &mut [u16; 8],
 ) -> u32
     ensures { λ r. ⌜ ((g : R.Registers) (stack : List ℕ)
-        → sees (answerOf r) (now (registers .exit)) (now (contents .exit)) (now (bodies .exit)) stack (now (cache .exit))
-        ≡ seen (flatLoad (flat g (now (contents .entry)) (now (bodies .entry)) stack (now (cache .entry))) (now (image .entry)))) ⌝ }
+        → gives (answerOf r) (stateOf (now (registers .exit)) (now (contents .exit)) (now (bodies .exit)) stack (now (cache .exit)))
+        ≡ flatLoad (flat g (now (contents .entry)) (now (bodies .entry)) stack (now (cache .entry))) (now (image .entry))) ⌝ }
 {
     match loads::load(image, contents, bodies, cache) {
         Loaded::Accepted(r) => {
@@ -72,14 +81,15 @@ pub extern "C" fn sofaduck_begin(
     bodies: &mut [u16],
     stack: &mut [u16],
     cache: &[u16],
-    registers: &mut [u16; 7],
+    registers: &mut [u16; 8],
     receiver: u16,
     selector: u16,
     arguments: &[u16],
 ) -> u32
-    ensures { λ r. ⌜ sees (answerOf r) (now (registers .exit)) (now (contents .exit)) (now (bodies .exit)) (now (stack .exit)) (now (cache .entry))
-        ≡ seen (flatBegin (stateOf (now (registers .entry)) (now (contents .entry)) (now (bodies .entry)) (now (stack .entry))
-        (now (cache .entry))) receiver selector (now (arguments .entry))) ⌝ }
+    ensures { λ r. ⌜ gives (answerOf r) (stateOf (now (registers .exit)) (now (contents .exit)) (now (bodies .exit)) (now (stack .exit))
+        (now (cache .entry)))
+        ≡ flatBegin (stateOf (now (registers .entry)) (now (contents .entry)) (now (bodies .entry)) (now (stack .entry)) (now (cache .entry)))
+        receiver selector (now (arguments .entry)) ⌝ }
 {
     let before = read_registers(registers);
     match before.begin(
@@ -108,16 +118,15 @@ pub extern "C" fn sofaduck_run(
     bodies: &mut [u16],
     stack: &mut [u16],
     cache: &mut [u16],
-    registers: &mut [u16; 7],
+    registers: &mut [u16; 8],
     grant: u32,
     count: &mut u32,
     reach: &mut u32,
 ) -> u32
-    ensures { λ r. ⌜ (sees (runAnswer r (sevenWords (now (registers .exit))) (now (count .exit)) (now (reach .exit))) (now (registers .exit))
-        (now (contents .exit)) (now (bodies .exit)) (now (stack .exit)) (now (cache .exit))
-        ≡ seen (flatRun (stateOf (now (registers .entry)) (now (contents .entry)) (now (bodies .entry)) (now (stack .entry))
-        (now (cache .entry))) grant))
-        × RunWrites r (now (count .entry)) (now (reach .entry)) (now (count .exit)) (now (reach .exit)) ⌝ }
+    ensures { λ r. ⌜ (gives (runAnswer r (registersAt (now (registers .exit))) (now (count .exit)) (now (reach .exit)))
+        (stateOf (now (registers .exit)) (now (contents .exit)) (now (bodies .exit)) (now (stack .exit)) (now (cache .exit)))
+        ≡ flatRun (stateOf (now (registers .entry)) (now (contents .entry)) (now (bodies .entry)) (now (stack .entry)) (now (cache .entry))) grant)
+        × KeptIfRefused r (now (count .entry)) (now (count .exit)) × KeptIfRefused r (now (reach .entry)) (now (reach .exit)) ⌝ }
 {
     let before = read_registers(registers);
     match before.run(contents, bodies, stack, cache, grant) {
@@ -144,11 +153,11 @@ pub extern "C" fn sofaduck_drop(
     bodies: &[u16],
     stack: &[u16],
     cache: &[u16],
-    registers: &mut [u16; 7],
+    registers: &mut [u16; 8],
 ) -> u32
-    ensures { λ r. ⌜ sees (answerOf r) (now (registers .exit)) (now (contents .entry)) (now (bodies .entry)) (now (stack .entry)) (now (cache .entry))
-        ≡ seen (flatDrop (stateOf (now (registers .entry)) (now (contents .entry)) (now (bodies .entry)) (now (stack .entry))
-        (now (cache .entry)))) ⌝ }
+    ensures { λ r. ⌜ gives (answerOf r) (stateOf (now (registers .exit)) (now (contents .entry)) (now (bodies .entry)) (now (stack .entry))
+        (now (cache .entry)))
+        ≡ flatDrop (stateOf (now (registers .entry)) (now (contents .entry)) (now (bodies .entry)) (now (stack .entry)) (now (cache .entry))) ⌝ }
 {
     let before = read_registers(registers);
     match before.drop(contents, bodies, stack, cache) {
@@ -169,15 +178,16 @@ pub extern "C" fn sofaduck_play(
     bodies: &mut [u16],
     stack: &mut [u16],
     cache: &mut [u16],
-    registers: &mut [u16; 7],
+    registers: &mut [u16; 8],
     calls: &[u16],
     answers: &mut [u32],
     made: &mut u32,
 ) -> u32
-    ensures { λ r. ⌜ seesPlay r (now (made .exit)) (now (registers .exit)) (now (contents .exit)) (now (bodies .exit)) (now (stack .exit))
-        (now (cache .exit)) (now (answers .exit))
-        ≡ seenPlay (now (made .entry)) (flatPlay (stateOf (now (registers .entry)) (now (contents .entry)) (now (bodies .entry)) (now (stack .entry))
-        (now (cache .entry))) (now (calls .entry)) (now (answers .entry))) ⌝ }
+    ensures { λ r. ⌜ (playAnswer r (now (made .exit)) (stateOf (now (registers .exit)) (now (contents .exit)) (now (bodies .exit)) (now (stack .exit))
+        (now (cache .exit))) (now (answers .exit))
+        ≡ flatPlay (stateOf (now (registers .entry)) (now (contents .entry)) (now (bodies .entry)) (now (stack .entry)) (now (cache .entry)))
+        (now (calls .entry)) (now (answers .entry)))
+        × KeptIfRefused r (now (made .entry)) (now (made .exit)) ⌝ }
 {
     let before = read_registers(registers);
     match before.play(contents, bodies, stack, cache, calls, answers) {
@@ -199,7 +209,7 @@ pub extern "C" fn sofaduck_forget(
     bodies: &[u16],
     stack: &[u16],
     cache: &mut [u16],
-    registers: &[u16; 7],
+    registers: &[u16; 8],
 ) -> u32
     ensures { λ r. ⌜ gives (answerOf r) (stateOf (now (registers .entry)) (now (contents .entry)) (now (bodies .entry)) (now (stack .entry))
         (now (cache .exit)))
@@ -217,7 +227,7 @@ pub extern "C" fn sofaduck_check(
     bodies: &[u16],
     stack: &[u16],
     cache: &[u16],
-    registers: &[u16; 7],
+    registers: &[u16; 8],
 ) -> u32
     ensures { λ r. ⌜ verdictOf r ≡ K.check (stateOf (now (registers .entry)) (now (contents .entry)) (now (bodies .entry)) (now (stack .entry)) (now (cache .entry))) ⌝ }
 {
@@ -233,14 +243,14 @@ pub extern "C" fn sofaduck_save(
     bodies: &[u16],
     stack: &[u16],
     cache: &[u16],
-    registers: &[u16; 7],
+    registers: &[u16; 8],
     output: &mut [u8],
     length: &mut u32,
 ) -> u32
     ensures { λ r. ⌜ (saved (saveAnswer r (now (length .exit))) (now (output .exit))
         ≡ flatSave (stateOf (now (registers .entry)) (now (contents .entry)) (now (bodies .entry)) (now (stack .entry)) (now (cache .entry)))
         (now (output .entry)))
-        × SaveWrites r (now (length .entry)) (now (length .exit)) ⌝ }
+        × KeptIfRefused r (now (length .entry)) (now (length .exit)) ⌝ }
 {
     match loads::save(
         read_registers(registers),

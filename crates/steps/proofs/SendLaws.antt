@@ -22,9 +22,8 @@ use Rattle.model.specs.Depth.{noteAt}
 use Rattle.model.specs.Lookup.{found, lookup, inChain}
 use Rattle.model.specs.Rules.{allowed, sendFine, takesCount, methodTable}
 use Rattle.model.specs.Image.{Room}
-use Rattle.model.proofs.ChainLaws.{named}
-use Rattle.model.proofs.Facts.{class-facts, method-facts}
-use Rattle.model.proofs.SendFacts.{lookup-facts, class-kind}
+use Rattle.model.proofs.Facts.{Valid, odd, names, valid-cases, least, class-facts, method-facts}
+use Rattle.model.proofs.SendFacts.{lookup-facts, class-kind, selector-takes, selector-valid}
 use Rattle.plain.specs.State.{Frame}
 use Rattle.plain.specs.Step.{_>>=_, operand, popped, sends, afterLookup, execute}
 use Rattle.plain.specs.Flat.{frameDepth, frameMethod, frameReceiver, operandsStart, frameAt}
@@ -40,17 +39,12 @@ use Rattle.steps.proofs.SayLaws.{noted, needed}
 
 -- ---- classes and selectors
 
-selector-named : (o : Objects) (s count : ℕ) → T (sendFine o s count) → 1 ≤ s
-unfolding sendFine
-selector-named o s count t = go (or-cases (eqb s nilWord) (isKind o bytesKind s) (and-left (isNilOr o bytesKind s) (takesCount o s count) t))
+selector-named : (o : Objects) (s count : ℕ) → 1 ≤ o .n → T (sendFine o s count) → 1 ≤ s
+selector-named o s count l t = go (valid-cases (o .n) s (selector-valid o s count l t))
   where
-    go : T (eqb s nilWord) ⊎ T (isKind o bytesKind s) → 1 ≤ s
-    go (inl x) = let y = eqb→eq s nilWord x in omega arith
-    go (inr x) = let y = named o bytesKind s x .least in omega arith
-
-selector-takes : (o : Objects) (s count : ℕ) → T (sendFine o s count) → T (takesCount o s count)
-unfolding sendFine
-selector-takes o s count t = and-right (isNilOr o bytesKind s) (takesCount o s count) t
+    go : Valid (o .n) s → 1 ≤ s
+    go (odd x) = omega arith
+    go (names x y z) = omega arith
 
 -- ---- the send of a running frame
 
@@ -112,13 +106,14 @@ module _ {n b top : ℕ} {contents bodies stack : List ℕ} {h : Here} {s count 
           runs = z .here .at .runs;
           needs = z .needs;
           noted = z .noted;
-          named = selector-named (objectsAt n b contents bodies) s count (z .fine);
+          named = selector-named (objectsAt n b contents bodies) s count (let l = least r in omega arith) (z .fine);
+          valid = selector-valid (objectsAt n b contents bodies) s count (let l = least r in omega arith) (z .fine);
           starts = or-right (eqb class nilWord) (isKind (objectsAt n b contents bodies) classKind class)
               (subst (λ (x : ℕ). T (isKind (objectsAt n b contents bodies) classKind x)) (sym same) k);
           takes = selector-takes (objectsAt n b contents bodies) s count
               (z .fine);
-          homes = λ t m q. subst (λ (x : ℕ). T (inChain (objectsAt n b contents bodies) (home (objectsAt n b contents bodies) m) x)) same
-              (lookup-facts r s class m q .homes);
+          homes = λ t u m q. subst (λ (x : ℕ). T (inChain (objectsAt n b contents bodies) (home (objectsAt n b contents bodies) m) x)) same
+              (lookup-facts r u class m q .homes);
         },
         becomes-send (z .here) (classOf (objectsAt n b contents bodies)) s count class (z .needs) same (z .steps),
       )
@@ -218,15 +213,15 @@ module _ {n b top : ℕ} {contents bodies stack : List ℕ} {h : Here} {l k : �
       runs = a .at .runs;
       needs = super-depth;
       noted = super-noted ∙ ap suc (let y = a .isDepth in omega arith);
-      named = selector-named
-          (objectsAt n b contents bodies) s k fine;
+      named = selector-named (objectsAt n b contents bodies) s k (let l = least (a .at .runs .right) in omega arith) fine;
+      valid = selector-valid (objectsAt n b contents bodies) s k (let l = least (a .at .runs .right) in omega arith) fine;
       starts = subst (λ (x : ℕ). T (isNilOr (objectsAt n b contents bodies) classKind x)) (sym same)
           (class-facts (a .at .runs .right) (home (objectsAt n b contents bodies) (frameMethod stack top)) home-class .superclass);
       takes = selector-takes
           (objectsAt n b contents bodies) s k fine;
-      homes = λ t m u. subst
+      homes = λ t i m u. subst
           (λ (x : ℕ). T (inChain (objectsAt n b contents bodies) (home (objectsAt n b contents bodies) m) (classOf (objectsAt n b contents bodies) x)))
-          (sym (eqb-true (getD stack at 0) (frameReceiver stack top) t) ∙ place-of a k at super-depth e) (own-chain s class m same u);
+          (sym (eqb-true (getD stack at 0) (frameReceiver stack top) t) ∙ place-of a k at super-depth e) (own-chain i class m same u);
     },
     becomes-send a (λ x. superclassWord (objectsAt n b contents bodies)
         (home (objectsAt n b contents bodies) (topFrame n b top contents bodies stack .method))) s k class super-depth

@@ -3,7 +3,7 @@ use native.Mathlib.Omega.{arith}
 use borrow.Author.Needs.{needs}
 use borrow.Author.Tests.{not-true, not-false}
 use Rattle.bytecode.proofs.TestLaws.{true→T}
-use Rattle.code.proofs.PassLaws.{seven-shapes, seven-holders, seven-codes, held-counts, zeros-at}
+use Rattle.code.proofs.PassLaws.{seven-shapes, seven-holders, seven-failures, seven-codes, held-counts, zeros-at}
 use Rattle.code.proofs.methods_fine.Statement.{statement}
 use Rattle.code.proofs.methods_fine.Tie as tie
 
@@ -28,6 +28,23 @@ returns-2 c =
     let at-shapes-fine = at-if1 .before in
     seven-holders _ _ _ _ _ (sym (at-shapes-fine .shapes-fine .ensures) ∙ not-false _ (at-if1 .if1 .left)) (c .before .before .count-methods .ensures) (not-true _ (c .if2 .taken))
 
+slice-aggregate-failures-fine : tie.Need-slice-aggregate-failures-fine
+slice-aggregate-failures-fine c = search needs
+
+failures-fine-requires : tie.Need-failures-fine-requires
+failures-fine-requires c κs = search needs
+
+returns-3 : tie.Need-returns-3
+returns-3 c =
+    let at-failures-fine = c .before in
+    let at-if2 = at-failures-fine .before .before in
+    let at-count-methods = at-if2 .before .before in
+    let at-if1 = at-count-methods .before .before in
+    let at-shapes-fine = at-if1 .before in
+    let held = held-counts _ _ _ (at-count-methods .count-methods .ensures) (not-false _ (at-if2 .if2 .left)) in
+    seven-failures _ _ _ (sym (at-shapes-fine .shapes-fine .ensures) ∙ not-false _ (at-if1 .if1 .left)) (held .0)
+    (sym (at-failures-fine .failures-fine .ensures _ (held .1)) ∙ not-true _ (c .if3 .taken))
+
 table-requires : tie.Need-table-requires
 table-requires c κs = search needs
 
@@ -37,7 +54,7 @@ slice-aggregate-codes-noted c = search needs
 codes-noted-requires : tie.Need-codes-noted-requires
 codes-noted-requires c κs =
     let at-table = c .before .before .before in
-    let at-if2 = at-table .before in
+    let at-if2 = at-table .before .before .before .before in
     let at-count-methods = at-if2 .before .before in
     let at-if1 = at-count-methods .before .before in
     let at-shapes-fine = at-if1 .before in
@@ -62,14 +79,17 @@ codes-noted-requires c κs =
 same-length : tie.Need-same-length
 same-length c = search needs
 
-returns-3 : tie.Need-returns-3
-returns-3 c =
-    let at-if2 = c .before .before .before .before .before .before .before in
+returns-4 : tie.Need-returns-4
+returns-4 c =
+    let at-if3 = c .before .before .before .before .before .before .before in
+    let at-failures-fine = at-if3 .before in
+    let at-if2 = at-failures-fine .before .before in
     let at-count-methods = at-if2 .before .before in
     let at-if1 = at-count-methods .before .before in
     let at-shapes-fine = at-if1 .before in
     let held = held-counts _ _ _ (at-count-methods .count-methods .ensures) (not-false _ (at-if2 .if2 .left)) in
-    seven-codes _ _ _ _ (sym (at-shapes-fine .shapes-fine .ensures) ∙ not-false _ (at-if1 .if1 .left)) (held .0) (c .before .before .codes-noted .ensures)
+    seven-codes _ _ _ _ (sym (at-shapes-fine .shapes-fine .ensures) ∙ not-false _ (at-if1 .if1 .left)) (held .0)
+    (sym (at-failures-fine .failures-fine .ensures _ (held .1)) ∙ not-false _ (at-if3 .if3 .left)) (c .before .before .codes-noted .ensures)
 
 pub methods-fine-spec : {M : Type 1} → statement M
 methods-fine-spec =
@@ -80,8 +100,11 @@ methods-fine-spec =
     slice-aggregate-count-methods
     count-methods-requires
     returns-2
+    slice-aggregate-failures-fine
+    failures-fine-requires
+    returns-3
     table-requires
     slice-aggregate-codes-noted
     codes-noted-requires
     same-length
-    returns-3)
+    returns-4)

@@ -8,6 +8,7 @@ use Rattle.model.specs.Objects.{Objects, objectsAt}
 use Rattle.model.specs.Rules.{layoutRules}
 use Rattle.rules.specs.Lent.{startOf}
 use Rattle.readers.proofs.Loops.{UpBefore, up-none, up-more}
+use Rattle.model.proofs.Facts.{five-least}
 use Rattle.rules.proofs.Laid.{start-first, start-next, laid-no, laid-all}
 use Rattle.rules.proofs.layout.Statement.{statement}
 use Rattle.rules.proofs.layout.Tie as tie
@@ -84,7 +85,8 @@ returns-2 c =
     let o = objectsAt (a .n) (a .b) (a .contents .now) (a .bodies .now) in
     let i = c .before .loop .inv in
     let t = c .loop-test in
-    let p = c .before .before .before .before .pre in
+    let five = five-least (a .edition) in
+    let least = c .before .before .before .before .pre .least in
     laid-all (a .edition) o (c .before .loop .k) (c .before .loop .from) (omega arith) (omega arith) (i .starts) (i .passed)
 
 pub layout-spec : {M : Type 1} → statement M

@@ -1,4 +1,4 @@
-use Rattle.sofaduck.proofs.Crossing.{take-seven}
+use Rattle.sofaduck.proofs.Crossing.{registers-read}
 use borrow.Author.Needs.{needs}
 use Rattle.sofaduck.proofs.read_registers.Statement.{statement}
 use Rattle.sofaduck.proofs.read_registers.Tie as tie
@@ -24,8 +24,11 @@ element-copy-out-t19 c = search needs
 element-copy-out-t22 : tie.Need-element-copy-out-t22
 element-copy-out-t22 c = search needs
 
+element-copy-out-t25 : tie.Need-element-copy-out-t25
+element-copy-out-t25 c = search needs
+
 returns : tie.Need-returns
-returns c = take-seven (c .before .before .before .before .before .before .before .args .registers .now)
+returns c = registers-read (c .before .before .before .before .before .before .before .before .args .registers .now)
 
 pub read-registers-spec : {M : Type 1} → statement M
 read-registers-spec =
@@ -38,4 +41,5 @@ read-registers-spec =
     element-copy-out-t16
     element-copy-out-t19
     element-copy-out-t22
+    element-copy-out-t25
     returns)

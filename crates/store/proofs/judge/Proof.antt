@@ -56,7 +56,7 @@ classes-requires c κs =
     let at-if1 = c .before .before .before .before in
     let at-layout = at-if1 .before in
     let at-start = at-layout .before .before .before .before in
-    layout-laid _ _ _ _ _ (at-start .pre .0) (sym (at-layout .layout .ensures) ∙ not-false _ (at-if1 .if1 .left))
+    (layout-laid _ _ _ _ _ (at-start .pre .0) (sym (at-layout .layout .ensures) ∙ not-false _ (at-if1 .if1 .left)), at-start .pre .0 .least)
 
 returns-4 : tie.Need-returns-4
 unfolding numberOf

@@ -5,10 +5,10 @@ use Rattle.model.specs.Image.{accepted}
 use Rattle.plain.specs.Check.{check}
 use Rattle.frames.proofs.Standing.{holdable}
 use Rattle.runs.specs.Ends.{startOf}
-use Rattle.runs.proofs.Looping.{Loop, start-runs, loop-start, loop-holds-it, loop-active, loop-cached, held-small, held-lengths, held-leaves, loop-ends, loop-finished, loop-halted, loop-next-one, loop-answered, loop-entered, loop-back}
+use Rattle.runs.proofs.Looping.{Loop, start-runs, loop-start, loop-holds-it, loop-active, loop-cached, held-small, held-lengths, held-leaves, loop-ends, loop-finished, loop-halted, loop-failed, loop-next-one, loop-answered, loop-entered, loop-back}
 use borrow.Author.Needs.{needs}
-use Rattle.runs.proofs.run.Statement.{statement}
-use Rattle.runs.proofs.run.Tie as tie
+use Rattle.runs.proofs.stretch.Statement.{statement}
+use Rattle.runs.proofs.stretch.Tie as tie
 
 abbrev Inv-loop : tie.InvT-loop
 Inv-loop contents₀ bodies₀ stack₀ cache₀ edition n b top grant objects₀ words₀ left₀ reach₀ active₀ contents bodies stack cache objects words left reach active =
@@ -30,8 +30,7 @@ hold-requires c κs =
     let at-start = c .before .before .before .before .before .before .before .before .before .before .before in
     let a = at-start .args in
     let w = at-start .pre in
-    holdable (start-runs (a .edition) (w .receiver) (w .selector) (a .n) (a .b) (a .top) (a .contents .now) (a .bodies .now) (a .stack .now) (a .cache .now) (w
-    .checks))
+    holdable (start-runs (a .edition) (w .receiver) (w .selector) (a .n) (a .b) (a .top) (a .contents .now) (a .bodies .now) (a .stack .now) (a .cache .now) (w .checks))
 
 loop-holds : tie.Need-loop-holds Inv-loop μ-loop
 loop-holds c =
@@ -39,8 +38,8 @@ loop-holds c =
     let at-start = at-frame-end .before .before .before .before .before .before .before .before in
     let a = at-start .args in
     let end = at-frame-end .frame-end .ensures in
-    λ receiver selector e. loop-holds-it (loop-start (a .edition) receiver selector (a .n) (a .b) (a .top) (a .contents .now) (a .bodies .now) (a .stack .now)
-    (a .cache .now) e (a .grant) _ (end .0) (end .1)) (c .hold .result) (c .hold .ensures)
+    λ receiver selector e. loop-holds-it (loop-start (a .edition) receiver selector (a .n) (a .b) (a .top) (a .contents .now) (a .bodies .now) (a .stack .now) (a .cache .now) e (a .grant) _ (end .0) (end .1))
+    (c .hold .result) (c .hold .ensures)
 
 advance-requires : tie.Need-advance-requires Inv-loop μ-loop
 advance-requires c κs =
@@ -67,11 +66,12 @@ loop-less c =
 
 loop-again : tie.Need-loop-again Inv-loop μ-loop
 loop-again c =
-    let at-advance = c .before .before .before .before .before .before .before .before .before .before .before in
+    let at-position = c .before in
+    let at-advance = at-position .before .before .before .before .before .before .before .before .before .before in
     let at-loop-test = at-advance .before .before .before .before .before in
     let at-loop = at-loop-test .before in
-    λ receiver selector e. loop-next-one (at-loop .loop .inv receiver selector e) (at-loop-test .loop-test .taken) _ _ _ _ (at-advance .advance .result)
-    (at-advance .advance .ensures receiver selector) _ _ (c .before .position .given .1)
+    λ receiver selector e. loop-next-one (at-loop .loop .inv receiver selector e) (at-loop-test .loop-test .taken) _ _ _ _
+    (at-advance .advance .result) (at-advance .advance .ensures receiver selector) _ _ (at-position .position .given .1)
 
 enum-known-grown : tie.Need-enum-known-grown Inv-loop μ-loop
 enum-known-grown c = search needs
@@ -90,11 +90,12 @@ loop-less-2 c =
 
 loop-again-2 : tie.Need-loop-again-2 Inv-loop μ-loop
 loop-again-2 c =
-    let at-advance = c .before .before .before .before .before .before .before .before .before .before .before in
+    let at-grown = c .before in
+    let at-advance = at-grown .before .before .before .before .before .before .before .before .before .before in
     let at-loop-test = at-advance .before .before .before .before .before in
     let at-loop = at-loop-test .before in
-    λ receiver selector e. loop-answered (at-loop .loop .inv receiver selector e) (at-loop-test .loop-test .taken) _ _ _ _ (at-advance .advance .result)
-    (at-advance .advance .ensures receiver selector) _ _ _ _ (c .before .grown .given .1)
+    λ receiver selector e. loop-answered (at-loop .loop .inv receiver selector e) (at-loop-test .loop-test .taken) _ _ _ _
+    (at-advance .advance .result) (at-advance .advance .ensures receiver selector) _ _ _ _ (at-grown .grown .given .1)
 
 enum-known-frame : tie.Need-enum-known-frame Inv-loop μ-loop
 enum-known-frame c = search needs
@@ -104,25 +105,24 @@ higher-requires c κs = search needs
 
 sub-left-3 : tie.Need-sub-left-3 Inv-loop μ-loop
 sub-left-3 c =
-    let at-loop-test = c .before .before .before .before .before .before .before .before .before .before .before .before .before .before .before .before
-    .before in
+    let at-loop-test = c .before .before .before .before .before .before .before .before .before .before .before .before .before .before .before .before .before in
     let t = at-loop-test .loop-test .taken in
     omega arith
 
 loop-less-3 : tie.Need-loop-less-3 Inv-loop μ-loop
 loop-less-3 c =
-    let at-loop-test = c .before .before .before .before .before .before .before .before .before .before .before .before .before .before .before .before
-    .before in
+    let at-loop-test = c .before .before .before .before .before .before .before .before .before .before .before .before .before .before .before .before .before in
     let t = at-loop-test .loop-test .taken in
     omega arith
 
 loop-again-3 : tie.Need-loop-again-3 Inv-loop μ-loop
 loop-again-3 c =
-    let at-advance = c .before .before .before .before .before .before .before .before .before .before .before .before in
+    let at-frame = c .before .before in
+    let at-advance = at-frame .before .before .before .before .before .before .before .before .before .before in
     let at-loop-test = at-advance .before .before .before .before .before in
     let at-loop = at-loop-test .before in
-    λ receiver selector e. loop-entered (at-loop .loop .inv receiver selector e) (at-loop-test .loop-test .taken) _ _ _ _ (at-advance .advance .result)
-    (at-advance .advance .ensures receiver selector) _ _ (c .before .before .frame .given .1) _ (c .higher .ensures)
+    λ receiver selector e. loop-entered (at-loop .loop .inv receiver selector e) (at-loop-test .loop-test .taken) _ _ _ _
+    (at-advance .advance .result) (at-advance .advance .ensures receiver selector) _ _ (at-frame .frame .given .1) _ (c .higher .ensures)
 
 enum-known-frame-2 : tie.Need-enum-known-frame-2 Inv-loop μ-loop
 enum-known-frame-2 c = search needs
@@ -141,17 +141,18 @@ loop-less-4 c =
 
 loop-again-4 : tie.Need-loop-again-4 Inv-loop μ-loop
 loop-again-4 c =
-    let at-advance = c .before .before .before .before .before .before .before .before .before .before .before in
+    let at-frame2 = c .before in
+    let at-advance = at-frame2 .before .before .before .before .before .before .before .before .before .before in
     let at-loop-test = at-advance .before .before .before .before .before in
     let at-loop = at-loop-test .before in
-    λ receiver selector e. loop-back (at-loop .loop .inv receiver selector e) (at-loop-test .loop-test .taken) _ _ _ _ (at-advance .advance .result)
-    (at-advance .advance .ensures receiver selector) _ (c .before .frame2 .given .1)
+    λ receiver selector e. loop-back (at-loop .loop .inv receiver selector e) (at-loop-test .loop-test .taken) _ _ _ _
+    (at-advance .advance .result) (at-advance .advance .ensures receiver selector) _ (at-frame2 .frame2 .given .1)
 
 enum-known-w : tie.Need-enum-known-w Inv-loop μ-loop
 enum-known-w c = search needs
 
-cast-t49 : tie.Need-cast-t49 Inv-loop μ-loop
-cast-t49 c =
+cast-t51 : tie.Need-cast-t51 Inv-loop μ-loop
+cast-t51 c =
     let at-loop = c .before .before .before .before .before .before .before .before .before .before .before .before .before .before .before .before .before in
     let at-start = at-loop .before .before .before .before .before .before .before .before .before .before .before .before .before in
     let w = at-start .pre in
@@ -159,8 +160,8 @@ cast-t49 c =
     let k = held-small l in
     omega arith
 
-cast-t50 : tie.Need-cast-t50 Inv-loop μ-loop
-cast-t50 c =
+cast-t52 : tie.Need-cast-t52 Inv-loop μ-loop
+cast-t52 c =
     let at-loop = c .before .before .before .before .before .before .before .before .before .before .before .before .before .before .before .before .before in
     let at-start = at-loop .before .before .before .before .before .before .before .before .before .before .before .before .before in
     let w = at-start .pre in
@@ -168,16 +169,16 @@ cast-t50 c =
     let k = held-small l in
     omega arith
 
-sub-t51 : tie.Need-sub-t51 Inv-loop μ-loop
-sub-t51 c =
+sub-t53 : tie.Need-sub-t53 Inv-loop μ-loop
+sub-t53 c =
     let at-loop = c .before .before .before .before .before .before .before .before .before .before .before .before .before .before .before .before .before in
     let at-start = at-loop .before .before .before .before .before .before .before .before .before .before .before .before .before in
     let w = at-start .pre in
     let l = at-loop .loop .inv (w .receiver) (w .selector) (w .checks) in
     l .within
 
-add-t52 : tie.Need-add-t52 Inv-loop μ-loop
-add-t52 c =
+add-t54 : tie.Need-add-t54 Inv-loop μ-loop
+add-t54 c =
     let at-loop-test = c .before .before .before .before .before .before .before .before .before .before .before .before .before .before .before .before in
     let at-loop = at-loop-test .before in
     let at-start = at-loop .before .before .before .before .before .before .before .before .before .before .before .before .before in
@@ -226,51 +227,15 @@ same-length-4 c =
 
 returns : tie.Need-returns Inv-loop μ-loop
 returns c =
-    let at-advance = c .before .before .before .before .before .before .before .before .before .before .before in
+    let at-w = c .before in
+    let at-advance = at-w .before .before .before .before .before .before .before .before .before .before in
     let at-loop-test = at-advance .before .before .before .before .before in
     let at-loop = at-loop-test .before in
-    λ receiver selector e. loop-finished (at-loop .loop .inv receiver selector e) (at-loop-test .loop-test .taken) _ _ _ _ (at-advance .advance .result)
-    (at-advance .advance .ensures receiver selector) _ (c .before .w .given .1)
+    λ receiver selector e. loop-finished (at-loop .loop .inv receiver selector e) (at-loop-test .loop-test .taken) _ _ _ _
+    (at-advance .advance .result) (at-advance .advance .ensures receiver selector) _ (at-w .w .given .1)
 
-enum-known-k : tie.Need-enum-known-k Inv-loop μ-loop
-enum-known-k c = search needs
-
-cast-t53 : tie.Need-cast-t53 Inv-loop μ-loop
-cast-t53 c =
-    let at-loop = c .before .before .before .before .before .before .before .before .before .before .before .before .before .before .before .before .before in
-    let at-start = at-loop .before .before .before .before .before .before .before .before .before .before .before .before .before in
-    let w = at-start .pre in
-    let l = at-loop .loop .inv (w .receiver) (w .selector) (w .checks) in
-    let k = held-small l in
-    omega arith
-
-cast-t54 : tie.Need-cast-t54 Inv-loop μ-loop
-cast-t54 c =
-    let at-loop = c .before .before .before .before .before .before .before .before .before .before .before .before .before .before .before .before .before in
-    let at-start = at-loop .before .before .before .before .before .before .before .before .before .before .before .before .before in
-    let w = at-start .pre in
-    let l = at-loop .loop .inv (w .receiver) (w .selector) (w .checks) in
-    let k = held-small l in
-    omega arith
-
-cast-t55 : tie.Need-cast-t55 Inv-loop μ-loop
-cast-t55 c =
-    let at-loop = c .before .before .before .before .before .before .before .before .before .before .before .before .before .before .before .before .before
-    .before in
-    let at-start = at-loop .before .before .before .before .before .before .before .before .before .before .before .before .before in
-    let w = at-start .pre in
-    let l = at-loop .loop .inv (w .receiver) (w .selector) (w .checks) in
-    let k = held-small l in
-    omega arith
-
-sub-t56 : tie.Need-sub-t56 Inv-loop μ-loop
-sub-t56 c =
-    let at-loop = c .before .before .before .before .before .before .before .before .before .before .before .before .before .before .before .before .before
-    .before in
-    let at-start = at-loop .before .before .before .before .before .before .before .before .before .before .before .before .before in
-    let w = at-start .pre in
-    let l = at-loop .loop .inv (w .receiver) (w .selector) (w .checks) in
-    l .within
+enum-known-message : tie.Need-enum-known-message Inv-loop μ-loop
+enum-known-message c = search needs
 
 same-length-5 : tie.Need-same-length-5 Inv-loop μ-loop
 same-length-5 c =
@@ -310,21 +275,106 @@ same-length-8 c =
 
 returns-2 : tie.Need-returns-2 Inv-loop μ-loop
 returns-2 c =
-    let at-advance = c .before .before .before .before .before .before .before .before .before .before .before .before in
+    let at-message = c .before .before in
+    let at-advance = at-message .before .before .before .before .before .before .before .before .before .before in
     let at-loop-test = at-advance .before .before .before .before .before in
     let at-loop = at-loop-test .before in
-    λ receiver selector e. loop-halted (at-loop .loop .inv receiver selector e) (at-loop-test .loop-test .taken) _ _ _ _ (at-advance .advance .result)
-    (at-advance .advance .ensures receiver selector) _ (c .before .before .k .given .1)
+    λ receiver selector e. loop-failed (at-loop .loop .inv receiver selector e) (at-loop-test .loop-test .taken) _ _ _ _
+    (at-advance .advance .result) (at-advance .advance .ensures receiver selector) _ (at-message .message .given .1)
+
+enum-known-k : tie.Need-enum-known-k Inv-loop μ-loop
+enum-known-k c = search needs
+
+cast-t56 : tie.Need-cast-t56 Inv-loop μ-loop
+cast-t56 c =
+    let at-loop = c .before .before .before .before .before .before .before .before .before .before .before .before .before .before .before .before .before in
+    let at-start = at-loop .before .before .before .before .before .before .before .before .before .before .before .before .before in
+    let w = at-start .pre in
+    let l = at-loop .loop .inv (w .receiver) (w .selector) (w .checks) in
+    let k = held-small l in
+    omega arith
+
+cast-t57 : tie.Need-cast-t57 Inv-loop μ-loop
+cast-t57 c =
+    let at-loop = c .before .before .before .before .before .before .before .before .before .before .before .before .before .before .before .before .before in
+    let at-start = at-loop .before .before .before .before .before .before .before .before .before .before .before .before .before in
+    let w = at-start .pre in
+    let l = at-loop .loop .inv (w .receiver) (w .selector) (w .checks) in
+    let k = held-small l in
+    omega arith
+
+cast-t58 : tie.Need-cast-t58 Inv-loop μ-loop
+cast-t58 c =
+    let at-loop = c .before .before .before .before .before .before .before .before .before .before .before .before .before .before .before .before .before .before in
+    let at-start = at-loop .before .before .before .before .before .before .before .before .before .before .before .before .before in
+    let w = at-start .pre in
+    let l = at-loop .loop .inv (w .receiver) (w .selector) (w .checks) in
+    let k = held-small l in
+    omega arith
+
+sub-t59 : tie.Need-sub-t59 Inv-loop μ-loop
+sub-t59 c =
+    let at-loop = c .before .before .before .before .before .before .before .before .before .before .before .before .before .before .before .before .before .before in
+    let at-start = at-loop .before .before .before .before .before .before .before .before .before .before .before .before .before in
+    let w = at-start .pre in
+    let l = at-loop .loop .inv (w .receiver) (w .selector) (w .checks) in
+    l .within
+
+same-length-9 : tie.Need-same-length-9 Inv-loop μ-loop
+same-length-9 c =
+    let at-advance = c .before .before .before .before .before .before .before .before .before .before .before .before in
+    let at-loop = at-advance .before .before .before .before .before .before in
+    let at-start = at-loop .before .before .before .before .before .before .before .before .before .before .before .before .before in
+    let w = at-start .pre in
+    let l = at-loop .loop .inv (w .receiver) (w .selector) (w .checks) in
+    at-advance .advance .kept .0 ∙ held-lengths l .0
+
+same-length-10 : tie.Need-same-length-10 Inv-loop μ-loop
+same-length-10 c =
+    let at-advance = c .before .before .before .before .before .before .before .before .before .before .before .before in
+    let at-loop = at-advance .before .before .before .before .before .before in
+    let at-start = at-loop .before .before .before .before .before .before .before .before .before .before .before .before .before in
+    let w = at-start .pre in
+    let l = at-loop .loop .inv (w .receiver) (w .selector) (w .checks) in
+    at-advance .advance .kept .1 .0 ∙ held-lengths l .1
+
+same-length-11 : tie.Need-same-length-11 Inv-loop μ-loop
+same-length-11 c =
+    let at-advance = c .before .before .before .before .before .before .before .before .before .before .before .before in
+    let at-loop = at-advance .before .before .before .before .before .before in
+    let at-start = at-loop .before .before .before .before .before .before .before .before .before .before .before .before .before in
+    let w = at-start .pre in
+    let l = at-loop .loop .inv (w .receiver) (w .selector) (w .checks) in
+    at-advance .advance .kept .1 .1 .0 ∙ held-lengths l .2
+
+same-length-12 : tie.Need-same-length-12 Inv-loop μ-loop
+same-length-12 c =
+    let at-advance = c .before .before .before .before .before .before .before .before .before .before .before .before in
+    let at-loop = at-advance .before .before .before .before .before .before in
+    let at-start = at-loop .before .before .before .before .before .before .before .before .before .before .before .before .before in
+    let w = at-start .pre in
+    let l = at-loop .loop .inv (w .receiver) (w .selector) (w .checks) in
+    at-advance .advance .kept .1 .1 .1 .0 ∙ held-lengths l .3
+
+returns-3 : tie.Need-returns-3 Inv-loop μ-loop
+returns-3 c =
+    let at-k = c .before .before in
+    let at-advance = at-k .before .before .before .before .before .before .before .before .before .before in
+    let at-loop-test = at-advance .before .before .before .before .before in
+    let at-loop = at-loop-test .before in
+    λ receiver selector e. loop-halted (at-loop .loop .inv receiver selector e) (at-loop-test .loop-test .taken) _ _ _ _
+    (at-advance .advance .result) (at-advance .advance .ensures receiver selector) _ (at-k .k .given .1)
 
 leave-requires : tie.Need-leave-requires Inv-loop μ-loop
 leave-requires c κs =
-    let at-start = c .before .before .before .before .before .before .before .before .before .before .before .before .before .before .before in
+    let at-loop = c .before .before in
+    let at-start = at-loop .before .before .before .before .before .before .before .before .before .before .before .before .before in
     let w = at-start .pre in
-    let l = c .before .before .loop .inv (w .receiver) (w .selector) (w .checks) in
+    let l = at-loop .loop .inv (w .receiver) (w .selector) (w .checks) in
     held-leaves l
 
-cast-t60 : tie.Need-cast-t60 Inv-loop μ-loop
-cast-t60 c =
+cast-t64 : tie.Need-cast-t64 Inv-loop μ-loop
+cast-t64 c =
     let at-loop = c .before .before .before .before .before in
     let at-start = at-loop .before .before .before .before .before .before .before .before .before .before .before .before .before in
     let w = at-start .pre in
@@ -332,8 +382,8 @@ cast-t60 c =
     let k = held-small l in
     omega arith
 
-cast-t61 : tie.Need-cast-t61 Inv-loop μ-loop
-cast-t61 c =
+cast-t65 : tie.Need-cast-t65 Inv-loop μ-loop
+cast-t65 c =
     let at-loop = c .before .before .before .before .before in
     let at-start = at-loop .before .before .before .before .before .before .before .before .before .before .before .before .before in
     let w = at-start .pre in
@@ -341,8 +391,8 @@ cast-t61 c =
     let k = held-small l in
     omega arith
 
-cast-t62 : tie.Need-cast-t62 Inv-loop μ-loop
-cast-t62 c =
+cast-t66 : tie.Need-cast-t66 Inv-loop μ-loop
+cast-t66 c =
     let at-loop = c .before .before .before .before .before .before in
     let at-start = at-loop .before .before .before .before .before .before .before .before .before .before .before .before .before in
     let w = at-start .pre in
@@ -350,24 +400,24 @@ cast-t62 c =
     let k = held-small l in
     omega arith
 
-same-length-9 : tie.Need-same-length-9 Inv-loop μ-loop
-same-length-9 c =
+same-length-13 : tie.Need-same-length-13 Inv-loop μ-loop
+same-length-13 c =
     let at-loop = c .before .before .before .before .before .before in
     let at-start = at-loop .before .before .before .before .before .before .before .before .before .before .before .before .before in
     let w = at-start .pre in
     let l = at-loop .loop .inv (w .receiver) (w .selector) (w .checks) in
     held-lengths l .0
 
-same-length-10 : tie.Need-same-length-10 Inv-loop μ-loop
-same-length-10 c =
+same-length-14 : tie.Need-same-length-14 Inv-loop μ-loop
+same-length-14 c =
     let at-loop = c .before .before .before .before .before .before in
     let at-start = at-loop .before .before .before .before .before .before .before .before .before .before .before .before .before in
     let w = at-start .pre in
     let l = at-loop .loop .inv (w .receiver) (w .selector) (w .checks) in
     held-lengths l .1
 
-same-length-11 : tie.Need-same-length-11 Inv-loop μ-loop
-same-length-11 c =
+same-length-15 : tie.Need-same-length-15 Inv-loop μ-loop
+same-length-15 c =
     let at-leave = c .before .before .before in
     let at-loop = at-leave .before .before .before in
     let at-start = at-loop .before .before .before .before .before .before .before .before .before .before .before .before .before in
@@ -375,24 +425,24 @@ same-length-11 c =
     let l = at-loop .loop .inv (w .receiver) (w .selector) (w .checks) in
     at-leave .leave .kept .0 ∙ held-lengths l .2
 
-same-length-12 : tie.Need-same-length-12 Inv-loop μ-loop
-same-length-12 c =
+same-length-16 : tie.Need-same-length-16 Inv-loop μ-loop
+same-length-16 c =
     let at-loop = c .before .before .before .before .before .before in
     let at-start = at-loop .before .before .before .before .before .before .before .before .before .before .before .before .before in
     let w = at-start .pre in
     let l = at-loop .loop .inv (w .receiver) (w .selector) (w .checks) in
     held-lengths l .3
 
-returns-3 : tie.Need-returns-3 Inv-loop μ-loop
-returns-3 c =
+returns-4 : tie.Need-returns-4 Inv-loop μ-loop
+returns-4 c =
     let at-leave = c .before .before .before in
     let at-loop-test = at-leave .before .before in
     let at-loop = at-loop-test .before in
-    λ receiver selector e. loop-ends (at-loop .loop .inv receiver selector e) _ (at-leave .leave .ensures) (let t = at-loop-test .loop-test .left in omega
-    arith)
+    λ receiver selector e. loop-ends (at-loop .loop .inv receiver selector e) _ (at-leave .leave .ensures)
+    (let t = at-loop-test .loop-test .left in omega arith)
 
-pub run-spec : {M : Type 1} → statement M
-run-spec =
+pub stretch-spec : {M : Type 1} → statement M
+stretch-spec =
     tie.close
     (tie.spec
     Inv-loop
@@ -419,31 +469,37 @@ run-spec =
     loop-less-4
     loop-again-4
     enum-known-w
-    cast-t49
-    cast-t50
-    sub-t51
-    add-t52
+    cast-t51
+    cast-t52
+    sub-t53
+    add-t54
     same-length
     same-length-2
     same-length-3
     same-length-4
     returns
-    enum-known-k
-    cast-t53
-    cast-t54
-    cast-t55
-    sub-t56
+    enum-known-message
     same-length-5
     same-length-6
     same-length-7
     same-length-8
     returns-2
-    leave-requires
-    cast-t60
-    cast-t61
-    cast-t62
+    enum-known-k
+    cast-t56
+    cast-t57
+    cast-t58
+    sub-t59
     same-length-9
     same-length-10
     same-length-11
     same-length-12
-    returns-3)
+    returns-3
+    leave-requires
+    cast-t64
+    cast-t65
+    cast-t66
+    same-length-13
+    same-length-14
+    same-length-15
+    same-length-16
+    returns-4)

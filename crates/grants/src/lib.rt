@@ -1,0 +1,189 @@
+// A run of a granted count of bytecodes: stretches of the loop, and between them the messages of sends that failed.
+ghost use Rattle.runs.specs.Ends.{Goes};
+ghost use Rattle.grants.specs.Grants.{Fails, AgainTo, ResumesTo, RunsOn};
+use frames::Message;
+use messages::Resent;
+use model::StackPosition;
+use runs::Ended;
+use runs::Stretched;
+
+// The message of a send that failed, and the bytecodes behind it up to the next one, of a run that has made all but `left` of its grant.
+fn again(
+    contents: &mut [u16],
+    bodies: &mut [u16],
+    stack: &mut [u16],
+    cache: &mut [u16],
+    edition: u16,
+    n: usize,
+    b: usize,
+    top: StackPosition,
+    message: Message,
+    grant: u32,
+    left: u32,
+    reach: usize,
+) -> Stretched
+    requires { ⌜ Fails grant edition (now contents) (now bodies) (now stack) (now cache) message n b (top .0) left reach ⌝ }
+    ensures { λ r. ⌜ AgainTo grant edition (now (contents .entry)) (now (bodies .entry)) (now (stack .entry)) (now (cache .entry)) message n b (top .0) left reach
+        (now (contents .exit)) (now (bodies .exit)) (now (stack .exit)) (now (cache .exit)) r ⌝ }
+{
+    match messages::resend(contents, bodies, stack, cache, edition, n, b, top, message) {
+        Resent::Halted(k) => Stretched::Over(Ended {
+            n: n as u16,
+            b: b as u16,
+            phase: k,
+            top: top.0 as u16,
+            value: 0,
+            count: grant - left,
+            reach: reach,
+        }),
+        Resent::Sent {
+            n: objects,
+            b: words,
+            top: base,
+            end,
+        } => {
+            let rest = left - 1;
+            let high = runs::higher(reach, end);
+            match runs::stretch(
+                contents,
+                bodies,
+                stack,
+                cache,
+                edition,
+                objects,
+                words,
+                base.0,
+                rest,
+            ) {
+                Stretched::Over(e) => Stretched::Over(Ended {
+                    n: e.n,
+                    b: e.b,
+                    phase: e.phase,
+                    top: e.top,
+                    value: e.value,
+                    count: grant - rest + e.count,
+                    reach: runs::higher(high, e.reach),
+                }),
+                Stretched::Failed {
+                    message: next,
+                    n: grown,
+                    b: longer,
+                    top: at,
+                    left: still,
+                    reach: highest,
+                } => Stretched::Failed {
+                    message: next,
+                    n: grown,
+                    b: longer,
+                    top: at,
+                    left: still,
+                    reach: runs::higher(high, highest),
+                },
+            }
+        }
+    }
+}
+
+// From a send that failed to the end of the run.
+fn resume(
+    contents: &mut [u16],
+    bodies: &mut [u16],
+    stack: &mut [u16],
+    cache: &mut [u16],
+    edition: u16,
+    n: usize,
+    b: usize,
+    top: StackPosition,
+    message: Message,
+    grant: u32,
+    left: u32,
+    reach: usize,
+) -> Ended
+    requires { ⌜ Fails grant edition (now contents) (now bodies) (now stack) (now cache) message n b (top .0) left reach ⌝ }
+    ensures { λ r. ⌜ ResumesTo grant edition (now (contents .entry)) (now (bodies .entry)) (now (stack .entry)) (now (cache .entry)) message n b (top .0) left reach
+        (now (contents .exit)) (now (bodies .exit)) (now (stack .exit)) (now (cache .exit)) r ⌝ }
+{
+    let mut objects = n;
+    let mut words = b;
+    let mut base = top;
+    let mut failed = message;
+    let mut rest = left;
+    let mut high = reach;
+    loop {
+        match again(
+            contents,
+            bodies,
+            stack,
+            cache,
+            edition,
+            objects,
+            words,
+            base,
+            failed,
+            grant,
+            rest,
+            high,
+        ) {
+            Stretched::Over(e) => {
+                return e;
+            }
+            Stretched::Failed {
+                message: next,
+                n: grown,
+                b: longer,
+                top: at,
+                left: still,
+                reach: highest,
+            } => {
+                objects = grown;
+                words = longer;
+                base = at;
+                failed = next;
+                rest = still;
+                high = highest;
+            }
+        }
+    }
+}
+
+// A run of at most so many bytecodes, from a state in phase 1 that check accepts. The loop is compiled once by itself, since it is called at two places.
+pub fn run(
+    contents: &mut [u16],
+    bodies: &mut [u16],
+    stack: &mut [u16],
+    cache: &mut [u16],
+    edition: u16,
+    n: usize,
+    b: usize,
+    top: usize,
+    grant: u32,
+) -> Ended
+    requires { ⌜ Goes edition n b top (now contents) (now bodies) (now stack) (now cache) ⌝ }
+    ensures { λ r. ⌜ RunsOn edition n b top (now (contents .entry)) (now (bodies .entry)) (now (stack .entry)) (now (cache .entry)) grant
+        (now (contents .exit)) (now (bodies .exit)) (now (stack .exit)) (now (cache .exit)) r ⌝ }
+{
+    match runs::stretch(contents, bodies, stack, cache, edition, n, b, top, grant) {
+        Stretched::Over(e) => e,
+        Stretched::Failed {
+            message,
+            n: objects,
+            b: words,
+            top: base,
+            left,
+            reach,
+        } => resume(
+            contents,
+            bodies,
+            stack,
+            cache,
+            edition,
+            objects,
+            words,
+            base,
+            message,
+            grant,
+            left,
+            reach,
+        ),
+    }
+}
