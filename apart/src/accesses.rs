@@ -108,6 +108,7 @@ impl Counts {
     /// Counts a call that is about to be made.
     pub fn access(&mut self, objects: &Objects, access: &Access) {
         let primitive = (access.number - 60) as usize;
+        self.array_used(access.receiver, primitive);
         let found = objects.get(access.receiver).and_then(|object| Some((object, objects.class(object.class)?)));
         match found {
             Some((object, class)) if [1, 2].contains(&class.form) => {
@@ -149,6 +150,7 @@ impl Counts {
         if self.accesses.put.map_or(false, |(object, _)| object == receiver) {
             self.event(THEN[then]);
         }
+        self.message_used(receiver, then - PUSHED);
     }
 }
 

@@ -8,11 +8,12 @@ use crate::refusal::Place::*;
 use crate::refusal::*;
 use crate::rules::*;
 
-/// N, B, start receiver, start selector, phase, top, value.
-pub type Registers = [u16; 7];
+/// N, B, start receiver, start selector, phase, top, value, edition.
+pub type Registers = [u16; 8];
 pub const PHASE: usize = 4;
 pub const TOP: usize = 5;
 pub const VALUE: usize = 6;
+pub const EDITION: usize = 7;
 
 pub const CACHE_WORDS: usize = 192;
 
@@ -34,13 +35,13 @@ pub struct Ran {
 
 pub fn load(image: &[u8], lent: &mut Lent) -> Result<(), Refusal> {
     // A refused load gives registers all zero.
-    *lent.registers = [0; 7];
+    *lent.registers = [0; 8];
     let header = header(image)?;
     ranges(header.edition, header.n, header.b)?;
     room(lent, header.n, header.b)?;
     let words: Vec<u16> = image[10..].chunks(2).map(|pair| u16::from_be_bytes([pair[0], pair[1]])).collect();
     let (contents, bodies) = words.split_at(4 * header.n);
-    let judged = judge(contents, bodies).and_then(|world| start_words(&world.objects, header.receiver, header.selector));
+    let judged = judge(header.edition, contents, bodies).and_then(|world| start_words(&world.objects, header.receiver, header.selector));
     if let Err(faults) = judged {
         lent.contents[..contents.len()].fill(0);
         lent.bodies[..bodies.len()].fill(0);
@@ -49,7 +50,7 @@ pub fn load(image: &[u8], lent: &mut Lent) -> Result<(), Refusal> {
     lent.contents[..contents.len()].copy_from_slice(contents);
     lent.bodies[..bodies.len()].copy_from_slice(bodies);
     lent.cache.fill(0);
-    *lent.registers = [header.n as u16, header.b as u16, header.receiver, header.selector, IDLE, 0, 0];
+    *lent.registers = [header.n as u16, header.b as u16, header.receiver, header.selector, IDLE, 0, 0, header.edition];
     Ok(())
 }
 
@@ -79,8 +80,9 @@ fn state_right(lent: &Lent) -> Result<(World, Vec<Frame>), Refusal> {
 fn judge_state(lent: &Lent) -> Result<(World, Vec<Frame>), Refusal> {
     let [n, b, receiver, selector, ..] = *lent.registers;
     let (n, b) = (n as usize, b as usize);
-    ranges(1, n, b)?;
-    let world = judge(&lent.contents[..4 * n], &lent.bodies[..b])?;
+    let edition = lent.registers[EDITION];
+    ranges(edition, n, b)?;
+    let world = judge(edition, &lent.contents[..4 * n], &lent.bodies[..b])?;
     start_words(&world.objects, receiver, selector)?;
     cache_right(&world.objects, lent.cache)?;
     registers_right(&world.objects, lent.registers)?;
@@ -197,7 +199,7 @@ pub fn check(lent: &Lent) -> Result<(), Refusal> {
 
 pub fn drop(lent: &mut Lent) -> Result<(), Refusal> {
     check(lent)?;
-    lent.registers[PHASE..].copy_from_slice(&[IDLE, 0, 0]);
+    lent.registers[PHASE..EDITION].copy_from_slice(&[IDLE, 0, 0]);
     Ok(())
 }
 
@@ -216,7 +218,7 @@ pub fn save(lent: &Lent, output: &mut [u8]) -> Result<u32, Refusal> {
         return refuse(3, Buffer("output"), "too short");
     }
     state_right(lent)?;
-    let header = [1, lent.registers[0], lent.registers[1], lent.registers[2], lent.registers[3]];
+    let header = [lent.registers[EDITION], lent.registers[0], lent.registers[1], lent.registers[2], lent.registers[3]];
     let words = header.iter().chain(&lent.contents[..4 * n]).chain(&lent.bodies[..b]);
     for (pair, word) in output.chunks_mut(2).zip(words) {
         pair.copy_from_slice(&word.to_be_bytes());
@@ -229,7 +231,7 @@ fn settle(world: &World, contents: &mut [u16], bodies: &mut [u16], registers: &m
     world.objects.flat(contents, bodies);
     registers[0] = world.objects.list.len() as u16;
     registers[1] = world.objects.body_total() as u16;
-    registers[PHASE..].copy_from_slice(&last);
+    registers[PHASE..EDITION].copy_from_slice(&last);
 }
 
 pub fn begin(lent: &mut Lent, receiver: u16, selector: u16, arguments: &[u16], counts: &mut Counts) -> Result<(), Refusal> {

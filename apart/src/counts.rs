@@ -2,6 +2,7 @@
 
 use crate::accesses::Accesses;
 use crate::machine::{FINISHED, MOST_STACK, NO_STACK_ROOM};
+use crate::messages::Failures;
 use std::collections::BTreeMap;
 
 /// How the reach of a run can come about.
@@ -26,12 +27,24 @@ pub struct Counts {
     pub answered: [u64; 256],
     pub failed: [u64; 256],
     pub accesses: Accesses,
+    /// By the cause of a failed send and what came of it.
+    pub failures: Failures,
+    /// The message that was made last. It is for one image alone.
+    pub message: Option<u16>,
     pub events: BTreeMap<&'static str, u64>,
 }
 
 impl Default for Counts {
     fn default() -> Counts {
-        Counts { bytecodes: [0; 256], answered: [0; 256], failed: [0; 256], accesses: Accesses::default(), events: BTreeMap::new() }
+        Counts {
+            bytecodes: [0; 256],
+            answered: [0; 256],
+            failed: [0; 256],
+            accesses: Accesses::default(),
+            failures: Failures::default(),
+            message: None,
+            events: BTreeMap::new(),
+        }
     }
 }
 

@@ -11,6 +11,7 @@ const MOST_PAIRS: usize = MOST_BODY_WORDS / 2;
 
 #[derive(Default)]
 pub struct Image {
+    pub edition: u16,
     pub contents: Vec<u16>,
     pub bodies: Vec<u16>,
     /// The classes and selectors, by number, that a method stands under.
@@ -36,10 +37,10 @@ fn shortened(texts: impl Iterator<Item = String>, between: &str) -> String {
 
 impl Image {
     /// Of the bytes after the header.
-    pub fn new(n: usize, bytes: &[u8]) -> Image {
+    pub fn new(edition: u16, n: usize, bytes: &[u8]) -> Image {
         let words: Vec<u16> = bytes.chunks_exact(2).map(|pair| u16::from_be_bytes([pair[0], pair[1]])).collect();
         let (contents, bodies) = words.split_at(words.len().min(4 * n));
-        let mut image = Image { contents: contents.to_vec(), bodies: bodies.to_vec(), ..Image::default() };
+        let mut image = Image { edition, contents: contents.to_vec(), bodies: bodies.to_vec(), ..Image::default() };
         let mut pairs = 0;
         for class in 1..=n {
             let list = match image.of_kind(class, CLASS).then(|| image.word(class, 1)).flatten().and_then(object_number) {
@@ -123,6 +124,7 @@ impl Image {
             (4, Some(_)) => "class 4 (of integers)".to_string(),
             (5, Some(_)) => "list 5 (special selectors)".to_string(),
             (_, None) => format!("object {number}, which is not there"),
+            (7 | 8, Some([_, CLASS, ..])) if self.edition >= WITH_MESSAGES => format!("class {number} (of {})", ["messages", "arrays"][number - 7]),
             (_, Some([_, CLASS, ..])) => format!("class {number}"),
             (_, Some([_, METHOD, ..])) => format!("method {number} ({})", self.method_name(number)),
             (_, Some([_, LIST, ..])) => match self.owners.get(&number) {
@@ -188,8 +190,9 @@ impl Image {
             _ => self.names_from(number, 0, self.length(number)),
         };
         let name = if kind == FIELDS && number > 5 || kind > METHOD { format!("object {number}") } else { self.object_name(number) };
+        let role = if number == 6 && kind == BYTES && self.edition >= WITH_MESSAGES { ", sent with a message where a send fails" } else { "" };
         let colon = if body.is_empty() { "" } else { ": " };
-        format!("{name}: class {}, kind {kind} ({kind_name}), start {start}, size {size}{colon}{body}", self.class_shown(class))
+        format!("{name}{role}: class {}, kind {kind} ({kind_name}), start {start}, size {size}{colon}{body}", self.class_shown(class))
     }
 
     /// F of the class, where the object has form 1.

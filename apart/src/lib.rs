@@ -8,6 +8,7 @@ pub mod counts;
 pub mod image;
 pub mod listing;
 pub mod machine;
+pub mod messages;
 pub mod objects;
 pub mod play;
 pub mod primitives;

@@ -3,6 +3,7 @@
 use crate::accesses::{Access, By, ANSWERED, PUSHED, STORED};
 use crate::code::*;
 use crate::counts::{Counts, SENDS, SUPER_SENDS};
+use crate::messages::{facts, End};
 use crate::objects::*;
 use crate::primitives::*;
 use crate::rules::World;
@@ -48,6 +49,27 @@ pub enum Activation {
     Frame,
 }
 
+/// Why a send fails, whose receiver does not understand it.
+#[derive(Clone, Copy, Debug, PartialEq)]
+pub enum Failure {
+    NoMethod,
+    /// The method found needs a frame, and the receiver's chain lacks its home.
+    Home,
+    /// The method found answers a field, and the receiver has no such.
+    Field,
+}
+
+/// A send with what lies on the operands.
+pub struct Sending {
+    pub selector: u16,
+    /// The class where lookup starts; nil above the last one.
+    pub start: u16,
+    pub receiver: u16,
+    pub arguments: Vec<u16>,
+    /// Where its frame goes on.
+    next: usize,
+}
+
 /// Is told of each bytecode, before it is made and after.
 pub trait Watch {
     fn before(&mut self, machine: &Machine);
@@ -62,7 +84,7 @@ impl Watch for Unwatched {
 }
 
 /// Where the cache has the entry of a selector and a class.
-fn cache_index(selector: u16, class: u16) -> usize {
+pub fn cache_index(selector: u16, class: u16) -> usize {
     3 * (((selector & class) / 2) % 64) as usize
 }
 
@@ -81,7 +103,7 @@ impl Machine<'_> {
     }
 
     /// Where the next frame would start.
-    fn next_base(&self) -> usize {
+    pub fn next_base(&self) -> usize {
         self.frames.last().map_or(0, |frame| self.end_of(frame))
     }
 
@@ -288,35 +310,81 @@ impl Machine<'_> {
         taken
     }
 
-    fn send(&mut self, selector: u16, class: u16, arguments: usize, next: usize) -> Result<Made, u16> {
-        let found = self.world.objects.lookup(class, selector);
-        self.count_far(class, found, SENDS);
-        let method = match found {
-            Some(method) => method,
-            None => {
-                self.counts.event("halt: no method");
-                return Err(NOT_UNDERSTOOD);
-            }
-        };
+    fn send(&mut self, selector: u16, start: u16, arguments: usize, next: usize) -> Result<Made, u16> {
+        let found = self.world.objects.lookup(start, selector);
+        self.count_far(start, found, SENDS);
         let receiver = self.receiver_below(arguments);
         let operands = &self.frames.last().unwrap().operands;
-        let words = operands[operands.len() - arguments..].to_vec();
-        match self.activate(method, receiver, &words)? {
+        let sending = Sending { selector, start, receiver, arguments: operands[operands.len() - arguments..].to_vec(), next };
+        let failure = match found {
+            Some(method) => match self.activate(method, receiver, &sending.arguments) {
+                Ok(activation) => return self.activated(&sending, selector, method, activation, sending.arguments.clone()),
+                Err(failure) => failure,
+            },
+            None => Failure::NoMethod,
+        };
+        self.not_understood(&sending, failure)
+    }
+
+    /// What comes of a method that the lookup of a selector found, with these arguments, which need not be those on the operands.
+    fn activated(&mut self, sending: &Sending, selector: u16, method: u16, activation: Activation, arguments: Vec<u16>) -> Result<Made, u16> {
+        match activation {
             Activation::Answer(word) => {
-                self.fill(selector, class, method);
-                self.answer(arguments, word, next)
+                self.fill(selector, sending.start, method);
+                self.answer(sending.arguments.len(), word, sending.next)
             }
             Activation::Frame => {
                 let base = self.next_base();
                 if !self.fits(base, method) {
                     return Err(NO_STACK_ROOM);
                 }
-                self.fill(selector, class, method);
-                self.take(arguments, next);
-                self.enter(base, method, receiver, words);
+                self.fill(selector, sending.start, method);
+                self.take(sending.arguments.len(), sending.next);
+                self.enter(base, method, sending.receiver, arguments);
                 Ok(Made::Goes)
             }
         }
+    }
+
+    /// A send that failed: in the editions that have it, object 6 is sent with a message in its stead. Where that halts, nothing is made.
+    fn not_understood(&mut self, sending: &Sending, failure: Failure) -> Result<Made, u16> {
+        let found = self.world.objects.lookup(sending.start, DOES_NOT_UNDERSTAND);
+        let facts = facts(self, sending, failure, found);
+        let before = self.world.objects.list.len();
+        let (end, made) = self.send_message(sending, found);
+        match made {
+            Ok(_) => self.counts.message = Some(pointer(before + 2)),
+            Err(_) => self.world.objects.list.truncate(before),
+        }
+        self.counts.failed_send(&facts, end);
+        made
+    }
+
+    /// Makes the objects and sends them under object 6, whose lookup found this.
+    fn send_message(&mut self, sending: &Sending, found: Option<u16>) -> (End, Result<Made, u16>) {
+        if self.world.edition < WITH_MESSAGES {
+            return (End::EarlierEdition, Err(NOT_UNDERSTOOD));
+        }
+        let method = match found {
+            Some(method) => method,
+            None => return (End::NotFound, Err(NOT_UNDERSTOOD)),
+        };
+        let message = match message(&mut self.world.objects, self.room, sending.selector, &sending.arguments) {
+            Some(message) => message,
+            None => return (End::NoRoom, Err(NOT_UNDERSTOOD)),
+        };
+        let activation = match self.activate(method, sending.receiver, &[message]) {
+            Ok(activation) => activation,
+            Err(_) => return (End::Home, Err(NOT_UNDERSTOOD)),
+        };
+        let answers = matches!(activation, Activation::Answer(_));
+        let made = self.activated(sending, DOES_NOT_UNDERSTAND, method, activation, vec![message]);
+        let end = match made {
+            Ok(_) if answers => End::Answer,
+            Ok(_) => End::Frame,
+            Err(_) => End::NoStackRoom,
+        };
+        (end, made)
     }
 
     /// Counts a lookup along a chain of as many classes as there can be, up to the last one.
@@ -330,7 +398,7 @@ impl Machine<'_> {
     }
 
     /// Flags 5 and 6 and primitives answer; a frame asks that the home is in the receiver's chain.
-    pub fn activate(&mut self, method: u16, receiver: u16, arguments: &[u16]) -> Result<Activation, u16> {
+    pub fn activate(&mut self, method: u16, receiver: u16, arguments: &[u16]) -> Result<Activation, Failure> {
         let Method { flag, temporaries, primitive: number, home, .. } = *self.world.method(method);
         if flag == 5 {
             self.counts.event("answered by flag 5");
@@ -348,8 +416,7 @@ impl Machine<'_> {
             }
         }
         if !self.world.objects.in_chain(receiver, home) {
-            self.counts.event("halt: home not in the receiver's chain");
-            return Err(NOT_UNDERSTOOD);
+            return Err(Failure::Home);
         }
         Ok(Activation::Frame)
     }
@@ -370,7 +437,7 @@ impl Machine<'_> {
         self.counts.access(&self.world.objects, &Access { number, by, home, receiver, arguments });
     }
 
-    fn field_answer(&mut self, receiver: u16, field: usize) -> Result<Activation, u16> {
+    fn field_answer(&mut self, receiver: u16, field: usize) -> Result<Activation, Failure> {
         let object = self.world.objects.get(receiver).filter(|object| object.kind == FIELDS);
         match object.and_then(|object| object.body.get(field)) {
             Some(word) => {
@@ -378,10 +445,7 @@ impl Machine<'_> {
                 self.counts.field(receiver, ANSWERED);
                 Ok(Activation::Answer(*word))
             }
-            None => {
-                self.counts.event("halt: no such field");
-                Err(NOT_UNDERSTOOD)
-            }
+            None => Err(Failure::Field),
         }
     }
 

@@ -8,6 +8,10 @@ pub const CLASS: u16 = 2;
 pub const LIST: u16 = 3;
 pub const METHOD: u16 = 4;
 
+pub const LAST_EDITION: u16 = 2;
+/// From this edition on a send that fails makes a message and sends object 6.
+pub const WITH_MESSAGES: u16 = 2;
+
 pub const MOST_OBJECTS: usize = 2_047;
 pub const MOST_BODY_WORDS: usize = 24_000;
 /// Classes in a chain, the first one counted.
@@ -83,7 +87,7 @@ impl Method {
     }
 }
 
-#[derive(Default)]
+#[derive(Clone, Default)]
 pub struct Objects {
     /// Object 1 first.
     pub list: Vec<Object>,

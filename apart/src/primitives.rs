@@ -175,14 +175,39 @@ fn new_sized(objects: &mut Objects, room: Room, receiver: u16, argument: u16) ->
 
 /// A new object behind the others, of nils or zero bytes.
 fn append(objects: &mut Objects, room: Room, class: u16, kind: u16, size: usize) -> Option<u16> {
-    let (n, b) = (objects.list.len(), objects.body_total());
     let words = body_words(kind, size as u16);
-    if n == MOST_OBJECTS || b + words > MOST_BODY_WORDS || room.contents < 4 * (n + 1) || room.bodies < b + words {
+    if lacking(objects, room, 1, words).contains(&true) {
         return None;
     }
     let filler = if kind == BYTES { 0 } else { NIL };
-    objects.list.push(Object { class, kind, start: b as u16, size: size as u16, body: vec![filler; words] });
-    Some(pointer(n + 1))
+    Some(put_last(objects, class, kind, size, vec![filler; words]))
+}
+
+fn put_last(objects: &mut Objects, class: u16, kind: u16, size: usize, body: Vec<u16>) -> u16 {
+    let start = objects.body_total() as u16;
+    objects.list.push(Object { class, kind, start, size: size as u16, body });
+    pointer(objects.list.len())
+}
+
+/// What can be too little for more objects: the number of objects, that of body words, the lent contents and the lent bodies.
+pub const ROOMS: usize = 4;
+
+/// Those of them that are, for so many objects with so many words.
+pub fn lacking(objects: &Objects, room: Room, more: usize, words: usize) -> [bool; ROOMS] {
+    let (n, b) = (objects.list.len() + more, objects.body_total() + words);
+    [n > MOST_OBJECTS, b > MOST_BODY_WORDS, room.contents < 4 * n, room.bodies < b]
+}
+
+/// The words of a message, its selector and the array of its arguments.
+pub const MESSAGE_WORDS: usize = 2;
+
+/// A message for a send with this selector and these arguments, and before it the array of them; nothing where one of the two finds no room.
+pub fn message(objects: &mut Objects, room: Room, selector: u16, arguments: &[u16]) -> Option<u16> {
+    if lacking(objects, room, 2, arguments.len() + MESSAGE_WORDS).contains(&true) {
+        return None;
+    }
+    let array = put_last(objects, ARRAY_CLASS, FIELDS, arguments.len(), arguments.to_vec());
+    Some(put_last(objects, MESSAGE_CLASS, FIELDS, MESSAGE_WORDS, vec![selector, array]))
 }
 
 #[cfg(test)]

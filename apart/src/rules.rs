@@ -15,6 +15,18 @@ pub const DOES_NOT_FIT: &str = "an object that does not fit its class";
 pub const TOO_LONG: &str = "a chain of more than 24 classes";
 pub const CIRCLE: &str = "a chain of more than 24 classes: a circle";
 
+// Those of edition 2, and of editions that there are not.
+pub const NO_EDITION: &str = "another edition than 1 and 2";
+pub const TOO_FEW: &str = "objects not from 8 to 2047, in edition 2";
+pub const NO_SELECTOR: &str = "object 6, the selector doesNotUnderstand:, is no byte object";
+pub const NO_MESSAGES: &str = "object 7, the class of messages, is no class";
+pub const MESSAGE_FORM: &str = "the class of messages has another form than 0";
+pub const MESSAGE_FIELDS: &str = "the class of messages has not 2 fields";
+pub const NO_ARRAYS: &str = "object 8, the class of arrays, is no class";
+pub const ARRAY_FORM: &str = "the class of arrays has another form than 1";
+pub const ARRAY_FIELDS: &str = "the class of arrays has fields";
+pub const NOT_ONE_ARGUMENT: &str = "a method under object 6 that does not take one argument";
+
 /// The words of a header.
 pub struct Header {
     pub edition: u16,
@@ -26,6 +38,7 @@ pub struct Header {
 
 /// Objects that keep the rules, with their methods taken apart.
 pub struct World {
+    pub edition: u16,
     pub objects: Objects,
     /// By object number, from 1.
     pub methods: Vec<Option<Method>>,
@@ -53,27 +66,29 @@ pub fn header(image: &[u8]) -> Result<Header, Refusal> {
 /// Rule 2.
 pub fn ranges(edition: u16, n: usize, b: usize) -> Result<(), Faults> {
     let mut faults = Faults::new(2);
-    faults.ask(edition == 1, HeaderWord(0), "another edition than 1");
-    faults.ask((5..=MOST_OBJECTS).contains(&n), HeaderWord(1), "objects not from 5 to 2047");
+    let known = faults.ask((1..=LAST_EDITION).contains(&edition), HeaderWord(0), NO_EDITION);
+    let (least, why) = if known && edition >= WITH_MESSAGES { (8, TOO_FEW) } else { (5, "objects not from 5 to 2047") };
+    faults.ask((least..=MOST_OBJECTS).contains(&n), HeaderWord(1), why);
     faults.ask(b <= MOST_BODY_WORDS, HeaderWord(2), "more than 24000 words of bodies");
     faults.none(())
 }
 
-type Test = fn(&Objects, &mut Faults);
+/// A test of the objects of an edition.
+type Test = fn(u16, &Objects, &mut Faults);
 
 /// The tests of objects that lie where rule 4 wants them, each with its number. Their order is load's; none rests on another.
 pub const TESTS: [(u32, Test); 3] = [(5, words_valid), (14, chains), (6, classes_and_entries)];
 
 /// Rules 4, 5, 14, 6 and 7 on 4N words of contents and B words of bodies.
-pub fn judge(contents: &[u16], bodies: &[u16]) -> Result<World, Faults> {
+pub fn judge(edition: u16, contents: &[u16], bodies: &[u16]) -> Result<World, Faults> {
     let objects = layout(contents, bodies)?;
     for (number, test) in TESTS {
         let mut faults = Faults::new(number);
-        test(&objects, &mut faults);
+        test(edition, &objects, &mut faults);
         faults.none(())?;
     }
-    let methods = methods(&objects)?;
-    Ok(World { objects, methods })
+    let methods = methods(edition, &objects)?;
+    Ok(World { edition, objects, methods })
 }
 
 /// Rule 8 on the start words.
@@ -139,7 +154,7 @@ fn numbered_classes(objects: &Objects) -> impl Iterator<Item = (usize, &Object)>
 }
 
 /// Rule 5: entries' classes, and the words of kinds 0, 2, 3.
-fn words_valid(objects: &Objects, faults: &mut Faults) {
+fn words_valid(_: u16, objects: &Objects, faults: &mut Faults) {
     for (number, object) in numbered(objects) {
         faults.ask(objects.valid(object.class), Entry(number, 0), "an invalid word");
         if object.kind == BYTES || object.kind == METHOD {
@@ -153,7 +168,7 @@ fn words_valid(objects: &Objects, faults: &mut Faults) {
 
 /// Rule 14. The lowest class of a chain that is too long has the fault, and the first class of a circle: what is above the one and leads into the other
 /// follows from it.
-fn chains(objects: &Objects, faults: &mut Faults) {
+fn chains(_: u16, objects: &Objects, faults: &mut Faults) {
     let superclasses: HashSet<u16> = numbered_classes(objects).map(|(_, object)| object.body[0]).collect();
     for (number, _) in numbered_classes(objects) {
         let own = pointer(number);
@@ -173,10 +188,13 @@ fn chains(objects: &Objects, faults: &mut Faults) {
 }
 
 /// Rule 6.
-fn classes_and_entries(objects: &Objects, faults: &mut Faults) {
+fn classes_and_entries(edition: u16, objects: &Objects, faults: &mut Faults) {
     classes(objects, faults);
     entries(objects, faults);
     first_objects(objects, faults);
+    if edition >= WITH_MESSAGES {
+        objects_for_messages(objects, faults);
+    }
 }
 
 fn integer_up_to(word: u16, most: i32) -> bool {
@@ -274,14 +292,31 @@ fn first_objects(objects: &Objects, faults: &mut Faults) {
     }
 }
 
+/// Objects 6 to 8 where messages are sent as objects.
+fn objects_for_messages(objects: &Objects, faults: &mut Faults) {
+    faults.ask(objects.has_kind(DOES_NOT_UNDERSTAND, BYTES), Entry(6, 1), NO_SELECTOR);
+    for (class, (form, fields), [none, other_form, other_fields]) in
+        [(MESSAGE_CLASS, (0, 2), [NO_MESSAGES, MESSAGE_FORM, MESSAGE_FIELDS]), (ARRAY_CLASS, (1, 0), [NO_ARRAYS, ARRAY_FORM, ARRAY_FIELDS])]
+    {
+        let number = class as usize / 2;
+        match objects.class(class) {
+            None => faults.add(Entry(number, 1), none),
+            Some(class) => {
+                faults.ask(class.form == form, Body(number, 3), other_form);
+                faults.ask(class.fields == fields, Body(number, 2), other_fields);
+            }
+        }
+    }
+}
+
 /// Rule 7. It gives the methods, with a depth table for each that has one.
-fn methods(objects: &Objects) -> Result<Vec<Option<Method>>, Faults> {
+fn methods(edition: u16, objects: &Objects) -> Result<Vec<Option<Method>>, Faults> {
     let mut faults = Faults::new(7);
     let mut methods: Vec<Option<Method>> = vec![];
     for (number, object) in numbered(objects) {
         methods.push(if object.kind == METHOD { method(objects, number, object, &mut faults) } else { None });
     }
-    let counts = counts_under_selectors(objects, &mut methods, &mut faults);
+    let counts = counts_under_selectors(edition, objects, &mut methods, &mut faults);
     for (index, slot) in methods.iter_mut().enumerate() {
         let method = match slot {
             Some(method) => method,
@@ -351,7 +386,7 @@ fn extension(number: usize, flag: u16, literals: &[u16], faults: &mut Faults) ->
 
 /// The count of arguments under each selector of a dictionary: homes are those of the class, and counts agree. A method with another home is taken out, and
 /// so is a selector whose counts differ: what follows from these is not said.
-fn counts_under_selectors(objects: &Objects, methods: &mut [Option<Method>], faults: &mut Faults) -> HashMap<u16, usize> {
+fn counts_under_selectors(edition: u16, objects: &Objects, methods: &mut [Option<Method>], faults: &mut Faults) -> HashMap<u16, usize> {
     let (mut counts, mut differ) = (HashMap::new(), vec![]);
     for (number, object) in numbered_classes(objects) {
         let list = object.body[1];
@@ -365,9 +400,14 @@ fn counts_under_selectors(objects: &Objects, methods: &mut [Option<Method>], fau
                 methods[found - 1] = None;
                 continue;
             }
-            let count = *counts.entry(pair[0]).or_insert(arguments);
+            let (first, why) = if edition >= WITH_MESSAGES && pair[0] == DOES_NOT_UNDERSTAND {
+                (1, NOT_ONE_ARGUMENT)
+            } else {
+                (arguments, "another count of arguments than under this selector elsewhere")
+            };
+            let count = *counts.entry(pair[0]).or_insert(first);
             let place = Body((list / 2) as usize, 2 * index + 1);
-            if !faults.ask(count == arguments, place, "another count of arguments than under this selector elsewhere") {
+            if !faults.ask(count == arguments, place, why) {
                 differ.push(pair[0]);
             }
         }

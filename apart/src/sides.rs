@@ -354,7 +354,7 @@ pub fn library_singly(call: &Call, before: &Buffers) -> Option<(Outcome, Buffers
         for (call, answer) in listed(words).0.iter().zip(outcome.answers[..room].chunks_exact_mut(ANSWER_WORDS)) {
             let single = library(call, &mut buffers);
             let ran = matches!(call, Call::Run(_)) && single.number == 0;
-            let [.., phase, _, value] = buffers.registers.map(u32::from);
+            let [.., phase, _, value, _] = buffers.registers.map(u32::from);
             answer.copy_from_slice(&if ran { [0, phase, single.count, value, single.reach] } else { [single.number, 0, 0, 0, 0] });
             outcome.made += 1;
         }

@@ -6,6 +6,10 @@ pub const TRUE: u16 = 6;
 pub const INTEGER_CLASS: u16 = 8;
 /// The list of selectors for the special sends.
 pub const SPECIALS: u16 = 10;
+// In editions that send messages as objects: the selector doesNotUnderstand:, and the classes of messages and arrays.
+pub const DOES_NOT_UNDERSTAND: u16 = 12;
+pub const MESSAGE_CLASS: u16 = 14;
+pub const ARRAY_CLASS: u16 = 16;
 
 pub fn is_integer(word: u16) -> bool {
     word % 2 == 1

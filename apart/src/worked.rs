@@ -40,8 +40,12 @@ fn objects(method: &[u16], other: Option<&[u16]>) -> Vec<Entry> {
 }
 
 fn written(receiver: u16, objects: &[Entry]) -> Vec<u8> {
+    of_edition(1, receiver, objects)
+}
+
+fn of_edition(edition: u16, receiver: u16, objects: &[Entry]) -> Vec<u8> {
     let bodies: Vec<u16> = objects.iter().flat_map(|object| object.3.clone()).collect();
-    let mut words = vec![1, objects.len() as u16, bodies.len() as u16, receiver, 20];
+    let mut words = vec![edition, objects.len() as u16, bodies.len() as u16, receiver, 20];
     let mut start = 0;
     for (class, kind, size, body) in objects {
         words.extend([*class, *kind, start, *size]);
@@ -54,7 +58,7 @@ fn written(receiver: u16, objects: &[Entry]) -> Vec<u8> {
 /// Load, and then these calls, on a stack of so many words.
 fn loaded<T>(image: &[u8], length: usize, calls: impl FnOnce(&mut Lent, &mut Counts) -> Result<T, Refusal>) -> Result<T, Refusal> {
     let (mut contents, mut bodies, mut stack, mut cache) = (vec![0; 8_188], vec![0; 24_000], vec![0; length], vec![0; 192]);
-    let mut registers = [0; 7];
+    let mut registers = [0; 8];
     let mut lent = Lent { contents: &mut contents, bodies: &mut bodies, stack: &mut stack, cache: &mut cache, registers: &mut registers };
     load(image, &mut lent)?;
     calls(&mut lent, &mut Counts::default())
@@ -225,11 +229,11 @@ fn chains_come_between_words_and_classes() {
 fn what_a_chain_leaves() {
     let image = written(81, &below(NIL, 24));
     let (mut contents, mut bodies, mut cache) = (vec![7; 8_188], vec![7; 24_000], vec![7; CACHE_WORDS]);
-    let mut registers = [7; 7];
+    let mut registers = [7; 8];
     let mut lent = Lent { contents: &mut contents, bodies: &mut bodies, stack: &mut [], cache: &mut cache, registers: &mut registers };
     assert_eq!(load(&image, &mut lent).unwrap_err().number, 14);
     let (n, b) = (12 + 24, 55 + 4 * 24);
-    assert_eq!(registers, [0; 7]);
+    assert_eq!(registers, [0; 8]);
     for (words, zero) in [(&contents, 4 * n), (&bodies, b), (&cache, 0)] {
         assert!(words[..zero].iter().all(|word| *word == 0) && words[zero..].iter().all(|word| *word == 7));
     }
@@ -325,4 +329,204 @@ fn spoiled_state_refuses_the_list() {
         play(lent, &[2], &mut answers, counts)
     });
     assert_eq!((played.unwrap_err().number, answers), (11, [7; ANSWER_WORDS]));
+}
+
+/// N and B of the next image.
+const N: usize = 16;
+const B: usize = 71;
+
+/// Integers have a method 15 under object 10, with these words, and a method 16 under object 6. Their class is below class 9, that of nil, which may have
+/// another under object 6. Class 11 is that of classes, 14 that of bytes.
+fn messages(method: &[u16], under_6: &[u16], above: Option<&[u16]>) -> Vec<Entry> {
+    let class = |above: u16, dictionary: u16, fields: i64, form: i64| vec![above, dictionary, word(fields).unwrap(), word(form).unwrap()];
+    let code = |words: &[u16]| (22, METHOD, 2 * words.len() as u16, words.to_vec());
+    let mut objects = vec![
+        (18, FIELDS, 0, vec![]),
+        (18, FIELDS, 0, vec![]),
+        (18, FIELDS, 0, vec![]),
+        (22, CLASS, 4, class(18, 26, 0, 3)),
+        (22, LIST, 32, vec![NIL; 32]),
+        (28, BYTES, 1, vec![100 << 8]),
+        (22, CLASS, 4, class(18, 24, 2, 0)),
+        (22, CLASS, 4, class(18, 24, 0, 1)),
+        (22, CLASS, 4, class(NIL, if above.is_some() { 34 } else { 24 }, 0, 0)),
+        (28, BYTES, 1, vec![97 << 8]),
+        (22, CLASS, 4, class(NIL, 24, 0, 3)),
+        (22, LIST, 0, vec![]),
+        (22, LIST, 4, vec![12, 32, 20, 30]),
+        (22, CLASS, 4, class(NIL, 24, 0, 2)),
+        code(method),
+        code(under_6),
+    ];
+    if let Some(above) = above {
+        objects.extend([(22, LIST, 2, vec![12, 36]), code(above)]);
+    }
+    objects
+}
+
+/// Self is sent the integers 1 and 2 under the literal, which is nil: nobody implements it.
+const SENDS_NIL: [u16; 6] = [3, 8, NIL, 112 << 8 | 118, 119 << 8 | 240, 124 << 8];
+/// Answers the message.
+const ANSWERS: [u16; 3] = [1 << 13 | 1 << 8 | 1, 8, 16 << 8 | 124];
+/// As this one, with a primitive, which is tried first.
+fn primitive(number: u16) -> [u16; 5] {
+    [7 << 13 | 1 << 8 | 5, 8, 1 << 9 | number << 1 | 1, NIL, 16 << 8 | 124]
+}
+
+/// What a handler leaves: of contents and bodies what is behind the image, and of the cache what is filled.
+struct Messaged {
+    left: Left,
+    registers: Registers,
+    contents: Vec<u16>,
+    bodies: Vec<u16>,
+    cache: Vec<u16>,
+}
+
+/// The start words begun and run, with so long contents, bodies and stack.
+fn messaged(edition: u16, objects: &[Entry], lengths: [usize; 3]) -> Messaged {
+    let image = of_edition(edition, 41, objects);
+    let (n, b) = (objects.len(), objects.iter().map(|object| object.3.len()).sum::<usize>());
+    let (mut contents, mut bodies, mut stack, mut cache) = (vec![0; lengths[0]], vec![0; lengths[1]], vec![0; lengths[2]], vec![0; CACHE_WORDS]);
+    let mut registers = [0; 8];
+    let mut lent = Lent { contents: &mut contents, bodies: &mut bodies, stack: &mut stack, cache: &mut cache, registers: &mut registers };
+    load(&image, &mut lent).unwrap();
+    let mut counts = Counts::default();
+    begin(&mut lent, 41, 20, &[], &mut counts).unwrap();
+    let ran = run(&mut lent, 1_000, &mut counts).unwrap();
+    check(&lent).unwrap();
+    let left = (lent.registers[PHASE], ran.count, lent.registers[VALUE], ran.reach);
+    let cache = cache.chunks(3).filter(|entry| entry[0] != 0).flatten().copied().collect();
+    Messaged { left, registers, contents: contents[4 * n..].to_vec(), bodies: bodies[b..].to_vec(), cache }
+}
+
+const LONG: [usize; 3] = [8_188, 24_000, 1_024];
+
+#[test]
+fn failed_send_makes_array_and_message() {
+    let objects = messages(&SENDS_NIL, &ANSWERS, None);
+    assert_eq!((objects.len(), objects.iter().map(|object| object.3.len()).sum()), (N, B));
+    let made = messaged(2, &objects, LONG);
+    // push self, 1 and 2, the send, push the message, both returns.
+    assert_eq!(made.left, (2, 7, 36, 36));
+    assert_eq!(made.registers, [18, 75, 41, 20, 2, 0, 36, 2]);
+    assert_eq!(made.contents[..8], [16, 0, 71, 2, 14, 0, 73, 2]);
+    assert_eq!(made.bodies[..4], [3, 5, NIL, 34]);
+    assert_eq!(made.cache, [12, 8, 32]);
+    // The same objects in edition 1.
+    let earlier = messaged(1, &objects, LONG);
+    assert_eq!((earlier.left, earlier.registers), ((3, 3, 0, 18), [16, 71, 41, 20, 3, 0, 0, 1]));
+    assert_eq!(earlier.cache, []);
+}
+
+/// What the two objects need, and a word less of each; a halt makes neither.
+#[test]
+fn objects_find_room_or_not() {
+    let objects = messages(&SENDS_NIL, &ANSWERS, None);
+    let [contents, bodies] = [4 * (N + 2), B + 4];
+    assert_eq!(messaged(2, &objects, [contents, bodies, 36]).left, (2, 7, 36, 36));
+    for (lengths, left) in [
+        ([contents - 1, bodies, 36], (3, 3, 0, 18)),
+        ([contents, bodies - 1, 36], (3, 3, 0, 18)),
+        ([contents, bodies, 35], (5, 3, 0, 18)),
+        // Room for the objects is asked for before the frame.
+        ([contents, bodies - 1, 35], (3, 3, 0, 18)),
+    ] {
+        let halted = messaged(2, &objects, lengths);
+        assert_eq!((halted.left, halted.registers[0], halted.registers[1], &halted.cache[..]), (left, 16, 71, &[][..]));
+        assert!(halted.contents.iter().chain(&halted.bodies).all(|word| *word == 0));
+    }
+}
+
+#[test]
+fn most_objects_and_body_words() {
+    for (more, phase) in [(2_045 - N, 2), (2_046 - N, 3), (2_047 - N, 3)] {
+        let mut objects = messages(&SENDS_NIL, &ANSWERS, None);
+        objects.extend((0..more).map(|_| (28, BYTES, 0, vec![])));
+        assert_eq!(messaged(2, &objects, [9_000, 24_000, 1_024]).left.0, phase);
+    }
+    for (more, phase) in [(24_000 - B - 4, 2), (24_000 - B - 3, 3), (24_000 - B, 3)] {
+        let mut objects = messages(&SENDS_NIL, &ANSWERS, None);
+        objects.push((28, BYTES, 2 * more as u16, vec![0; more]));
+        assert_eq!(messaged(2, &objects, [9_000, 24_100, 1_024]).left.0, phase);
+    }
+}
+
+/// == answers false without a frame, and the objects stay; the others fail on a message.
+#[test]
+fn primitives_under_object_6() {
+    let made = messaged(2, &messages(&SENDS_NIL, &primitive(110), None), LONG);
+    assert_eq!((made.left, made.registers[0], made.registers[1]), ((2, 5, FALSE, 18), 18, 71 + 2 + 4));
+    assert_eq!(made.cache, [12, 8, 32]);
+    for number in [0, 1, 7, 17, 60, 61, 62, 70, 71, 111, 255] {
+        assert_eq!(messaged(2, &messages(&SENDS_NIL, &primitive(number), None), LONG).left, (2, 7, 36, 36));
+    }
+}
+
+/// Super sends of integers start at class 9, and so does the lookup of object 6.
+#[test]
+fn object_6_is_sought_where_the_failed_lookup_started() {
+    let sends_super = [3, 8, NIL, 112 << 8 | 133, 0 << 8 | 124];
+    let above = [1 << 13 | 3 << 8 | 129, 18, 17 << 8 | 124];
+    // The second temporary is nil. Of the five bytecodes two are in a large frame.
+    let made = messaged(2, &messages(&sends_super, &ANSWERS, Some(&above)), LONG);
+    assert_eq!((made.left, made.cache), ((2, 5, NIL, 18 + 38), vec![12, 18, 36]));
+    assert_eq!((&made.contents[..8], &made.bodies[..2]), (&[16, 0, 75, 0, 14, 0, 75, 2][..], &[NIL, 38][..]));
+    // Not found there.
+    assert_eq!(messaged(2, &messages(&sends_super, &ANSWERS, None), LONG).left, (3, 1, 0, 18));
+}
+
+fn edition_2(objects: &[Entry]) -> u32 {
+    loaded(&of_edition(2, 41, objects), 1_024, |_, _| Ok(())).map_or_else(|refusal| refusal.number, |_| 0)
+}
+
+#[test]
+fn objects_6_to_8_and_methods_under_6() {
+    let right = messages(&SENDS_NIL, &ANSWERS, None);
+    assert_eq!(edition_2(&right), 0);
+    for edition in [0, 3, 256, 65_535] {
+        assert_eq!(loaded(&of_edition(edition, 41, &right), 1_024, |_, _| Ok(())).unwrap_err().number, 2);
+    }
+    for (n, number) in [(7, 2), (8, 5)] {
+        assert_eq!(edition_2(&vec![(0, FIELDS, 0, vec![]); n]), number);
+    }
+    let changed = |change: &dyn Fn(&mut Vec<Entry>)| {
+        let mut objects = right.clone();
+        change(&mut objects);
+        (edition_2(&objects), loaded(&of_edition(1, 41, &objects), 1_024, |_, _| Ok(())).map_or_else(|refusal| refusal.number, |_| 0))
+    };
+    // Another form or F, and an object that is no class.
+    assert_eq!(changed(&|objects| objects[6].3[2] = 7), (6, 0));
+    assert_eq!(changed(&|objects| objects[6].3[3] = 3), (6, 0));
+    assert_eq!(changed(&|objects| objects[6] = (22, LIST, 0, vec![])), (6, 0));
+    assert_eq!(changed(&|objects| objects[7].3[2] = 3), (6, 0));
+    assert_eq!(changed(&|objects| objects[7].3[3] = 1), (6, 0));
+    assert_eq!(changed(&|objects| objects[7] = (28, BYTES, 0, vec![])), (6, 0));
+    // Object 6 is a list, and in no dictionary.
+    assert_eq!(changed(&|objects| (objects[5], objects[12]) = ((22, LIST, 0, vec![]), (22, LIST, 2, vec![20, 30]))), (6, 0));
+    // Flags 0, 2 and 5 under object 6, and flag 7 with another count.
+    let header = |flag: u16, temporaries: u16| flag << 13 | temporaries << 8 | 1;
+    for method in [header(0, 1), header(2, 2), header(5, 1)] {
+        assert_eq!(changed(&|objects| objects[15].3[0] = method), (7, 0));
+    }
+    assert_eq!(changed(&|objects| objects[15] = (22, METHOD, 10, vec![header(7, 2) | 4, 8, 2 << 9 | 1, NIL, 16 << 8 | 124])), (7, 0));
+}
+
+/// The edition of a state can be another, where its objects suit that one.
+#[test]
+fn states_have_an_edition() {
+    for (edition, expected) in [(0, 11), (1, 0), (2, 0), (3, 11), (65_535, 11)] {
+        for first in [1, 2] {
+            let checked = loaded(&of_edition(first, 41, &messages(&SENDS_NIL, &ANSWERS, None)), 1_024, |lent, _| {
+                lent.registers[EDITION] = edition;
+                check(lent)
+            });
+            assert_eq!(checked.map_or_else(|refusal| refusal.number, |_| 0), expected);
+        }
+    }
+    // Objects 6 to 8 of the adder are none for messages.
+    let adder = loaded(&image(81, &ADDING, None), 1_024, |lent, _| {
+        lent.registers[EDITION] = 2;
+        check(lent)
+    });
+    assert_eq!(adder.unwrap_err().number, 11);
 }

@@ -6,9 +6,11 @@ use crate::elements;
 use crate::generate;
 use crate::laws::*;
 use crate::lookups;
+use crate::messages;
 use crate::random::Random;
 use crate::report::Report;
 use crate::sides::*;
+use apart::calls::{EDITION, PHASE, TOP};
 use apart::machine::{MOST_STACK, RUNNING};
 use apart::objects::*;
 use apart::play::ANSWER_WORDS;
@@ -79,7 +81,7 @@ impl<'a> Pair<'a> {
         if n < 5 || 4 * n > contents.len() || b > bodies.len() {
             None
         } else {
-            judge(&contents[..4 * n], &bodies[..b]).ok()
+            judge(self.ours.registers[EDITION], &contents[..4 * n], &bodies[..b]).ok()
         }
     }
 }
@@ -94,7 +96,7 @@ fn buffers(random: &mut Random, image: &[u8]) -> Buffers {
     let stack = if random.below(400) == 0 { random.from(65_530, 65_560) } else { stack };
     let lengths = [contents, bodies, stack, 192];
     let words = lengths.map(|length| (0..length + GUARD).map(|_| random.word()).collect());
-    let mut registers = [0; 7];
+    let mut registers = [0; 8];
     registers.fill_with(|| random.word());
     Buffers { words, lengths, registers }
 }
@@ -102,11 +104,24 @@ fn buffers(random: &mut Random, image: &[u8]) -> Buffers {
 /// The kind of a case whose dictionaries are long, and of one on objects with elements.
 const WIDE: usize = 94;
 const ELEMENTS: usize = 90;
+/// Of one whose sends fail.
+const MESSAGES: usize = 76;
 
 /// One case; what differs, with the pair that shows it.
 pub fn case(random: &mut Random, report: &mut Report) -> Result<(), (Buffers, Vec<Call>, String)> {
     let kind = random.below(100);
-    let mut draft = if kind < 10 { noisy(random) } else { generate::draft(random) };
+    let fails = (MESSAGES..ELEMENTS).contains(&kind);
+    let mut draft = match kind {
+        0..=9 => noisy(random),
+        _ if fails => {
+            let edition = random.pick(&[1, 2, 2, 2, 2, 2]);
+            generate::of_edition(random, edition, true)
+        }
+        _ => generate::draft(random),
+    };
+    if fails || random.percent(8) && messages::is_able(&draft) {
+        messages::add(random, &mut draft);
+    }
     if (ELEMENTS..WIDE).contains(&kind) || random.percent(12) {
         let large = kind >= ELEMENTS && random.percent(25);
         elements::add(random, &mut draft, large);
@@ -114,19 +129,24 @@ pub fn case(random: &mut Random, report: &mut Report) -> Result<(), (Buffers, Ve
     match kind {
         96.. => fill(random, &mut draft),
         WIDE => lookups::widen(random, &mut draft),
+        _ if fails && random.percent(20) => fill(random, &mut draft),
         _ => {}
     }
-    let tall = kind == 95 && random.percent(40);
+    let tall = kind == 95 && random.percent(40) || fails && random.percent(3);
     let deep = kind == 95 && !tall && random.percent(50) && recurse(random, &mut draft);
     let image = draft.image();
     let mut buffers = buffers(random, &image);
-    // Damage can make an image longer.
-    if (10..40).contains(&kind) && random.percent(80) {
+    // Damage can make an image longer, and handlers make objects.
+    if (10..40).contains(&kind) && random.percent(80) || fails {
         let more = random.pick(&[600, 600, 600, 8_000]);
         for buffer in 0..2 {
             buffers.lengths[buffer] += more;
             buffers.words[buffer].extend((0..more).map(|_| random.word()));
         }
+    }
+    if fails {
+        buffers.lengths[2] = buffers.lengths[2].max(1_024);
+        buffers.words[2].resize(buffers.lengths[2] + GUARD, NIL);
     }
     if tall || deep {
         buffers.lengths[2] = if tall { random.from(MOST_STACK, 65_600) } else { random.from(65_500, 65_600) };
@@ -134,6 +154,7 @@ pub fn case(random: &mut Random, report: &mut Report) -> Result<(), (Buffers, Ve
     }
     let mut pair = Pair::new(buffers, report);
     let compared = match kind {
+        _ if fails => messages_case(random, &mut pair, image),
         _ if tall => tall_case(random, &mut pair, image),
         _ if deep => deep_case(random, &mut pair, &draft),
         0..=9 => noisy_case(random, &mut pair, image),
@@ -200,17 +221,29 @@ fn tall_case(random: &mut Random, pair: &mut Pair, image: Vec<u8>) -> Compared<(
     Ok(())
 }
 
+fn right_frames(random: &mut Random, world: &World, is_top: bool) -> Vec<Vec<u16>> {
+    (0..100).map(|_| made_up_frame(random, world, is_top)).filter(|frame| right(world, frame, is_top)).collect()
+}
+
 /// Right frames of both sizes, of which the last ends at 65,536 or a little below.
 fn tall(random: &mut Random, world: &World) -> Option<Vec<Vec<u16>>> {
-    let mut made = |is_top: bool| (0..100).map(|_| made_up_frame(random, world, is_top)).filter(|frame| right(world, frame, is_top)).collect();
-    let (below, tops): (Vec<Vec<u16>>, Vec<Vec<u16>>) = (made(false), made(true));
-    let (small, large): (Vec<Vec<u16>>, Vec<Vec<u16>>) = below.into_iter().partition(|frame| frame.len() == SMALL);
-    if small.is_empty() || large.is_empty() || tops.is_empty() {
+    let tops = right_frames(random, world, true);
+    if tops.is_empty() {
         return None;
     }
     let top = tops[random.below(tops.len())].clone();
     let less = 2 * random.below(100);
-    let room = MOST_STACK - random.pick(&[0, 0, SMALL, LARGE, less]) - top.len();
+    let end = MOST_STACK - random.pick(&[0, 0, SMALL, LARGE, less]);
+    tall_below(random, world, top, end)
+}
+
+/// Right frames of both sizes with this one on top, which ends there.
+fn tall_below(random: &mut Random, world: &World, top: Vec<u16>, end: usize) -> Option<Vec<Vec<u16>>> {
+    let (small, large): (Vec<Vec<u16>>, Vec<Vec<u16>>) = right_frames(random, world, false).into_iter().partition(|frame| frame.len() == SMALL);
+    if small.is_empty() || large.is_empty() {
+        return None;
+    }
+    let room = end - top.len();
     let fitting: Vec<usize> = (0..=room / LARGE).filter(|count| (room - LARGE * count) % SMALL == 0).collect();
     let count = random.pick(&fitting);
     let mut frames = vec![];
@@ -330,6 +363,113 @@ fn accesses(random: &mut Random, pair: &mut Pair, class: Option<u16>, most: usiz
         pair.report.counts.event(event);
     }
     Ok(())
+}
+
+/// Handlers whose sends fail, on buffers that just have room for what is made, or just not.
+fn messages_case(random: &mut Random, pair: &mut Pair, image: Vec<u8>) -> Compared<()> {
+    pair.make(Call::Load(image))?;
+    let most = pair.ours.lengths;
+    for _ in 0..random.from(5, 12) {
+        if pair.ours.registers[PHASE] == RUNNING {
+            pair.make(Call::Drop)?;
+        }
+        if random.percent(30) {
+            pair.make(Call::Forget)?;
+        }
+        let world = match pair.world() {
+            Some(world) => world,
+            None => return Ok(()),
+        };
+        let handler = match messages::handler(random, &world) {
+            Some(handler) => handler,
+            None => return Ok(()),
+        };
+        let end = messages::tall_end(random);
+        let tall = if most[2] >= MOST_STACK { tall_below(random, &world, handler.frame(&world), end) } else { None };
+        match tall {
+            Some(frames) => stand(pair, frames, RUNNING)?,
+            None if random.percent(10) => {
+                let calls: Vec<Call> = (0..random.from(1, 6)).flat_map(|_| [handler.begin(), run(random), Call::Drop]).collect();
+                pair.make(play(random, &calls))?;
+                continue;
+            }
+            None => {
+                pair.make(handler.begin())?;
+            }
+        }
+        if random.percent(12) {
+            other_edition(random, pair)?;
+        }
+        if most[2] < MOST_STACK {
+            let registers = pair.ours.registers.map(|register| register as usize);
+            let end = registers[TOP] + 6 + world.method(handler.method).room();
+            let lengths = messages::lengths(random, [registers[0], registers[1], end], handler.count, most);
+            pair.make(Call::Lengths(lengths))?;
+        }
+        let call = run(random);
+        pair.make(call)?;
+        pair.make(Call::Lengths(most))?;
+        match random.below(12) {
+            0 => saved_and_loaded(random, pair)?,
+            1 => spoiled_messages(random, pair)?,
+            2 => look_up(random, pair)?,
+            3 | 4 => {
+                let call = to_last(random, pair);
+                pair.make(call)?;
+            }
+            5 => {
+                let call = any_call(random, pair);
+                pair.make(call)?;
+            }
+            _ => {}
+        }
+    }
+    pair.make(Call::Check)?;
+    Ok(())
+}
+
+/// A begin of the object that was made last.
+fn to_last(random: &mut Random, pair: &Pair) -> Call {
+    let receiver = pointer(pair.ours.registers[0].clamp(1, 2_047) as usize);
+    let world = match pair.world() {
+        Some(world) => world,
+        None => return Call::Check,
+    };
+    let class = world.objects.class(world.objects.class_of(receiver));
+    let pairs = class.and_then(|class| world.objects.get(class.dictionary)).map_or(vec![], |list| list.body.clone());
+    if pairs.is_empty() {
+        return Call::Check;
+    }
+    let at = 2 * random.below(pairs.len() / 2);
+    let arguments = (0..world.method(pairs[at + 1]).arguments).map(|_| argument(random, world.objects.list.len())).collect();
+    Call::Begin { receiver, selector: pairs[at], arguments }
+}
+
+/// The state as one of another edition, for a run, and then again as it was.
+fn other_edition(random: &mut Random, pair: &mut Pair) -> Compared<()> {
+    let old = pair.ours.registers[EDITION];
+    let new = random.pick(&[1, 2, 1, 2, 1, 2, 0, 3, 4, 256, 65_535]);
+    pair.make(Call::Write { buffer: 4, index: EDITION, words: vec![new] })?;
+    let number = pair.make(Call::Check)?.number;
+    let call = run(random);
+    let ran = pair.make(call)?.number == 0;
+    let shown = [
+        old == 2 && new == 1 && number == 0,
+        old == 1 && new == 2 && number == 0,
+        !(1..3).contains(&new) && number == 11,
+        old == 2 && new == 1 && ran,
+    ];
+    pair.report.counts.events_met(messages::STATES, shown);
+    pair.make(Call::Write { buffer: 4, index: EDITION, words: vec![old] })?;
+    Ok(())
+}
+
+/// Objects 6 to 8 changed in a state, a call or two, and the old words again.
+fn spoiled_messages(random: &mut Random, pair: &mut Pair) -> Compared<()> {
+    match pair.world().and_then(|world| messages::spoiled_words(random, &world.objects)) {
+        Some((buffer, index, words)) => spoiled_words(random, pair, buffer, index, words),
+        None => Ok(()),
+    }
 }
 
 fn elements_case(random: &mut Random, pair: &mut Pair, image: Vec<u8>) -> Compared<()> {
@@ -675,8 +815,11 @@ fn saved_and_loaded(random: &mut Random, pair: &mut Pair) -> Compared<()> {
 
 /// One word changed from outside, one or two calls, and the old word again.
 fn spoiled(random: &mut Random, pair: &mut Pair) -> Compared<()> {
-    if random.percent(10) {
-        return spoiled_fields(random, pair);
+    match random.below(20) {
+        0 | 1 => return spoiled_fields(random, pair),
+        2 => return spoiled_messages(random, pair),
+        3 => return other_edition(random, pair),
+        _ => {}
     }
     if random.percent(40) {
         if let Some((index, word)) = pair.world().and_then(|world| spoiled_chain(random, &world)) {
@@ -702,13 +845,17 @@ fn word_at(pair: &Pair, buffer: usize, index: usize) -> u16 {
 }
 
 fn spoiled_word(random: &mut Random, pair: &mut Pair, buffer: usize, index: usize, word: u16) -> Compared<()> {
-    let old = word_at(pair, buffer, index);
-    pair.make(Call::Write { buffer, index, words: vec![word] })?;
+    spoiled_words(random, pair, buffer, index, vec![word])
+}
+
+fn spoiled_words(random: &mut Random, pair: &mut Pair, buffer: usize, index: usize, words: Vec<u16>) -> Compared<()> {
+    let old = (index..index + words.len()).map(|index| word_at(pair, buffer, index)).collect();
+    pair.make(Call::Write { buffer, index, words })?;
     for _ in 0..random.from(1, 2) {
         let call = any_call(random, pair);
         pair.make(call)?;
     }
-    pair.make(Call::Write { buffer, index, words: vec![old] })?;
+    pair.make(Call::Write { buffer, index, words: old })?;
     Ok(())
 }
 
@@ -826,11 +973,11 @@ fn neighbour(random: &mut Random, pair: &Pair, buffer: usize, index: usize) -> u
 }
 
 fn place_to_spoil(random: &mut Random, pair: &Pair) -> Option<(usize, usize)> {
-    let [n, b, _, _, phase, top, _] = pair.ours.registers.map(|register| register as usize);
+    let [n, b, _, _, phase, top, _, _] = pair.ours.registers.map(|register| register as usize);
     let lengths = pair.ours.lengths;
     let spoil_frames = ![0, 2].contains(&phase) && lengths[2] > 0;
     let (buffer, limit) = match random.below(12) {
-        0 | 1 => (4, 7),
+        0 | 1 => (4, 8),
         2 | 3 => (3, lengths[3]),
         4 => (0, (4 * n).min(lengths[0])),
         5 | 6 => (1, b.min(lengths[1])),

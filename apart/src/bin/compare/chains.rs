@@ -37,7 +37,7 @@ pub fn met(image: &[u8], number: u32) -> [bool; CHAINS.len()] {
     };
     let is_broken = |number: u32| {
         let mut faults = Faults::new(number);
-        rules::TESTS.iter().find(|test| test.0 == number).unwrap().1(&objects, &mut faults);
+        rules::TESTS.iter().find(|test| test.0 == number).unwrap().1(header.edition, &objects, &mut faults);
         !faults.list.is_empty()
     };
     let chains: Vec<Chain> = (1..=header.n).map(pointer).filter(|word| objects.has_kind(*word, CLASS)).map(|word| chain(&objects, word)).collect();

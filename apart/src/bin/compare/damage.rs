@@ -2,6 +2,7 @@
 
 use crate::chains;
 use crate::draft::*;
+use crate::messages;
 use crate::random::Random;
 use apart::objects::*;
 use apart::words::*;
@@ -42,7 +43,7 @@ fn of_kind(random: &mut Random, draft: &Draft, kind: u16) -> usize {
 
 fn spoil_draft(random: &mut Random, draft: &mut Draft) {
     let n = draft.objects.len();
-    match random.below(14) {
+    match random.below(17) {
         0..=2 => spoil_class(random, draft),
         3..=6 => spoil_method(random, draft),
         7 => spoil_dictionary(random, draft),
@@ -65,6 +66,9 @@ fn spoil_draft(random: &mut Random, draft: &mut Draft) {
                 _ => {}
             }
         }
+        13 | 14 if messages::is_able(draft) => messages::swap(random, draft),
+        15 if messages::is_able(draft) => messages::other_count(random, draft),
+        15 => draft.edition = random.pick(&[0, 1, 2, 3, 3, 4, 256, 65_535]),
         _ => {
             let index = random.below(n);
             let made = &mut draft.objects[index];
@@ -253,8 +257,8 @@ fn spoil_image(random: &mut Random, image: &mut Vec<u8>, n: usize) {
 /// N, B or the edition out of range, with the length that the header tells.
 fn header_out_of_range(random: &mut Random, image: &mut Vec<u8>) {
     match random.below(4) {
-        0 => put(image, 0, random.pick(&[0, 2, 256])),
-        1 => put(image, 1, random.pick(&[0, 1, 4, 5, 2_047, 2_048, 65_535])),
+        0 => put(image, 0, random.pick(&[0, 1, 2, 3, 3, 256, 512])),
+        1 => put(image, 1, random.pick(&[0, 1, 4, 5, 7, 7, 8, 8, 2_047, 2_048, 65_535])),
         _ => put(image, 2, random.pick(&[0, 24_000, 24_001, 65_535])),
     }
     image.resize(10 + 8 * get(image, 1) as usize + 2 * get(image, 2) as usize, 0);

@@ -14,6 +14,7 @@ pub struct Made {
 
 #[derive(Clone, Default)]
 pub struct Draft {
+    pub edition: u16,
     pub objects: Vec<Made>,
     pub receiver: u16,
     pub selector: u16,
@@ -52,7 +53,7 @@ impl Draft {
 
     pub fn image(&self) -> Vec<u8> {
         let total: usize = self.objects.iter().map(|made| made.body.len()).sum();
-        let mut words = vec![1, self.objects.len() as u16, total as u16, self.receiver, self.selector];
+        let mut words = vec![self.edition, self.objects.len() as u16, total as u16, self.receiver, self.selector];
         let mut start = 0;
         for made in &self.objects {
             words.extend([made.class, made.kind, start as u16, made.size as u16]);

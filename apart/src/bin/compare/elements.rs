@@ -110,7 +110,7 @@ fn put_object(random: &mut Random, draft: &mut Draft, class: u16, size: usize) {
 }
 
 /// Puts a method into the dictionary of a class that has none under the selector.
-fn understand(draft: &mut Draft, class: u16, selector: u16, words: Vec<u16>, code: &[u8]) {
+pub fn understand(draft: &mut Draft, class: u16, selector: u16, words: Vec<u16>, code: &[u8]) {
     let list = draft.objects[class as usize / 2 - 1].body[1] as usize / 2 - 1;
     let meta = draft.objects[class as usize / 2 - 1].class;
     let at = match draft.objects[list].body.chunks(2).position(|pair| pair[0] >= selector) {
@@ -125,7 +125,7 @@ fn understand(draft: &mut Draft, class: u16, selector: u16, words: Vec<u16>, cod
     dictionary.size = dictionary.body.len();
 }
 
-fn header(flag: usize, temporaries: usize, literals: usize) -> u16 {
+pub fn header(flag: usize, temporaries: usize, literals: usize) -> u16 {
     (flag << 13 | temporaries << 8 | literals << 1 | 1) as u16
 }
 

@@ -21,6 +21,8 @@ struct Plan {
     classes: Vec<PlannedClass>,
     /// Selectors with their counts of arguments.
     selectors: Vec<(u16, usize)>,
+    /// Selectors without methods, which can be sent with any count.
+    unknown: Vec<u16>,
     specials: Vec<u16>,
     /// Objects of forms 0 to 2, with class and size.
     instances: Vec<(u16, usize, usize)>,
@@ -44,7 +46,10 @@ fn number(n: i64) -> u16 {
     word(n).unwrap()
 }
 
-/// Hands out object numbers after the first five, in random order.
+/// Which of the selectors is object 6 where objects 6 to 8 are those for messages.
+const UNDER_6: usize = 2;
+
+/// Hands out object numbers after the first ones, in random order.
 struct Numbers {
     free: Vec<u16>,
 }
@@ -55,14 +60,23 @@ impl Numbers {
     }
 }
 
-/// A valid image; in some a chain has as many classes as it can have, or one less.
+/// A valid image; in some a chain has as many classes as it can have, or one less. About half are of edition 2; of the others some have objects 6 to 8 as
+/// these have.
 pub fn draft(random: &mut Random) -> Draft {
+    let with_messages = random.percent(62);
+    let edition = if with_messages && random.percent(82) { 2 } else { 1 };
+    of_edition(random, edition, with_messages)
+}
+
+/// `with_messages`: objects 6 to 8 are those for messages.
+pub fn of_edition(random: &mut Random, edition: u16, with_messages: bool) -> Draft {
     let deep = if random.percent(8) { random.pick(&[MOST_CHAIN, MOST_CHAIN, MOST_CHAIN - 1]) } else { 0 };
     let class_count = if deep > 0 { ROOT + deep + random.below(3) } else { random.from(5, 11) };
+    let class_count = class_count + if with_messages { 2 } else { 0 };
     let selector_count = random.from(8, 15);
     let instance_count = random.from(5, 14);
-    let (plan, dictionaries, loose, count, mut numbers) = plan(random, deep, class_count, selector_count, instance_count);
-    let mut draft = Draft { objects: vec![Default::default(); count], receiver: 0, selector: 0 };
+    let (plan, dictionaries, loose, count, mut numbers) = plan(random, deep, class_count, selector_count, instance_count, with_messages);
+    let mut draft = Draft { edition, objects: vec![Default::default(); count], receiver: 0, selector: 0 };
     put_instances(random, &plan, &mut draft);
     put_classes(random, &plan, &mut draft, &dictionaries);
     for (class, pairs) in dictionaries.iter().enumerate() {
@@ -94,18 +108,30 @@ fn plan(
     class_count: usize,
     selector_count: usize,
     instance_count: usize,
+    with_messages: bool,
 ) -> (Plan, Dictionaries, Vec<u16>, usize, Numbers) {
     // Which class has methods under which selectors: the root under most, so that sends find something.
-    let has: Vec<Vec<bool>> = (0..class_count).map(|class| (0..selector_count).map(|_| random.percent(chance(deep, class))).collect()).collect();
+    let mut has: Vec<Vec<bool>> = (0..class_count).map(|class| (0..selector_count).map(|_| random.percent(chance(deep, class))).collect()).collect();
+    if with_messages {
+        // None, some below the root, all, or as they came.
+        let (column, which) = (UNDER_6, random.below(10));
+        for (class, row) in has.iter_mut().enumerate() {
+            row[column] = which >= 8 || which > 1 && row[column] && !(which < 4 && class == ROOT);
+        }
+    }
     let method_count: usize = has.iter().flatten().filter(|has| **has).count();
-    let loose_count = random.below(3);
-    let count = 5 + (class_count - 1) + class_count + selector_count + instance_count + method_count + loose_count + random.below(3);
-    let mut free: Vec<u16> = (6..=count).map(pointer).collect();
+    let (loose_count, unknown_count) = (random.below(3), if with_messages { 2 } else { 0 });
+    let others = instance_count + method_count + loose_count + unknown_count + random.below(3);
+    let count = 5 + (class_count - 1) + class_count + selector_count + others;
+    let first = if with_messages { 9 } else { 6 };
+    let mut free: Vec<u16> = (first..=count).map(pointer).collect();
     random.shuffle(&mut free);
     let mut numbers = Numbers { free };
-    let classes = plan_classes(random, deep, class_count, &mut numbers);
+    let classes = plan_classes(random, deep, class_count, with_messages, &mut numbers);
     const COUNTS: [usize; 15] = [0, 0, 1, 1, 2, 1, 0, 1, 2, 3, 4, 1, 5, 9, 0];
-    let selectors: Vec<(u16, usize)> = (0..selector_count).map(|index| (numbers.take(), COUNTS[index])).collect();
+    let selector = |index: usize| if with_messages && index == UNDER_6 { DOES_NOT_UNDERSTAND } else { numbers.take() };
+    let selectors: Vec<(u16, usize)> = (0..selector_count).map(selector).zip(COUNTS).collect();
+    let unknown = (0..unknown_count).map(|_| numbers.take()).collect();
     let dictionaries = has
         .iter()
         .map(|row| {
@@ -115,7 +141,7 @@ fn plan(
         })
         .collect();
     let loose = (0..loose_count).map(|_| numbers.take()).collect();
-    let mut plan = Plan { deep, classes, selectors, specials: vec![], instances: vec![], variables: vec![] };
+    let mut plan = Plan { deep, classes, selectors, unknown, specials: vec![], instances: vec![], variables: vec![] };
     plan_instances(random, &mut plan, instance_count, &mut numbers);
     plan.specials = specials(random, &plan);
     (plan, dictionaries, loose, count, numbers)
@@ -137,10 +163,14 @@ fn fields_of(classes: &[PlannedClass], pointer: u16) -> usize {
     classes.iter().find(|class| class.pointer == pointer).map_or(0, |class| class.fields)
 }
 
-fn plan_classes(random: &mut Random, deep: usize, count: usize, numbers: &mut Numbers) -> Vec<PlannedClass> {
+fn plan_classes(random: &mut Random, deep: usize, count: usize, with_messages: bool, numbers: &mut Numbers) -> Vec<PlannedClass> {
     let root_fields = if random.percent(88) { 0 } else { 2 };
     let mut pointers = vec![INTEGER_CLASS];
-    pointers.extend((1..count).map(|_| numbers.take()));
+    let numbered = if with_messages { count - 2 } else { count };
+    pointers.extend((1..numbered).map(|_| numbers.take()));
+    if with_messages {
+        pointers.extend([MESSAGE_CLASS, ARRAY_CLASS]);
+    }
     let mut classes: Vec<PlannedClass> = vec![];
     for (index, &own) in pointers.iter().enumerate() {
         let (superclass, form) = match index {
@@ -149,6 +179,10 @@ fn plan_classes(random: &mut Random, deep: usize, count: usize, numbers: &mut Nu
                 (above, if index == STRINGS { 2 } else { 3 })
             }
             ROOT => (NIL, random.pick(&[0, 0, 1])),
+            _ if index >= numbered => {
+                let above = if own == MESSAGE_CLASS || root_fields == 0 { random.pick(&[NIL, pointers[ROOT], pointers[ROOT]]) } else { NIL };
+                (above, if own == MESSAGE_CLASS { 0 } else { 1 })
+            }
             _ if index < ROOT + deep => (pointers[index - 1], random.pick(&[0, 0, 1])),
             _ => {
                 // The lowest class of a long chain is the superclass of none.
@@ -160,6 +194,13 @@ fn plan_classes(random: &mut Random, deep: usize, count: usize, numbers: &mut Nu
         };
         let fields = match index {
             ROOT => root_fields,
+            _ if index >= numbered => {
+                if own == MESSAGE_CLASS {
+                    2
+                } else {
+                    0
+                }
+            }
             _ if form >= 2 => 0,
             _ if deep > 0 => fields_of(&classes, superclass) + random.pick(&[0, 0, 0, 0, 0, 0, 0, 0, 1, 2]),
             _ => fields_of(&classes, superclass) + random.pick(&[0, 1, 2, 3, 1, 2, 9, 20]),
@@ -205,6 +246,8 @@ fn specials(random: &mut Random, plan: &Plan) -> Vec<u16> {
             let able: Vec<u16> = plan.selectors.iter().filter(|known| known.1 == special_arguments(special)).map(|known| known.0).collect();
             if able.is_empty() || random.percent(12) {
                 NIL
+            } else if !plan.unknown.is_empty() && random.percent(8) {
+                random.pick(&plan.unknown)
             } else {
                 random.pick(&able)
             }
@@ -234,7 +277,7 @@ fn put_instances(random: &mut Random, plan: &Plan, draft: &mut Draft) {
             draft.put(own, class.pointer, FIELDS, words);
         }
     }
-    for &(own, _) in &plan.selectors {
+    for own in plan.selectors.iter().map(|known| known.0).chain(plan.unknown.iter().copied()) {
         let bytes: Vec<u8> = (0..random.below(5)).map(|_| random.byte()).collect();
         draft.put_bytes(own, plan.classes[STRINGS].pointer, &bytes);
     }
@@ -623,12 +666,26 @@ impl Coder<'_> {
         }
     }
 
-    fn sending(&mut self, depth: usize, fuel: usize) -> Vec<u8> {
+    /// A selector and a count: one that is known, or, where there is room, any count under one that nobody has.
+    fn sent(&mut self, depth: usize) -> (u16, usize) {
         let (selector, arguments) = self.random.pick(&self.plan.selectors);
+        let (nothing, left) = (self.plan.unknown.is_empty(), (self.room - self.temporaries).saturating_sub(depth + 1));
+        if nothing {
+            return (if self.random.percent(2) { NIL } else { selector }, arguments);
+        }
+        match self.random.below(20) {
+            0 => (NIL, arguments),
+            1 => (self.random.pick(&self.plan.unknown), self.random.from(0, 3)),
+            2 => (self.random.pick(&[NIL, self.plan.unknown[0]]), self.random.from(0, left)),
+            _ => (selector, arguments),
+        }
+    }
+
+    fn sending(&mut self, depth: usize, fuel: usize) -> Vec<u8> {
+        let (selector, arguments) = self.sent(depth);
         if !self.has_room(depth, arguments + 1) {
             return self.simple(depth);
         }
-        let selector = if self.random.percent(2) { NIL } else { selector };
         let mut code = self.receiver(depth, fuel - 1);
         for index in 0..arguments {
             code.extend(self.expression(depth + 1 + index, fuel - 1));

@@ -8,6 +8,7 @@ mod elements;
 mod generate;
 mod laws;
 mod lookups;
+mod messages;
 mod random;
 mod report;
 mod shrink;

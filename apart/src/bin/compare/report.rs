@@ -4,9 +4,11 @@ use crate::chains::{self, CHAINS};
 use crate::elements::MOVED;
 use crate::laws::{CUTS, SHORT};
 use crate::lookups::LOOKUPS;
+use crate::messages::{self, IMAGES, REASONS, STATES};
 use crate::sides::*;
 use apart::accesses::{self, NAMES, NO_BYTES, OTHERS, RECEIVERS, SHOWN, THEN};
 use apart::counts::{Counts, REACHES, SENDS, SUPER_SENDS};
+use apart::messages as failures;
 use apart::play::{ANSWER_WORDS, ENDS};
 use apart::rules::{CIRCLE, TOO_LONG};
 use std::collections::BTreeMap;
@@ -108,7 +110,12 @@ impl Report {
         }
         if let Call::Load(image) = call {
             self.counts.accesses.put = None;
+            self.counts.message = None;
             self.counts.events_met(CHAINS, chains::met(image, outcome.number));
+            self.counts.events_met(IMAGES, messages::met(image, outcome.refusal));
+        }
+        if let (0, Call::Begin { receiver, .. }) = (outcome.number, call) {
+            self.counts.message_used(*receiver, failures::BEGUN);
         }
         if outcome.number == 0 && (index == 1 || index == 2) {
             count(&mut self.phases, index, after.registers[4] as u32);
@@ -147,14 +154,21 @@ impl Report {
         {
             missing.extend(unmet(tally, call, phases).map(|phase| format!("phase {phase} after {}{place}", CALLS[call])));
         }
-        for reason in [(14, TOO_LONG), (14, CIRCLE), (11, TOO_LONG), (11, CIRCLE)] {
+        let of_states = REASONS.iter().map(|(_, why)| (11, *why));
+        for reason in [(14, TOO_LONG), (14, CIRCLE), (11, TOO_LONG), (11, CIRCLE)].into_iter().chain(REASONS).chain(of_states) {
             if !self.reasons.contains_key(&reason) {
                 missing.push(format!("refusal {} by {}", reason.0, reason.1));
             }
         }
         let events = ENDS.iter().chain(&REACHES).chain(&CUTS).chain(&SHORT).chain(&CHAINS).chain(&LOOKUPS).chain(&SENDS).chain(&SUPER_SENDS);
-        let events = events.chain(&THEN).chain(&NO_BYTES).chain(&MOVED);
+        let events = events.chain(&THEN).chain(&NO_BYTES).chain(&MOVED).chain(&IMAGES).chain(&STATES).chain(&failures::THEN);
+        let events = events.chain(failures::SHOWN.iter().map(|(name, _)| name));
         missing.extend(events.filter(|event| !self.counts.events.contains_key(*event)).map(|event| event.to_string()));
+        for (cause, end) in (0..failures::CAUSES.len()).flat_map(|cause| (0..failures::ENDS.len()).map(move |end| (cause, end))) {
+            if failures::possible(cause, end) && self.counts.failures[cause][end] == 0 {
+                missing.push(format!("{}: {}", failures::CAUSES[cause], failures::ENDS[end]));
+            }
+        }
         for (primitive, name) in NAMES.iter().enumerate() {
             let found = &self.counts.accesses;
             for (receiver, shown) in (0..RECEIVERS.len()).flat_map(|receiver| (0..SHOWN.len()).map(move |shown| (receiver, shown))) {
@@ -202,6 +216,7 @@ impl Report {
             println!("  {}", line.join("; "));
         }
         self.print_accesses();
+        self.print_failures();
         println!("events:");
         for (name, count) in &self.counts.events {
             println!("  {name}: {count}");
@@ -209,6 +224,16 @@ impl Report {
         println!("what was wrong, by refusal:");
         for ((number, why), count) in &self.reasons {
             println!("  {number:2} {why}: {count}");
+        }
+    }
+
+    fn print_failures(&self) {
+        println!("failed sends:");
+        for (cause, name) in failures::CAUSES.iter().enumerate() {
+            println!("  {name}");
+            for (end, came) in failures::ENDS.iter().enumerate().filter(|(end, _)| failures::possible(cause, *end)) {
+                println!("    {came}: {}", self.counts.failures[cause][end]);
+            }
         }
     }
 

@@ -15,19 +15,21 @@ pub fn byte_order(first: &Refusal, bytes: &[u8], image: &Image) -> Option<String
     }
 }
 
-/// The edition is 1, so 256 is 1 with its bytes swapped.
+/// An edition's number has a zero high half.
 fn header(bytes: &[u8]) -> Option<String> {
-    if bytes.get(..2)? != [1, 0] {
-        return None;
-    }
+    let edition = match bytes.get(..2)? {
+        [low, 0] if (1..=LAST_EDITION).contains(&u16::from(*low)) => u16::from(*low),
+        _ => return None,
+    };
     let swapped = |index: usize| bytes.get(2 * index..2 * index + 2).map(|pair| u16::from_le_bytes([pair[0], pair[1]]) as usize);
     let (n, b) = (swapped(1)?, swapped(2)?);
-    if rules::ranges(1, n, b).is_err() {
-        return Some("the edition looks byte-swapped: 256 is 1 read low byte first; words stand high byte first".to_string());
+    if rules::ranges(edition, n, b).is_err() {
+        let other = 256 * edition;
+        return Some(format!("the edition looks byte-swapped: {other} is {edition} read low byte first; words stand high byte first"));
     }
     let length = 10 + 8 * n + 2 * b;
     let other = if bytes.len() == length { String::new() } else { format!(" (it has {})", bytes.len()) };
-    let header = format!("read low byte first, the header is edition 1, N {n}, B {b} and the file {length} bytes{other}");
+    let header = format!("read low byte first, the header is edition {edition}, N {n}, B {b} and the file {length} bytes{other}");
     Some(format!("the words look byte-swapped: {header}; words stand high byte first"))
 }
 

@@ -14,6 +14,7 @@ what was found there, then up to ten other places that break rules of this numbe
 words that look byte-swapped a hint. Code is in the words of examples/assemble, with jump targets as positions and the depth of the operands at each reached position.
 The line of a chain ends with the number of pairs in all its dictionaries: no lookup from the class reads more.
 An object whose elements come behind named fields is shown with both, the elements counted as at: counts them.
+From edition 2 on object 6 is the selector that is sent with a message where a send fails; a line has the classes with a method under it.
 Nothing in an image has a name but selectors, so a class is known by its object number.
 The status is 0 if all images are right, 1 if one is refused, 2 if one cannot be read.
 ";
@@ -93,7 +94,7 @@ mod tests {
     /// The number that the machine's load gives, 0 where it accepts.
     fn loaded(bytes: &[u8]) -> u32 {
         let (mut contents, mut bodies, mut cache) = (vec![0; 4 * 65_535], vec![0; 65_535], vec![0; CACHE_WORDS]);
-        let mut lent = Lent { contents: &mut contents, bodies: &mut bodies, stack: &mut [], cache: &mut cache, registers: &mut [0; 7] };
+        let mut lent = Lent { contents: &mut contents, bodies: &mut bodies, stack: &mut [], cache: &mut cache, registers: &mut [0; 8] };
         calls::load(bytes, &mut lent).map_or_else(|refusal| refusal.number, |_| 0)
     }
 
@@ -127,8 +128,8 @@ mod tests {
             numbers[explained(&bytes).0 as usize] += 1;
         }
         for _ in 0..2_000 {
-            let n = random.below(9);
-            let mut bytes = vec![0, 1, 0, n as u8, 0, random.below(60) as u8];
+            let n = random.below(12);
+            let mut bytes = vec![0, 1 + random.below(2) as u8, 0, n as u8, 0, random.below(60) as u8];
             let rest = 4 + 8 * n + 2 * bytes[5] as usize;
             bytes.extend((0..rest).map(|_| if random.below(2) == 0 { 0 } else { random.below(256) as u8 }));
             explained(&bytes);
@@ -143,7 +144,7 @@ mod tests {
                 Ok(header) => header,
                 Err(_) => continue,
             };
-            let image = Image::new(header.n, &bytes[10..]);
+            let image = Image::new(header.edition, header.n, &bytes[10..]);
             let world = match report::judge(&header, &image) {
                 Ok(world) => world,
                 Err(_) => continue,

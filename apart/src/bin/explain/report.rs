@@ -12,16 +12,18 @@ use apart::words::*;
 /// By their numbers, in load's order.
 const RULES: [(u32, &str); 9] = [
     (1, "the length is 10 + 8N + 2B bytes"),
-    (2, "the edition is 1, N is 5 to 2047, B is at most 24000"),
+    (2, "the edition is 1 or 2, N is 5 to 2047 (from 8 in edition 2), B is at most 24000"),
     (3, "the lent buffers are long enough"),
     (4, "the layout: kinds are 0 to 4, each body starts where the one before ends, a class has 4 words, padding is zero, the last body ends at B"),
     (5, "the classes of entries and the words of fields, classes and lists are valid: odd, or twice the number of an object"),
     (14, "the chain of each class, itself counted, has at most 24 classes"),
-    (6, "entries' classes, class bodies, dictionaries and objects 1 to 5"),
-    (7, "methods: header, home, literals, counts of arguments, and code with a depth table"),
+    (6, "entries' classes, class bodies, dictionaries and objects 1 to 5; in edition 2 also objects 6 (bytes), 7 (a class of form 0 with F 2) and 8 (a class of form 1 with F 0)"),
+    (7, "methods: header, home, literals, counts of arguments (one under object 6 in edition 2), and code with a depth table"),
     (8, "the start receiver is a valid word, the start selector has kind 1"),
 ];
 
+/// How many classes are said that have a method under object 6.
+const MOST_UNDER_6: usize = 8;
 /// How many faults are said after the first.
 const MOST_OTHERS: usize = 10;
 /// How many classes of a chain are said: where it is too long, and in the line of another fault.
@@ -32,9 +34,9 @@ const OTHER_CHAIN: usize = 6;
 pub fn explain(bytes: &[u8]) -> (u32, String) {
     let header = match rules::header(bytes) {
         Ok(header) => header,
-        Err(refusal) => return (refusal.number, refused(&refusal.into(), bytes, &Image::new(0, &[]))),
+        Err(refusal) => return (refusal.number, refused(&refusal.into(), bytes, &Image::default())),
     };
-    let image = Image::new(header.n, &bytes[10..]);
+    let image = Image::new(header.edition, header.n, &bytes[10..]);
     match judge(&header, &image) {
         Ok(world) => (0, right(&header, &image, &world)),
         Err(faults) => {
@@ -50,7 +52,7 @@ pub fn explain(bytes: &[u8]) -> (u32, String) {
 
 pub fn judge(header: &Header, image: &Image) -> Result<World, Faults> {
     rules::ranges(header.edition, header.n, header.b)?;
-    let world = rules::judge(&image.contents, &image.bodies)?;
+    let world = rules::judge(header.edition, &image.contents, &image.bodies)?;
     rules::start_words(&world.objects, header.receiver, header.selector)?;
     Ok(world)
 }
@@ -222,7 +224,7 @@ fn method_head(image: &Image, method: &Method) -> String {
 }
 
 fn right(header: &Header, image: &Image, world: &World) -> String {
-    let mut out = format!("right: objects {}, body words {}\n", header.n, header.b);
+    let mut out = format!("right: edition {}, objects {}, body words {}\n", header.edition, header.n, header.b);
     out += &format!("start: {} is sent {}\n", image.name(header.receiver), image.name(header.selector));
     let found = world.objects.lookup(world.objects.class_of(header.receiver), header.selector);
     out += &match found.map(|word| (word, world.method(word).arguments)) {
@@ -230,6 +232,9 @@ fn right(header: &Header, image: &Image, world: &World) -> String {
         Some((word, 0)) => format!("begin without arguments: {}\n", image.name(word)),
         Some((word, count)) => format!("begin without arguments: refused 10, {} takes {count}\n", image.name(word)),
     };
+    if header.edition >= WITH_MESSAGES {
+        out += &failed_sends(image);
+    }
     let length = |number: &usize| world.objects.chain(pointer(*number)).take(MOST_CHAIN).count();
     // Of several the first.
     if let Some(longest) = (1..=header.n).rev().max_by_key(length) {
@@ -248,6 +253,17 @@ fn right(header: &Header, image: &Image, world: &World) -> String {
         };
     }
     out
+}
+
+/// The classes that have a method under object 6, which gets the message of a failed send.
+fn failed_sends(image: &Image) -> String {
+    let mut classes: Vec<usize> =
+        image.places.values().flatten().filter(|(_, selector)| pointer(*selector) == DOES_NOT_UNDERSTAND).map(|place| place.0).collect();
+    classes.sort_unstable();
+    let names: Vec<String> = classes.iter().take(MOST_UNDER_6).map(|class| image.object_name(*class)).collect();
+    let more = if classes.len() > names.len() { format!(", and {} more", classes.len() - names.len()) } else { String::new() };
+    let by = if classes.is_empty() { "no class, so they halt".to_string() } else { names.join(", ") + &more };
+    format!("failed sends: {} is sent with a message; a method under it has {by}\n", image.name(DOES_NOT_UNDERSTAND))
 }
 
 fn class_shown(image: &Image, world: &World, number: usize) -> String {

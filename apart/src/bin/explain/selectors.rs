@@ -5,6 +5,7 @@ use apart::image::Image;
 use apart::listing::{sent, walk};
 use apart::objects::*;
 use apart::rules::Header;
+use apart::words::DOES_NOT_UNDERSTAND;
 use std::collections::BTreeMap;
 
 const MOST_USES: usize = 4;
@@ -28,6 +29,9 @@ impl Uses<'_> {
 fn uses<'a>(header: &Header, image: &'a Image) -> Uses<'a> {
     let mut uses = Uses { image, found: BTreeMap::new() };
     uses.add(header.selector, "start selector".to_string());
+    if header.edition >= WITH_MESSAGES {
+        uses.add(DOES_NOT_UNDERSTAND, "failed sends send it".to_string());
+    }
     for number in 1..=header.n {
         for (class, selector) in image.places.get(&number).into_iter().flatten() {
             uses.add(2 * *selector as u16, format!("method {number} of class {class} is under it"));

@@ -7,7 +7,7 @@ use crate::out::Out;
 use crate::sends::*;
 use crate::sides::*;
 use crate::trace::Trace;
-use apart::calls::{self, CACHE_WORDS, PHASE, VALUE};
+use apart::calls::{self, CACHE_WORDS, EDITION, PHASE, VALUE};
 use apart::counts::Counts;
 use apart::machine::*;
 use apart::objects::Objects;
@@ -64,8 +64,8 @@ impl<'a> Both<'a> {
     pub fn new(options: &'a Options, out: &'a mut Out) -> Both<'a> {
         let [contents, bodies, stack] = options.lengths;
         let lengths = [contents, bodies, stack, CACHE_WORDS];
-        let buffers = Buffers { words: lengths.map(|length| vec![0; length + GUARD]), lengths, registers: [0; 7] };
-        let names = Names::new(&Objects::default(), "");
+        let buffers = Buffers { words: lengths.map(|length| vec![0; length + GUARD]), lengths, registers: [0; 8] };
+        let names = Names::new(0, &Objects::default(), "");
         Both { options, out, plain: buffers.clone(), proved: buffers, counts: Counts::default(), names, refused: false, halted: false }
     }
 
@@ -146,11 +146,14 @@ impl<'a> Both<'a> {
 
     fn load(&mut self, image: Vec<u8>, names: &str) -> Result<bool, End> {
         let loaded = self.call(&Call::Load(image), None, |both, outcome, refusal| match outcome.number {
-            0 => format!("load: objects {}, body words {}", both.proved.registers[0], both.proved.registers[1]),
+            0 => {
+                let registers = &both.proved.registers;
+                format!("load: edition {}, objects {}, body words {}", registers[EDITION], registers[0], registers[1])
+            }
             number => format!("load: {}", refused(number, refusal)),
         })?;
         if let Ok((world, _)) = self.opened() {
-            self.names = Names::new(&world.objects, names);
+            self.names = Names::new(world.edition, &world.objects, names);
         }
         Ok(loaded.number == 0)
     }
@@ -237,11 +240,11 @@ impl<'a> Both<'a> {
     }
 
     fn show_frames(&mut self) {
-        let (phase, stack, most) = (self.phase(), self.options.lengths[2], self.options.frames.unwrap_or(FRAMES));
+        let (phase, lengths, most) = (self.phase(), self.options.lengths, self.options.frames.unwrap_or(FRAMES));
         if let Ok((world, frames)) = self.opened() {
             if phase != RUNNING {
                 let name = PHASES.get(phase as usize).copied().unwrap_or("no phase");
-                self.out.text(&format!("halted: {name}\n{}", cause(&self.names, &world, &frames, phase, stack)));
+                self.out.text(&format!("halted: {name}\n{}", cause(&self.names, &world, &frames, phase, lengths)));
             }
             self.out.text(&format!("frames, the top first:\n{}", frames_shown(&self.names, &world, &frames, most)));
         }

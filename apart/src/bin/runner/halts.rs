@@ -5,16 +5,17 @@ use crate::sends::*;
 use apart::code::*;
 use apart::machine::*;
 use apart::objects::*;
+use apart::primitives::Room;
 use apart::rules::World;
 use apart::words::*;
 
-/// Why the top frame's bytecode could not be made.
-pub fn cause(names: &Names, world: &World, frames: &[Frame], phase: u16, stack: usize) -> String {
+/// Why the top frame's bytecode could not be made, with buffers of these lengths: contents, bodies, stack.
+pub fn cause(names: &Names, world: &World, frames: &[Frame], phase: u16, [contents, bodies, stack]: [usize; 3]) -> String {
     let frame = match frames.last() {
         Some(frame) => frame,
         None => return String::new(),
     };
-    match (phase, asked(world, frame)) {
+    match (phase, asked(world, frame, Room { contents, bodies })) {
         (NO_BOOLEAN, _) => format!("  operand: {}, neither true nor false\n", frame.operands.last().map_or(String::new(), |word| names.name(*word))),
         (_, Asked::Lookup(lookup)) => {
             let mut out = format!("  selector: {}\n  receiver: {}\n", names.name(lookup.selector), with_class(names, world, lookup.receiver));
@@ -22,8 +23,12 @@ pub fn cause(names: &Names, world: &World, frames: &[Frame], phase: u16, stack: 
                 out += &format!("  arguments: {}\n", names.list(&lookup.arguments));
             }
             let pairs = lookup.pairs.map_or(String::new(), |pairs| format!("; pairs read: {pairs}"));
-            out += &format!("  lookup: {}{pairs}\n", found(names, world, &lookup, phase));
-            if let (NO_STACK_ROOM, Some(found)) = (phase, lookup.found) {
+            out += &format!("  lookup: {}{pairs}\n", found(names, world, &lookup));
+            if let Some(message) = &lookup.message {
+                out += &format!("  object 6: {}\n", message_halted(names, world, &lookup, message));
+            }
+            let framed = lookup.message.as_ref().map_or(lookup.found, |message| message.found);
+            if let (NO_STACK_ROOM, Some(found)) = (phase, framed) {
                 let base = frame.base + 6 + world.method(frame.method).room();
                 let needed = 6 + world.method(found).room();
                 let of_use = if stack > MOST_STACK { format!(", of which {MOST_STACK} are of use") } else { String::new() };
@@ -45,7 +50,23 @@ fn with_class(names: &Names, world: &World, word: u16) -> String {
     }
 }
 
-fn found(names: &Names, world: &World, lookup: &Lookup, phase: u16) -> String {
+/// How far the send of object 6 came.
+fn message_halted(names: &Names, world: &World, lookup: &Lookup, message: &MessageLookup) -> String {
+    let sent = format!("{} in its stead, from {} upwards,", names.name(DOES_NOT_UNDERSTAND), names.name(lookup.start));
+    let found = match message.found {
+        Some(found) => found,
+        None if lookup.start == NIL => return format!("{} in its stead finds no method either", names.name(DOES_NOT_UNDERSTAND)),
+        None => return format!("{sent} finds no method either; pairs read: {}", message.pairs),
+    };
+    let but = match &message.lack {
+        Some(lack) => format!("; array and message find no room: {lack}"),
+        None if message.fits_receiver => String::new(),
+        None => format!("; its home, {}, is not in the receiver's class chain", names.name(world.method(found).home)),
+    };
+    format!("{sent} finds {}{but}; pairs read: {}", names.name(found), message.pairs)
+}
+
+fn found(names: &Names, world: &World, lookup: &Lookup) -> String {
     let send = if lookup.is_super { "a super send" } else { "a send" };
     let start = names.name(lookup.start);
     let found = match lookup.found {
@@ -55,11 +76,9 @@ fn found(names: &Names, world: &World, lookup: &Lookup, phase: u16) -> String {
         None => return format!("{send}, from {start} upwards, finds no method"),
     };
     let finds = format!("{send}, from {start} upwards, finds {}", names.name(found));
-    let method = world.method(found);
-    match (phase, method.flag) {
-        (NOT_UNDERSTOOD, 6) => format!("{finds}; it answers field {}, which the receiver has not", method.temporaries),
-        (NOT_UNDERSTOOD, _) => format!("{finds}; its home, {}, is not in the receiver's class chain", names.name(method.home)),
-        _ => finds,
+    match unfit_words(names, world.method(found), lookup.failure) {
+        Some(why) => format!("{finds}; {why}"),
+        None => finds,
     }
 }
 

@@ -13,7 +13,7 @@ pub struct Names {
 
 impl Names {
     /// Of an image that was loaded; `file` has lines such as `OBJECT_crate = 52,`.
-    pub fn new(objects: &Objects, file: &str) -> Names {
+    pub fn new(edition: u16, objects: &Objects, file: &str) -> Names {
         let mut words = HashMap::new();
         for line in file.lines() {
             let (name, word) = match line.split_once('=') {
@@ -28,7 +28,7 @@ impl Names {
         let (mut contents, mut bodies) = (vec![0; 4 * objects.list.len()], vec![0; objects.body_total()]);
         objects.flat(&mut contents, &mut bodies);
         let bytes: Vec<u8> = contents.iter().chain(&bodies).flat_map(|word| word.to_be_bytes()).collect();
-        let mut image = Image::new(objects.list.len(), &bytes);
+        let mut image = Image::new(edition, objects.list.len(), &bytes);
         // What nil, false and true are called is known.
         let given = words.iter().filter(|(_, word)| !is_integer(**word) && **word > TRUE);
         image.given = given.map(|(name, word)| (*word as usize / 2, name.clone())).collect();

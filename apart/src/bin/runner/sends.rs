@@ -3,9 +3,9 @@
 use crate::names::Names;
 use apart::code::*;
 use apart::listing::instruction_words;
-use apart::machine::Frame;
-use apart::objects::{Method, Objects, BYTES};
-use apart::primitives::{arithmetic, elements, MOST_ELEMENTS};
+use apart::machine::{Failure, Frame};
+use apart::objects::{Method, Objects, BYTES, FIELDS, MOST_BODY_WORDS, MOST_OBJECTS, WITH_MESSAGES};
+use apart::primitives::*;
 use apart::rules::World;
 use apart::words::*;
 
@@ -20,6 +20,20 @@ pub struct Lookup {
     pub found: Option<u16>,
     /// Pairs that the walk reads, where it is made. None for nil, which is no selector.
     pub pairs: Option<usize>,
+    /// Why it fails, where it does.
+    pub failure: Option<Failure>,
+    /// The lookup of object 6 where it fails, in an edition that makes messages.
+    pub message: Option<MessageLookup>,
+}
+
+/// What a failed send asks for in its stead.
+pub struct MessageLookup {
+    pub found: Option<u16>,
+    pub pairs: usize,
+    /// Whether the method found is one for the receiver.
+    pub fits_receiver: bool,
+    /// Why array and message find no room.
+    pub lack: Option<String>,
 }
 
 /// What an instruction of a frame asks for.
@@ -31,7 +45,7 @@ pub enum Asked {
     Nothing,
 }
 
-pub fn asked(world: &World, frame: &Frame) -> Asked {
+pub fn asked(world: &World, frame: &Frame, room: Room) -> Asked {
     let method = world.method(frame.method);
     let instruction = match decode(&method.code, frame.position) {
         Some((instruction, _)) => instruction,
@@ -62,7 +76,59 @@ pub fn asked(world: &World, frame: &Frame) -> Asked {
     let start = if is_super { above } else { world.objects.class_of(receiver) };
     let found = world.objects.lookup(start, selector);
     let pairs = (selector != NIL).then(|| world.objects.pairs_read(start, selector));
-    Asked::Lookup(Lookup { selector, receiver, arguments, start, is_super, found, pairs })
+    let failure = match found {
+        Some(found) => unfit(world, found, receiver, &arguments, room),
+        None => Some(Failure::NoMethod),
+    };
+    let message = failure.filter(|_| world.edition >= WITH_MESSAGES).map(|_| message_lookup(world, start, receiver, arguments.len(), room));
+    Asked::Lookup(Lookup { selector, receiver, arguments, start, is_super, found, pairs, failure, message })
+}
+
+/// Why a method that was found is none for a receiver.
+fn unfit(world: &World, found: u16, receiver: u16, arguments: &[u16], room: Room) -> Option<Failure> {
+    let method = world.method(found);
+    match method.flag {
+        _ if world.objects.in_chain(receiver, method.home) => None,
+        5 => None,
+        6 => {
+            let object = world.objects.get(receiver).filter(|object| object.kind == FIELDS);
+            let field = object.and_then(|object| object.body.get(method.temporaries));
+            if field.is_some() {
+                None
+            } else {
+                Some(Failure::Field)
+            }
+        }
+        // On a copy, since the bytecode is still to be made.
+        7 if primitive(&mut world.objects.clone(), room, method.primitive, receiver, arguments).is_some() => None,
+        _ => Some(Failure::Home),
+    }
+}
+
+fn message_lookup(world: &World, start: u16, receiver: u16, count: usize, room: Room) -> MessageLookup {
+    let (objects, words) = (&world.objects, count + MESSAGE_WORDS);
+    let found = objects.lookup(start, DOES_NOT_UNDERSTAND);
+    let (n, b) = (objects.list.len() + 2, objects.body_total() + words);
+    let lacks = [
+        format!("they make {n} objects, and {MOST_OBJECTS} are the most"),
+        format!("they make {b} body words, and {MOST_BODY_WORDS} are the most"),
+        format!("they need contents of {} words, and there are {}", 4 * n, room.contents),
+        format!("they need bodies of {b} words, and there are {}", room.bodies),
+    ];
+    let lack = lacking(objects, room, 2, words).iter().zip(lacks).find(|(lacks, _)| **lacks).map(|(_, text)| text);
+    // Of the primitives only == can answer with a message.
+    let answers = |found: u16| world.method(found).flag == 7 && world.method(found).primitive == 110;
+    let fits_receiver = found.map_or(false, |found| answers(found) || objects.in_chain(receiver, world.method(found).home));
+    MessageLookup { found, pairs: objects.pairs_read(start, DOES_NOT_UNDERSTAND), fits_receiver, lack }
+}
+
+/// Why a method that was found is none for the receiver, in words.
+pub fn unfit_words(names: &Names, method: &Method, failure: Option<Failure>) -> Option<String> {
+    match failure? {
+        Failure::NoMethod => None,
+        Failure::Field => Some(format!("it answers field {}, which the receiver has not", method.temporaries)),
+        Failure::Home => Some(format!("its home, {}, is not in the receiver's class chain", names.name(method.home))),
+    }
 }
 
 /// The instruction at a position; what listings have behind `;` stands in brackets.

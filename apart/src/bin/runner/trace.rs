@@ -28,11 +28,30 @@ struct Before {
     instruction: Option<Instruction>,
     asked: Option<Asked>,
     cached: bool,
+    /// The same of object 6, where the send fails.
+    message_cached: bool,
 }
 
-/// Handlers change names by the primitives at:put:, new and new: alone.
+/// What a send came to.
+#[derive(Clone, Copy, PartialEq)]
+enum After {
+    Frame,
+    Answer(u16),
+    Halt,
+}
+
+/// Handlers change names by the primitive at:put: and by new objects alone.
 fn writes(machine: &Machine) -> u64 {
-    [61, 70, 71].iter().map(|number| machine.counts.answered[*number as usize]).sum()
+    machine.counts.answered[61] + machine.world.objects.list.len() as u64
+}
+
+/// Whether a lookup is in the cache, or else how many pairs it reads.
+fn cached_words(cached: bool, pairs: Option<usize>) -> String {
+    match pairs {
+        _ if cached => "in the cache".to_string(),
+        Some(pairs) => format!("not in the cache, pairs read: {pairs}"),
+        None => "not in the cache".to_string(),
+    }
 }
 
 impl<'a> Trace<'a> {
@@ -47,26 +66,59 @@ impl<'a> Trace<'a> {
         }
     }
 
-    fn looked_up(&self, machine: &Machine, lookup: &Lookup, grown: bool, answer: Option<u16>) -> String {
+    fn looked_up(&self, machine: &Machine, lookup: &Lookup, after: After) -> String {
         let start = if lookup.start == NIL { "above the last class".to_string() } else { format!("from {}", self.names.name(lookup.start)) };
-        let cached = match lookup.pairs {
-            _ if self.before.cached => "in the cache".to_string(),
-            Some(pairs) => format!("not in the cache, pairs read: {pairs}"),
-            None => "not in the cache".to_string(),
+        let cached = cached_words(self.before.cached, lookup.pairs);
+        let what = match lookup.found {
+            Some(found) => format!("lookup {start}, {cached}, finds {}", self.names.name(found)),
+            None => format!("lookup {start}, {cached}, finds nothing"),
         };
-        let found = match lookup.found {
-            Some(found) => found,
-            None => return format!("lookup {start}, {cached}, finds nothing"),
-        };
-        let what = format!("lookup {start}, {cached}, finds {}", self.names.name(found));
-        let method = machine.world.method(found);
-        match (grown, answer) {
-            (true, _) => {
-                let base = machine.frames.last().map_or(0, |frame| frame.base);
-                format!("{what}: {}", framed(self.names, &machine.world.objects, method, base, lookup.receiver, &lookup.arguments))
+        match (&lookup.message, lookup.found) {
+            (Some(message), found) => {
+                let unfit = found.and_then(|found| unfit_words(self.names, machine.world.method(found), lookup.failure));
+                let what = unfit.map_or(what.clone(), |unfit| format!("{what}, but {unfit}"));
+                format!("{what}: {}", self.message_sent(machine, lookup, message, after))
             }
-            (false, Some(answer)) => format!("{what}: {}", answered(self.names, method, answer)),
-            _ => what,
+            (None, Some(found)) => self.came(machine, what, found, (lookup.receiver, &lookup.arguments), after),
+            (None, None) => what,
+        }
+    }
+
+    /// Object 6, sent in a failed send's stead.
+    fn message_sent(&self, machine: &Machine, lookup: &Lookup, message: &MessageLookup, after: After) -> String {
+        let cached = cached_words(self.before.message_cached, Some(message.pairs));
+        let what = format!("{} in its stead, {cached}, finds", self.names.name(DOES_NOT_UNDERSTAND));
+        let found = match message.found {
+            Some(found) => found,
+            None => return format!("{what} nothing"),
+        };
+        let what = format!("{what} {}", self.names.name(found));
+        let made = pointer(machine.world.objects.list.len());
+        match &message.lack {
+            Some(lack) => return format!("{what}, but array and message find no room ({lack})"),
+            None if !message.fits_receiver => {
+                let home = machine.world.method(found).home;
+                return format!("{what}, but its home, {}, is not in the receiver's class chain", self.names.name(home));
+            }
+            None if after == After::Halt => return what,
+            None => {}
+        }
+        let (array, arguments) = (self.names.name(made - 2), self.names.list(&lookup.arguments));
+        let elements = if arguments.is_empty() { String::new() } else { format!(" with {arguments}") };
+        let what = format!("{what} with {} ({}, {array}{elements})", self.names.name(made), self.names.name(lookup.selector));
+        self.came(machine, what, found, (lookup.receiver, &[made]), after)
+    }
+
+    /// The frame or answer of a method that was found.
+    fn came(&self, machine: &Machine, what: String, found: u16, (receiver, arguments): (u16, &[u16]), after: After) -> String {
+        let method = machine.world.method(found);
+        match after {
+            After::Frame => {
+                let base = machine.frames.last().map_or(0, |frame| frame.base);
+                format!("{what}: {}", framed(self.names, &machine.world.objects, method, base, receiver, arguments))
+            }
+            After::Answer(answer) => format!("{what}: {}", answered(self.names, method, answer)),
+            After::Halt => what,
         }
     }
 
@@ -79,9 +131,12 @@ impl<'a> Trace<'a> {
         };
         let answer = top.operands.last().copied();
         let answer_name = answer.map_or(String::new(), |answer| self.names.name(answer));
-        let grown = machine.frames.len() > self.before.frames;
+        let after = match answer {
+            Some(answer) if machine.frames.len() == self.before.frames => After::Answer(answer),
+            _ => After::Frame,
+        };
         match (&self.before.asked, self.before.instruction) {
-            (Some(Asked::Lookup(lookup)), _) => self.looked_up(machine, lookup, grown, answer),
+            (Some(Asked::Lookup(lookup)), _) => self.looked_up(machine, lookup, after),
             (Some(Asked::Primitive(number)), _) => format!("primitive {number} answers {answer_name}"),
             (_, Some(Instruction::Special(_))) => format!("answers {answer_name}"),
             (_, Some(Instruction::ReturnTop | Instruction::ReturnSelf | Instruction::ReturnWord(_))) => {
@@ -105,10 +160,13 @@ impl Watch for Trace<'_> {
         let (name, position) = (self.names.method(frame.method), frame.position);
         let (words, operands) = (words(self.names, method, position), self.names.list(&frame.operands));
         self.line = format!("{:>7}  {indent}{name}  {position}  {words}  [{operands}]", self.made + 1);
-        let asked = asked(&machine.world, frame);
-        let cached = if let Asked::Lookup(lookup) = &asked { machine.cached(lookup.selector, lookup.start) } else { false };
+        let asked = asked(&machine.world, frame, machine.room);
+        let (cached, message_cached) = match &asked {
+            Asked::Lookup(lookup) => (machine.cached(lookup.selector, lookup.start), machine.cached(DOES_NOT_UNDERSTAND, lookup.start)),
+            _ => (false, false),
+        };
         let instruction = decode(&method.code, position).map(|(instruction, _)| instruction);
-        self.before = Before { frames: machine.frames.len(), instruction, asked: Some(asked), cached };
+        self.before = Before { frames: machine.frames.len(), instruction, asked: Some(asked), cached, message_cached };
     }
 
     fn after(&mut self, machine: &Machine, made: &Result<Made, u16>) {
@@ -120,7 +178,7 @@ impl Watch for Trace<'_> {
         let outcome = match (made, &self.before.asked) {
             (Ok(made), _) => self.outcome(machine, made),
             (Err(phase), Some(Asked::Lookup(lookup))) => {
-                format!("{}: halts, {}", self.looked_up(machine, lookup, false, None), PHASES[*phase as usize])
+                format!("{}: halts, {}", self.looked_up(machine, lookup, After::Halt), PHASES[*phase as usize])
             }
             (Err(phase), _) => format!("halts, {}", PHASES[*phase as usize]),
         };
