@@ -2,7 +2,7 @@
 #include "build.h"
 #include <string.h>
 
-static uint16_t contents[4 * 2048], bodies[65536];
+static uint16_t contents[4 * 2048], bodies[65536], edition;
 size_t object_count, word_count;
 
 unsigned new_object(unsigned class, unsigned kind, unsigned size) {
@@ -48,12 +48,16 @@ unsigned new_method(unsigned home, unsigned flag, unsigned temporaries, unsigned
 }
 
 // The objects with a fixed number, and the classes that all images have.
-void new_image(void) {
+void new_image(unsigned of_edition) {
+    edition = of_edition;
     object_count = word_count = 0;
     for (int i = 0; i < 3; i++) body_of(new_object(PLAIN, FIELDS, 1))[0] = 2 * NIL;
     new_class(NIL, EMPTY, 0, 3);
     new_object(CLASSES, LIST, 32);
     for (int i = 0; i < 32; i++) body_of(SELECTORS)[i] = 2 * NIL;
+    new_string("doesNotUnderstand:");
+    new_class(NIL, EMPTY, 2, 0);
+    new_class(NIL, EMPTY, 0, 1);
     new_class(NIL, EMPTY, 0, 3);
     new_class(NIL, EMPTY, 1, 0);
     new_object(CLASSES, LIST, 0);
@@ -62,7 +66,7 @@ void new_image(void) {
 }
 
 size_t written(uint8_t *image, unsigned receiver, unsigned selector) {
-    const uint16_t header[5] = {1, object_count, word_count, receiver, selector};
+    const uint16_t header[5] = {edition, object_count, word_count, receiver, selector};
     uint8_t *to = image;
     for (size_t i = 0; i < 5; i++) *to++ = header[i] >> 8, *to++ = header[i] & 255;
     for (size_t i = 0; i < 4 * object_count; i++) *to++ = contents[i] >> 8, *to++ = contents[i] & 255;

@@ -5,12 +5,13 @@
 
 enum { MOST_IMAGE = 10 + 8 * 2047 + 2 * 24000 };
 // The objects that every image here begins with.
-enum { NIL = 1, FALSE, TRUE, INTEGERS, SELECTORS, CLASSES, PLAIN, EMPTY, STRINGS, VARIABLES, FIRST };
+enum { NIL = 1, FALSE, TRUE, INTEGERS, SELECTORS, NOT_UNDERSTOOD, MESSAGES, ARRAYS, CLASSES, PLAIN, EMPTY, STRINGS, VARIABLES, FIRST };
 
 // Objects and body words so far. A caller may set them back.
 extern size_t object_count, word_count;
 
-void new_image(void);
+// In edition 1 the selector NOT_UNDERSTOOD and the classes MESSAGES and ARRAYS are there as well, and mean nothing.
+void new_image(unsigned edition);
 unsigned new_object(unsigned class, unsigned kind, unsigned size);
 uint16_t *body_of(unsigned object);
 unsigned kind_of(unsigned object);

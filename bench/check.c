@@ -1,7 +1,7 @@
 // Times check, ours and C's by turns, as a run of 0 bytecodes, on states of handlers that were begun; the least of all runs counts. What a
-// call's check costs an engine is the median of our runs. Then runs handlers of random images in both machines, spoils single words of the states
-// that they leave, and checks and runs these; and runs at:, at:put: and size at the ends of objects. Answers, registers and every word have to agree.
-// Argument: a file to which the goals are added.
+// call's check costs an engine is the median of our runs. Then runs handlers of random images of both editions in both machines, spoils single words
+// of the states that they leave, and checks and runs these; runs at:, at:put: and size at the ends of objects; and sends that fail where there is just
+// room for their messages, and just not. Answers, registers and every word have to agree. Argument: a file to which the goals are added.
 #include "image.h"
 #include "images.h"
 #include "machine.h"
@@ -10,8 +10,9 @@
 #include <stdlib.h>
 #include <string.h>
 
-enum { CONTENTS = 4 * 2047, BODIES = 24000, STACK = 65536, CACHE = 192, SIZE = CONTENTS + BODIES + STACK + CACHE };
-enum { RUNS = 400, IMAGES = 1000, HANDLERS = 8, SPOILED = 4 };
+// contents and bodies longer than an image can use, so that its limits and not theirs are met
+enum { CONTENTS = 4 * (MOST_OBJECTS + 3), BODIES = MOST_WORDS + 100, STACK = 65536, CACHE = 192, SIZE = CONTENTS + BODIES + STACK + CACHE };
+enum { RUNS = 400, IMAGES = 1200, HANDLERS = 8, SPOILED = 4 };
 
 void bench_table(uint16_t *table);
 
@@ -153,7 +154,7 @@ static double measure(const char *name, machine *m, int runs, double goal, FILE 
 static double measure_ordinary(const char *name, size_t size, int runs, double goal, FILE *goals) {
     memset(words[0], 0, sizeof words[0]);
     machine m = on(words[0], CONTENTS, BODIES, 4096);
-    if (sofaduck_state_load(&m, image, ordinary(image, size, size)) != 0 || !begin_any(&m, 4)) return printf("%s: no handler\n", name), -1;
+    if (sofaduck_state_load(&m, image, ordinary(image, 1, size, size)) != 0 || !begin_any(&m, 4)) return printf("%s: no handler\n", name), -1;
     fill_cache(&m);
     return measure(name, &m, runs, goal, goals);
 }
@@ -222,7 +223,7 @@ static bool chain_spoiled(const machine *m, const machine *before) {
     static uint8_t notes[2 * MOST_WORDS];
     const uint16_t *const r = m->registers;
     return r[N] == before->registers[N] && r[B] == before->registers[B]
-        && c_judge(entries, m->contents, m->bodies, r[N], r[B], r[START_RECEIVER], r[START_SELECTOR], notes) == 14;
+        && c_judge(entries, m->contents, m->bodies, r[EDITION], r[N], r[B], r[START_RECEIVER], r[START_SELECTOR], notes) == 14;
 }
 
 // What at:, at:put: and size may meet in an object with elements behind named fields, the first two also by their index.
@@ -255,10 +256,87 @@ static void note(const machine *m, size_t met_by[CASES][3]) {
     met_by[FIELDS_COUNTED][which] += i > size && i <= whole;
 }
 
+// How a send may fail, and what comes of it.
+enum { BY_LITERAL, BY_EXTENDED, BY_THREE_BYTES, BY_SUPER, BY_ARITHMETIC, BY_SPECIAL, OF_NIL, WITH_NONE, WITH_ONE, WITH_MORE, CANNOT_RUN, WAYS };
+enum {
+    EDITION_1, NOT_FOUND, OBJECT_6, NO_CONTENTS, NO_BODIES, NO_OBJECT, NO_WORD, UNFIT, NO_FRAME, IN_SMALL, IN_LARGE, FROM_CACHE, BY_PRIMITIVE,
+    OUTCOMES
+};
+
+static const char *const ways[WAYS] = {
+    "208 to 255", "131", "132", "super", "arithmetic", "other special", "nil", "no argument", "one", "more", "a method that cannot run"};
+static const char *const outcomes[OUTCOMES] = {
+    "in edition 1", "no method under object 6", "object 6 itself", "no contents", "no bodies", "N too large", "B too large",
+    "unfit", "no stack room", "a small frame", "a large frame", "from the cache", "a primitive"};
+
+// Sends that failed, by both; the ways are those of messages that were made.
+static size_t failed_by[WAYS], failed_with[OUTCOMES];
+
+// The send that a state stands before.
+typedef struct {
+    int code;
+    unsigned count, start;
+    uint16_t selector, n;
+    bool found, kept;
+} sending;
+
+static sending next_send(const machine *m) {
+    const objects o = objects_of(m);
+    sending s = {0};
+    sofaduck_frame at;
+    if (!sofaduck_top_frame(m, &at) || !sofaduck_send(m, &at, &s.selector, &s.count)) return s;
+    s.code = sofaduck_code(m, at.method, at.position);
+    s.start = s.code == 133 || s.code == 134 ? body(&o, body(&o, at.method)[1])[0] : class_of(&o, sofaduck_operand(m, &at, s.count));
+    s.n = o.n;
+    s.found = lookup(&o, s.selector, s.start) != 0;
+    const uint16_t *const c = m->cache + 3 * ((DOES_NOT_UNDERSTAND & s.start) / 2 % 64);
+    s.kept = c[0] == DOES_NOT_UNDERSTAND && c[1] == s.start;
+    return s;
+}
+
+// Adds what came of a send that failed, in the state behind it.
+static void note_failure(const sending *s, const machine *m) {
+    const objects o = objects_of(m);
+    const unsigned phase = m->registers[PHASE], n = m->registers[N], b = m->registers[B], words = b + s->count + 2;
+    if (s->code == 0) return;
+    if (n == s->n + 2u) {
+        const uint8_t of[WAYS] = {s->code >= 208, s->code == 131, s->code == 132, s->code == 133 || s->code == 134, s->code >= 176 && s->code < 192,
+                                  s->code >= 192 && s->code < 208, s->selector == NIL_WORD, s->count == 0, s->count == 1,
+                                  s->count > 1, s->found};
+        for (int w = 0; w < WAYS; w++) failed_by[w] += of[w];
+        const uint16_t *const top = m->stack + m->registers[TOP];
+        // the message is in a new frame, or a primitive has answered
+        const bool framed = phase == 1 && top[1] == 0 && top[6] == 2 * n;
+        failed_with[!framed ? BY_PRIMITIVE : frame_of(body(&o, top[3])[0]) == 18 ? IN_SMALL : IN_LARGE]++;
+        failed_with[FROM_CACHE] += s->kept;
+    } else if (phase == 3) {
+        failed_with[m->registers[EDITION] == 1                       ? EDITION_1
+                    : s->selector == DOES_NOT_UNDERSTAND             ? OBJECT_6
+                    : lookup(&o, DOES_NOT_UNDERSTAND, s->start) == 0 ? NOT_FOUND
+                    : n + 2 > MOST_OBJECTS                           ? NO_OBJECT
+                    : words > MOST_WORDS                             ? NO_WORD
+                    : m->contents_length < 4 * (n + 2)               ? NO_CONTENTS
+                    : m->bodies_length < words                       ? NO_BODIES
+                                                                     : UNFIT]++;
+    } else if (phase == 5 && !s->found) {
+        failed_with[NO_FRAME]++;
+    }
+}
+
+// Whether all that is named was met; and how often each was.
+static bool all_met(const char *what, const char *const *names, const size_t *met, size_t count) {
+    bool all = true;
+    printf("%s:", what);
+    for (size_t i = 0; i < count; i++) printf(" %s %zu%s", names[i], met[i], i + 1 < count ? "," : "\n"), all = all && met[i] > 0;
+    if (!all) printf("one of these was never met\n");
+    return all;
+}
+
 static bool differential(void) {
-    size_t phases[6] = {0}, answers[14] = {0}, met_by[CASES][3] = {{0}}, chains = 0, handlers = 0, spoiled = 0, bytecodes = 0;
+    size_t phases[6] = {0}, answers[14] = {0}, met_by[CASES][3] = {{0}}, chains = 0, editions = 0, handlers = 0, spoiled = 0, bytecodes = 0;
     for (int i = 0; i < IMAGES; i++) {
-        const size_t length = i % 2 == 0 ? ordinary(image, 400 + below(1000), 1000 + i) : lively(image, 900 + below(1000), 1000 + i);
+        const unsigned edition = 1 + i / 2 % 2;
+        const size_t length = i % 2 == 0 ? ordinary(image, edition, 400 + below(1000), 1000 + i) : lively(image, edition, 900 + below(1000), 1000 + i);
         const size_t n = image[2] << 8 | image[3], b = image[4] << 8 | image[5];
         memset(words[0], 0, sizeof words[0]);
         // little room, so that frames and new objects do not always fit
@@ -270,11 +348,13 @@ static bool differential(void) {
             if (!begin_any(&ours, 40 + below(40))) continue;
             machine theirs = copy(words[2], &ours);
             // some bytecodes singly, then more at a time
-            const int singly = i % 2 == 1 ? 40 : 0;
+            const int singly = i % 2 == 1 || edition > 1 ? 40 : 0;
             for (int k = singly + below(10); k > 0 && ours.registers[PHASE] == 1; k--) {
                 uint32_t count = 0;
+                const sending next = next_send(&ours);
                 note(&ours, met_by);
                 if (both(&ours, &theirs, k > 10 ? 1 : below(4) == 0 ? below(2000) : below(8), &count) != 0) return false;
+                if (k > 10) note_failure(&next, &ours);
                 bytecodes += count;
             }
             handlers++;
@@ -287,6 +367,7 @@ static bool differential(void) {
                 const uint32_t r = sofaduck_state_check(&other), s = c_check(entries, &theirs);
                 if (r != s) return printf("the checks answer %u and %u\n", r, s), false;
                 chains += r == 11 && chain_spoiled(&theirs, &ours);
+                editions += r == 0 && theirs.registers[EDITION] != edition;
                 uint32_t count;
                 const uint32_t ran = both(&other, &theirs, below(2) == 0 ? 0 : below(30), &count);
                 if (ran == 99 || (r != 0 && ran != r)) return false;
@@ -297,11 +378,12 @@ static bool differential(void) {
     }
     printf("%zu handlers of random images ran alike, %zu bytecodes; phases", handlers, bytecodes);
     for (int p = 1; p < 6; p++) printf(" %d: %zu%s", p, phases[p], p < 5 ? "," : "\n");
-    printf("%zu states with a changed word checked and ran alike: %zu accepted, %zu refused by 3, %zu by 11, %zu of them for a chain, %zu by 12\n",
-           spoiled, answers[0], answers[3], answers[11], chains, answers[12]);
-    bool met = answers[0] > 0 && answers[3] > 0 && answers[11] > 0 && chains > 0 && answers[12] > 0;
+    printf("%zu states with a changed word checked and ran alike: %zu accepted, %zu of them with the other edition, %zu refused by 3, %zu by 11, "
+           "%zu of them for a chain, %zu by 12\n",
+           spoiled, answers[0], editions, answers[3], answers[11], chains, answers[12]);
+    bool met = answers[0] > 0 && answers[3] > 0 && answers[11] > 0 && chains > 0 && editions > 0 && answers[12] > 0;
     for (int p = 1; p < 6; p++) met = met && phases[p] > 0;
-    if (!met) printf("a phase, an answer or a spoiled chain was never met\n");
+    if (!met) printf("a phase, an answer, a spoiled chain or another edition was never met\n");
     printf("elements behind named fields were met by at: %zu times, by at:put: %zu, by size %zu\n", met_by[ANY][0], met_by[ANY][1], met_by[ANY][2]);
     bool ends = true;
     for (int f = 0; f < CASES; f++)
@@ -336,12 +418,46 @@ static bool ends_alike(void) {
     return true;
 }
 
+// A send that fails where there is room for its message and for the frame, or lacks some in one place.
+static bool room_alike(void) {
+    static const unsigned counts[] = {0, 1, 2, 11, 12, 31};
+    enum { PLACES = 15 };
+    size_t runs = 0;
+    for (unsigned i = 0; i < 2 * 2 * UNDER_6 * 6 * PLACES; i++) {
+        const unsigned edition = 1 + i % 2, above = i / 2 % 2, under_6 = i / 4 % UNDER_6, arguments = counts[i / 4 / UNDER_6 % 6];
+        const unsigned place = i / 24 / UNDER_6, sender = arguments > 11 ? 38 : 18, taken = under_6 == LARGE_FRAME ? 38 : 18, need = arguments + 2;
+        const size_t n = place < 4 ? 2044 + place : 100, b = place < 4 ? 1000 : place < 7 ? MOST_WORDS - need - 1 + (place - 4) : 500;
+        const size_t contents = place == 7 ? 4 * n + 8 : place == 8 ? 4 * n + 7 : place == 9 ? 4 * n : CONTENTS;
+        const size_t bodies = place == 10 ? b + need : place == 11 ? b + need - 1 : place == 12 ? b : BODIES;
+        const size_t stack = place == 13 ? sender + taken : place == 14 ? sender + taken - 1 : 100;
+        memset(words[0], 0, sizeof words[0]);
+        machine loaded = on(words[0], contents, bodies, stack);
+        if (sofaduck_state_load(&loaded, image, unknown(image, edition, above, arguments, under_6, n, b)) != 0)
+            return printf("an image with a send that fails is refused\n"), false;
+        machine ours = copy(words[1], &loaded);
+        if (sofaduck_state_begin(&ours, ours.registers[START_RECEIVER], ours.registers[START_SELECTOR], NULL, 0) != 0)
+            return printf("a send that fails is not begun\n"), false;
+        machine theirs = copy(words[2], &ours);
+        uint32_t count = 0;
+        if (both(&ours, &theirs, 1 + arguments, &count) != 0) return false;
+        const sending next = next_send(&ours);
+        if (both(&ours, &theirs, 1, &count) != 0) return false;
+        note_failure(&next, &ours);
+        if (ours.registers[PHASE] == 1 && both(&ours, &theirs, 5, &count) != 0) return false;
+        runs++;
+    }
+    printf("%zu sends that fail ran alike at the limits of room\n", runs);
+    return true;
+}
+
 int main(int count, char **arguments) {
     FILE *goals = count > 1 ? fopen(arguments[1], "a") : NULL;
     bench_table(entries);
     const double small = measure_ordinary("1000", 1000, RUNS, 1, goals), middle = measure_ordinary("6000", 6000, 300, 1.3, goals);
     const double large = measure_ordinary("24000", 24000, 200, 1.3, goals);
-    const bool fine = small >= 0 && middle >= 0 && large >= 0 && measure_deep(goals) && differential() && ends_alike();
+    const bool fine = small >= 0 && middle >= 0 && large >= 0 && measure_deep(goals) && differential() && ends_alike() && room_alike()
+        && all_met("sends that failed and made a message", ways, failed_by, WAYS)
+        && all_met("what came of sends that failed", outcomes, failed_with, OUTCOMES);
     if (fine && goals != NULL)
         fprintf(goals, "a call's check takes %.0f us for 1,000 words of bodies, %.0f us for 6,000, %.0f us for 24,000\n", small / 1e3, middle / 1e3,
                 large / 1e3);

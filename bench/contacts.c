@@ -69,7 +69,7 @@ static bool measure(size_t size, FILE *goals) {
     double single[FRAMES] = {1e18, 1e18, 1e18}, played[FRAMES] = {1e18, 1e18, 1e18};
     memset(&of_singly, 0, sizeof of_singly), memset(&of_played, 0, sizeof of_played);
     machine m = on(&of_singly), p = on(&of_played);
-    ordinary(image, size - CONTACT_WORDS, size);
+    ordinary(image, 1, size - CONTACT_WORDS, size);
     const size_t length = with_contact(image);
     if (sofaduck_state_load(&m, image, length) != 0 || sofaduck_state_load(&p, image, length) != 0)
         return printf("contacts: the image of %zu words is refused\n", size), false;
@@ -100,7 +100,7 @@ static bool measure(size_t size, FILE *goals) {
 
 int main(int count, char **arguments) {
     FILE *goals = count > 1 ? fopen(arguments[1], "a") : NULL;
-    other_length = ordinary(other, SOFADUCK_BODIES, 1);
+    other_length = ordinary(other, 1, SOFADUCK_BODIES, 1);
     const bool fine = measure(1000, goals) && measure(6000, goals) && measure(24000, goals);
     if (goals != NULL) fclose(goals);
     return fine ? 0 : 1;

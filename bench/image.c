@@ -71,12 +71,18 @@ static bool chains_short(const objects *o) {
     return true;
 }
 
-static bool classes(const objects *o) {
+// A class of this form with so many fields.
+static bool class_with(const objects *o, unsigned w, unsigned form, unsigned fields) {
+    return is(o, CLASS, w) && body(o, w)[2] == 2 * fields + 1 && body(o, w)[3] == 2 * form + 1;
+}
+
+static bool classes(const objects *o, unsigned edition) {
     const entry *e = o->at;
     if (e[0].kind != FIELDS || e[1].kind != FIELDS || e[2].kind != FIELDS || e[3].kind != CLASS) return false;
     if (body(o, 8)[3] / 2 != 3 || e[4].kind != LIST || e[4].size != 32) return false;
     for (size_t i = 0; i < 32; i++)
         if (!nil_or(o, BYTES, body(o, 10)[i])) return false;
+    if (edition >= 2 && !(is(o, BYTES, DOES_NOT_UNDERSTAND) && class_with(o, MESSAGE_CLASS, 0, 2) && class_with(o, ARRAY_CLASS, 1, 0))) return false;
     for (size_t k = 0; k < o->n; k++, e++) {
         if (!is(o, CLASS, e->class)) return false;
         const uint16_t *c = body(o, e->class);
@@ -107,8 +113,8 @@ static bool method_fine(const objects *o, const entry *e) {
     return argument_count(m) <= temporaries;
 }
 
-// One more than the count of the methods under a selector, 0 where there are none.
-static bool counted(const objects *o, uint8_t *counts) {
+// One more than the count of the methods under a selector, 0 where there are none. From edition 2 on those under object 6 take one argument.
+static bool counted(const objects *o, unsigned edition, uint8_t *counts) {
     for (size_t k = 1; k <= o->n; k++) {
         if (o->at[k - 1].kind != CLASS) continue;
         const unsigned dictionary = body(o, 2 * k)[1];
@@ -119,6 +125,7 @@ static bool counted(const objects *o, uint8_t *counts) {
             uint8_t *count = counts + pairs[i] / 2;
             const unsigned note = argument_count(m) + 1;
             if (m[1] != 2 * k || (*count != 0 && *count != note)) return false;
+            if (edition >= 2 && pairs[i] == DOES_NOT_UNDERSTAND && note != 2) return false;
             *count = note;
         }
     }
@@ -157,12 +164,12 @@ static bool linked(const objects *o, const uint8_t *counts, const uint16_t *lite
     return true;
 }
 
-static bool methods(const uint16_t *entries, const objects *o, uint8_t *notes) {
+static bool methods(const uint16_t *entries, const objects *o, unsigned edition, uint8_t *notes) {
     uint8_t counts[2048] = {0};
     uint16_t pending[MOST_BYTES];
     for (size_t k = 0; k < o->n; k++)
         if (o->at[k].kind == METHOD && !method_fine(o, o->at + k)) return false;
-    if (!counted(o, counts)) return false;
+    if (!counted(o, edition, counts)) return false;
     for (size_t k = 0; k < o->n; k++) {
         const entry *e = o->at + k;
         const uint16_t *m = o->bodies + e->start;
@@ -181,14 +188,14 @@ static bool methods(const uint16_t *entries, const objects *o, uint8_t *notes) {
     return true;
 }
 
-uint32_t c_judge(const uint16_t *entries, const uint16_t *contents, const uint16_t *bodies, size_t n, size_t b, uint16_t receiver,
-                 uint16_t selector, uint8_t *notes) {
+uint32_t c_judge(const uint16_t *entries, const uint16_t *contents, const uint16_t *bodies, unsigned edition, size_t n, size_t b,
+                 uint16_t receiver, uint16_t selector, uint8_t *notes) {
     const objects o = {(const entry *)contents, bodies, n, b};
     if (!layout(&o)) return 4;
     if (!words_valid(&o)) return 5;
     if (!chains_short(&o)) return 14;
-    if (!classes(&o)) return 6;
-    if (!methods(entries, &o, notes)) return 7;
+    if (!classes(&o, edition)) return 6;
+    if (!methods(entries, &o, edition, notes)) return 7;
     return valid(&o, receiver) && is(&o, BYTES, selector) ? 0 : 8;
 }
 
@@ -202,13 +209,13 @@ void c_place(const uint8_t *image, size_t n, size_t b, uint16_t *contents, uint1
 uint32_t c_read(const uint16_t *entries, const uint8_t *image, size_t length, uint16_t *contents, size_t contents_length,
                 uint16_t *bodies, size_t bodies_length, size_t cache_length) {
     if (length < 10) return 1;
-    const size_t n = word(image, 1), b = word(image, 2);
+    const size_t edition = word(image, 0), n = word(image, 1), b = word(image, 2);
     if (length != 10 + 8 * n + 2 * b) return 1;
-    if (word(image, 0) != 1 || n < 5 || n > 2047 || b > 24000) return 2;
+    if (!limits_kept(edition, n, b)) return 2;
     if (contents_length < 4 * n || bodies_length < b || cache_length != 192) return 3;
     c_place(image, n, b, contents, bodies);
     uint8_t notes[MOST_BYTES];
-    const uint32_t number = c_judge(entries, contents, bodies, n, b, word(image, 3), word(image, 4), notes);
+    const uint32_t number = c_judge(entries, contents, bodies, edition, n, b, word(image, 3), word(image, 4), notes);
     if (number != 0) {
         memset(contents, 0, 8 * n);
         memset(bodies, 0, 2 * b);

@@ -6,6 +6,6 @@ uint32_t c_read(const uint16_t *entries, const uint8_t *image, size_t length, ui
                 uint16_t *bodies, size_t bodies_length, size_t cache_length);
 // The image's words in place, in buffers that hold them.
 void c_place(const uint8_t *image, size_t n, size_t b, uint16_t *contents, uint16_t *bodies);
-// Rules 4, 5, 14, 6, 7 and 8, in this order. `notes` has 2b bytes.
-uint32_t c_judge(const uint16_t *entries, const uint16_t *contents, const uint16_t *bodies, size_t n, size_t b, uint16_t receiver,
-                 uint16_t selector, uint8_t *notes);
+// Rules 4, 5, 14, 6, 7 and 8 of an edition, in this order. `notes` has 2b bytes.
+uint32_t c_judge(const uint16_t *entries, const uint16_t *contents, const uint16_t *bodies, unsigned edition, size_t n, size_t b,
+                 uint16_t receiver, uint16_t selector, uint8_t *notes);

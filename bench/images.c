@@ -54,7 +54,7 @@ static void send(unsigned deep, unsigned count) {
 // A special send to the last literal, with the one before it as index or as value.
 static void element(void) {
     static const uint8_t none[] = {194, 195, 197, 201, 204}, one[] = {192, 196, 200, 202, 203, 205};
-    const unsigned count = below(4) == 0 ? 0 : 1 + below(2);
+    const unsigned count = below(3);
     emit(32 + LITERALS - 1);
     if (count > 0) emit(below(2) == 0 ? 117 + below(3) : 32 + LITERALS - 2);
     if (count == 2 && below(2) == 0) value(0);
@@ -129,7 +129,7 @@ static void statement(unsigned deep) {
     }
 }
 
-static unsigned first_selector, selectors, first_variable;
+static unsigned first_selector, selectors, first_variable, count_under_6;
 
 // The first objects of form 1: how many named fields and elements each has.
 enum { ROWS = 256 };
@@ -165,6 +165,7 @@ static unsigned method(unsigned home, unsigned count) {
     uint16_t literals[LITERALS];
     const unsigned large = temporaries > 5 || below(2) == 0; // no depth is above 7
     for (unsigned i = 0; i < 8; i++) literals[i] = below(8) == 0 ? 2 * NIL : 2 * selector_of(i / 2);
+    if (below(4) == 0) literals[2 * count_under_6] = 2 * NOT_UNDERSTOOD;
     for (unsigned i = VARIABLE; i < LITERALS; i++) literals[i] = i < VARIABLE + 4 ? 2 * (first_variable + below(8)) : any();
     // bytes or a class, for element
     const unsigned last = 1 + below(object_count);
@@ -180,19 +181,25 @@ static unsigned method(unsigned home, unsigned count) {
     return new_method(home, flag, temporaries, large, literals, LITERALS, code, end);
 }
 
+// A class's dictionary of selectors, rising, and methods.
+static void understands(unsigned class, unsigned count, unsigned (*pairs)[2]) {
+    const unsigned dictionary = new_object(CLASSES, LIST, 2 * count);
+    for (unsigned i = 0; i < count; i++) body_of(dictionary)[2 * i] = 2 * pairs[i][0], body_of(dictionary)[2 * i + 1] = 2 * pairs[i][1];
+    body_of(class)[1] = 2 * dictionary;
+}
+
 // A class with its methods and some objects. It gives the class.
 static unsigned group(unsigned super) {
     const unsigned above = super == NIL ? 0 : body_of(super)[2] / 2, form = below(2), own = (above == 0 ? 1 : above) + below(3);
     const unsigned k = new_class(super, EMPTY, own < 200 ? own : 200, form);
     unsigned pairs[16][2], count = 0;
+    if (below(3) == 0) pairs[0][0] = NOT_UNDERSTOOD, pairs[count++][1] = method(k, count_under_6);
     for (unsigned s = first_selector + below(selectors / 2); s < first_selector + selectors && count < 6; s += 1 + below(selectors / 3)) {
         pairs[count][0] = s;
         pairs[count++][1] = method(k, (s - first_selector) % 4);
     }
     if (below(4) == 0) method(k, below(4));
-    const unsigned dictionary = new_object(CLASSES, LIST, 2 * count);
-    for (unsigned i = 0; i < count; i++) body_of(dictionary)[2 * i] = 2 * pairs[i][0], body_of(dictionary)[2 * i + 1] = 2 * pairs[i][1];
-    body_of(k)[1] = 2 * dictionary;
+    understands(k, count, pairs);
     for (unsigned i = below(3); i > 0; i--) new_fields(k, form * below(8));
     // beside it a class without methods, with named fields from none to as many as there can be
     if (runs_on && below(2) == 0) {
@@ -207,19 +214,23 @@ static unsigned group(unsigned super) {
     return k;
 }
 
-// A class that answers every selector, and that the classes of all images have above them. Its methods take a primitive, or answer at once.
+// A class that answers nearly every selector, in half of all images object 6 too, and that the classes of all images have above them. Its methods take
+// a primitive, or answer at once.
 static unsigned root(void) {
     static const uint8_t primitives[3][8] = {{62, 70, 111, 62, 70, 111, 0, 62}, {60, 71, 110, 60, 71, 60, 60, 17}, {61, 61, 61, 61, 61, 61, 61, 9}};
-    const unsigned k = new_class(NIL, EMPTY, 0, 0), dictionary = new_object(CLASSES, LIST, 2 * selectors);
-    for (unsigned i = 0; i < selectors; i++) {
-        const unsigned count = i % 4, how = below(4);
+    const bool under_6 = below(2) == 0;
+    unsigned pairs[256][2], taken = 0;
+    const unsigned k = new_class(NIL, EMPTY, 0, 0);
+    for (unsigned i = 0; i <= selectors; i++) {
+        if (i == 0 ? !under_6 : below(8) == 0) continue;
+        const unsigned count = i == 0 ? count_under_6 : (i - 1) % 4, how = below(4);
         const uint8_t constant[] = {112 + below(8), 124}, argument[] = {16, 124};
         const uint16_t literals[] = {count << 9 | (count < 3 ? primitives[count][below(8)] : 1) << 1 | 1, any()};
         const unsigned m = new_method(k, how > 0 ? 7 : count == 0 ? 5 : count, count, below(2), literals, 2, count > 0 ? argument : constant, 2);
-        body_of(dictionary)[2 * i] = 2 * (first_selector + i), body_of(dictionary)[2 * i + 1] = 2 * m;
+        pairs[taken][0] = i == 0 ? NOT_UNDERSTOOD : first_selector + i - 1, pairs[taken++][1] = m;
     }
-    body_of(k)[1] = 2 * dictionary;
-    static const uint8_t below_it[] = {INTEGERS, CLASSES, PLAIN, STRINGS, VARIABLES};
+    understands(k, taken, pairs);
+    static const uint8_t below_it[] = {INTEGERS, CLASSES, PLAIN, STRINGS, VARIABLES, ARRAYS};
     for (size_t i = 0; i < sizeof below_it; i++) body_of(below_it[i])[0] = 2 * k;
     return k;
 }
@@ -231,15 +242,19 @@ static unsigned chain_length(unsigned class) {
     return count;
 }
 
-static size_t classes(uint8_t *image, size_t words, uint64_t seed) {
+static size_t classes(uint8_t *image, unsigned edition, size_t words, uint64_t seed) {
     state = seed;
     row_count = 0;
-    new_image();
+    new_image(edition);
+    count_under_6 = edition == 1 ? below(4) : 1;
+    // to edition 1 the three mean nothing
+    if (edition == 1 && below(2) == 0) body_of(MESSAGES)[2] = 2 * below(4) + 1, body_of(ARRAYS)[3] = 1;
     selectors = 16 + words / 1000 * 4;
     first_selector = object_count + 1;
     for (unsigned i = 0; i < selectors; i++) bytes(1 + below(9));
     for (unsigned i = 0; i < 32; i++)
         if (below(4) > 0) body_of(SELECTORS)[i] = 2 * selector_of(i == 22 || i == 23 ? below(4) : special[i]);
+        else if (special[i] == count_under_6 && below(8) == 0) body_of(SELECTORS)[i] = 2 * NOT_UNDERSTOOD;
     first_variable = object_count + 1;
     for (unsigned i = 0; i < 8; i++) any_words(new_object(VARIABLES, FIELDS, 2), 2);
     unsigned uppermost = runs_on ? root() : NIL, made[1024], count = 0;
@@ -261,19 +276,19 @@ static size_t classes(uint8_t *image, size_t words, uint64_t seed) {
     return written(image, any(), 2 * selector_of(0));
 }
 
-size_t ordinary(uint8_t *image, size_t words, uint64_t seed) {
+size_t ordinary(uint8_t *image, unsigned edition, size_t words, uint64_t seed) {
     runs_on = false;
-    return classes(image, words, seed);
+    return classes(image, edition, words, seed);
 }
 
-size_t lively(uint8_t *image, size_t words, uint64_t seed) {
+size_t lively(uint8_t *image, unsigned edition, size_t words, uint64_t seed) {
     runs_on = true;
-    return classes(image, words, seed);
+    return classes(image, edition, words, seed);
 }
 
 // So many classes, each below the one before, and after `most` of them from nil anew. It gives the first. The selector of the start words is FIRST.
 static unsigned chains(size_t count, size_t most) {
-    new_image();
+    new_image(1);
     bytes(1);
     const unsigned first = object_count + 1;
     for (size_t i = 0; i < count; i++) new_class(i % most == 0 ? NIL : object_count, EMPTY, 0, 0);
@@ -296,7 +311,7 @@ size_t circle(uint8_t *image, size_t count) {
 }
 
 size_t shared(uint8_t *image, size_t count) {
-    new_image();
+    new_image(1);
     const unsigned selector = object_count + 1;
     for (size_t i = 0; i < count; i++) bytes(1);
     const unsigned m = new_object(CLASSES, METHOD, 5);
@@ -311,7 +326,7 @@ size_t shared(uint8_t *image, size_t count) {
 
 size_t deep(uint8_t *image) {
     enum { LAST = 2047, PAIRS = 400, TEMPORARIES = 11 }; // with the operand a frame is full
-    new_image();
+    new_image(1);
     const unsigned first = object_count + 1;
     while (object_count < first - 1 + PAIRS) bytes(0);
     unsigned class = NIL, lowest = NIL;
@@ -326,14 +341,15 @@ size_t deep(uint8_t *image) {
     }
     while (word_count + 4 <= MOST_WORDS && object_count + 2 < LAST) lowest = new_class(class, EMPTY, 0, 0);
     const unsigned instance = new_object(lowest, FIELDS, 0);
-    while (object_count < LAST) bytes(0);
+    while (object_count + 1 < LAST) bytes(0);
+    bytes(2 * (MOST_WORDS - word_count));
     return written(image, 2 * instance, 2 * LAST);
 }
 
 size_t climbing(uint8_t *image, size_t count, unsigned unknown[CLIMBING]) {
     static const uint8_t code[] = {120};
     state = count;
-    new_image();
+    new_image(1);
     const unsigned first = object_count + 1;
     for (unsigned i = 0; i < 2 * CLIMBING; i++) bytes(1);
     for (unsigned i = 0; i < CLIMBING; i++) unknown[i] = first + 2 * i;
@@ -353,10 +369,37 @@ size_t climbing(uint8_t *image, size_t count, unsigned unknown[CLIMBING]) {
     return written(image, 2 * new_object(class, FIELDS, 0), 2 * first);
 }
 
+size_t unknown(uint8_t *image, unsigned edition, bool above, unsigned arguments, unsigned under_6, size_t objects, size_t words) {
+    static const uint8_t answers[] = {16, 124}; // push the argument, return top
+    uint8_t send[40] = {112};                   // push self and the arguments, send the first literal, return top
+    uint16_t literals[32] = {2 * (FIRST + 1)};
+    unsigned pairs[2][2], count = 0;
+    new_image(edition);
+    bytes(1), bytes(2);
+    for (unsigned i = 1; i <= arguments; i++) send[i] = 32 + i, literals[i] = 2 * (100 + i) + 1;
+    uint8_t *const code = send + 1 + arguments;
+    code[0] = above ? 134 : 132, code[1] = arguments, code[2] = 0, code[3] = 124;
+    const unsigned upper = new_class(NIL, EMPTY, 0, 0), class = above ? new_class(upper, EMPTY, 0, 0) : upper;
+    if (under_6 != NO_METHOD) {
+        const bool tries = under_6 >= IDENTICAL;
+        const uint16_t extension[] = {1 << 9 | (under_6 == IDENTICAL ? 110 : 60) << 1 | 1, 2 * NIL};
+        pairs[count][0] = NOT_UNDERSTOOD;
+        pairs[count++][1] = new_method(upper, tries ? 7 : 1, 1, under_6 == LARGE_FRAME, extension, tries ? 2 : 0, answers, sizeof answers);
+        if (above) understands(upper, count, pairs), count = 0;
+    }
+    pairs[count][0] = FIRST;
+    pairs[count++][1] = new_method(class, 0, 0, arguments > 11, literals, 1 + arguments, send, 5 + arguments);
+    understands(class, count, pairs);
+    const unsigned receiver = new_object(class, FIELDS, 0);
+    while (object_count + 1 < objects) bytes(0);
+    bytes(2 * (words - word_count));
+    return written(image, 2 * receiver, 2 * FIRST);
+}
+
 size_t elements(uint8_t *image, unsigned named, unsigned count) {
     // push self and the arguments, send the literal, return top
     static const uint8_t codes[3][5] = {{112, 16, 224, 124}, {112, 16, 17, 240, 124}, {112, 208, 124}}, fails[] = {123};
-    new_image();
+    new_image(1);
     for (unsigned i = 0; i < 6; i++) bytes(1);
     const unsigned class = new_class(NIL, EMPTY, named, 1);
     unsigned methods[6];

@@ -1,10 +1,11 @@
 #include "build.h"
 
-// A correct image of b body words, from 400 on: what a compiler writes. It gives the length in bytes.
-size_t ordinary(uint8_t *image, size_t b, uint64_t seed);
-// The same from 900 words on, but every selector is understood and conditions are mostly booleans, so that handlers run on. In half of these images
+// A correct image of b body words, from 400 on: what a compiler writes. In either edition some classes have methods under object 6. It gives the
+// length in bytes.
+size_t ordinary(uint8_t *image, unsigned edition, size_t b, uint64_t seed);
+// The same from 900 words on, but most selectors are understood and conditions are mostly booleans, so that handlers run on. In half of these images
 // chains are about as long as they may be.
-size_t lively(uint8_t *image, size_t b, uint64_t seed);
+size_t lively(uint8_t *image, unsigned edition, size_t b, uint64_t seed);
 // A correct image of so many classes, up to 2,000, in chains as long as they may be.
 size_t chain(uint8_t *image, size_t count);
 // So many classes in one chain, or in a circle: refused by 14, the first where it is more than load allows.
@@ -23,6 +24,10 @@ size_t deep(uint8_t *image);
 // given. The start words are an instance of the lowest class and one of the unknown selectors.
 enum { CLIMBING = 240 };
 size_t climbing(uint8_t *image, size_t count, unsigned unknown[CLIMBING]);
+// A correct image of so many objects and words. Its start words begin a method that sends what nobody implements with so many arguments, by 132, or
+// above its class by 134; and answers what comes of it. Under object 6 there is a method that answers its argument, or none.
+enum { NO_METHOD, SMALL_FRAME, LARGE_FRAME, IDENTICAL, FAILING, UNDER_6 }; // the two before the last have primitives 110 and 60
+size_t unknown(uint8_t *image, unsigned edition, bool above, unsigned arguments, unsigned under_6, size_t objects, size_t words);
 // A correct image of an object with so many named fields and elements. It understands the selectors FIRST to FIRST + 2, at:, at:put: and size by their
 // primitives, which answer nil where they fail, and FIRST + 3 to FIRST + 5, methods that send it these with their own arguments.
 size_t elements(uint8_t *image, unsigned named, unsigned count);

@@ -57,6 +57,24 @@ static bool make(machine *m, uint16_t class, uint16_t kind, unsigned size, unsig
     return true;
 }
 
+// Whether there is room for the two objects of a send with so many arguments that fails.
+static bool message_fits(const machine *m, unsigned count) {
+    const size_t n = m->registers[N] + 2u, b = m->registers[B] + count + 2u;
+    return n <= MOST_OBJECTS && b <= MOST_WORDS && 4 * n <= m->contents_length && b <= m->bodies_length;
+}
+
+// These two: the array of the arguments, and behind it the message of selector and array.
+static void make_message(machine *m, uint16_t selector, const uint16_t *arguments, unsigned count) {
+    const size_t n = m->registers[N], b = m->registers[B];
+    ((entry *)m->contents)[n] = (entry){ARRAY_CLASS, FIELDS, b, count};
+    ((entry *)m->contents)[n + 1] = (entry){MESSAGE_CLASS, FIELDS, b + count, 2};
+    for (unsigned i = 0; i < count; i++) m->bodies[b + i] = arguments[i];
+    m->bodies[b + count] = selector;
+    m->bodies[b + count + 1] = 2 * (n + 1);
+    m->registers[N] = n + 2;
+    m->registers[B] = b + count + 2;
+}
+
 // 60 and 61 on an object with elements, which stand behind the named fields of its class: false where the index or the word stored is wrong.
 static inline bool element(const objects *o, uint16_t *bodies, unsigned k, uint16_t w, uint16_t x, uint16_t v, uint16_t *answer) {
     const entry *e = of(o, w);
@@ -265,35 +283,41 @@ static void run(machine *m, uint32_t grant, uint32_t *made, uint32_t *reach) {
             class = bodies[START(method[1])];
             sure = sp[-1 - (int)arguments] == frame[5];
         found: {
-            uint16_t *const kept = cache + 3 * ((selector & class) >> 1 & 63);
-            const bool hit = kept[0] == selector && kept[1] == class;
             const objects o = objects_of(m);
-            const uint16_t callee = hit ? kept[2] : lookup(&o, selector, class);
             uint16_t *const receiver = sp - 1 - arguments;
+            const uint16_t message[2] = {*receiver, 2 * (o.n + 2)}; // receiver and argument of object 6, where the send fails
+            const uint16_t *from = receiver;                        // receiver and arguments of what is sought
+            unsigned given = arguments;
+            uint16_t sought = selector;
+        seek:;
+            uint16_t *const kept = cache + 3 * ((sought & class) >> 1 & 63);
+            const bool hit = kept[0] == sought && kept[1] == class;
+            const uint16_t callee = hit ? kept[2] : lookup(&o, sought, class);
             phase = 3;
-            if (callee == 0) goto halt;
+            if (callee == 0) goto fails;
             const uint16_t *const other = bodies + START(callee);
             const unsigned header = other[0];
             switch (flag_of(header)) {
             case 5: value = *receiver; break;
             case 6:
                 value = field(&o, header, *receiver);
-                if (value == 0) goto halt;
+                if (value == 0) goto fails;
                 break;
             case 7:
-                if (primitive(m, other[literals_of(header)], receiver, &value)) break;
+                if (primitive(m, other[literals_of(header)], from, &value)) break;
                 // fall through
             default: {
-                if (!sure && !in_chain(&o, other[1], class_of(&o, *receiver))) goto halt;
+                if (!sure && !in_chain(&o, other[1], class_of(&o, *receiver))) goto fails;
                 uint16_t *const top = frame + frame_of(method[0]), *const over = top + frame_of(header);
                 phase = 5;
                 if ((size_t)(over - stack) > room) goto halt;
+                if (from == message) make_message(m, selector, receiver + 1, arguments);
                 sp = receiver;
                 LEAVE();
                 top[0] = frame - stack, top[1] = 0, top[2] = 0, top[3] = callee, top[4] = 0, top[5] = *receiver;
                 const unsigned temporaries = temporaries_of(header);
                 unsigned i = 0;
-                for (; i < arguments; i++) top[6 + i] = receiver[1 + i];
+                for (; i < given; i++) top[6 + i] = from[1 + i];
                 for (; i < temporaries; i++) top[6 + i] = NIL_WORD;
                 frame = top, method = other, literals = other + 2, code = literals + literals_of(header);
                 operands = sp = top + 6 + temporaries;
@@ -302,12 +326,17 @@ static void run(machine *m, uint32_t grant, uint32_t *made, uint32_t *reach) {
                 goto sent;
             }
             }
+            if (from == message) make_message(m, selector, receiver + 1, arguments);
             *receiver = value;
             sp = receiver + 1;
         sent:
             phase = 1;
-            if (!hit) kept[0] = selector, kept[1] = class, kept[2] = callee;
+            if (!hit) kept[0] = sought, kept[1] = class, kept[2] = callee;
             break;
+        fails:
+            if (m->registers[EDITION] < 2 || from == message || !message_fits(m, arguments)) goto halt;
+            from = message, given = 1, sought = DOES_NOT_UNDERSTAND;
+            goto seek;
         }
         }
     }

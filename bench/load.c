@@ -43,6 +43,7 @@ static machine unjudged(int side) {
     machine m = on(side, CONTENTS, BODIES, CACHE);
     m.registers[N] = word(image, 1), m.registers[B] = word(image, 2);
     m.registers[START_RECEIVER] = word(image, 3), m.registers[START_SELECTOR] = word(image, 4);
+    m.registers[EDITION] = word(image, 0);
     c_place(image, m.registers[N], m.registers[B], contents[side], bodies[side]);
     return m;
 }
@@ -83,7 +84,7 @@ static bool measure(const char *name, size_t length, uint32_t number, int runs, 
 
 static const char *const parts[2] = {"check", "load"};
 
-static size_t usual(uint8_t *to, size_t b) { return ordinary(to, b, b); }
+static size_t usual(uint8_t *to, size_t b) { return ordinary(to, 1, b, b); }
 
 typedef struct {
     const char *name;
@@ -161,6 +162,13 @@ static void edit_word(size_t words) {
     else if (where < 14 && kind == 2) return put(edited, start + 2, 2 * (254 + below(4)) + 1);
     else if (where < 24 && start + 4 <= words) i = start + below(4);
     else if (where < 26 && kind == 2) return put(edited, start, any_class());
+    // objects 6 to 8: the kind, the classes' fields and form; or object 6 as the first selector of a dictionary
+    else if (where == 26) {
+        const size_t which = 5 + below(3), of_it = first + word(image, 5 + 4 * which + 2);
+        if (below(3) == 0) return put(edited, 5 + 4 * which + 1, below(5));
+        return put(edited, of_it + 2 + below(2), 2 * below(4) + 1);
+    }
+    else if (where < 31 && kind == 3 && word(image, entry + 3) > 0) return put(edited, start, DOES_NOT_UNDERSTAND);
     put(edited, i, changed(words, i));
 }
 
@@ -191,17 +199,17 @@ static void retype(void) {
 
 // Headers and lengths at their bounds, over words that are all 0: rules 1 to 4.
 static bool heads(void) {
-    static const unsigned ns[] = {0, 4, 5, 2047, 2048, 65535}, bs[] = {0, 1, 24000, 24001, 65535};
+    static const unsigned ns[] = {0, 4, 5, 7, 8, 2047, 2048, 65535}, bs[] = {0, 1, 24000, 24001, 65535};
     size_t count = 0;
     memset(edited, 0, sizeof edited);
-    for (size_t i = 0; i < 6 * 5 * 3 * 5 * 3 * 3 * 3; i++) {
+    for (size_t i = 0; i < 8 * 5 * 4 * 5 * 3 * 3 * 3; i++) {
         size_t x = i;
-        const unsigned n = ns[x % 6], b = bs[x / 6 % 5];
-        x /= 30;
-        put(edited, 0, x % 3), put(edited, 1, n), put(edited, 2, b);
+        const unsigned n = ns[x % 8], b = bs[x / 8 % 5];
+        x /= 40;
+        put(edited, 0, x % 4), put(edited, 1, n), put(edited, 2, b);
         const size_t asked = 10 + 8 * n + 2 * b, lengths[] = {asked, asked - 1, asked + 1, 9, 0};
-        const size_t length = lengths[x / 3 % 5];
-        x /= 15;
+        const size_t length = lengths[x / 4 % 5];
+        x /= 20;
         const size_t room = x % 3 == 0 ? CONTENTS : 4 * n < CONTENTS ? 4 * n + 1 - x % 3 : 0;
         const size_t space = x / 3 % 3 == 0 ? BODIES : b < BODIES ? b + 1 - x / 3 % 3 : 0, cached = 191 + x / 9;
         if (room > CONTENTS || space > BODIES) continue;
@@ -216,16 +224,18 @@ static bool heads(void) {
     return true;
 }
 
-// A correct image; some have chains that one more class makes too long.
+// A correct image of either edition; some have chains that one more class makes too long.
 static size_t any_image(uint64_t from) {
-    const unsigned which = below(8);
-    return which == 0 ? chain(image, 24 + below(60)) : which == 1 ? lively(image, 900 + below(600), from) : ordinary(image, 400 + below(600), from);
+    const unsigned which = below(8), edition = 1 + below(2);
+    if (which == 0) return chain(image, 24 + below(60));
+    return which == 1 ? lively(image, edition, 900 + below(600), from) : ordinary(image, edition, 400 + below(600), from);
 }
 
-// Correct images edited, lengths and buffers too: both answer the same and leave the same words. Every number has to be met.
+// Correct images edited, lengths and buffers too: both answer the same and leave the same words. Every number has to be met, and so has each rule
+// that edition 2 adds: an image refused by it that is accepted as one of edition 1.
 static bool spoil(void) {
     static const uint8_t numbers[] = {1, 2, 3, 4, 5, 14, 6, 7, 8};
-    size_t seen[15] = {0}, length = 0;
+    size_t seen[15] = {0}, by_edition[15] = {0}, second = 0, length = 0;
     bool met = true;
     for (int edit = 0; edit < EDITS; edit++) {
         if (edit % 20 == 0) length = any_image(edit + 1);
@@ -247,6 +257,10 @@ static bool spoil(void) {
             return false;
         }
         seen[r]++;
+        second += r == 0 && word(edited, 0) == 2;
+        if ((r != 6 && r != 7) || word(edited, 0) != 2) continue;
+        put(edited, 0, 1);
+        by_edition[r] += c_read(entries, edited, given, contents[1], room, bodies[1], space, cached) == 0;
     }
     printf("%d edited images loaded alike: %zu accepted", EDITS, seen[0]);
     for (size_t k = 0; k < sizeof numbers; k++) {
@@ -254,6 +268,8 @@ static bool spoil(void) {
         met = met && seen[numbers[k]] > 0;
     }
     printf("%s\n", met ? "" : ": a number was never met");
+    printf("%zu of those accepted have edition 2, which alone refuses %zu by 6 and %zu by 7\n", second, by_edition[6], by_edition[7]);
+    if (second == 0 || by_edition[6] == 0 || by_edition[7] == 0) return printf("a rule of edition 2 was never met\n"), false;
     return met;
 }
 

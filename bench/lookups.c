@@ -109,8 +109,8 @@ static bool differential(void) {
         unsigned unknown[CLIMBING];
         machine m = empty();
         const size_t length = i % 3 == 0 ? climbing(image, 1 + below(60), unknown)
-                            : i % 3 == 1 ? ordinary(image, 400 + below(1000), i)
-                                         : lively(image, 900 + below(1000), i);
+                            : i % 3 == 1 ? ordinary(image, 1 + i % 2, 400 + below(1000), i)
+                                         : lively(image, 1 + i % 2, 900 + below(1000), i);
         if (sofaduck_state_load(&m, image, length) != 0) return printf("lookup: an image is refused\n"), false;
         const objects o = objects_of(&m);
         for (int k = 0; k < LOOKUPS; k++) {

@@ -1,6 +1,6 @@
 // Times runs, ours, C's and Lua's by turns; the least of all runs counts. After each program the library and its C peer have to agree in
-// registers, counts, reaches and every word of the four buffers. Arguments: a file to which the goals are added, and the command of Lua if there
-// is one.
+// registers, counts, reaches and every word of the four buffers. Objects are never reclaimed, so each turn starts from the words as they were loaded.
+// Arguments: a file to which the goals are added, and the command of Lua if there is one.
 #include "machine.h"
 #include "measure.h"
 #include "programs.h"
@@ -107,6 +107,14 @@ static bool measure(const program *p, const char *lua, FILE *goals) {
         printf("run %-10s against Lua (%s)   ours %6.2f ms   Lua %6.2f ms   speed relative to Lua: %.2f\n", p->name, p->lua[k], a[0] / 1e6,
                l[k] / 1e6, l[k] / a[0]);
     }
+    if (p->make == proxy_image) {
+        const double made = ours.registers[N] - begun.registers[N];
+        if (made != 2 * PROXY_SENDS) return printf("%s: %.0f objects are made\n", p->name, made), false;
+        printf("run %-10s millions a second, bytecodes: ours %.0f, C %.0f; objects made: ours %.1f, C %.1f; a turn with one send that fails: "
+               "ours %.0f ns, C %.0f\n",
+               p->name, 1e3 * r.count / a[0], 1e3 * r.count / b[0], 1e3 * made / a[0], 1e3 * made / b[0], a[0] / PROXY_SENDS, b[0] / PROXY_SENDS);
+        return true;
+    }
     if (goals == NULL) return true;
     fprintf(goals, "goal: run %s at C's speed: %.2f, %s\n", p->name, b[0] / a[0], verdict(b[0] >= a[0]));
     if (l[0] != FAILED && p->make == fib_image)
@@ -119,6 +127,7 @@ int main(int count, char **arguments) {
         {"fib", fib_image, {"fib", "functions"}},
         {"stores", stores_image, {"stores", NULL}},
         {"arithmetic", arithmetic_image, {"arithmetic", NULL}},
+        {"proxy", proxy_image, {NULL, NULL}},
     };
     FILE *goals = count > 1 ? fopen(arguments[1], "a") : NULL;
     bench_table(entries);

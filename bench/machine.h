@@ -4,7 +4,7 @@
 #include "../include/sofaduck.h"
 
 // The registers, by their places.
-enum { N, B, START_RECEIVER, START_SELECTOR, PHASE, TOP, VALUE, REGISTERS };
+enum { N, B, START_RECEIVER, START_SELECTOR, PHASE, TOP, VALUE, EDITION, REGISTERS };
 
 // The library's state serves the peers as well.
 typedef sofaduck_state machine;

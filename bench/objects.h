@@ -6,6 +6,7 @@
 #include <stdint.h>
 
 enum { NIL_WORD = 2, FALSE_WORD = 4, TRUE_WORD = 6, INTEGER_CLASS = 8, SPECIAL_SELECTORS = 10 };
+enum { DOES_NOT_UNDERSTAND = 12, MESSAGE_CLASS = 14, ARRAY_CLASS = 16 }; // from edition 2 on
 enum { FIELDS, BYTES, CLASS, LIST, METHOD };
 enum { MOST_OBJECTS = 2047, MOST_WORDS = 24000, MOST_CHAIN = 24, CACHE_WORDS = 192 };
 
@@ -32,6 +33,11 @@ static inline unsigned temporaries_of(unsigned header) { return header >> 8 & 31
 static inline unsigned literals_of(unsigned header) { return header >> 1 & 63; }
 // The words of a frame, its first six included.
 static inline unsigned frame_of(unsigned header) { return header & 128 ? 38 : 18; }
+
+// Whether there is such an edition, and N and B are in its limits.
+static inline bool limits_kept(size_t edition, size_t n, size_t b) {
+    return (edition == 1 || edition == 2) && n >= (edition >= 2 ? 8 : 5) && n <= MOST_OBJECTS && b <= MOST_WORDS;
+}
 
 // The method under a selector in a class or above it, 0 if there is none. Of objects that were judged: no walk up is longer than MOST_CHAIN, and
 // selectors rise.

@@ -30,7 +30,7 @@ static void understands(unsigned class, unsigned count, const unsigned (*pairs)[
 // fib: n     n < 2 ifTrue: [^n]. ^(self fib: n - 1) + (self fib: n - 2)
 // start      1 to: 4 do: [:i | self fib: 20]
 size_t fib_image(uint8_t *image) {
-    new_image();
+    new_image(1);
     const unsigned fib = selector("fib:"), start = selector("start");
     const unsigned class = new_class(NIL, EMPTY, 0, 0);
     static const uint8_t fib_code[] = {
@@ -66,7 +66,7 @@ static unsigned primitive(unsigned class, unsigned number, unsigned arguments) {
 // Fields: put, got, elements.
 // start      1 to: 5000 do: [:i | 1 to: 10 do: [:j | put := i. elements at: j put: put. got := elements at: j]]
 size_t stores_image(uint8_t *image) {
-    new_image();
+    new_image(1);
     const unsigned at = selector("at:"), at_put = selector("at:put:"), start = selector("start");
     body_of(SELECTORS)[AT - 176] = 2 * at;
     body_of(SELECTORS)[AT_PUT - 176] = 2 * at_put;
@@ -99,7 +99,7 @@ size_t stores_image(uint8_t *image) {
 
 // start      s := 0. 1 to: 10 do: [:k | 1 to: 10000 do: [:i | s := (s * 3 + i bitAnd: 1023) - 1]]. ^s
 size_t arithmetic_image(uint8_t *image) {
-    new_image();
+    new_image(1);
     const unsigned start = selector("start"), class = new_class(NIL, EMPTY, 0, 0);
     static const uint8_t code[] = {
         PUSH_0, POP_TEMPORARY + 0,                         // s := 0
@@ -119,6 +119,39 @@ size_t arithmetic_image(uint8_t *image) {
     const unsigned method = new_method(class, 0, 3, 0, literals, 4, code, sizeof code);
     understands(class, 1, (const unsigned[][2]){{start, method}});
     return written(image, 2 * new_object(class, FIELDS, 0), 2 * start);
+}
+
+// Field: proxy.
+// start      s := 0. 1 to: PROXY_SENDS do: [:i | s := (s + (proxy echo: i)) bitAnd: 1023]. ^s
+// doesNotUnderstand: message, of the proxy      ^message arguments at: 1
+size_t proxy_image(uint8_t *image) {
+    new_image(2);
+    const unsigned arguments = selector("arguments"), at = selector("at:"), echo = selector("echo:"), start = selector("start");
+    body_of(SELECTORS)[AT - 176] = 2 * at;
+    const unsigned class = new_class(NIL, EMPTY, 1, 0), proxies = new_class(NIL, EMPTY, 0, 0);
+    const unsigned arguments_method = new_method(MESSAGES, 6, 1, 0, NULL, 0, NULL, 0), at_method = primitive(ARRAYS, 60, 1);
+    understands(MESSAGES, 1, (const unsigned[][2]){{arguments, arguments_method}});
+    understands(ARRAYS, 1, (const unsigned[][2]){{at, at_method}});
+    static const uint8_t forward[] = {TEMPORARY + 0, SEND_0 + 0, PUSH_1, AT, RETURN_TOP}; // message arguments at: 1
+    const uint16_t forward_literals[] = {2 * arguments};
+    const unsigned forward_method = new_method(proxies, 1, 1, 0, forward_literals, 1, forward, sizeof forward);
+    understands(proxies, 1, (const unsigned[][2]){{NOT_UNDERSTOOD, forward_method}});
+    static const uint8_t code[] = {
+        PUSH_0, POP_TEMPORARY + 0,                         // s := 0
+        PUSH_1, POP_TEMPORARY + 1,                         // i := 1
+        TEMPORARY + 1, LITERAL + 0, AT_MOST, LONG_JUMP_FALSE, 14, // i <= PROXY_SENDS
+        TEMPORARY + 0, FIELD + 0, TEMPORARY + 1, SEND_1 + 2, PLUS, // s + (proxy echo: i)
+        LITERAL + 1, BIT_AND, POP_TEMPORARY + 0,           // s := .. bitAnd: 1023
+        TEMPORARY + 1, PUSH_1, PLUS, POP_TEMPORARY + 1,    // i := i + 1
+        BACK(19),
+        TEMPORARY + 0, RETURN_TOP,
+    };
+    const uint16_t literals[] = {INTEGER(PROXY_SENDS), INTEGER(1023), 2 * echo};
+    const unsigned method = new_method(class, 0, 2, 0, literals, 3, code, sizeof code);
+    understands(class, 1, (const unsigned[][2]){{start, method}});
+    const unsigned proxy = new_object(proxies, FIELDS, 0), receiver = new_object(class, FIELDS, 1);
+    body_of(receiver)[0] = 2 * proxy;
+    return written(image, 2 * receiver, 2 * start);
 }
 
 // Field: sum.

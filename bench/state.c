@@ -36,9 +36,9 @@ static bool fine(const uint16_t *entries, const machine *m) {
     const uint16_t *const r = m->registers;
     const objects o = objects_of(m);
     uint8_t notes[2 * MOST_WORDS];
-    if (r[N] < 5 || r[N] > MOST_OBJECTS || r[B] > MOST_WORDS || r[PHASE] > 5) return false;
+    if (!limits_kept(r[EDITION], r[N], r[B]) || r[PHASE] > 5) return false;
     if (r[PHASE] == 2 ? !valid(&o, r[VALUE]) : r[VALUE] != 0) return false;
-    if (c_judge(entries, m->contents, m->bodies, r[N], r[B], r[START_RECEIVER], r[START_SELECTOR], notes) != 0) return false;
+    if (c_judge(entries, m->contents, m->bodies, r[EDITION], r[N], r[B], r[START_RECEIVER], r[START_SELECTOR], notes) != 0) return false;
     if (r[PHASE] == 0 || r[PHASE] == 2 ? r[TOP] != 0 : !frames_fine(&o, m->stack, m->stack_length, notes, r[TOP])) return false;
     return cache_fine(&o, m->cache);
 }

@@ -1,7 +1,8 @@
 /* A small collision engine over the library. It plays a scene of a wooden crate, whose contact handlers are in crate.source: the contacts of a frame
  * are one list, played by one call; each handler gets a few bytecodes a frame, one that needs more goes on in the next frame, and contacts wait for
  * it. One handler halts, and where it stands is reported. Then it saves the objects, loads them into a second state, and plays both on, side by side.
- * At the end it says how many words of stack the handlers needed.
+ * A proxy keeps a message that nobody implements, which is read. At the end it says how many words of stack the handlers needed, and how much room
+ * for objects is left.
  *
  *     engine IMAGE
  */
@@ -69,7 +70,7 @@ static void show_crate(const sofaduck_state *s) {
     printf("         crate: %d planks, %d contacts, the last with", integer(s, OBJECT_crate, FIELD_Crate_planks), (int)contacts);
     for (size_t k = 0; met != NULL && k < count && k < contacts; k++) {
         const uint16_t body = met[(contacts - 1 - k) % count];
-        printf(" %s", body == OBJECT_floor ? "floor" : body == OBJECT_hammer ? "hammer" : "nothing");
+        printf(" %s", body == OBJECT_floor ? "floor" : body == OBJECT_hammer ? "hammer" : body == OBJECT_glove ? "glove" : "nothing");
     }
     printf(", %s", field(s, OBJECT_crate, FIELD_Crate_broken) == SOFADUCK_TRUE ? "broken" : "whole");
     if (splinter != SOFADUCK_NIL) printf(", its splinter is object %d", splinter / 2);
@@ -80,6 +81,25 @@ static void show_word(uint16_t word) {
     if (sofaduck_is_integer(word)) printf("%d", sofaduck_integer(word));
     else if (word == SOFADUCK_NIL) printf("nil");
     else printf("object %d", word / 2);
+}
+
+/* The last message that the glove did not understand and kept. Each message took two objects, whether it was kept or not. */
+static void show_kept(const sofaduck_state *s) {
+    uint16_t selector;
+    size_t count = 0;
+    char text[80];
+    const uint16_t *const arguments = sofaduck_message(s, field(s, OBJECT_glove, FIELD_Proxy_last), &selector, &count);
+    if (arguments == NULL) {
+        printf("the glove kept no message\n");
+        return;
+    }
+    sofaduck_text(s, selector, text, sizeof text);
+    printf("the glove kept %s with", text);
+    for (size_t k = 0; k < count; k++) {
+        printf(" ");
+        show_word(arguments[k]);
+    }
+    printf("\n");
 }
 
 /* Why a handler halted, and where it stands: its frames, the top one first. */
@@ -234,11 +254,11 @@ static void mistakes(world *w) {
 int main(int argc, char **argv) {
     static const contact before[] = {
         {1, 4, OBJECT_floor, "the floor"}, {1, 25, OBJECT_floor, "the floor"}, {1, 8, OBJECT_hammer, "the hammer"},
-        {7, 3, OBJECT_hammer, "the hammer"}, {7, 4, SOFADUCK_NIL, "nothing"}, {7, 5, OBJECT_floor, "the floor"},
+        {7, 3, OBJECT_hammer, "the hammer"}, {7, 4, SOFADUCK_NIL, "nothing"}, {7, 2, OBJECT_glove, "the glove"}, {7, 5, OBJECT_floor, "the floor"},
     };
     static const contact after[] = {
         {20, 1, OBJECT_floor, "the floor"}, {20, 2, OBJECT_floor, "the floor"}, {20, 3, OBJECT_floor, "the floor"},
-        {20, 4, OBJECT_floor, "the floor"}, {20, 5, OBJECT_floor, "the floor"}, {21, 20, OBJECT_hammer, "the hammer"},
+        {20, 4, OBJECT_floor, "the floor"}, {20, 5, OBJECT_floor, "the floor"}, {21, 20, OBJECT_glove, "the glove"},
     };
     static uint8_t image[SOFADUCK_IMAGE + 1]; /* one more, so that a longer file is refused by its length */
     static world scene, second;
@@ -258,16 +278,18 @@ int main(int argc, char **argv) {
     }
     fclose(file);
     sofaduck_state *const s = load(&scene, image, length);
-    printf("loaded: %d objects, %d words of bodies\n", s->registers[SOFADUCK_N], s->registers[SOFADUCK_B]);
+    printf("loaded: edition %d, %d objects, %d words of bodies\n", s->registers[SOFADUCK_EDITION], s->registers[SOFADUCK_N],
+           s->registers[SOFADUCK_B]);
     handler = sofaduck_find_selector(s, "contact:with:", strlen("contact:with:"));
     if (handler == 0) fail("no class of the image has a method contact:with:");
     play(&scene, 1, before, sizeof before / sizeof *before, true);
+    show_kept(s);
     mistakes(&scene);
 
     uint32_t saved = 0;
     made("save", sofaduck_state_save(s, image, sizeof image, &saved));
     sofaduck_state *const other = load(&second, image, saved);
-    printf("saved and loaded: %u bytes\n", (unsigned)saved);
+    printf("saved and loaded: %u bytes, edition %d\n", (unsigned)saved, other->registers[SOFADUCK_EDITION]);
     const int end = play(&scene, 20, after, sizeof after / sizeof *after, true);
     if (play(&second, 20, after, sizeof after / sizeof *after, false) != end
         || memcmp(s->registers, other->registers, sizeof s->registers) != 0
@@ -276,6 +298,9 @@ int main(int argc, char **argv) {
         fail("the two states differ");
     made("check", sofaduck_state_check(other));
     printf("both states are the same\n");
+    show_kept(other);
     printf("the handlers needed %u of %d words of stack\n", (unsigned)needed, STACK);
+    printf("room is left for %d objects and %d words, which nothing gives back\n", SOFADUCK_OBJECTS - s->registers[SOFADUCK_N],
+           SOFADUCK_BODIES - s->registers[SOFADUCK_B]);
     return 0;
 }

@@ -32,11 +32,11 @@
 extern "C" {
 #endif
 
-/* The version of header and library, and the edition of the images that load accepts. */
-#define SOFADUCK_VERSION_MAJOR 2
-#define SOFADUCK_VERSION_MINOR 2
+/* The version of header and library, and the last edition of images that load accepts: it takes those from 1 to this. */
+#define SOFADUCK_VERSION_MAJOR 3
+#define SOFADUCK_VERSION_MINOR 0
 #define SOFADUCK_VERSION_PATCH 0
-#define SOFADUCK_EDITION 1
+#define SOFADUCK_EDITIONS 2
 
 /* Sizes */
 enum {
@@ -45,7 +45,7 @@ enum {
     SOFADUCK_BODIES = 24000,     /* words of bodies that an image can use */
     SOFADUCK_CHAIN = 24,         /* classes of the longest chain, from a class up through its superclasses: a lookup reads no more dictionaries */
     SOFADUCK_CACHE = 192,        /* words of the cache, exactly */
-    SOFADUCK_REGISTERS = 7,      /* words of the registers, exactly */
+    SOFADUCK_REGISTERS = 8,      /* words of the registers, exactly */
     SOFADUCK_IMAGE = 64386,      /* bytes of the largest image: 10, 8 for each object, 2 for each word of bodies */
     SOFADUCK_FRAME = 18,         /* words of stack for a frame: 6, and 12 for temporaries and operands ... */
     SOFADUCK_LARGE_FRAME = 38,   /* ... or 32, for a method whose header says large */
@@ -61,7 +61,8 @@ enum {
     SOFADUCK_START_SELECTOR,
     SOFADUCK_PHASE,
     SOFADUCK_TOP,            /* where in the stack the top frame begins; 0 if there is no frame */
-    SOFADUCK_VALUE           /* what the handler answered, in phase SOFADUCK_FINISHED; else 0 */
+    SOFADUCK_VALUE,          /* what the handler answered, in phase SOFADUCK_FINISHED; else 0 */
+    SOFADUCK_EDITION         /* the image's edition, 1 or 2: load takes it from the image, no other call changes it, and save writes it */
 };
 
 /* Phases. The last three are halts: the handler stands before the bytecode that it could not make, which is not counted. It cannot be run on,
@@ -70,21 +71,25 @@ enum {
     SOFADUCK_IDLE,           /* nothing begun, or dropped */
     SOFADUCK_RUNNING,        /* begun and not done */
     SOFADUCK_FINISHED,       /* done: the answer is in the register value */
-    SOFADUCK_NOT_UNDERSTOOD, /* a send finds no method, or by a super send one that cannot run on its receiver */
+    SOFADUCK_NOT_UNDERSTOOD, /* a send fails: it finds no method, or by a super send one that cannot run on its receiver. From edition 2 on only where
+                                no message can be made of it or nothing takes the message: "Sends that fail" below says when */
     SOFADUCK_NO_BOOLEAN,     /* a jump finds neither true nor false */
-    SOFADUCK_NO_STACK_ROOM   /* a send finds a method whose frame does not fit in the stack */
+    SOFADUCK_NO_STACK_ROOM   /* a send finds a method whose frame does not fit in the stack. From edition 2 on that may be the one which was to take
+                                the message of a send that failed; no message was made then */
 };
 
 /* What every function returns: 0, or the number of the refusal. Where there are several it is the first, in the order 1 to 5, 14, 6, 7, 8 for load,
  * and for the others 3, 11, 12, 8, 9, 10, 13. A refused call changes no buffer, register or result; only load does, see there. */
 enum {
     SOFADUCK_BAD_LENGTH = 1, /* the image's length is not the one that its header tells, or is below 10 bytes */
-    SOFADUCK_BAD_HEADER,     /* an edition other than 1, objects not from 5 to 2,047, or more than 24,000 words of bodies */
+    SOFADUCK_BAD_HEADER,     /* an edition other than 1 and 2, less than 5 objects, or 8 in edition 2, more than 2,047, or 24,000 words of bodies */
     SOFADUCK_NO_ROOM,        /* contents, bodies or save's output are too short, or the cache has not 192 words */
     SOFADUCK_BAD_LAYOUT,     /* image: a kind, a start, a class's size or padding is wrong, or bodies do not end where they should */
     SOFADUCK_BAD_WORD,       /* image: an object's class, or a word of an object, a class or a list, is no integer and names no object */
-    SOFADUCK_BAD_CLASS,      /* image: a class or dictionary is wrong, an object does not fit its class, or one of objects 1 to 5 is wrong */
-    SOFADUCK_BAD_METHOD,     /* image: a method's header, home class, literals, count of arguments or code is wrong */
+    SOFADUCK_BAD_CLASS,      /* image: a class or dictionary is wrong, an object does not fit its class, or one of objects 1 to 5 is wrong. From
+                                edition 2 on also: 6 is not of bytes, 7 no class of form 0 with two fields, or 8 no class of form 1 with none */
+    SOFADUCK_BAD_METHOD,     /* image: a method's header, home class, literals, count of arguments or code is wrong. From edition 2 on also: one that
+                                a dictionary has under object 6 does not take one argument */
     SOFADUCK_BAD_MESSAGE,    /* start words or begin: a receiver or argument is no integer and names nothing, or the selector is no object of bytes */
     SOFADUCK_NO_METHOD,      /* the receiver has no method under the selector */
     SOFADUCK_BAD_COUNT,      /* the method takes another number of arguments */
@@ -101,8 +106,14 @@ enum {
     SOFADUCK_FALSE = 4,
     SOFADUCK_TRUE = 6,
     SOFADUCK_INTEGER_CLASS = 8,
-    SOFADUCK_SPECIAL_SELECTORS = 10 /* the list of those that bytecodes 176 to 207 send */
+    SOFADUCK_SPECIAL_SELECTORS = 10,   /* the list of those that bytecodes 176 to 207 send */
+    SOFADUCK_DOES_NOT_UNDERSTAND = 12, /* from edition 2 on: the selector that is sent where another finds no method */
+    SOFADUCK_MESSAGE_CLASS = 14,       /* from edition 2 on: the class of its argument, a message, with the fields below */
+    SOFADUCK_ARRAY_CLASS = 16          /* from edition 2 on: the class of the array of arguments that a message has */
 };
+
+/* The fields of a message. sofaduck_message, among the readers, reads both. */
+enum { SOFADUCK_MESSAGE_SELECTOR, SOFADUCK_MESSAGE_ARGUMENTS };
 
 /* Kinds of objects. */
 enum { SOFADUCK_FIELDS, SOFADUCK_BYTES, SOFADUCK_CLASS, SOFADUCK_LIST, SOFADUCK_METHOD };
@@ -159,12 +170,24 @@ uint32_t sofaduck_load(const uint8_t *image, size_t image_length,
  * comes to the same words. It is enough to copy 4 * N words of contents, B of bodies, the cache, the registers, and of the stack, except in phases
  * idle and finished, the first TOP + SOFADUCK_LARGE_FRAME words, or all where it is shorter. Save writes less: objects, and no handler.
  *
+ * Sends that fail. In edition 1 they halt the handler in phase not understood, and images of edition 1 run as they did before there was another. From
+ * edition 2 on, run makes two objects of such a send: object N + 1, an array of its arguments in order, and object N + 2, a message, whose fields are
+ * the selector (nil where nil was sent) and the array. Then SOFADUCK_DOES_NOT_UNDERSTAND is sent to the same receiver with the message as argument,
+ * sought from the class where the failed lookup began; what that method answers is the answer of the send. All of it is one bytecode. So an image has
+ * proxies, objects that hand on or keep what they do not understand themselves. Such a handler halts all the same, in phase not understood, where
+ * no method is found under SOFADUCK_DOES_NOT_UNDERSTAND, or one that cannot run on the receiver, or where there is no room for both objects; and in
+ * phase no stack room where the method's frame does not fit. Then neither object was made, and the handler stands before the send that failed. Begin
+ * makes no message: where it finds no method it is refused by 9, in every edition.
+ *
  * Objects that handlers make are never reclaimed. Where contents or bodies have no room for another, or N is SOFADUCK_OBJECTS, or B would pass
  * SOFADUCK_BODIES, the primitive that makes it fails and the code of its method runs: the image says what happens then, often that nil is answered.
- * That is neither a halt nor a refusal; an engine sees it coming in N and B. What helps: longer buffers, up to SOFADUCK_CONTENTS and
- * SOFADUCK_BODIES, into which contents and bodies are copied between two calls; or the image loaded anew, or a snapshot put back, with
- * what is to be kept written into its fields (a word that names an object made since names nothing there). Saving and loading does not help: save
- * writes all objects. */
+ * That is neither a halt nor a refusal. A send that fails is another matter: it takes two objects and two words of bodies more than it has arguments,
+ * each time, and where these do not fit (N above SOFADUCK_OBJECTS - 2, contents shorter than 4 * (N + 2), bodies shorter than B and its words, or B
+ * past SOFADUCK_BODIES with them) the handler halts. A proxy that is sent something at every contact gets there in the end. An engine sees either
+ * coming in N and B. What helps: longer buffers, up to SOFADUCK_CONTENTS and SOFADUCK_BODIES, into which contents and bodies are copied between two
+ * calls; or the image loaded anew, or a snapshot put back, with what is to be kept written into its fields (a word that names an object made since
+ * names nothing there). Saving and loading does not help: save writes all objects. And an image helps by methods of its proxies' own for what is sent
+ * to them often. */
 
 /* Begin sends `selector` with the arguments to `receiver`. Frames of a handler that halted are removed.
  *
@@ -173,8 +196,8 @@ uint32_t sofaduck_load(const uint8_t *image, size_t image_length,
  *   arguments   as many words as the method takes
  *
  * Returns 0, in phase running, or finished where the method is answered at once. Or 3 or 11; 12, a handler is running (drop it first); 8, a word is
- * invalid or the selector none; 9, no method; 10, another number of arguments; 13, no room in the stack. Refused, or answered at once, it writes no
- * word of the stack. */
+ * invalid or the selector none; 9, no method, in every edition; 10, another number of arguments; 13, no room in the stack. Refused, or answered at
+ * once, it writes no word of the stack. */
 uint32_t sofaduck_begin(uint16_t *contents, size_t contents_length,
                         uint16_t *bodies, size_t bodies_length,
                         uint16_t *stack, size_t stack_length,
@@ -274,7 +297,7 @@ uint32_t sofaduck_check(const uint16_t *contents, size_t contents_length,
                         const uint16_t *cache, size_t cache_length,
                         const uint16_t registers[SOFADUCK_REGISTERS]);
 
-/* Save writes the objects and the start words as an image, which load accepts, in any phase. A handler that is running is no part of it.
+/* Save writes the objects, the start words and the edition as an image, which load accepts, in any phase. A handler that is running is no part of it.
  *
  *   output      10 + 8 * N + 2 * B bytes or more, of which so many are written: SOFADUCK_IMAGE bytes are always enough
  *   length      written: the image's bytes
@@ -390,7 +413,7 @@ static inline const char *sofaduck_refusal_text(uint32_t number) {
         "a buffer is too short, or the cache has not 192 words",
         "the layout of the image's objects",
         "a word of the image is no integer and names no object",
-        "a class of the image, or an object that does not fit its class",
+        "a class of the image, an object that does not fit its class, or one with a fixed number",
         "a method of the image",
         "a receiver or argument is no integer and names no object, or the selector is no object of bytes",
         "the receiver has no method under the selector",
@@ -431,6 +454,19 @@ static inline const uint16_t *sofaduck_elements(const sofaduck_state *state, uin
     if (of_class == NULL || words < 4 || of_class[3] != sofaduck_word(1) || of_class[2] / 2u > size) return NULL;
     *count = size - of_class[2] / 2u;
     return body + of_class[2] / 2u;
+}
+
+/* What a message says that a failed send made: its arguments in order, how many there are, and the selector, which may be nil. A frame of a method
+ * under SOFADUCK_DOES_NOT_UNDERSTAND has the message as its first temporary, until it stores another word there. Null for other words and objects,
+ * in edition 1, and for a message whose second field has no elements, since handlers and engine may store into it. */
+static inline const uint16_t *sofaduck_message(const sofaduck_state *state, uint16_t object, uint16_t *selector, size_t *count) {
+    size_t size = 0;
+    const uint16_t *const fields = sofaduck_body(state, object, SOFADUCK_FIELDS, &size);
+    if (state->registers[SOFADUCK_EDITION] < 2 || fields == NULL || size < 2 || state->contents[4 * (object / 2u - 1)] != SOFADUCK_MESSAGE_CLASS)
+        return NULL;
+    const uint16_t *const arguments = sofaduck_elements(state, fields[SOFADUCK_MESSAGE_ARGUMENTS], count);
+    if (arguments != NULL) *selector = fields[SOFADUCK_MESSAGE_SELECTOR];
+    return arguments;
 }
 
 /* Byte k, from 0, of a body that is bytes. */

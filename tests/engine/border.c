@@ -1,14 +1,13 @@
 /* The functions for C from outside: every call, every refusal, what is written and what is not, null pointers, lists of calls against the same calls
  * made singly, elements behind named fields, what an engine may write itself, small C stacks, two threads.
- * A line for each test; the exit status says whether all passed. Usage: border IMAGE, of border.source. */
+ * A line for each test; the exit status says whether all passed. Usage: border IMAGE MESSAGES, of border.source and messages.source. */
 #define _DEFAULT_SOURCE /* MAP_ANONYMOUS */
-#include "sofaduck.h"
+#include "singly.h"
 #include "border.h"
 #include <pthread.h>
 #include <stdbool.h>
 #include <stdio.h>
 #include <stdlib.h>
-#include <string.h>
 #include <sys/mman.h>
 
 enum { STACK = 1024, GUARD = 65536, OWN_STACK = 32768, PAINT = 0x5c, ROUNDS = 2000, ANSWERS = 200 };
@@ -18,8 +17,8 @@ typedef struct {
     uint16_t contents[SOFADUCK_CONTENTS], bodies[SOFADUCK_BODIES], stack[STACK], cache[SOFADUCK_CACHE + 1];
 } words;
 
-static uint8_t image[SOFADUCK_IMAGE], other[SOFADUCK_IMAGE + 1], output[SOFADUCK_IMAGE + 1];
-static size_t length;
+static uint8_t image[SOFADUCK_IMAGE], messages[SOFADUCK_IMAGE], other[SOFADUCK_IMAGE + 1], output[SOFADUCK_IMAGE + 1];
+static size_t length, messages_length;
 static bool failed;
 static sofaduck_state s, before;
 static words lent, lent_before;
@@ -133,7 +132,7 @@ static void long_chains(void) {
         unsigned word;
         uint32_t number;
     } beside[] = {
-        {"edition 2", 0, 2, 2},
+        {"edition 3", 0, 3, 2},
         {"kind 9", 6, 9, 4},
         {"class 0", 5, 0, 5},
         {"a form that is 0", class_at(CLASS_Box) + 3, 0, 5},
@@ -195,8 +194,10 @@ static void loads(void) {
     load_refused("load: nine bytes", 1, 9);
     load_refused("load: a byte too few", 1, length - 1);
     load_refused("load: a byte too many", 1, length + 1);
-    put(0, 2);
-    load_refused("load: edition 2", 2, length);
+    put(0, 0);
+    load_refused("load: edition 0", 2, length);
+    put(0, 3);
+    load_refused("load: edition 3", 2, length);
     s.contents_length = 4 * n - 1;
     load_refused("load: contents a word short", 3, length);
     s.contents = NULL, s.contents_length = 0;
@@ -224,7 +225,7 @@ static void loads(void) {
     long_chains();
 
     fresh(&s, &lent);
-    const uint16_t expected[] = {(uint16_t)n, (uint16_t)b, OBJECT_box, SELECTOR_a, SOFADUCK_IDLE, 0, 0};
+    const uint16_t expected[] = {(uint16_t)n, (uint16_t)b, OBJECT_box, SELECTOR_a, SOFADUCK_IDLE, 0, 0, 1};
     test("load: accepted", sofaduck_state_load(&s, image, length) == 0);
     test("load: registers", memcmp(s.registers, expected, sizeof expected) == 0);
     test("load: the cache is empty, what lies behind contents, bodies and cache is untouched",
@@ -406,28 +407,6 @@ static void runs(void) {
     for (int k = -16384; k < 16384; k++)
         kept = kept && sofaduck_is_integer(sofaduck_word(k)) && sofaduck_integer(sofaduck_word(k)) == k;
     test("words of integers and back", kept && sofaduck_word(-1) == 65535 && sofaduck_word(-16384) == 32769 && !sofaduck_is_integer(SOFADUCK_NIL));
-}
-
-/* A list's calls made singly, with the answers that play has to write. Returns how many were made. */
-static uint32_t singly(sofaduck_state *t, const uint16_t *calls, size_t calls_length, uint32_t *to, size_t room) {
-    uint32_t made = 0;
-    for (size_t at = 0, size; at < calls_length && made < room / SOFADUCK_ANSWER; at += size, made++) {
-        const uint16_t *const c = calls + at;
-        const size_t left = calls_length - at;
-        uint32_t number, count = 0, reach = 0;
-        size = c[0] == SOFADUCK_PLAY_BEGIN ? 4 : c[0] == SOFADUCK_PLAY_RUN ? 3 : 1;
-        if (c[0] == SOFADUCK_PLAY_BEGIN && left >= 4) size += c[3];
-        if (size > left || c[0] > SOFADUCK_PLAY_FORGET) break;
-        if (c[0] == SOFADUCK_PLAY_BEGIN) number = sofaduck_begin(SOFADUCK_STATE(t), c[1], c[2], c + 4, c[3]);
-        else if (c[0] == SOFADUCK_PLAY_RUN) number = sofaduck_run(SOFADUCK_STATE(t), 65536u * c[1] + c[2], &count, &reach);
-        else if (c[0] == SOFADUCK_PLAY_DROP) number = sofaduck_drop(SOFADUCK_STATE(t));
-        else number = sofaduck_forget(SOFADUCK_STATE(t));
-        const bool ran = c[0] == SOFADUCK_PLAY_RUN && number == 0;
-        const uint32_t answer[SOFADUCK_ANSWER] = {number, ran ? t->registers[SOFADUCK_PHASE] : 0u, count, ran ? t->registers[SOFADUCK_VALUE] : 0u,
-                                                  reach};
-        memcpy(to + SOFADUCK_ANSWER * made, answer, sizeof answer);
-    }
-    return made;
 }
 
 /* A list played on the state, and its calls made singly on a copy. Returns how many were made, where registers, every word and all answers are the
@@ -737,6 +716,13 @@ static uint32_t count_made, reach_made, bytes_made;
 static uint32_t call_load(void) { return sofaduck_state_load(&s, image, length); }
 static uint32_t call_begin(void) { return begin(&s, OBJECT_box, SELECTOR_deeper); }
 static uint32_t call_run(void) { return sofaduck_run(SOFADUCK_STATE(&s), 500, &count_made, &reach_made); }
+/* to its end, through a send that fails */
+static uint32_t call_failing(void) { return sofaduck_run(SOFADUCK_STATE(&s), 500, &count_made, &reach_made); }
+static uint32_t call_play_failing(void) {
+    const uint16_t list[] = {
+        SOFADUCK_PLAY_BEGIN, s.registers[SOFADUCK_START_RECEIVER], s.registers[SOFADUCK_START_SELECTOR], 0, SOFADUCK_PLAY_RUN, 0, 500};
+    return sofaduck_play(SOFADUCK_STATE(&s), list, sizeof list / sizeof *list, answers, ANSWERS, &count_made);
+}
 static uint32_t call_drop(void) { return sofaduck_drop(SOFADUCK_STATE(&s)); }
 static uint32_t call_forget(void) { return sofaduck_forget(SOFADUCK_STATE(&s)); }
 static uint32_t call_play(void) {
@@ -791,6 +777,13 @@ static void small_stacks(void) {
     small_stack("play", call_play);
     small_stack("check", call_check);
     small_stack("save", call_save);
+    fresh(&s, &lent);
+    bool fine = sofaduck_state_load(&s, messages, messages_length) == 0;
+    const unsigned n = s.registers[SOFADUCK_N];
+    fine = fine && begin(&s, s.registers[SOFADUCK_START_RECEIVER], s.registers[SOFADUCK_START_SELECTOR]) == 0;
+    small_stack("run with a send that fails", call_failing);
+    small_stack("play with a send that fails", call_play_failing);
+    test("each of the two made a message", fine && s.registers[SOFADUCK_N] == n + 4 && s.registers[SOFADUCK_PHASE] == SOFADUCK_FINISHED);
 }
 
 /* The same calls on two states at once. */
@@ -821,12 +814,13 @@ static void threads(void) {
 }
 
 int main(int argc, char **argv) {
-    FILE *file = argc == 2 ? fopen(argv[1], "rb") : NULL;
-    if (file == NULL || (length = fread(image, 1, sizeof image, file)) < 10) {
-        fprintf(stderr, "usage: border IMAGE, of border.source\n");
+    FILE *file = argc == 3 ? fopen(argv[1], "rb") : NULL, *second = argc == 3 ? fopen(argv[2], "rb") : NULL;
+    if (file == NULL || second == NULL || (length = fread(image, 1, sizeof image, file)) < 10
+        || (messages_length = fread(messages, 1, sizeof messages, second)) < 10) {
+        fprintf(stderr, "usage: border IMAGE MESSAGES, of border.source and messages.source\n");
         return 2;
     }
-    fclose(file);
+    fclose(file), fclose(second);
     small_stacks();
     loads();
     states();

@@ -1,7 +1,7 @@
 /* The library with every buffer at the end of its memory: a page that nobody may touch lies behind each. Images are edited at random, what is
  * accepted is begun and run, lists of calls are played, states are spoiled and read. An access past a buffer ends the program; otherwise it fails
  * where check refuses a state that the calls left, where count or reach are not those of the same run made bytecode by bytecode, or where some number
- * was never answered. Usage: guard IMAGE... */
+ * was never answered or no message made. Usage: guard IMAGE... */
 #define _DEFAULT_SOURCE /* MAP_ANONYMOUS */
 #include "frames.h"
 #include <stdbool.h>
@@ -34,7 +34,7 @@ static void *last(int buffer, size_t bytes) {
 
 static sofaduck_state *s;
 static uint32_t *count, *reach, *made;
-static unsigned long answers[SOFADUCK_LONG_CHAIN + 1];
+static unsigned long answers[SOFADUCK_LONG_CHAIN + 1], messages;
 
 static uint32_t counted(uint32_t answer) {
     answers[answer]++;
@@ -87,6 +87,9 @@ static bool handled(bool start) {
         uint32_t singly = 0, ends = 0;
         fine = expected(n, &singly, &ends) && counted(sofaduck_state_run(s, n, count, reach)) == 0 && *count == singly && *reach == ends && fine;
     }
+    uint16_t last_selector = 0;
+    size_t last_count = 0;
+    messages += sofaduck_message(s, (uint16_t)(2 * s->registers[SOFADUCK_N]), &last_selector, &last_count) != NULL;
     if (below(2) == 0) fine = counted(sofaduck_state_drop(s)) == 0 && fine;
     return counted(sofaduck_state_check(s)) == 0 && fine;
 }
@@ -133,6 +136,8 @@ static void readers(void) {
     size_t count = 0;
     const uint16_t *const elements = sofaduck_elements(s, (uint16_t)(2 + 2 * below(200)), &count);
     sum += sofaduck_find_selector(s, "a", 1) + (elements != NULL && count > 0 ? elements[count - 1] : 0u);
+    const uint16_t *const arguments_of = sofaduck_message(s, (uint16_t)(2 * s->registers[SOFADUCK_N]), &selector, &count);
+    sum += arguments_of != NULL && count > 0 ? arguments_of[count - 1] + (unsigned long)selector : 0u;
 }
 
 /* One word of the state changed: the calls answer something. */
@@ -169,7 +174,7 @@ int main(int argc, char **argv) {
         fprintf(stderr, "usage: guard IMAGE...\n");
         return 2;
     }
-    s = last(5, sizeof *s); /* the registers are its last words, but for two bytes of padding */
+    s = last(5, sizeof *s); /* the registers are its last words */
     s->cache = last(4, 2 * SOFADUCK_CACHE);
     s->cache_length = SOFADUCK_CACHE;
     count = last(6, 8);
@@ -195,9 +200,10 @@ int main(int argc, char **argv) {
             }
         spoiled();
     }
-    bool all = true;
+    bool all = messages > 0;
     for (size_t i = 0; i < sizeof answers / sizeof *answers; i++) all = all && answers[i] > 0;
-    printf("%s: %d edited images in buffers with a guard behind each; answers 0 to 14:", all ? "passed" : "FAILED", EDITS);
+    printf("%s: %d edited images in buffers with a guard behind each; %lu handlers behind a message; answers 0 to 14:", all ? "passed" : "FAILED", EDITS,
+           messages);
     for (size_t i = 0; i < sizeof answers / sizeof *answers; i++) printf(" %lu", answers[i]);
     printf("\n");
     return !all;

@@ -1,20 +1,20 @@
 /* The header's inline part: texts, the state, lists of calls, readers of objects and frames, snapshots. In C99 and in C++11; every buffer is an
- * allocation of its own, so that a sanitizer sees an access past it. Usage: readers BORDER READERS, images of border.source and readers.source. */
+ * allocation of its own, so that a sanitizer sees an access past it. Usage: readers BORDER READERS MESSAGES, images of the sources of these names. */
 #include "second.h"
 #include "border.h"
 #include <stdio.h>
 #include <stdlib.h>
 #include <string.h>
 
-#if SOFADUCK_VERSION_MAJOR != 2 || SOFADUCK_VERSION_MINOR < 2 || SOFADUCK_VERSION_PATCH < 0 || SOFADUCK_EDITION != 1
+#if SOFADUCK_VERSION_MAJOR != 3 || SOFADUCK_VERSION_MINOR < 0 || SOFADUCK_VERSION_PATCH < 0 || SOFADUCK_EDITIONS != 2
 #error "the version's numbers"
 #endif
 
 enum { REFUSALS = SOFADUCK_LONG_CHAIN + 1, PHASES = SOFADUCK_NO_STACK_ROOM + 1, STACK = 1024, SPOILED = 20000 };
 
 static int failed;
-static uint8_t border[SOFADUCK_IMAGE], sends[SOFADUCK_IMAGE];
-static size_t border_length, sends_length;
+static uint8_t border[SOFADUCK_IMAGE], sends[SOFADUCK_IMAGE], messages[SOFADUCK_IMAGE];
+static size_t border_length, sends_length, messages_length;
 
 static void test(const char *what, int passed) {
     printf("%s: %s\n", passed ? "passed" : "FAILED", what);
@@ -224,6 +224,50 @@ static void elements(void) {
     end(&s), end(&t);
 }
 
+/* A message as a failed send made it, and what is none. */
+static void message(void) {
+    sofaduck_state s = loaded(messages, messages_length, STACK);
+    const uint16_t box = s.registers[SOFADUCK_START_RECEIVER];
+    uint32_t made = 0, reach = 0;
+    uint16_t selector = 77;
+    size_t count = 77;
+    sofaduck_frame f;
+    memset(&f, 0, sizeof f);
+    test("the edition is the last register", s.registers[SOFADUCK_EDITION] == 2 && SOFADUCK_EDITION == SOFADUCK_REGISTERS - 1);
+    /* push three words and send unknown:and: with 1 and 2 */
+    int fine = sofaduck_state_begin(&s, box, s.registers[SOFADUCK_START_SELECTOR], NULL, 0) == 0 && sofaduck_state_run(&s, 4, &made, &reach) == 0
+        && made == 4 && sofaduck_top_frame(&s, &f) && f.base == SOFADUCK_FRAME && second_frames(&s) == 2;
+    const uint16_t object = s.stack[f.base + SOFADUCK_FRAME_TEMPORARIES], proxy = f.receiver;
+    const uint16_t *arguments = sofaduck_message(&s, object, &selector, &count);
+    test("a message has its selector and arguments",
+         fine && object == 2 * s.registers[SOFADUCK_N] && arguments != NULL && reads(&s, selector, "unknown:and:") && count == 2
+             && arguments[0] == sofaduck_word(1) && arguments[1] == sofaduck_word(2)
+             && sofaduck_method_selector(&s, f.method) == SOFADUCK_DOES_NOT_UNDERSTAND);
+    test("its fields are those of the image", arguments == s.bodies + sofaduck_start(s.contents, (uint16_t)(object - 2))
+                                                  && selector == s.bodies[sofaduck_start(s.contents, object) + SOFADUCK_MESSAGE_SELECTOR]);
+    selector = 77, count = 77;
+    const uint16_t others[] = {0, 1, SOFADUCK_NIL, box, SOFADUCK_MESSAGE_CLASS, SOFADUCK_DOES_NOT_UNDERSTAND, 65534, (uint16_t)(object - 2),
+                               (uint16_t)(object + 2)};
+    s.bodies[sofaduck_start(s.contents, box) + SOFADUCK_MESSAGE_ARGUMENTS] = (uint16_t)(object - 2); /* fields as a message has them do not make one */
+    for (unsigned k = 0; k < sizeof others / sizeof *others; k++) fine = fine && sofaduck_message(&s, others[k], &selector, &count) == NULL;
+    const size_t n = s.registers[SOFADUCK_N], b = s.registers[SOFADUCK_B];
+    sofaduck_state t = restored(&s, 4 * n, b);
+    t.contents[4 * n - 2] = (uint16_t)(b - 1), t.contents[4 * n - 1] = 1;
+    fine = fine && sofaduck_message(&t, object, &selector, &count) == NULL; /* it lacks a word, behind which the buffer ends */
+    end(&t);
+    s.registers[SOFADUCK_EDITION] = 1;
+    fine = fine && sofaduck_message(&s, object, &selector, &count) == NULL;
+    s.registers[SOFADUCK_EDITION] = 2;
+    s.bodies[sofaduck_start(s.contents, object) + SOFADUCK_MESSAGE_ARGUMENTS] = SOFADUCK_NIL;
+    fine = fine && sofaduck_message(&s, object, &selector, &count) == NULL && sofaduck_state_check(&s) == 0;
+    test("other words, edition 1 and a message without its array have none", fine && selector == 77 && count == 77);
+    fine = sofaduck_state_drop(&s) == 0 && sofaduck_state_begin(&s, box, find(&s, "none:"), &proxy, 1) == 0
+        && sofaduck_state_run(&s, 9, &made, &reach) == 0;
+    arguments = sofaduck_message(&s, s.registers[SOFADUCK_VALUE], &selector, &count);
+    test("a message without arguments has none, and is one", fine && arguments != NULL && count == 0 && reads(&s, selector, "unknown"));
+    end(&s);
+}
+
 static int stands(const sofaduck_frame *f, unsigned base, unsigned position, unsigned depth) {
     return f->base == base && f->position == position && f->depth == depth && f->receiver == OBJECT_box;
 }
@@ -354,6 +398,11 @@ static size_t read_all(const sofaduck_state *s) {
         const uint16_t *const found = sofaduck_elements(s, collections[i], &elements);
         for (size_t k = 0; found != NULL && k < elements; k++) sum += found[k];
     }
+    const uint16_t last = (uint16_t)(2 * s->registers[SOFADUCK_N]), tried[] = {last, (uint16_t)(last - 4), (uint16_t)below(65536)};
+    for (unsigned i = 0; i < 3; i++) {
+        const uint16_t *const found = sofaduck_message(s, tried[i], &selector, &elements);
+        for (size_t k = 0; found != NULL && k < elements; k++) sum += found[k] + (size_t)selector;
+    }
     for (int more = sofaduck_top_frame(s, &f); more; more = sofaduck_next_frame(s, &f)) {
         if (++frames > 65536) test("frames end", 0);
         sum += sofaduck_method_selector(s, f.method) + (size_t)(sofaduck_code(s, f.method, f.position) + 1);
@@ -368,13 +417,17 @@ static size_t read_all(const sofaduck_state *s) {
 static void spoiled(void) {
     static const uint16_t edges[] = {0, 1, 2, 3, 4, 5, 6, 10, 18, 36, 32767, 65534, 65535};
     const uint16_t handlers[] = {SELECTOR_deeper, SELECTOR_lost, SELECTOR_undecided, SELECTOR_wide};
-    const size_t n = 4 * (border[2] * 256u + border[3]), b = border[4] * 256u + border[5];
     size_t sum = 0;
     for (int i = 0; i < SPOILED; i++) {
+        /* by turns, and room for what a failed send makes */
+        const uint8_t *const image = i % 2 == 0 ? border : messages;
+        const size_t n = 4 * (image[2] * 256u + image[3]) + (i % 2 == 0 ? 0 : 8u), b = image[4] * 256u + image[5] + (i % 2 == 0 ? 0 : 4u);
         uint32_t count, reach;
         sofaduck_state s = lend(n, b, 18 + below(200));
-        sofaduck_state_load(&s, border, border_length);
-        if (sofaduck_state_begin(&s, OBJECT_box, handlers[below(4)], NULL, 0) == 0) sofaduck_state_run(&s, below(20), &count, &reach);
+        sofaduck_state_load(&s, image, i % 2 == 0 ? border_length : messages_length);
+        const uint16_t begun = i % 2 == 0 ? handlers[below(4)] : s.registers[SOFADUCK_START_SELECTOR];
+        if (sofaduck_state_begin(&s, i % 2 == 0 ? (uint16_t)OBJECT_box : s.registers[SOFADUCK_START_RECEIVER], begun, NULL, 0) == 0)
+            sofaduck_state_run(&s, below(20), &count, &reach);
         const size_t frame = s.registers[SOFADUCK_TOP] + (size_t)SOFADUCK_FRAME;
         for (unsigned k = 1 + below(6); k > 0; k--) {
             uint16_t *const buffers[] = {s.contents, s.bodies, s.stack, s.registers};
@@ -403,15 +456,19 @@ static size_t read_image(const char *name, uint8_t *image) {
 }
 
 int main(int argc, char **argv) {
-    if (argc == 3) border_length = read_image(argv[1], border), sends_length = read_image(argv[2], sends);
-    if (border_length < 10 || sends_length < 10) {
-        fprintf(stderr, "usage: readers BORDER READERS\n");
+    if (argc == 4) {
+        border_length = read_image(argv[1], border), sends_length = read_image(argv[2], sends);
+        messages_length = read_image(argv[3], messages);
+    }
+    if (border_length < 10 || sends_length < 10 || messages_length < 10) {
+        fprintf(stderr, "usage: readers BORDER READERS MESSAGES\n");
         return 2;
     }
     texts();
     lists();
     selectors();
     elements();
+    message();
     frames();
     every_send();
     snapshots();

@@ -6,7 +6,7 @@ static uint16_t contents[SOFADUCK_CONTENTS], bodies[SOFADUCK_BODIES], stack[1024
 static uint8_t image[SOFADUCK_IMAGE];
 
 int main(int argc, char **argv) {
-    sofaduck_state s = {contents, SOFADUCK_CONTENTS, bodies, SOFADUCK_BODIES, stack, 1024, cache, SOFADUCK_CACHE, {0, 0, 0, 0, 0, 0, 0}};
+    sofaduck_state s = {contents, SOFADUCK_CONTENTS, bodies, SOFADUCK_BODIES, stack, 1024, cache, SOFADUCK_CACHE, {0, 0, 0, 0, 0, 0, 0, 0}};
     FILE *const file = argc == 2 ? fopen(argv[1], "rb") : NULL;
     uint32_t count = 0, reach = 0;
     if (file == NULL) return 2;
