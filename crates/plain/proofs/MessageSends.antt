@@ -65,7 +65,11 @@ identity = method 10 (57605 ∷ 30 ∷ 733 ∷ 1 ∷ 4220 ∷ [])
 abbrev pushesField : Object
 pushesField = method 6 (1 ∷ 30 ∷ 124 ∷ [])
 
--- in its place, a super send of foo from A, which has no superclass
+-- in its place, flag 6 with field 0
+abbrev answersField : Object
+answersField = method 4 (49153 ∷ 30 ∷ [])
+
+-- or a super send of foo from A, which has no superclass
 abbrev fromRoot : Object
 fromRoot = method 10 (3 ∷ 30 ∷ 26 ∷ 28805 ∷ 124 ∷ [])
 
@@ -78,7 +82,7 @@ super selector pushed = method 12 (5 ∷ 44 ∷ selector ∷ pushed ∷ 8581 ∷
 
 -- The message is the second object that is made; without messages the send halts. By super object 6 is sought above B as the selector was: A's method runs on
 -- an object of B, nil as selector included, and not on the integer 1, whose own class is not asked; one that primitive 110 answers is. A method that was found and
--- cannot run on the integer makes a failed send in the same way. From a root nothing is found.
+-- cannot run on the integer, or has no field to answer, makes a failed send in the same way. From a root nothing is found.
 pub record MessageSends : Type 0 where
   pub sent : step80 (messageImage 2 28 returnsMessage pushesField sendsFoo) ≡ line 2 6 54
   pub unsent : step80 (messageImage 1 28 returnsMessage pushesField sendsFoo) ≡ line 3 2 0
@@ -86,6 +90,7 @@ pub record MessageSends : Type 0 where
   pub noSelector : step80 (messageImage 2 28 returnsMessage pushesField (super nilWord 50)) ≡ line 2 5 54
   pub unfit : step80 (messageImage 2 28 returnsMessage pushesField (super 26 3)) ≡ line 3 1 0
   pub answered : step80 (messageImage 2 28 identity pushesField (super 26 3)) ≡ line 2 3 4
+  pub noField : step80 (messageImage 2 28 identity answersField (super 40 3)) ≡ line 2 3 4
   pub firstUnfit : step80 (messageImage 2 28 identity pushesField (super 40 3)) ≡ line 2 3 4
   pub bothUnfit : step80 (messageImage 2 28 returnsMessage pushesField (super 40 3)) ≡ line 3 1 0
   pub root : step80 (messageImage 2 40 returnsMessage fromRoot sendsFoo) ≡ line 3 1 0
@@ -93,7 +98,7 @@ pub record MessageSends : Type 0 where
 pub message-sends : MessageSends
 unfolding computing messageImage
 message-sends =
-    record { sent = refl; unsent = refl; above = refl; noSelector = refl; unfit = refl; answered = refl; firstUnfit = refl; bothUnfit = refl; root = refl }
+    record { sent = refl; unsent = refl; above = refl; noSelector = refl; unfit = refl; answered = refl; noField = refl; firstUnfit = refl; bothUnfit = refl; root = refl }
 
 -- The array stands first, with the argument, then the message: its selector and the array. Where the stack has no room for the frame, in phase 5, nothing is made.
 abbrev lent : ℕ → Flat
