@@ -48,7 +48,8 @@ sub-rest : tie.Need-sub-rest
 sub-rest c =
     let at-start = c .before .before .before .before .before .before .before .before .before .before .before .before .before .before .before .before .before .before .before .before in
     let f = at-start .pre .run in
-    f .more
+    let k = f .more in
+    omega arith
 
 higher-requires : tie.Need-higher-requires
 higher-requires c κs = search needs

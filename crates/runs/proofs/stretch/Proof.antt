@@ -175,7 +175,8 @@ sub-t53 c =
     let at-start = at-loop .before .before .before .before .before .before .before .before .before .before .before .before .before in
     let w = at-start .pre in
     let l = at-loop .loop .inv (w .receiver) (w .selector) (w .checks) in
-    l .within
+    let g = l .within in
+    omega arith
 
 add-t54 : tie.Need-add-t54 Inv-loop μ-loop
 add-t54 c =
@@ -318,7 +319,8 @@ sub-t59 c =
     let at-start = at-loop .before .before .before .before .before .before .before .before .before .before .before .before .before in
     let w = at-start .pre in
     let l = at-loop .loop .inv (w .receiver) (w .selector) (w .checks) in
-    l .within
+    let g = l .within in
+    omega arith
 
 same-length-9 : tie.Need-same-length-9 Inv-loop μ-loop
 same-length-9 c =
