@@ -53,7 +53,7 @@ use Rattle.frames.proofs.Standing.{noted-small}
 use Rattle.primitives.specs.Outcomes.{roomFor, Stand, MessageRoom}
 use Rattle.sends.specs.Sends.{Guarded, Halts}
 use Rattle.messages.specs.declared.Receiver.{Receiver}
-use Rattle.messages.specs.Resends.{Resends, Seeks, Found₆, SoughtIs, ReceiverIs, FrameFits, PlacedIs, Enters, ResentIs}
+use Rattle.messages.specs.Resends.{Resends, Seeks, FailureFound, SoughtIs, ReceiverIs, FrameFits, PlacedIs, Enters, ResentIs}
 use Rattle.messages.specs.declared.Placed.{Placed}
 use Rattle.messages.specs.declared.Placed.the-variants as P
 use Rattle.messages.specs.declared.Resent.the-variants as R
@@ -66,7 +66,7 @@ sought-found e o contents bodies class count Nothing p t h = inr (inl (sym p))
 
 -- what an answer says, in a case of it
 pub sought-method : {e : ℕ} {o : Objects} {contents bodies class count : ℕ} (y : Found) (m : Pointer) → y ≡ Method m → SoughtIs e o contents bodies class count y
-    → Found₆ e o contents bodies class count (m .0)
+    → FailureFound e o contents bodies class count (m .0)
 sought-method {e} {o} {contents} {bodies} {class} {count} y m p s = subst (SoughtIs e o contents bodies class count) p s
 
 pub placed-at : {o : Objects} {room base m : ℕ} (y : Placed) (temporaries end : ℕ) → y ≡ P.At temporaries end → PlacedIs o room base m y → FrameFits o room base m temporaries end
@@ -131,7 +131,7 @@ module _ {e n b top : ℕ} {contents bodies stack cache : List ℕ} {q : Message
       go true p (inr (inr h)) = sought p (lookup o failureSelector class) refl (sym same-room ∙ h)
 
   -- a method was found
-  module _ (m : ℕ) (f : Found₆ e o (length contents) (length bodies) class count m) where
+  module _ (m : ℕ) (f : FailureFound e o (length contents) (length bodies) class count m) where
     has-room : hasMessageRoom room o count ≡ true
     has-room = sym same-room ∙ f .room
 

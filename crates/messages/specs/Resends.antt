@@ -42,14 +42,14 @@ pub record Seeks (n b : ℕ) (contents bodies cache : List ℕ) (class count : �
   pub caches : Caches n b contents bodies cache
   pub few : count < 65536
 
--- What it found: a method, where the edition has messages and there is room for one
-pub record Found₆ (e : ℕ) (o : Objects) (contents bodies class count m : ℕ) : Type 0 where
+-- What it found: a method under object 6, where the edition has messages and there is room for one
+pub record FailureFound (e : ℕ) (o : Objects) (contents bodies class count m : ℕ) : Type 0 where
   pub messages : hasMessages e ≡ true
   pub finds : lookup o failureSelector class ≡ found m
   pub room : hasMessageRoom (roomFor contents bodies) o count ≡ true
 
 abbrev pub SoughtIs : ℕ → Objects → ℕ → ℕ → ℕ → ℕ → Found → Type 0
-SoughtIs e o contents bodies class count (Method m) = Found₆ e o contents bodies class count (m .0)
+SoughtIs e o contents bodies class count (Method m) = FailureFound e o contents bodies class count (m .0)
 SoughtIs e o contents bodies class count Nothing =
     (hasMessages e ≡ false) ⊎ ((lookup o failureSelector class ≡ Nothing) ⊎ (hasMessageRoom (roomFor contents bodies) o count ≡ false))
 
