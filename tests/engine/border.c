@@ -3,10 +3,9 @@
  * A line for each test; the exit status says whether all passed. Usage: border IMAGE MESSAGES, of border.source and messages.source. */
 #define _DEFAULT_SOURCE /* MAP_ANONYMOUS */
 #include "singly.h"
+#include "tests.h"
 #include "border.h"
 #include <pthread.h>
-#include <stdbool.h>
-#include <stdio.h>
 #include <stdlib.h>
 #include <sys/mman.h>
 
@@ -19,14 +18,8 @@ typedef struct {
 
 static uint8_t image[SOFADUCK_IMAGE], messages[SOFADUCK_IMAGE], other[SOFADUCK_IMAGE + 1], output[SOFADUCK_IMAGE + 1];
 static size_t length, messages_length;
-static bool failed;
 static sofaduck_state s, before;
 static words lent, lent_before;
-
-static void test(const char *what, bool passed) {
-    printf("%s: %s\n", passed ? "passed" : "FAILED", what);
-    failed = failed || !passed;
-}
 
 /* A state whose buffers have the whole lengths and are full of old words. */
 static void fresh(sofaduck_state *t, words *of) {
@@ -63,18 +56,6 @@ static void refused(const char *what, uint32_t wanted, uint32_t got) {
     snprintf(line, sizeof line, "refused by %u: %s", (unsigned)wanted, what);
     if (got != wanted) printf("it gave %u\n", (unsigned)got);
     test(line, got == wanted && unchanged());
-}
-
-static bool all(const uint16_t *words, size_t count, uint16_t word) {
-    for (size_t i = 0; i < count; i++)
-        if (words[i] != word) return false;
-    return true;
-}
-
-static unsigned below(unsigned n) {
-    static uint64_t seed = 1;
-    seed = seed * 6364136223846793005u + 1442695040888963407u;
-    return (unsigned)(seed >> 33) % n;
 }
 
 static bool all_bytes(const uint8_t *bytes, size_t count, uint8_t byte) {
@@ -262,9 +243,9 @@ static void all_refused(const char *why, uint32_t wanted) {
     memset(output, 0x5a, sizeof output);
     ONE("save", sofaduck_save(SOFADUCK_STATE(&s), output, sizeof output, &bytes));
 #undef ONE
-    snprintf(line, sizeof line, "results stay unwritten: %s", why);
-    test(line, count == 77 && reach == 78 && bytes == 79 && all_bytes(output, sizeof output, 0x5a) && made == 80
-                   && all_bytes((const uint8_t *)answers, sizeof answers, 0x5a));
+    test_of("results stay unwritten", why,
+            count == 77 && reach == 78 && bytes == 79 && all_bytes(output, sizeof output, 0x5a) && made == 80
+                && all_bytes((const uint8_t *)answers, sizeof answers, 0x5a));
 }
 
 static void states(void) {

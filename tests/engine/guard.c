@@ -4,19 +4,12 @@
  * was never answered or no message made. Usage: guard IMAGE... */
 #define _DEFAULT_SOURCE /* MAP_ANONYMOUS */
 #include "frames.h"
-#include <stdbool.h>
-#include <stdio.h>
+#include "tests.h"
 #include <stdlib.h>
 #include <string.h>
 #include <sys/mman.h>
 
 enum { EDITS = 100000, ROOM = 1 << 18, PAGE = 4096, IMAGES = 8, LIST = 50, MOST_STACK = 400 };
-
-static uint64_t seed = 1;
-static unsigned below(size_t n) {
-    seed = seed * 6364136223846793005u + 1442695040888963407u;
-    return (unsigned)((seed >> 33) % n);
-}
 
 /* The last bytes before a guard, for each of the buffers. */
 static void *last(int buffer, size_t bytes) {

@@ -3,9 +3,8 @@
  * by hand from messages.source. A line for each test; the exit status says whether all passed. Usage: messages IMAGE BARE ONE, of messages.source, of
  * an image of edition 2 without methods, and of one with a single method under object 6. */
 #include "singly.h"
+#include "tests.h"
 #include "messages.h"
-#include <stdbool.h>
-#include <stdio.h>
 #include <stdlib.h>
 
 /* Buffers longer than an image can use, so that its limits are met and not theirs. */
@@ -21,20 +20,8 @@ typedef struct {
 } file;
 
 static file image, bare, one, other;
-static bool failed;
 static sofaduck_state s, before;
 static words lent, lent_before;
-
-static void test(const char *what, bool passed) {
-    printf("%s: %s\n", passed ? "passed" : "FAILED", what);
-    failed = failed || !passed;
-}
-
-static unsigned below(unsigned n) {
-    static uint64_t seed = 3;
-    seed = seed * 6364136223846793005u + 1442695040888963407u;
-    return (unsigned)(seed >> 33) % n;
-}
 
 static void fresh(void) {
     memset(&lent, 0xa5, sizeof lent);
@@ -66,12 +53,6 @@ static void note(void) {
 
 static bool as_before(void) {
     return memcmp(&lent, &lent_before, sizeof lent) == 0 && memcmp(s.registers, before.registers, sizeof s.registers) == 0;
-}
-
-static bool all(const uint16_t *words, size_t count, uint16_t word) {
-    for (size_t i = 0; i < count; i++)
-        if (words[i] != word) return false;
-    return true;
 }
 
 /* A load of `other`: what it answers and leaves. Accepted, the last register is the edition; refused, all eight are 0, by 4 and above the image's words
@@ -426,26 +407,22 @@ static bool halts(const handler *h, unsigned phase, uint32_t reach) {
 }
 
 static void made(void) {
-    char line[200];
     uint32_t count = 0, reach = 0;
     file first = image;
     put(&first, 0, 1);
     for (size_t i = 0; i < FAILURES; i++) {
         const failure *const f = failures + i;
         loaded(&image);
-        snprintf(line, sizeof line, "a send that fails: %s", f->h.what);
-        test(line, made_of(f));
+        test_of("a send that fails", f->h.what, made_of(f));
         /* the method answers the message, and so does the handler; or the primitive answers false */
         const uint16_t answer = f->temporaries == 0 ? SOFADUCK_FALSE : (uint16_t)(2 * s.registers[SOFADUCK_N]);
-        snprintf(line, sizeof line, "its answer: %s", f->h.what);
-        test(line, sofaduck_state_run(&s, 50, &count, &reach) == 0 && s.registers[SOFADUCK_PHASE] == SOFADUCK_FINISHED
-                       && s.registers[SOFADUCK_VALUE] == answer && s.registers[SOFADUCK_EDITION] == 2);
+        test_of("its answer", f->h.what,
+                sofaduck_state_run(&s, 50, &count, &reach) == 0 && s.registers[SOFADUCK_PHASE] == SOFADUCK_FINISHED
+                    && s.registers[SOFADUCK_VALUE] == answer && s.registers[SOFADUCK_EDITION] == 2);
         /* on top of what it left: object 6 is found in the cache */
-        snprintf(line, sizeof line, "once more, behind the objects made: %s", f->h.what);
-        test(line, made_of(f));
+        test_of("once more, behind the objects made", f->h.what, made_of(f));
         loaded(&first);
-        snprintf(line, sizeof line, "edition 1, phase 3: %s", f->h.what);
-        test(line, halts(&f->h, SOFADUCK_NOT_UNDERSTOOD, f->sender));
+        test_of("edition 1, phase 3", f->h.what, halts(&f->h, SOFADUCK_NOT_UNDERSTOOD, f->sender));
     }
     loaded(&image);
     note();
@@ -481,6 +458,12 @@ static void grow(unsigned n, unsigned b) {
     if (sofaduck_state_check(&s) != 0) test("a state with more objects", false);
 }
 
+/* With room for array and message they are made, without it nothing is. */
+static void room(const failure *f, bool enough, bool *fits, bool *lacks) {
+    if (enough) *fits = *fits && made_of(f);
+    else *lacks = *lacks && halts(&f->h, SOFADUCK_NOT_UNDERSTOOD, f->sender);
+}
+
 static void halted(void) {
     static const struct {
         handler h;
@@ -495,15 +478,12 @@ static void halted(void) {
         {{"nor on one with a method of its own under object 6", OBJECT_lower, SELECTOR_strange_, {OBJECT_proxy}, 1, 1}, 18},
     };
     static const size_t tried[] = {0, 1, 3, 4, 15, 17, 19, 20}; /* failures with 0, 1, 3 and 31 arguments, a large frame, a primitive, super */
-    char line[200];
     for (size_t i = 0; i < sizeof none / sizeof *none; i++) {
         loaded(&image);
-        snprintf(line, sizeof line, "phase 3 and nothing made: %s", none[i].h.what);
-        test(line, halts(&none[i].h, SOFADUCK_NOT_UNDERSTOOD, none[i].reach));
+        test_of("phase 3 and nothing made", none[i].h.what, halts(&none[i].h, SOFADUCK_NOT_UNDERSTOOD, none[i].reach));
         loaded(&image);
         s.stack_length = 18;
-        snprintf(line, sizeof line, "so it is on a full stack: %s", none[i].h.what);
-        test(line, halts(&none[i].h, SOFADUCK_NOT_UNDERSTOOD, none[i].reach));
+        test_of("so it is on a full stack", none[i].h.what, halts(&none[i].h, SOFADUCK_NOT_UNDERSTOOD, none[i].reach));
     }
     for (size_t i = 0; i < sizeof tried / sizeof *tried; i++) {
         const failure *const f = failures + tried[i];
@@ -513,41 +493,31 @@ static void halted(void) {
         for (unsigned most = 2043; most <= 2047; most++) {
             loaded(&image);
             grow(most, b);
-            if (most <= 2045) fits = fits && made_of(f);
-            else lacks = lacks && halts(&f->h, SOFADUCK_NOT_UNDERSTOOD, f->sender);
+            room(f, most <= 2045, &fits, &lacks);
         }
-        snprintf(line, sizeof line, "2,043 to 2,045 objects have room for two more: %s", f->h.what);
-        test(line, fits);
-        snprintf(line, sizeof line, "2,046 and 2,047 have none: %s", f->h.what);
-        test(line, lacks);
+        test_of("2,043 to 2,045 objects have room for two more", f->h.what, fits);
+        test_of("2,046 and 2,047 have none", f->h.what, lacks);
         fits = lacks = true;
         for (unsigned k = 0; k <= 1 + words; k++) { /* from one word to spare up to none at all */
             loaded(&image);
             grow(n + 1, 24000 - words - 1 + k);
-            if (k <= 1) fits = fits && made_of(f);
-            else lacks = lacks && halts(&f->h, SOFADUCK_NOT_UNDERSTOOD, f->sender);
+            room(f, k <= 1, &fits, &lacks);
         }
-        snprintf(line, sizeof line, "bodies up to 24,000 words: %s", f->h.what);
-        test(line, fits);
-        snprintf(line, sizeof line, "and no more: %s", f->h.what);
-        test(line, lacks);
+        test_of("bodies up to 24,000 words", f->h.what, fits);
+        test_of("and no more", f->h.what, lacks);
         fits = lacks = true;
         for (unsigned k = 0; k <= 10; k++) {
             loaded(&image);
             s.contents_length = 4 * n + k;
-            if (k >= 8) fits = fits && made_of(f);
-            else lacks = lacks && halts(&f->h, SOFADUCK_NOT_UNDERSTOOD, f->sender);
+            room(f, k >= 8, &fits, &lacks);
         }
         for (unsigned k = 0; k <= words + 1; k++) {
             loaded(&image);
             s.bodies_length = b + k;
-            if (k >= words) fits = fits && made_of(f);
-            else lacks = lacks && halts(&f->h, SOFADUCK_NOT_UNDERSTOOD, f->sender);
+            room(f, k >= words, &fits, &lacks);
         }
-        snprintf(line, sizeof line, "contents and bodies that are just long enough: %s", f->h.what);
-        test(line, fits);
-        snprintf(line, sizeof line, "contents and bodies that are too short: %s", f->h.what);
-        test(line, lacks);
+        test_of("contents and bodies that are just long enough", f->h.what, fits);
+        test_of("contents and bodies that are too short", f->h.what, lacks);
         fits = lacks = true;
         for (unsigned k = 0; k <= f->frame; k++) {
             loaded(&image);
@@ -559,10 +529,8 @@ static void halted(void) {
             s.bodies_length = b + words - 1;
             lacks = lacks && halts(&f->h, SOFADUCK_NOT_UNDERSTOOD, f->sender);
         }
-        snprintf(line, sizeof line, "a stack that just holds both frames: %s", f->h.what);
-        test(line, fits);
-        snprintf(line, sizeof line, "a shorter one, phase 5 and nothing made; without room for the message phase 3: %s", f->h.what);
-        test(line, lacks);
+        test_of("a stack that just holds both frames", f->h.what, fits);
+        test_of("a shorter one, phase 5 and nothing made; without room for the message phase 3", f->h.what, lacks);
     }
 }
 

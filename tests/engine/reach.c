@@ -1,10 +1,10 @@
 /* Reach to the word: held to the frames that the readers find in the stack after each bytecode, to numbers worked out by hand, and to what it is for:
  * a stack of so many words is enough, and one word less is not. A line for each test; the exit status says whether all passed. Usage: reach IMAGE,
  * of reach.source. */
+#define ABOUT "reach: "
 #include "frames.h"
+#include "tests.h"
 #include "reach.h"
-#include <stdbool.h>
-#include <stdio.h>
 #include <string.h>
 
 enum { OBJECTS = 50, STACK = SOFADUCK_STACK + 64, ROUNDS = 400, LISTED = 40 }; /* room for so many objects; calls in a list */
@@ -18,19 +18,7 @@ typedef struct {
 
 static uint8_t image[SOFADUCK_IMAGE];
 static size_t length;
-static bool failed;
 static machine first, whole, steps;
-
-static void test(const char *what, bool passed) {
-    printf("%s: reach: %s\n", passed ? "passed" : "FAILED", what);
-    failed = failed || !passed;
-}
-
-static unsigned below(unsigned n) {
-    static uint64_t seed = 3;
-    seed = seed * 6364136223846793005u + 1442695040888963407u;
-    return (unsigned)(seed >> 33) % n;
-}
 
 /* Loaded, with a stack of so many words and room for so many objects more. */
 static void load(machine *m, size_t stack, unsigned objects) {

@@ -1,8 +1,8 @@
 /* The header's inline part: texts, the state, lists of calls, readers of objects and frames, snapshots. In C99 and in C++11; every buffer is an
  * allocation of its own, so that a sanitizer sees an access past it. Usage: readers BORDER READERS MESSAGES, images of the sources of these names. */
 #include "second.h"
+#include "tests.h"
 #include "border.h"
-#include <stdio.h>
 #include <stdlib.h>
 #include <string.h>
 
@@ -12,20 +12,8 @@
 
 enum { REFUSALS = SOFADUCK_LONG_CHAIN + 1, PHASES = SOFADUCK_NO_STACK_ROOM + 1, STACK = 1024, SPOILED = 20000 };
 
-static int failed;
 static uint8_t border[SOFADUCK_IMAGE], sends[SOFADUCK_IMAGE], messages[SOFADUCK_IMAGE];
 static size_t border_length, sends_length, messages_length;
-
-static void test(const char *what, int passed) {
-    printf("%s: %s\n", passed ? "passed" : "FAILED", what);
-    if (!passed) failed = 1;
-}
-
-static unsigned below(unsigned n) {
-    static uint64_t seed = 5;
-    seed = seed * 6364136223846793005u + 1442695040888963407u;
-    return (unsigned)(seed >> 33) % n;
-}
 
 /* Words of its own, none for a length of 0. */
 static uint16_t *words(size_t count) {

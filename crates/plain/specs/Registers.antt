@@ -27,7 +27,7 @@ abbrev pub finished : ℕ
 finished = 2
 
 -- Why a run halts before a bytecode, and the phase that says so. `notUnderstood` is a send that fails: no method is found, or by a super send one which cannot run
--- on its receiver (docs/DECISIONS.md, "Super sends to another receiver"), and its message finds none either. What each asks of the state is in specs/Causes.antt.
+-- on its receiver (docs/DECISIONS.md, "Super sends to another receiver"), and its message is not sent. What each asks of the state is in specs/Causes.antt.
 pub data Cause : Type 0 where
   notUnderstood : Cause
   noBoolean : Cause
