@@ -128,14 +128,18 @@ static void show_halt(const sofaduck_state *s) {
     } while (sofaduck_next_frame(s, &at));
 }
 
-/* What came of a handler that was run; `met` is null where it goes on from the frame before. */
+/* What came of a handler that was run, with the dictionaries that its sends went through; `met` is null where it goes on from the frame before. */
 static void show_run(int now, const contact *met, sofaduck_answer run) {
     printf("frame %2d: ", now);
     if (met == NULL) printf("the handler goes on: ");
     else printf("the crate meets %s, impulse %d: ", met->name, met->impulse);
-    if (run.number != 0) printf("answered at once\n");
-    else if (run.phase != SOFADUCK_FINISHED) printf("%s, %u bytecodes\n", sofaduck_phase_text(run.phase), (unsigned)run.count);
-    else printf("finished, %u bytecodes, value %d\n", (unsigned)run.count, sofaduck_integer(run.value));
+    if (run.number != 0) {
+        printf("answered at once\n");
+        return;
+    }
+    printf("%s, %u bytecodes, %llu dictionaries", sofaduck_phase_text(run.phase), (unsigned)run.count, (unsigned long long)run.dictionaries);
+    if (run.phase == SOFADUCK_FINISHED) printf(", value %d", sofaduck_integer(run.value));
+    printf("\n");
 }
 
 /* A frame's list: a run if a handler goes on, then a begin and a run for each contact. */
@@ -227,6 +231,7 @@ static void mistakes(world *w) {
     static world before;
     sofaduck_state *const s = &w->state;
     uint32_t count = 0, reach = 0, answers[ANSWERS];
+    uint64_t dictionaries = 0;
     uint16_t words[WORDS];
     const uint16_t impulse = sofaduck_word(5);
     before = *w;
@@ -234,7 +239,7 @@ static void mistakes(world *w) {
         const char *what;
         uint32_t number, wanted;
     } tried[] = {
-        {"run with nothing begun", sofaduck_state_run(s, GRANT, &count, &reach), SOFADUCK_BAD_PHASE},
+        {"run with nothing begun", sofaduck_state_run(s, GRANT, &count, &reach, &dictionaries), SOFADUCK_BAD_PHASE},
         {"a contact of an integer", sofaduck_state_begin(s, impulse, handler, NULL, 0), SOFADUCK_NO_METHOD},
         {"a contact with one argument", sofaduck_state_begin(s, OBJECT_crate, handler, &impulse, 1), SOFADUCK_BAD_COUNT},
     };

@@ -19,8 +19,8 @@
  * SOFADUCK_CALL_STACK bytes of the C stack, whatever the image and the handler do.
  *
  * Buffers are the caller's. A length counts elements: words of 16 bits, of 32 for `answers`, or an image's bytes. The library trusts that behind
- * every pointer there are as many elements as its length says, that no two buffers of a call overlap, and that `registers`, `count`, `reach`, `made`
- * and `length` are not null. Everything else it checks. A null pointer is fine where the length is 0.
+ * every pointer there are as many elements as its length says, that no two buffers of a call overlap, and that `registers`, `count`, `reach`,
+ * `dictionaries`, `made` and `length` are not null. Everything else it checks. A null pointer is fine where the length is 0.
  */
 #ifndef SOFADUCK_H
 #define SOFADUCK_H
@@ -32,8 +32,10 @@
 extern "C" {
 #endif
 
-/* The version of header and library, and the last edition of images that load accepts: it takes those from 1 to this. */
-#define SOFADUCK_VERSION_MAJOR 3
+/* The version of header and library, and the last edition of images that load accepts: it takes those from 1 to this. What was compiled with a header
+ * of another first number is compiled anew. Until then a program with one before 4 comes to no harm: its cache has 192 words, by which load and every
+ * other call are refused. */
+#define SOFADUCK_VERSION_MAJOR 4
 #define SOFADUCK_VERSION_MINOR 0
 #define SOFADUCK_VERSION_PATCH 0
 #define SOFADUCK_EDITIONS 2
@@ -44,7 +46,7 @@ enum {
     SOFADUCK_CONTENTS = 8188,    /* words of contents for so many, 4 for each */
     SOFADUCK_BODIES = 24000,     /* words of bodies that an image can use */
     SOFADUCK_CHAIN = 24,         /* classes of the longest chain, from a class up through its superclasses: a lookup reads no more dictionaries */
-    SOFADUCK_CACHE = 192,        /* words of the cache, exactly */
+    SOFADUCK_CACHE = 256,        /* words of the cache, exactly: 64 lookups, 4 words for each */
     SOFADUCK_REGISTERS = 8,      /* words of the registers, exactly */
     SOFADUCK_IMAGE = 64386,      /* bytes of the largest image: 10, 8 for each object, 2 for each word of bodies */
     SOFADUCK_FRAME = 18,         /* words of stack for a frame: 6, and 12 for temporaries and operands ... */
@@ -83,7 +85,7 @@ enum {
 enum {
     SOFADUCK_BAD_LENGTH = 1, /* the image's length is not the one that its header tells, or is below 10 bytes */
     SOFADUCK_BAD_HEADER,     /* an edition other than 1 and 2, less than 5 objects, or 8 in edition 2, more than 2,047, or 24,000 words of bodies */
-    SOFADUCK_NO_ROOM,        /* contents, bodies or save's output are too short, or the cache has not 192 words */
+    SOFADUCK_NO_ROOM,        /* contents, bodies or save's output are too short, or the cache has not 256 words */
     SOFADUCK_BAD_LAYOUT,     /* image: a kind, a start, a class's size or padding is wrong, or bodies do not end where they should */
     SOFADUCK_BAD_WORD,       /* image: an object's class, or a word of an object, a class or a list, is no integer and names no object */
     SOFADUCK_BAD_CLASS,      /* image: a class or dictionary is wrong, an object does not fit its class, or one of objects 1 to 5 is wrong. From
@@ -155,7 +157,7 @@ uint32_t sofaduck_load(const uint8_t *image, size_t image_length,
  * it too stays as the last call left it. A handler that halted is dropped before its stack goes to another state.
  *
  * Each call checks all of it first, so a spoiled state does no harm. It is refused by 3 where contents have less than 4 * N words, bodies less than
- * B, or the cache other than 192, and by 11 where objects, cache, registers or frames break a rule that every call keeps. The time for that grows
+ * B, or the cache other than 256, and by 11 where objects, cache, registers or frames break a rule that every call keeps. The time for that grows
  * with the image and the frames, and is spent once a call: one run of a thousand bytecodes takes far less than a thousand runs of one, and one play
  * far less than its calls made singly. On a shared two-core x86-64 machine it took about 4, 21 and 195 microseconds for images of 1,000, 6,000 and
  * 24,000 words of bodies with one frame, and 600 for a state made to be slow: 1,300 classes with chains of 24, 3,640 frames, and a cache full of
@@ -212,8 +214,11 @@ uint32_t sofaduck_begin(uint16_t *contents, size_t contents_length,
  *   count       written: the bytecodes made, less than granted only where the handler finished or halted
  *   reach       written: the words of stack that this run needed, which is the largest end of a frame that stood when it started or after one of its
  *               bytecodes; at most SOFADUCK_STACK, which is no 16-bit number
+ *   dictionaries
+ *               written: how far the lookups of this run's sends went, added up; no more than SOFADUCK_CHAIN for each bytecode counted, so that 64 bits
+ *               never overflow
  *
- * Returns 0, or 3 or 11; 12, no handler is running, with a grant of 0 too. Refused, it leaves count and reach unwritten.
+ * Returns 0, or 3 or 11; 12, no handler is running, with a grant of 0 too. Refused, it leaves count, reach and dictionaries unwritten.
  *
  * A frame's end is its base and its size, SOFADUCK_FRAME or SOFADUCK_LARGE_FRAME. Frames that returned during the run count, those that had returned
  * before it do not; a grant of 0 gives the top frame's end. Where a run halts for want of room, the frame that did not fit never stood and does not
@@ -225,13 +230,29 @@ uint32_t sofaduck_begin(uint16_t *contents, size_t contents_length,
  * the stack's length. On a stack one word shorter one of these calls ends otherwise: a run halts in phase no stack room, or a begin is refused by 13.
  * Two things to mind. Begin gives no reach, and its frame is counted by the run behind it: where a handler is begun and dropped unrun, a run with a
  * grant of 0 between the two tells what it needs. And reach is of the runs that were made: a contact that was not tried may go deeper, and halts
- * where it finds no room. */
+ * where it finds no room.
+ *
+ * A lookup reads the dictionary of the class where it starts, then that of its superclass and so on, up to the one that has the selector. Their number
+ * is what counts: 1 for a method of the receiver's own class, 2 for one inherited from the class above it, up to SOFADUCK_CHAIN. It is the same where
+ * the cache knew the method and no dictionary was read: the cache keeps the number beside the method. So `dictionaries` depends on what everything else
+ * depends on, image, lengths, calls and what the engine wrote, and not on what the cache held. Of runs that continue each other the numbers add up to
+ * that of one run with all their grants.
+ *
+ * Counted are the sends of the bytecodes counted that found their method by lookup: super sends too, which start above the class that has the running
+ * method, and those answered without a frame, by self, a field or a primitive. A primitive that fails changes nothing in it. Where a send fails and
+ * SOFADUCK_DOES_NOT_UNDERSTAND is sent for it, the lookup of that one counts and the one before it does not. Not counted: arithmetic and comparisons
+ * of integers that succeed, 198 (==) and 199 (class), which look nothing up; a send that halts; and begin, which gives no number.
+ *
+ * What it is for: finding hot sends that climb. Divided by the number of such sends it tells how far one climbs, 1 at best. A tool finds those that do
+ * by running a handler bytecode by bytecode: sofaduck_send, among the readers, names the send that comes next, and the run of it gives its number. What
+ * helps is in the image: methods that are sent often move down the chain, or classes whose objects are sent them often get methods of their own under
+ * the same selector. A method that the cache knows takes the same time however far up it is; one that it does not know takes longer with each class. */
 uint32_t sofaduck_run(uint16_t *contents, size_t contents_length,
                       uint16_t *bodies, size_t bodies_length,
                       uint16_t *stack, size_t stack_length,
                       uint16_t *cache, size_t cache_length,
                       uint16_t registers[SOFADUCK_REGISTERS],
-                      uint32_t grant, uint32_t *count, uint32_t *reach);
+                      uint32_t grant, uint32_t *count, uint32_t *reach, uint64_t *dictionaries);
 
 /* Drop ends the handler, in any phase: phase idle, top and value 0. What it wrote into objects stays. Returns 0, or 3 or 11. */
 uint32_t sofaduck_drop(const uint16_t *contents, size_t contents_length,
@@ -240,7 +261,7 @@ uint32_t sofaduck_drop(const uint16_t *contents, size_t contents_length,
                        const uint16_t *cache, size_t cache_length,
                        uint16_t registers[SOFADUCK_REGISTERS]);
 
-/* Forget empties the cache, in any phase. Nothing but time depends on what the cache holds. Returns 0, or 3 or 11. */
+/* Forget empties the cache, in any phase. Nothing but time depends on what the cache holds, `dictionaries` neither. Returns 0, or 3 or 11. */
 uint32_t sofaduck_forget(const uint16_t *contents, size_t contents_length,
                          const uint16_t *bodies, size_t bodies_length,
                          const uint16_t *stack, size_t stack_length,
@@ -251,12 +272,14 @@ uint32_t sofaduck_forget(const uint16_t *contents, size_t contents_length,
  * for a run that was not refused. */
 enum { SOFADUCK_PLAY_BEGIN, SOFADUCK_PLAY_RUN, SOFADUCK_PLAY_DROP, SOFADUCK_PLAY_FORGET };
 enum {
-    SOFADUCK_ANSWER_NUMBER, /* 0, or the number of the refusal */
-    SOFADUCK_ANSWER_PHASE,  /* the register phase after the run */
-    SOFADUCK_ANSWER_COUNT,  /* the bytecodes that it made */
-    SOFADUCK_ANSWER_VALUE,  /* the register value after it */
-    SOFADUCK_ANSWER_REACH,  /* the words of stack that it needed */
-    SOFADUCK_ANSWER         /* how many words that are */
+    SOFADUCK_ANSWER_NUMBER,            /* 0, or the number of the refusal */
+    SOFADUCK_ANSWER_PHASE,             /* the register phase after the run */
+    SOFADUCK_ANSWER_COUNT,             /* the bytecodes that it made */
+    SOFADUCK_ANSWER_VALUE,             /* the register value after it */
+    SOFADUCK_ANSWER_REACH,             /* the words of stack that it needed */
+    SOFADUCK_ANSWER_DICTIONARIES_HIGH, /* how far its lookups went, the high 32 bits ... */
+    SOFADUCK_ANSWER_DICTIONARIES_LOW,  /* ... and the low ones: sofaduck_answer_dictionaries reads both */
+    SOFADUCK_ANSWER                    /* how many words that are */
 };
 
 /* Play makes a list of begin, run, drop and forget calls, one after the other, and checks the state once for all of them. Made singly, a call whose
@@ -337,8 +360,8 @@ static inline uint32_t sofaduck_state_begin(sofaduck_state *state, uint16_t rece
                                             size_t arguments_length) {
     return sofaduck_begin(SOFADUCK_STATE(state), receiver, selector, arguments, arguments_length);
 }
-static inline uint32_t sofaduck_state_run(sofaduck_state *state, uint32_t grant, uint32_t *count, uint32_t *reach) {
-    return sofaduck_run(SOFADUCK_STATE(state), grant, count, reach);
+static inline uint32_t sofaduck_state_run(sofaduck_state *state, uint32_t grant, uint32_t *count, uint32_t *reach, uint64_t *dictionaries) {
+    return sofaduck_run(SOFADUCK_STATE(state), grant, count, reach, dictionaries);
 }
 static inline uint32_t sofaduck_state_drop(sofaduck_state *state) { return sofaduck_drop(SOFADUCK_STATE(state)); }
 static inline uint32_t sofaduck_state_forget(sofaduck_state *state) { return sofaduck_forget(SOFADUCK_STATE(state)); }
@@ -387,20 +410,25 @@ static inline int sofaduck_put_run(sofaduck_calls *calls, uint32_t grant) {
 static inline int sofaduck_put_drop(sofaduck_calls *calls) { return sofaduck_put(calls, SOFADUCK_PLAY_DROP, 1) != NULL; }
 static inline int sofaduck_put_forget(sofaduck_calls *calls) { return sofaduck_put(calls, SOFADUCK_PLAY_FORGET, 1) != NULL; }
 
-/* Play on a state; and answer k, from 0, of the calls that were made. */
+/* Play on a state; and of answer k, from 0, of the calls that were made, `dictionaries`, and all of it. */
 static inline uint32_t sofaduck_state_play(sofaduck_state *state, const sofaduck_calls *calls, uint32_t *answers, size_t answers_length,
                                            uint32_t *made) {
     return sofaduck_play(SOFADUCK_STATE(state), calls->words, calls->length, answers, answers_length, made);
+}
+static inline uint64_t sofaduck_answer_dictionaries(const uint32_t *answers, size_t k) {
+    const uint32_t *const words = answers + SOFADUCK_ANSWER * k;
+    return (uint64_t)words[SOFADUCK_ANSWER_DICTIONARIES_HIGH] << 32 | words[SOFADUCK_ANSWER_DICTIONARIES_LOW];
 }
 typedef struct sofaduck_answer {
     uint32_t number, phase, count;
     uint16_t value;
     uint32_t reach;
+    uint64_t dictionaries;
 } sofaduck_answer;
 static inline sofaduck_answer sofaduck_answer_at(const uint32_t *answers, size_t k) {
     const uint32_t *const words = answers + SOFADUCK_ANSWER * k;
     const sofaduck_answer answer = {words[SOFADUCK_ANSWER_NUMBER], words[SOFADUCK_ANSWER_PHASE], words[SOFADUCK_ANSWER_COUNT],
-                                    (uint16_t)words[SOFADUCK_ANSWER_VALUE], words[SOFADUCK_ANSWER_REACH]};
+                                    (uint16_t)words[SOFADUCK_ANSWER_VALUE], words[SOFADUCK_ANSWER_REACH], sofaduck_answer_dictionaries(answers, k)};
     return answer;
 }
 
@@ -410,7 +438,7 @@ static inline const char *sofaduck_refusal_text(uint32_t number) {
         "not refused",
         "the image has another length than its header says",
         "the image's edition, number of objects or length of bodies",
-        "a buffer is too short, or the cache has not 192 words",
+        "a buffer is too short, or the cache has not 256 words",
         "the layout of the image's objects",
         "a word of the image is no integer and names no object",
         "a class of the image, an object that does not fit its class, or one with a fixed number",
