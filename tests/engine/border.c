@@ -5,6 +5,7 @@
 #include "singly.h"
 #include "tests.h"
 #include "border.h"
+#include "walk.h"
 #include <pthread.h>
 #include <stdlib.h>
 #include <sys/mman.h>
@@ -104,6 +105,15 @@ static unsigned chain_length(uint16_t class) {
     return count;
 }
 
+/* Lengths of a cache that are refused: an older version's, and those next to the right one. */
+static const size_t wrong_caches[] = {0, 192, SOFADUCK_CACHE - 1, SOFADUCK_CACHE + 1};
+enum { WRONG_CACHES = sizeof wrong_caches / sizeof *wrong_caches };
+static const char *of_words(const char *what, size_t count) {
+    static char line[100];
+    snprintf(line, sizeof line, "%s %zu words", what, count);
+    return line;
+}
+
 /* Chains of more than 24 classes, and what else is wrong beside them: 1 to 5 come before 14, and 6 to 8 behind it. */
 static void long_chains(void) {
     const size_t aside = class_at(CLASS_Aside), object = class_at(CLASS_Object);
@@ -187,10 +197,10 @@ static void loads(void) {
     load_refused("load: bodies a word short", 3, length);
     s.bodies = NULL, s.bodies_length = 0;
     load_refused("load: no bodies, a null pointer", 3, length);
-    s.cache_length = SOFADUCK_CACHE - 1;
-    load_refused("load: a cache of 191 words", 3, length);
-    s.cache_length = SOFADUCK_CACHE + 1;
-    load_refused("load: a cache of 193 words", 3, length);
+    for (size_t i = 0; i < WRONG_CACHES; i++) {
+        s.cache_length = wrong_caches[i];
+        load_refused(of_words("load: a cache of", wrong_caches[i]), 3, length);
+    }
     s.cache = NULL, s.cache_length = 0;
     load_refused("load: no cache, a null pointer", 3, length);
     put(6, 9);
@@ -229,11 +239,12 @@ static uint32_t answers[ANSWERS];
 /* Every call but load on this state: refused by the number, results unwritten. */
 static void all_refused(const char *why, uint32_t wanted) {
     uint32_t count = 77, reach = 78, bytes = 79, made = 80;
+    uint64_t dictionaries = 81;
     char line[100];
     note();
 #define ONE(name, call) snprintf(line, sizeof line, name ": %s", why), refused(line, wanted, call)
     ONE("begin", begin(&s, OBJECT_box, SELECTOR_a));
-    ONE("run", sofaduck_run(SOFADUCK_STATE(&s), 1, &count, &reach));
+    ONE("run", sofaduck_run(SOFADUCK_STATE(&s), 1, &count, &reach, &dictionaries));
     ONE("drop", sofaduck_drop(SOFADUCK_STATE(&s)));
     ONE("forget", sofaduck_forget(SOFADUCK_STATE(&s)));
     memset(answers, 0x5a, sizeof answers);
@@ -244,8 +255,37 @@ static void all_refused(const char *why, uint32_t wanted) {
     ONE("save", sofaduck_save(SOFADUCK_STATE(&s), output, sizeof output, &bytes));
 #undef ONE
     test_of("results stay unwritten", why,
-            count == 77 && reach == 78 && bytes == 79 && all_bytes(output, sizeof output, 0x5a) && made == 80
+            count == 77 && reach == 78 && dictionaries == 81 && bytes == 79 && all_bytes(output, sizeof output, 0x5a) && made == 80
                 && all_bytes((const uint8_t *)answers, sizeof answers, 0x5a));
+}
+
+/* Entries of the cache: selector, class, method, dictionaries. */
+static void caches(void) {
+    static const uint16_t filled[][2] = {{SELECTOR_waiting, CLASS_Level24}, {SELECTOR_a, CLASS_Ring}, {SELECTOR_a, CLASS_Box}};
+    static const uint16_t dictionaries[] = {SOFADUCK_CHAIN, 2, 1};
+    char line[100];
+    for (size_t i = 0; i < 3; i++) {
+        const uint16_t selector = filled[i][0], class = filled[i][1], right = dictionaries[i];
+        const uint16_t wrong[] = {0, (uint16_t)(right - 1), (uint16_t)(right + 1), (uint16_t)(3 - right), 25, (uint16_t)(right + 256), 65535};
+        loaded();
+        uint16_t *const entry = s.cache + 4 * ((selector & class) / 2 % 64);
+        keep(&s, selector, class);
+        snprintf(line, sizeof line, "check: a lookup kept with its dictionaries, %u", (unsigned)right);
+        test(line, sofaduck_check(SOFADUCK_STATE(&s)) == 0 && entry[0] == selector && entry[1] == class && entry[3] == right);
+        for (size_t k = 0; k < sizeof wrong / sizeof *wrong; k++) {
+            if (wrong[k] == right) continue;
+            entry[3] = wrong[k];
+            snprintf(line, sizeof line, "a lookup kept with %u dictionaries, not %u", (unsigned)wrong[k], (unsigned)right);
+            all_refused(line, 11);
+        }
+    }
+    for (size_t i = 0; i < 4; i++) {
+        static const uint16_t alone[] = {1, SOFADUCK_CHAIN, 256, 65535};
+        loaded();
+        s.cache[4 * 21 * i + 3] = alone[i];
+        snprintf(line, sizeof line, "an entry of the cache that is empty but for its dictionaries, %u", (unsigned)alone[i]);
+        all_refused(line, 11);
+    }
 }
 
 static void states(void) {
@@ -255,9 +295,11 @@ static void states(void) {
     loaded();
     s.bodies = NULL, s.bodies_length = 0;
     all_refused("no bodies, a null pointer", 3);
-    loaded();
-    s.cache_length = SOFADUCK_CACHE - 1;
-    all_refused("a cache of 191 words", 3);
+    for (size_t i = 0; i < WRONG_CACHES; i++) {
+        loaded();
+        s.cache_length = wrong_caches[i];
+        all_refused(of_words("a cache of", wrong_caches[i]), 3);
+    }
     loaded();
     s.contents[1] = 9;
     all_refused("a spoiled word of contents", 11);
@@ -283,6 +325,7 @@ static void states(void) {
     loaded();
     s.cache[0] = SELECTOR_a;
     all_refused("a spoiled cache", 11);
+    caches();
     loaded();
     s.registers[SOFADUCK_PHASE] = 6;
     all_refused("phase 6", 11);
@@ -302,10 +345,11 @@ static void states(void) {
 static void begins(void) {
     const uint16_t two[] = {sofaduck_word(-3), sofaduck_word(39)}, wrong[] = {sofaduck_word(1), 0};
     uint32_t count = 77, reach = 78;
+    uint64_t dictionaries = 79;
     loaded();
     note();
-    refused("run: nothing begun", 12, sofaduck_run(SOFADUCK_STATE(&s), 0, &count, &reach));
-    test("count and reach stay unwritten: nothing begun", count == 77 && reach == 78);
+    refused("run: nothing begun", 12, sofaduck_run(SOFADUCK_STATE(&s), 0, &count, &reach, &dictionaries));
+    test("count, reach and dictionaries stay unwritten: nothing begun", count == 77 && reach == 78 && dictionaries == 79);
     refused("begin: receiver 0", 8, begin(&s, 0, SELECTOR_a));
     refused("begin: a receiver behind the last object", 8, begin(&s, (uint16_t)(2 * s.registers[SOFADUCK_N] + 2), SELECTOR_a));
     refused("begin: nil as selector", 8, begin(&s, OBJECT_box, SOFADUCK_NIL));
@@ -342,38 +386,41 @@ static void begins(void) {
     test("begin: a method of the 24th class up is found, and answers",
          begin(&s, OBJECT_bottom, SELECTOR_yourself) == 0 && s.registers[SOFADUCK_VALUE] == OBJECT_bottom);
     test("check: a frame whose home is the 24th class up",
-         begin(&s, OBJECT_bottom, SELECTOR_waiting) == 0 && sofaduck_run(SOFADUCK_STATE(&s), 9, &count, &reach) == 0 && count == 9
-             && sofaduck_check(SOFADUCK_STATE(&s)) == 0);
+         begin(&s, OBJECT_bottom, SELECTOR_waiting) == 0 && sofaduck_run(SOFADUCK_STATE(&s), 9, &count, &reach, &dictionaries) == 0
+             && count == 9 && dictionaries == 0 && sofaduck_check(SOFADUCK_STATE(&s)) == 0);
 }
 
 /* A handler of no arguments, run to its end or halt. */
-static void goes(const char *what, uint16_t selector, unsigned phase, uint32_t made, uint16_t value, uint32_t needed) {
+static void goes(const char *what, uint16_t selector, unsigned phase, uint32_t made, uint16_t value, uint32_t needed, uint64_t through) {
     uint32_t count = 77, reach = 78;
+    uint64_t dictionaries = 79;
     loaded();
-    const bool ran = begin(&s, OBJECT_box, selector) == 0 && sofaduck_run(SOFADUCK_STATE(&s), 500, &count, &reach) == 0;
+    const bool ran = begin(&s, OBJECT_box, selector) == 0 && sofaduck_run(SOFADUCK_STATE(&s), 500, &count, &reach, &dictionaries) == 0;
     test(what, ran && s.registers[SOFADUCK_PHASE] == phase && count == made && s.registers[SOFADUCK_VALUE] == value
-                   && reach == needed && sofaduck_check(SOFADUCK_STATE(&s)) == 0);
+                   && reach == needed && dictionaries == through && sofaduck_check(SOFADUCK_STATE(&s)) == 0);
 }
 
 static void runs(void) {
     const uint16_t two[] = {sofaduck_word(-3), sofaduck_word(39)};
     uint32_t count = 77, reach = 78;
-    goes("run: goes on", SELECTOR_forever, SOFADUCK_RUNNING, 500, 0, SOFADUCK_FRAME);
-    goes("run: not understood", SELECTOR_lost, SOFADUCK_NOT_UNDERSTOOD, 1, 0, SOFADUCK_FRAME);
-    goes("run: no boolean", SELECTOR_undecided, SOFADUCK_NO_BOOLEAN, 1, 0, SOFADUCK_FRAME);
-    goes("run: a large frame", SELECTOR_wide, SOFADUCK_FINISHED, 2, SOFADUCK_NIL, SOFADUCK_LARGE_FRAME);
-    goes("run: no stack room, 56 frames fit", SELECTOR_deeper, SOFADUCK_NO_STACK_ROOM, 111, 0, 56 * SOFADUCK_FRAME);
+    uint64_t dictionaries = 79;
+    goes("run: goes on", SELECTOR_forever, SOFADUCK_RUNNING, 500, 0, SOFADUCK_FRAME, 0);
+    goes("run: not understood", SELECTOR_lost, SOFADUCK_NOT_UNDERSTOOD, 1, 0, SOFADUCK_FRAME, 0);
+    goes("run: no boolean", SELECTOR_undecided, SOFADUCK_NO_BOOLEAN, 1, 0, SOFADUCK_FRAME, 0);
+    goes("run: a large frame", SELECTOR_wide, SOFADUCK_FINISHED, 2, SOFADUCK_NIL, SOFADUCK_LARGE_FRAME, 0);
+    goes("run: no stack room, 56 frames fit", SELECTOR_deeper, SOFADUCK_NO_STACK_ROOM, 111, 0, 56 * SOFADUCK_FRAME, 55);
     note();
-    refused("run: after a halt", 12, sofaduck_run(SOFADUCK_STATE(&s), 1, &count, &reach));
+    refused("run: after a halt", 12, sofaduck_run(SOFADUCK_STATE(&s), 1, &count, &reach, &dictionaries));
+    test("count, reach and dictionaries stay unwritten: after a halt", count == 77 && reach == 78 && dictionaries == 79);
     test("begin: after a halt", begin(&s, OBJECT_box, SELECTOR_a) == 0 && s.registers[SOFADUCK_PHASE] == SOFADUCK_FINISHED);
     loaded();
     test("begin: two arguments in order",
          sofaduck_begin(SOFADUCK_STATE(&s), OBJECT_box, SELECTOR_a_b_, two, 2) == 0
-             && sofaduck_run(SOFADUCK_STATE(&s), 0, &count, &reach) == 0 && count == 0 && reach == SOFADUCK_FRAME
-             && sofaduck_run(SOFADUCK_STATE(&s), 4294967295u, &count, &reach) == 0 && count == 8 && reach == SOFADUCK_FRAME
+             && sofaduck_run(SOFADUCK_STATE(&s), 0, &count, &reach, &dictionaries) == 0 && count == 0 && reach == SOFADUCK_FRAME
+             && sofaduck_run(SOFADUCK_STATE(&s), 4294967295u, &count, &reach, &dictionaries) == 0 && count == 8 && reach == SOFADUCK_FRAME
              && s.registers[SOFADUCK_PHASE] == SOFADUCK_FINISHED && sofaduck_integer(s.registers[SOFADUCK_VALUE]) == -42
              && s.bodies[sofaduck_start(s.contents, OBJECT_box) + FIELD_Box_b] == two[1] && sofaduck_size(s.contents, OBJECT_box) == 2);
-    goes("run: an object is made", SELECTOR_more, SOFADUCK_FINISHED, 5, (uint16_t)(2 * get(1) + 2), SOFADUCK_FRAME);
+    goes("run: an object is made", SELECTOR_more, SOFADUCK_FINISHED, 5, (uint16_t)(2 * get(1) + 2), SOFADUCK_FRAME, 1);
     test("forget: the cache was filled and is empty",
          !all(s.cache, SOFADUCK_CACHE, 0) && sofaduck_forget(SOFADUCK_STATE(&s)) == 0 && all(s.cache, SOFADUCK_CACHE, 0));
     memset(lent.stack, 0x33, sizeof lent.stack);
@@ -382,8 +429,8 @@ static void runs(void) {
     loaded();
     s.contents_length = 4 * get(1);
     test("run: no room for an object, new answers nil in a frame of its own",
-         begin(&s, OBJECT_box, SELECTOR_more) == 0 && sofaduck_run(SOFADUCK_STATE(&s), 9, &count, &reach) == 0 && count == 6
-             && s.registers[SOFADUCK_VALUE] == SOFADUCK_NIL && reach == 2 * SOFADUCK_FRAME);
+         begin(&s, OBJECT_box, SELECTOR_more) == 0 && sofaduck_run(SOFADUCK_STATE(&s), 9, &count, &reach, &dictionaries) == 0
+             && count == 6 && dictionaries == 1 && s.registers[SOFADUCK_VALUE] == SOFADUCK_NIL && reach == 2 * SOFADUCK_FRAME);
     bool kept = true;
     for (int k = -16384; k < 16384; k++)
         kept = kept && sofaduck_is_integer(sofaduck_word(k)) && sofaduck_integer(sofaduck_word(k)) == k;
@@ -440,15 +487,15 @@ static void every_call(void) {
         SOFADUCK_PLAY_DROP,
     };
     const uint32_t expected[][SOFADUCK_ANSWER] = {
-        {12, 0, 0, 0, 0}, {8, 0, 0, 0, 0}, {9, 0, 0, 0, 0}, {10, 0, 0, 0, 0}, {13, 0, 0, 0, 0}, /* refused, and nothing is running behind them */
-        {0, 0, 0, 0, 0}, {12, 0, 0, 0, 0},                                                      /* answered at once: nothing to run */
-        {0, 0, 0, 0, 0}, {0, SOFADUCK_RUNNING, 6, 0, 18},
-        {12, 0, 0, 0, 0}, {0, SOFADUCK_FINISHED, 2, sofaduck_word(-2), 18},                     /* no begin: the run goes on with the old handler */
-        {0, 0, 0, 0, 0}, {0, SOFADUCK_FINISHED, 5, 2 * get(1) + 2, 18}, {0, 0, 0, 0, 0},
-        {0, 0, 0, 0, 0}, {0, SOFADUCK_NOT_UNDERSTOOD, 1, 0, 18},
-        {0, 0, 0, 0, 0}, {0, SOFADUCK_NO_BOOLEAN, 1, 0, 18}, {0, 0, 0, 0, 0},                   /* a begin after a halt */
-        {0, 0, 0, 0, 0}, {0, SOFADUCK_NO_STACK_ROOM, 3, 0, 36}, {12, 0, 0, 0, 0},
-        {0, 0, 0, 0, 0}, {0, SOFADUCK_RUNNING, 65538, 0, 18}, {0, 0, 0, 0, 0}, {0, 0, 0, 0, 0}, /* the high word of a grant is its first */
+        {12}, {8}, {9}, {10}, {13},                                             /* refused, and nothing is running behind them */
+        {0}, {12},                                                              /* answered at once: nothing to run */
+        {0}, {0, SOFADUCK_RUNNING, 6, 0, 18, 0, 0},
+        {12}, {0, SOFADUCK_FINISHED, 2, sofaduck_word(-2), 18, 0, 0},           /* no begin: the run goes on with the old handler */
+        {0}, {0, SOFADUCK_FINISHED, 5, 2 * get(1) + 2, 18, 0, 1}, {0},
+        {0}, {0, SOFADUCK_NOT_UNDERSTOOD, 1, 0, 18, 0, 0},
+        {0}, {0, SOFADUCK_NO_BOOLEAN, 1, 0, 18, 0, 0}, {0},                     /* a begin after a halt */
+        {0}, {0, SOFADUCK_NO_STACK_ROOM, 3, 0, 36, 0, 1}, {12},                 /* of its two sends the second halts */
+        {0}, {0, SOFADUCK_RUNNING, 65538, 0, 18, 0, 0}, {0}, {0},               /* the high word of a grant is its first */
     };
     loaded();
     s.stack_length = SOFADUCK_LARGE_FRAME - 1;
@@ -476,12 +523,12 @@ static void ends(void) {
         {"first word 65,535", {65535, SOFADUCK_PLAY_DROP}, 2, ANSWERS, 2},
         {"first word 256", {256, SOFADUCK_PLAY_DROP}, 2, ANSWERS, 2},
         {"room for no word of an answer", {SOFADUCK_PLAY_DROP}, 1, 0, 0},
-        {"room for 4 words of answers", {SOFADUCK_PLAY_DROP}, 1, 4, 0},
-        {"room for 5", {SOFADUCK_PLAY_DROP}, 1, 5, 1},
-        {"room for 9", {SOFADUCK_PLAY_DROP}, 1, 9, 1},
-        {"room for 10", {SOFADUCK_PLAY_DROP}, 1, 10, 2},
+        {"room for 6 words of answers", {SOFADUCK_PLAY_DROP}, 1, 6, 0},
+        {"room for 7", {SOFADUCK_PLAY_DROP}, 1, 7, 1},
+        {"room for 13", {SOFADUCK_PLAY_DROP}, 1, 13, 1},
         {"room for 14", {SOFADUCK_PLAY_DROP}, 1, 14, 2},
-        {"room for 15", {SOFADUCK_PLAY_DROP}, 1, 15, 3},
+        {"room for 20", {SOFADUCK_PLAY_DROP}, 1, 20, 2},
+        {"room for 21", {SOFADUCK_PLAY_DROP}, 1, 21, 3},
     };
     uint16_t list[FRONT + 5] = {SOFADUCK_PLAY_BEGIN, OBJECT_box, SELECTOR_more, 0, SOFADUCK_PLAY_RUN, 0, 9};
     for (size_t i = 0; i < sizeof tails / sizeof *tails; i++) {
@@ -522,7 +569,7 @@ static void random_lists(void) {
             } else list[length++] = (uint16_t)(which < 36 ? SOFADUCK_PLAY_DROP : which < 40 ? SOFADUCK_PLAY_FORGET : 4 + below(65532));
         }
         if (below(3) == 0) length = below((unsigned)length + 1);
-        const uint32_t made = plays(list, length, below(3) == 0 ? below(60) : ANSWERS);
+        const uint32_t made = plays(list, length, below(3) == 0 ? below(84) : ANSWERS);
         same = made != DIFFERENT;
         for (uint32_t k = 0; same && k < made; k++) {
             numbers |= 1u << answers[SOFADUCK_ANSWER * k + SOFADUCK_ANSWER_NUMBER];
@@ -579,9 +626,10 @@ static uint16_t asked(unsigned how, unsigned which, uint16_t object, const uint1
     const uint16_t selector = how == 0 ? at_once[which] : sent[which];
     const size_t given = (which + 1) % 3;
     uint32_t count = 0, reach = 0, number = 0;
+    uint64_t dictionaries = 0;
     if (how < 2) {
         number = sofaduck_state_begin(&s, object, selector, arguments, given);
-        if (number == 0 && s.registers[SOFADUCK_PHASE] == SOFADUCK_RUNNING) number = sofaduck_state_run(&s, 20, &count, &reach);
+        if (number == 0 && s.registers[SOFADUCK_PHASE] == SOFADUCK_RUNNING) number = sofaduck_state_run(&s, 20, &count, &reach, &dictionaries);
     } else {
         uint16_t list[9];
         sofaduck_calls calls = {list, 9, 0, 0};
@@ -624,6 +672,7 @@ static void elements(void) {
     static const int counts[] = {0, 1, 4, 16382, 16383, 16384}, fields[] = {FIELD_Ring_next + 1, 255};
     const uint16_t two[] = {sofaduck_word(700), sofaduck_word(800)}, one[] = {sofaduck_word(1), sofaduck_word('b')};
     uint32_t count, reach;
+    uint64_t dictionaries;
     char line[100];
     loaded();
     test("elements: behind named fields, in an object of the image", elements_of(OBJECT_ring, fields[0], 3));
@@ -653,7 +702,7 @@ static void elements(void) {
     uint16_t *const ring = lent_before.bodies + sofaduck_start(s.contents, OBJECT_ring);
     ring[FIELD_Ring_a] = two[0], ring[FIELD_Ring_b] = two[1];
     test("elements: a method that stores into named fields leaves them",
-         sofaduck_state_begin(&s, OBJECT_ring, SELECTOR_a_b_, two, 2) == 0 && sofaduck_state_run(&s, 20, &count, &reach) == 0
+         sofaduck_state_begin(&s, OBJECT_ring, SELECTOR_a_b_, two, 2) == 0 && sofaduck_state_run(&s, 20, &count, &reach, &dictionaries) == 0
              && s.registers[SOFADUCK_VALUE] == sofaduck_word(-100) && memcmp(lent.bodies, lent_before.bodies, sizeof lent.bodies) == 0);
 }
 
@@ -661,6 +710,7 @@ static void elements(void) {
 static void writes(void) {
     unsigned fields = 0, bytes = 0;
     uint32_t count, reach;
+    uint64_t dictionaries;
     bool accepted = true;
     loaded();
     begin(&s, OBJECT_box, SELECTOR_deeper);
@@ -674,7 +724,7 @@ static void writes(void) {
         if (kind == SOFADUCK_FIELDS) body[k] = (uint16_t)(below(2) == 0 ? 2 * below(32768) + 1 : 2 + 2 * below(n)), fields++;
         else body[k / 2] = (uint16_t)(k % 2 == 0 ? old % 256 + 256 * below(256) : old - old % 256 + below(256)), bytes++;
         accepted = accepted && sofaduck_check(SOFADUCK_STATE(&s)) == 0;
-        if (i % 500 == 0) accepted = accepted && sofaduck_run(SOFADUCK_STATE(&s), 1, &count, &reach) == 0;
+        if (i % 500 == 0) accepted = accepted && sofaduck_run(SOFADUCK_STATE(&s), 1, &count, &reach, &dictionaries) == 0;
     }
     test("check: accepts valid words that an engine wrote into fields, and bytes", accepted && fields > 100 && bytes > 100);
     uint16_t *const field = s.bodies + sofaduck_start(s.contents, OBJECT_box) + FIELD_Box_b;
@@ -694,11 +744,12 @@ static void writes(void) {
 
 /* Each call on a C stack of SOFADUCK_CALL_STACK bytes and some for the thread itself, a guard below, painted to see how far it went. */
 static uint32_t count_made, reach_made, bytes_made;
+static uint64_t dictionaries_made;
 static uint32_t call_load(void) { return sofaduck_state_load(&s, image, length); }
 static uint32_t call_begin(void) { return begin(&s, OBJECT_box, SELECTOR_deeper); }
-static uint32_t call_run(void) { return sofaduck_run(SOFADUCK_STATE(&s), 500, &count_made, &reach_made); }
+static uint32_t call_run(void) { return sofaduck_run(SOFADUCK_STATE(&s), 500, &count_made, &reach_made, &dictionaries_made); }
 /* to its end, through a send that fails */
-static uint32_t call_failing(void) { return sofaduck_run(SOFADUCK_STATE(&s), 500, &count_made, &reach_made); }
+static uint32_t call_failing(void) { return sofaduck_run(SOFADUCK_STATE(&s), 500, &count_made, &reach_made, &dictionaries_made); }
 static uint32_t call_play_failing(void) {
     const uint16_t list[] = {
         SOFADUCK_PLAY_BEGIN, s.registers[SOFADUCK_START_RECEIVER], s.registers[SOFADUCK_START_SELECTOR], 0, SOFADUCK_PLAY_RUN, 0, 500};
@@ -772,10 +823,11 @@ static void *many_calls(void *state) {
     sofaduck_state *const t = state;
     static const uint16_t selectors[] = {SELECTOR_more, SELECTOR_deeper, SELECTOR_a, SELECTOR_lost};
     uint32_t count, reach;
+    uint64_t dictionaries;
     sofaduck_state_load(t, image, length);
     for (unsigned i = 0; i < ROUNDS; i++) {
         begin(t, OBJECT_box, selectors[i % 4]);
-        sofaduck_state_run(t, i % 200, &count, &reach);
+        sofaduck_state_run(t, i % 200, &count, &reach, &dictionaries);
         if (t->registers[SOFADUCK_PHASE] == SOFADUCK_RUNNING && i % 3 == 0) sofaduck_state_drop(t);
     }
     return NULL;

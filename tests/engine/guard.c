@@ -1,7 +1,7 @@
 /* The library with every buffer at the end of its memory: a page that nobody may touch lies behind each. Images are edited at random, what is
  * accepted is begun and run, lists of calls are played, states are spoiled and read. An access past a buffer ends the program; otherwise it fails
- * where check refuses a state that the calls left, where count or reach are not those of the same run made bytecode by bytecode, or where some number
- * was never answered or no message made. Usage: guard IMAGE... */
+ * where check refuses a state that the calls left, where count, reach or dictionaries are not those of the same run made bytecode by bytecode, or where
+ * some number was never answered, no message made or nothing looked up. Usage: guard IMAGE... */
 #define _DEFAULT_SOURCE /* MAP_ANONYMOUS */
 #include "frames.h"
 #include "tests.h"
@@ -13,7 +13,7 @@ enum { EDITS = 100000, ROOM = 1 << 18, PAGE = 4096, IMAGES = 8, LIST = 50, MOST_
 
 /* The last bytes before a guard, for each of the buffers. */
 static void *last(int buffer, size_t bytes) {
-    static uint8_t *ends[10];
+    static uint8_t *ends[11];
     if (ends[buffer] == NULL) {
         uint8_t *const low = mmap(NULL, ROOM + PAGE, PROT_READ | PROT_WRITE, MAP_PRIVATE | MAP_ANONYMOUS, -1, 0);
         if (low == MAP_FAILED || mprotect(low + ROOM, PAGE, PROT_NONE) != 0) {
@@ -27,7 +27,8 @@ static void *last(int buffer, size_t bytes) {
 
 static sofaduck_state *s;
 static uint32_t *count, *reach, *made;
-static unsigned long answers[SOFADUCK_LONG_CHAIN + 1], messages;
+static uint64_t *dictionaries;
+static unsigned long answers[SOFADUCK_LONG_CHAIN + 1], messages, read_in_all;
 
 static uint32_t counted(uint32_t answer) {
     answers[answer]++;
@@ -55,14 +56,14 @@ static uint16_t any_selector(void) {
 }
 
 /* What a run has to give, from runs of one on a copy of the state. */
-static bool expected(uint32_t n, uint32_t *made_singly, uint32_t *ends) {
+static bool expected(uint32_t n, uint32_t *made_singly, uint32_t *ends, uint64_t *walks) {
     static uint16_t contents[SOFADUCK_CONTENTS], bodies[SOFADUCK_BODIES], stack[MOST_STACK], cache[SOFADUCK_CACHE];
     sofaduck_state copy = *s;
     memcpy(copy.contents = contents, s->contents, 2 * s->contents_length);
     memcpy(copy.bodies = bodies, s->bodies, 2 * s->bodies_length);
     memcpy(copy.stack = stack, s->stack, 2 * s->stack_length);
     memcpy(copy.cache = cache, s->cache, 2 * s->cache_length);
-    return stepped(&copy, n, made_singly, ends);
+    return stepped(&copy, n, made_singly, ends, walks);
 }
 
 /* Begin something and run it for some grants. Returns whether check accepts what is left, no call found the state wrong and the runs gave what they
@@ -78,7 +79,10 @@ static bool handled(bool start) {
     while (s->registers[SOFADUCK_PHASE] == SOFADUCK_RUNNING && below(8) > 0) {
         const uint32_t n = below(60);
         uint32_t singly = 0, ends = 0;
-        fine = expected(n, &singly, &ends) && counted(sofaduck_state_run(s, n, count, reach)) == 0 && *count == singly && *reach == ends && fine;
+        uint64_t walks = 0;
+        fine = expected(n, &singly, &ends, &walks) && counted(sofaduck_state_run(s, n, count, reach, dictionaries)) == 0 && *count == singly
+            && *reach == ends && *dictionaries == walks && fine;
+        read_in_all += walks;
     }
     uint16_t last_selector = 0;
     size_t last_count = 0;
@@ -143,7 +147,7 @@ static void spoiled(void) {
     uint32_t length;
     if (lengths[which] > 0) buffers[which][below(lengths[which])] ^= (uint16_t)(1u << below(16));
     readers();
-    counted(sofaduck_state_run(s, 100, count, reach));
+    counted(sofaduck_state_run(s, 100, count, reach, dictionaries));
     counted(sofaduck_state_forget(s));
     counted(sofaduck_state_save(s, last(7, output_length), output_length, &length));
     counted(sofaduck_state_begin(s, SOFADUCK_NIL, SOFADUCK_NIL, NULL, 0));
@@ -173,6 +177,7 @@ int main(int argc, char **argv) {
     count = last(6, 8);
     reach = count + 1;
     made = last(9, 4);
+    dictionaries = last(10, 8);
     for (int k = 0; k < EDITS; k++) {
         const unsigned which = below(given);
         const size_t length = below(50) == 0 ? below(lengths[which]) : lengths[which];
@@ -188,15 +193,15 @@ int main(int argc, char **argv) {
         if (counted(sofaduck_state_load(s, image, length)) != 0) continue;
         for (int turn = 0; turn < 5; turn++)
             if (!(turn == 3 ? listed() : handled(turn == 0))) {
-                printf("FAILED: edit %d: the calls left a state that check refuses, or a run's count or reach is wrong\n", k);
+                printf("FAILED: edit %d: the calls left a state that check refuses, or a run's count, reach or dictionaries are wrong\n", k);
                 return 1;
             }
         spoiled();
     }
-    bool all = messages > 0;
+    bool all = messages > 0 && read_in_all > 0;
     for (size_t i = 0; i < sizeof answers / sizeof *answers; i++) all = all && answers[i] > 0;
-    printf("%s: %d edited images in buffers with a guard behind each; %lu handlers behind a message; answers 0 to 14:", all ? "passed" : "FAILED", EDITS,
-           messages);
+    printf("%s: %d edited images in buffers with a guard behind each; %lu handlers behind a message, %lu dictionaries; answers 0 to 14:",
+           all ? "passed" : "FAILED", EDITS, messages, read_in_all);
     for (size_t i = 0; i < sizeof answers / sizeof *answers; i++) printf(" %lu", answers[i]);
     printf("\n");
     return !all;

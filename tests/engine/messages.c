@@ -195,19 +195,20 @@ static void editions(void) {
 static void all_refused(const char *why, uint32_t wanted) {
     static const uint16_t drop[] = {SOFADUCK_PLAY_DROP};
     uint32_t count = 77, reach = 77, length = 77, made = 77, answers[SOFADUCK_ANSWER] = {77};
+    uint64_t dictionaries = 77;
     static uint8_t output[SOFADUCK_IMAGE];
     char line[200];
     note();
     const uint32_t numbers[] = {
         sofaduck_state_begin(&s, OBJECT_box, SELECTOR_go, NULL, 0),
-        sofaduck_state_run(&s, 1, &count, &reach),
+        sofaduck_state_run(&s, 1, &count, &reach, &dictionaries),
         sofaduck_state_drop(&s),
         sofaduck_state_forget(&s),
         sofaduck_play(SOFADUCK_STATE(&s), drop, 1, answers, SOFADUCK_ANSWER, &made),
         sofaduck_state_check(&s),
         sofaduck_state_save(&s, output, sizeof output, &length),
     };
-    bool fine = as_before() && count == 77 && reach == 77 && length == 77 && made == 77 && answers[0] == 77;
+    bool fine = as_before() && count == 77 && reach == 77 && dictionaries == 77 && length == 77 && made == 77 && answers[0] == 77;
     for (size_t i = 0; i < sizeof numbers / sizeof *numbers; i++) fine = fine && numbers[i] == wanted;
     snprintf(line, sizeof line, "all calls but load: %s: %u", why, (unsigned)wanted);
     test(line, fine);
@@ -216,10 +217,11 @@ static void all_refused(const char *why, uint32_t wanted) {
 static void states(void) {
     static const uint16_t wrong[] = {0, 3, 4, 258, 65535};
     uint32_t count = 0, reach = 0;
+    uint64_t dictionaries = 0;
     for (size_t i = 0; i < 2 * (sizeof wrong / sizeof *wrong); i++) {
         char line[100];
         loaded(&image);
-        if (i % 2 == 1) sofaduck_state_begin(&s, OBJECT_box, SELECTOR_go, NULL, 0), sofaduck_state_run(&s, 4, &count, &reach);
+        if (i % 2 == 1) sofaduck_state_begin(&s, OBJECT_box, SELECTOR_go, NULL, 0), sofaduck_state_run(&s, 4, &count, &reach, &dictionaries);
         s.registers[SOFADUCK_EDITION] = wrong[i / 2];
         snprintf(line, sizeof line, "edition %u%s", wrong[i / 2], i % 2 == 1 ? ", a handler running" : "");
         all_refused(line, 11);
@@ -267,73 +269,78 @@ typedef struct {
     unsigned count, next, left;           /* arguments; where the sender then stands, and its operands that are left */
     unsigned temporaries;                 /* of the new frame; 0 where a primitive answers */
     uint32_t sender, frame;               /* words of both frames */
+    unsigned dictionaries;                /* from the start up to the holder; those of the lookup that failed do not count */
 } failure;
 
 #define INTEGER(k) ((uint16_t)(2 * (k) + 1))
 #define SPECIAL(k) (65000 + (k)) /* entry k of object 5 */
 #define BOX(handler, ...) OBJECT_box, handler, {__VA_ARGS__}
 static const failure failures[] = {
-    {{"no arguments", BOX(SELECTOR_none_, OBJECT_proxy), 1, 1}, OBJECT_proxy, SELECTOR_unknown, CLASS_Proxy, CLASS_Proxy, 0, 2, 0, 3, 18, 18},
+    {{"no arguments", BOX(SELECTOR_none_, OBJECT_proxy), 1, 1}, OBJECT_proxy, SELECTOR_unknown, CLASS_Proxy, CLASS_Proxy, 0, 2, 0, 3, 18, 18, 1},
     {{"one, above an operand that stays", BOX(SELECTOR_one_of_, OBJECT_proxy, INTEGER(5)), 2, 3},
-     OBJECT_proxy, SELECTOR_unknown_, CLASS_Proxy, CLASS_Proxy, 1, 4, 1, 3, 18, 18},
+     OBJECT_proxy, SELECTOR_unknown_, CLASS_Proxy, CLASS_Proxy, 1, 4, 1, 3, 18, 18, 1},
     {{"two, in order", BOX(SELECTOR_two_of_and_, OBJECT_proxy, INTEGER(5), OBJECT_box), 3, 3},
-     OBJECT_proxy, SELECTOR_unknown_and_, CLASS_Proxy, CLASS_Proxy, 2, 4, 0, 3, 18, 18},
+     OBJECT_proxy, SELECTOR_unknown_and_, CLASS_Proxy, CLASS_Proxy, 2, 4, 0, 3, 18, 18, 1},
     {{"three, by 131, from a frame that is full", BOX(SELECTOR_three_of_and_or_, OBJECT_proxy, INTEGER(5), SOFADUCK_NIL, INTEGER(6)), 4, 8},
-     OBJECT_proxy, SELECTOR_unknown_and_or_, CLASS_Proxy, CLASS_Proxy, 3, 10, 4, 3, 18, 18},
+     OBJECT_proxy, SELECTOR_unknown_and_or_, CLASS_Proxy, CLASS_Proxy, 3, 10, 4, 3, 18, 18, 1},
     {{"31, by 132, from a large frame that is full", BOX(SELECTOR_most, 0), 0, 32},
-     OBJECT_proxy, SELECTOR_unknown_, CLASS_Proxy, CLASS_Proxy, 31, 36, 0, 3, 38, 18},
+     OBJECT_proxy, SELECTOR_unknown_, CLASS_Proxy, CLASS_Proxy, 31, 36, 0, 3, 38, 18, 1},
     {{"one, by 131", BOX(SELECTOR_long_of_, OBJECT_proxy, SOFADUCK_TRUE), 2, 2},
-     OBJECT_proxy, SELECTOR_unknown_, CLASS_Proxy, CLASS_Proxy, 1, 4, 0, 3, 18, 18},
+     OBJECT_proxy, SELECTOR_unknown_, CLASS_Proxy, CLASS_Proxy, 1, 4, 0, 3, 18, 18, 1},
     {{"one, by 132", BOX(SELECTOR_longer_of_, OBJECT_proxy, SOFADUCK_TRUE), 2, 2},
-     OBJECT_proxy, SELECTOR_unknown_, CLASS_Proxy, CLASS_Proxy, 1, 5, 0, 3, 18, 18},
+     OBJECT_proxy, SELECTOR_unknown_, CLASS_Proxy, CLASS_Proxy, 1, 5, 0, 3, 18, 18, 1},
     {{"arithmetic on a proxy", BOX(SELECTOR_sum_of_, OBJECT_proxy, INTEGER(1)), 2, 2},
-     OBJECT_proxy, SPECIAL(0), CLASS_Proxy, CLASS_Proxy, 1, 3, 0, 3, 18, 18},
+     OBJECT_proxy, SPECIAL(0), CLASS_Proxy, CLASS_Proxy, 1, 3, 0, 3, 18, 18, 1},
     {{"arithmetic that passes 16,383", BOX(SELECTOR_sum_of_, INTEGER(16383), INTEGER(1)), 2, 2},
-     INTEGER(16383), SPECIAL(0), CLASS_Integer, CLASS_Integer, 1, 3, 0, 1, 18, 18},
+     INTEGER(16383), SPECIAL(0), CLASS_Integer, CLASS_Integer, 1, 3, 0, 1, 18, 18, 1},
     {{"an integer and a proxy", BOX(SELECTOR_sum_of_, INTEGER(4), OBJECT_proxy), 2, 2},
-     INTEGER(4), SPECIAL(0), CLASS_Integer, CLASS_Integer, 1, 3, 0, 1, 18, 18},
-    {{"at:", BOX(SELECTOR_at_of_, OBJECT_proxy, INTEGER(1)), 2, 2}, OBJECT_proxy, SELECTOR_at_, CLASS_Proxy, CLASS_Proxy, 1, 3, 0, 3, 18, 18},
+     INTEGER(4), SPECIAL(0), CLASS_Integer, CLASS_Integer, 1, 3, 0, 1, 18, 18, 1},
+    {{"at:", BOX(SELECTOR_at_of_, OBJECT_proxy, INTEGER(1)), 2, 2}, OBJECT_proxy, SELECTOR_at_, CLASS_Proxy, CLASS_Proxy, 1, 3, 0, 3, 18, 18, 1},
     {{"at:put:", BOX(SELECTOR_put_of_and_, OBJECT_proxy, INTEGER(1), INTEGER(2)), 3, 3},
-     OBJECT_proxy, SELECTOR_at_put_, CLASS_Proxy, CLASS_Proxy, 2, 4, 0, 3, 18, 18},
-    {{"value", BOX(SELECTOR_value_, OBJECT_proxy), 1, 1}, OBJECT_proxy, SELECTOR_value, CLASS_Proxy, CLASS_Proxy, 0, 2, 0, 3, 18, 18},
+     OBJECT_proxy, SELECTOR_at_put_, CLASS_Proxy, CLASS_Proxy, 2, 4, 0, 3, 18, 18, 1},
+    {{"value", BOX(SELECTOR_value_, OBJECT_proxy), 1, 1}, OBJECT_proxy, SELECTOR_value, CLASS_Proxy, CLASS_Proxy, 0, 2, 0, 3, 18, 18, 1},
     {{"nil as selector", BOX(SELECTOR_nil_of_, OBJECT_proxy, INTEGER(3)), 2, 2},
-     OBJECT_proxy, SOFADUCK_NIL, CLASS_Proxy, CLASS_Proxy, 1, 3, 0, 3, 18, 18},
+     OBJECT_proxy, SOFADUCK_NIL, CLASS_Proxy, CLASS_Proxy, 1, 3, 0, 3, 18, 18, 1},
     {{"object 6 is inherited", BOX(SELECTOR_one_of_, OBJECT_kin, OBJECT_kin), 2, 3},
-     OBJECT_kin, SELECTOR_unknown_, CLASS_Kin, CLASS_Proxy, 1, 4, 1, 3, 18, 18},
+     OBJECT_kin, SELECTOR_unknown_, CLASS_Kin, CLASS_Proxy, 1, 4, 1, 3, 18, 18, 2},
     {{"a large frame takes the message", BOX(SELECTOR_one_of_, OBJECT_wide, INTEGER(-1)), 2, 3},
-     OBJECT_wide, SELECTOR_unknown_, CLASS_Wide, CLASS_Wide, 1, 4, 1, 13, 18, 38},
+     OBJECT_wide, SELECTOR_unknown_, CLASS_Wide, CLASS_Wide, 1, 4, 1, 13, 18, 38, 1},
     {{"a primitive that fails", BOX(SELECTOR_two_of_and_, OBJECT_index, INTEGER(1), INTEGER(2)), 3, 3},
-     OBJECT_index, SELECTOR_unknown_and_, CLASS_Index, CLASS_Index, 2, 4, 0, 1, 18, 18},
+     OBJECT_index, SELECTOR_unknown_and_, CLASS_Index, CLASS_Index, 2, 4, 0, 1, 18, 18, 1},
     {{"a primitive that answers", BOX(SELECTOR_two_of_and_, OBJECT_same, INTEGER(1), OBJECT_same), 3, 3},
-     OBJECT_same, SELECTOR_unknown_and_, CLASS_Same, CLASS_Same, 2, 4, 0, 0, 18, 0},
+     OBJECT_same, SELECTOR_unknown_and_, CLASS_Same, CLASS_Same, 2, 4, 0, 0, 18, 0, 1},
     {{"a primitive that answers, above an operand", BOX(SELECTOR_one_of_, OBJECT_same, OBJECT_same), 2, 3},
-     OBJECT_same, SELECTOR_unknown_, CLASS_Same, CLASS_Same, 1, 4, 1, 0, 18, 0},
-    {{"super, above the home", OBJECT_heir, SELECTOR_up, {0}, 0, 1}, OBJECT_heir, SELECTOR_unknown, CLASS_Proxy, CLASS_Proxy, 0, 3, 0, 3, 18, 18},
-    {{"super, by 134", OBJECT_heir, SELECTOR_up_, {INTEGER(8)}, 1, 2}, OBJECT_heir, SELECTOR_unknown_, CLASS_Proxy, CLASS_Proxy, 1, 5, 0, 3, 18, 18},
+     OBJECT_same, SELECTOR_unknown_, CLASS_Same, CLASS_Same, 1, 4, 1, 0, 18, 0, 1},
+    {{"super, above the home", OBJECT_heir, SELECTOR_up, {0}, 0, 1}, OBJECT_heir, SELECTOR_unknown, CLASS_Proxy, CLASS_Proxy, 0, 3, 0, 3, 18, 18, 1},
+    {{"super, by 134", OBJECT_heir, SELECTOR_up_, {INTEGER(8)}, 1, 2}, OBJECT_heir, SELECTOR_unknown_, CLASS_Proxy, CLASS_Proxy, 1, 5, 0, 3, 18, 18, 1},
     {{"super to another receiver, whose chain lacks the home", OBJECT_lower, SELECTOR_strange_, {OBJECT_side}, 1, 1},
-     OBJECT_side, SELECTOR_known, CLASS_Middle, CLASS_Upper, 0, 3, 0, 1, 18, 18},
+     OBJECT_side, SELECTOR_known, CLASS_Middle, CLASS_Upper, 0, 3, 0, 1, 18, 18, 2},
     {{"super to another receiver, which lacks the field", OBJECT_lower, SELECTOR_field_, {OBJECT_side}, 1, 1},
-     OBJECT_side, SELECTOR_f, CLASS_Middle, CLASS_Upper, 0, 3, 0, 1, 18, 18},
+     OBJECT_side, SELECTOR_f, CLASS_Middle, CLASS_Upper, 0, 3, 0, 1, 18, 18, 2},
 };
 enum { FAILURES = sizeof failures / sizeof *failures };
 
 static bool begun(const handler *h) {
     uint32_t count = 0, reach = 0;
+    uint64_t dictionaries = 0;
     return sofaduck_state_begin(&s, h->receiver, h->handler, h->arguments, h->given) == 0
-        && sofaduck_state_run(&s, h->steps, &count, &reach) == 0 && count == h->steps;
+        && sofaduck_state_run(&s, h->steps, &count, &reach, &dictionaries) == 0 && count == h->steps;
 }
 
-/* The next bytecode, by run or by play: whether it gives this count and this reach. */
-static bool next_gives(bool by_play, uint32_t made, uint32_t reach) {
+/* The next bytecode, by run or by play: whether it gives this count, this reach and so many dictionaries. */
+static bool next_gives(bool by_play, uint32_t made, uint32_t reach, uint64_t dictionaries) {
     uint32_t got[2] = {77, 77};
-    if (!by_play) return sofaduck_state_run(&s, 1, got, got + 1) == 0 && got[0] == made && got[1] == reach;
+    uint64_t through = 77;
+    if (!by_play)
+        return sofaduck_state_run(&s, 1, got, got + 1, &through) == 0 && got[0] == made && got[1] == reach && through == dictionaries;
     uint16_t list[3];
     uint32_t answers[SOFADUCK_ANSWER], calls_made = 0;
     sofaduck_calls calls = {list, 3, 0, 0};
     sofaduck_put_run(&calls, 1);
     if (sofaduck_state_play(&s, &calls, answers, SOFADUCK_ANSWER, &calls_made) != 0 || calls_made != 1) return false;
     const sofaduck_answer a = sofaduck_answer_at(answers, 0);
-    return a.number == 0 && a.count == made && a.reach == reach && a.phase == s.registers[SOFADUCK_PHASE] && a.value == 0;
+    return a.number == 0 && a.count == made && a.reach == reach && a.dictionaries == dictionaries && a.phase == s.registers[SOFADUCK_PHASE]
+        && a.value == 0;
 }
 
 /* The method under object 6 in the dictionary of a class: its first pair, as no selector has a lower number. */
@@ -356,10 +363,10 @@ static void expect(const failure *f) {
     *body = array;
     before.registers[SOFADUCK_N] = (uint16_t)(n + 2);
     before.registers[SOFADUCK_B] = (uint16_t)(b + f->count + 2);
-    uint16_t *const stack = lent_before.stack + before.registers[SOFADUCK_TOP], *const kept = lent_before.cache + 3 * ((12u & f->start) / 2 % 64);
+    uint16_t *const stack = lent_before.stack + before.registers[SOFADUCK_TOP], *const kept = lent_before.cache + 4 * ((12u & f->start) / 2 % 64);
     stack[1] = (uint16_t)f->next;
     stack[2] = (uint16_t)(f->left + (f->temporaries == 0 ? 1 : 0));
-    kept[0] = 12, kept[1] = f->start, kept[2] = method;
+    kept[0] = 12, kept[1] = f->start, kept[2] = method, kept[3] = (uint16_t)f->dictionaries;
     if (f->temporaries == 0) {
         stack[6 + f->h.given + f->left] = SOFADUCK_FALSE;
         return;
@@ -382,7 +389,7 @@ static bool made_of(const failure *f) {
         fine = fine && begun(&f->h);
         note();
         expect(f);
-        fine = fine && next_gives(by_play, 1, f->sender + f->frame) && as_before() && sofaduck_state_check(&s) == 0;
+        fine = fine && next_gives(by_play, 1, f->sender + f->frame, f->dictionaries) && as_before() && sofaduck_state_check(&s) == 0;
     }
     return fine;
 }
@@ -392,6 +399,7 @@ static bool halts(const handler *h, unsigned phase, uint32_t reach) {
     static words start;
     const sofaduck_state begins = s;
     uint32_t count = 77, unwritten = 77;
+    uint64_t dictionaries = 77;
     bool fine = true;
     start = lent;
     for (int by_play = 0; by_play < 2; by_play++) {
@@ -399,8 +407,9 @@ static bool halts(const handler *h, unsigned phase, uint32_t reach) {
         fine = fine && begun(h);
         note();
         before.registers[SOFADUCK_PHASE] = (uint16_t)phase;
-        fine = fine && next_gives(by_play, 0, reach) && as_before() && sofaduck_state_check(&s) == 0;
-        fine = fine && sofaduck_state_run(&s, 1, &count, &unwritten) == 12 && count == 77 && unwritten == 77 && as_before();
+        fine = fine && next_gives(by_play, 0, reach, 0) && as_before() && sofaduck_state_check(&s) == 0;
+        fine = fine && sofaduck_state_run(&s, 1, &count, &unwritten, &dictionaries) == 12 && count == 77 && unwritten == 77
+            && dictionaries == 77 && as_before();
     }
     before.registers[SOFADUCK_PHASE] = before.registers[SOFADUCK_TOP] = 0;
     return fine && sofaduck_state_drop(&s) == 0 && as_before();
@@ -408,6 +417,7 @@ static bool halts(const handler *h, unsigned phase, uint32_t reach) {
 
 static void made(void) {
     uint32_t count = 0, reach = 0;
+    uint64_t dictionaries = 0;
     file first = image;
     put(&first, 0, 1);
     for (size_t i = 0; i < FAILURES; i++) {
@@ -417,7 +427,7 @@ static void made(void) {
         /* the method answers the message, and so does the handler; or the primitive answers false */
         const uint16_t answer = f->temporaries == 0 ? SOFADUCK_FALSE : (uint16_t)(2 * s.registers[SOFADUCK_N]);
         test_of("its answer", f->h.what,
-                sofaduck_state_run(&s, 50, &count, &reach) == 0 && s.registers[SOFADUCK_PHASE] == SOFADUCK_FINISHED
+                sofaduck_state_run(&s, 50, &count, &reach, &dictionaries) == 0 && dictionaries == 0 && s.registers[SOFADUCK_PHASE] == SOFADUCK_FINISHED
                     && s.registers[SOFADUCK_VALUE] == answer && s.registers[SOFADUCK_EDITION] == 2);
         /* on top of what it left: object 6 is found in the cache */
         test_of("once more, behind the objects made", f->h.what, made_of(f));
@@ -429,19 +439,20 @@ static void made(void) {
     test("begin makes no message: 9", sofaduck_state_begin(&s, OBJECT_proxy, SELECTOR_unknown, NULL, 0) == 9 && as_before());
     const uint16_t argument = sofaduck_word(6);
     test("begin of object 6 itself is a begin as any other",
-         sofaduck_state_begin(&s, OBJECT_proxy, SOFADUCK_DOES_NOT_UNDERSTAND, &argument, 1) == 0 && sofaduck_state_run(&s, 9, &count, &reach) == 0
-             && s.registers[SOFADUCK_VALUE] == argument && s.registers[SOFADUCK_N] == before.registers[SOFADUCK_N]);
+         sofaduck_state_begin(&s, OBJECT_proxy, SOFADUCK_DOES_NOT_UNDERSTAND, &argument, 1) == 0
+             && sofaduck_state_run(&s, 9, &count, &reach, &dictionaries) == 0 && dictionaries == 0 && s.registers[SOFADUCK_VALUE] == argument && s.registers[SOFADUCK_N] == before.registers[SOFADUCK_N]);
     test("begin of object 6 without its argument: 10", sofaduck_state_begin(&s, OBJECT_proxy, SOFADUCK_DOES_NOT_UNDERSTAND, NULL, 0) == 10);
     note();
     test("begin of object 6 where nobody has it: 9",
          sofaduck_state_begin(&s, OBJECT_mute, SOFADUCK_DOES_NOT_UNDERSTAND, &argument, 1) == 9 && as_before());
     const uint16_t own = OBJECT_lower;
     test("a field that is there is answered, and no message made",
-         sofaduck_state_begin(&s, OBJECT_lower, SELECTOR_field_, &own, 1) == 0 && sofaduck_state_run(&s, 9, &count, &reach) == 0 && count == 3
-             && s.registers[SOFADUCK_VALUE] == sofaduck_word(3) && s.registers[SOFADUCK_N] == before.registers[SOFADUCK_N]);
+         sofaduck_state_begin(&s, OBJECT_lower, SELECTOR_field_, &own, 1) == 0 && sofaduck_state_run(&s, 9, &count, &reach, &dictionaries) == 0
+             && count == 3 && dictionaries == 1 && s.registers[SOFADUCK_VALUE] == sofaduck_word(3) && s.registers[SOFADUCK_N] == before.registers[SOFADUCK_N]);
     const uint16_t sum[] = {sofaduck_word(3), sofaduck_word(4)};
     test("arithmetic that succeeds makes none", sofaduck_state_begin(&s, OBJECT_box, SELECTOR_sum_of_, sum, 2) == 0
-                                                    && sofaduck_state_run(&s, 9, &count, &reach) == 0 && s.registers[SOFADUCK_VALUE] == sofaduck_word(7)
+                                                    && sofaduck_state_run(&s, 9, &count, &reach, &dictionaries) == 0 && dictionaries == 0
+                                                    && s.registers[SOFADUCK_VALUE] == sofaduck_word(7)
                                                     && s.registers[SOFADUCK_N] == before.registers[SOFADUCK_N]);
 }
 
@@ -542,16 +553,19 @@ static void reaches(void) {
             const uint16_t arguments[] = {sofaduck_word(k), large ? OBJECT_wide : OBJECT_proxy};
             const uint32_t needed = 18 * (uint32_t)(k + 1) + (large ? 38 : 18);
             uint32_t count = 0, reach = 0;
+            uint64_t dictionaries = 0;
             loaded(&image);
             s.stack_length = needed;
-            fine = fine && sofaduck_state_begin(&s, OBJECT_box, SELECTOR_down_to_, arguments, 2) == 0 && sofaduck_state_run(&s, 500, &count, &reach) == 0
-                && s.registers[SOFADUCK_PHASE] == SOFADUCK_FINISHED && reach == needed && s.registers[SOFADUCK_VALUE] == 2 * s.registers[SOFADUCK_N];
+            fine = fine && sofaduck_state_begin(&s, OBJECT_box, SELECTOR_down_to_, arguments, 2) == 0
+                && sofaduck_state_run(&s, 500, &count, &reach, &dictionaries) == 0 && s.registers[SOFADUCK_PHASE] == SOFADUCK_FINISHED
+                && dictionaries == (uint64_t)k + 1 && reach == needed && s.registers[SOFADUCK_VALUE] == 2 * s.registers[SOFADUCK_N];
             const uint32_t whole = count;
             loaded(&image);
             s.stack_length = needed - 1;
             const unsigned n = s.registers[SOFADUCK_N];
-            fine = fine && sofaduck_state_begin(&s, OBJECT_box, SELECTOR_down_to_, arguments, 2) == 0 && sofaduck_state_run(&s, 500, &count, &reach) == 0
-                && s.registers[SOFADUCK_PHASE] == SOFADUCK_NO_STACK_ROOM && reach == needed - (large ? 38 : 18) && s.registers[SOFADUCK_N] == n
+            fine = fine && sofaduck_state_begin(&s, OBJECT_box, SELECTOR_down_to_, arguments, 2) == 0
+                && sofaduck_state_run(&s, 500, &count, &reach, &dictionaries) == 0 && s.registers[SOFADUCK_PHASE] == SOFADUCK_NO_STACK_ROOM
+                && dictionaries == (uint64_t)k && reach == needed - (large ? 38 : 18) && s.registers[SOFADUCK_N] == n
                 && count == whole - 3 - (uint32_t)(k + 1); /* the send, two bytecodes of the method that takes it, a return each */
         }
     test("reach is the end of the frame that takes a message, some frames down", fine);
@@ -562,12 +576,15 @@ static void runs(void) {
     static words whole;
     const uint16_t proxy = OBJECT_proxy;
     uint32_t count = 0, reach = 0, parts = 0;
+    uint64_t dictionaries = 0, added = 0;
     loaded(&image);
     const unsigned n = s.registers[SOFADUCK_N], b = s.registers[SOFADUCK_B];
     s.contents_length = 4 * (n + 41);
-    bool fine = sofaduck_state_begin(&s, OBJECT_box, SELECTOR_forever_, &proxy, 1) == 0 && sofaduck_state_run(&s, 100000, &count, &reach) == 0;
+    bool fine = sofaduck_state_begin(&s, OBJECT_box, SELECTOR_forever_, &proxy, 1) == 0
+        && sofaduck_state_run(&s, 100000, &count, &reach, &dictionaries) == 0;
     /* 20 messages fit: push, send, push message, return, pop, jump for each; then push, and a send that halts */
-    fine = fine && s.registers[SOFADUCK_PHASE] == SOFADUCK_NOT_UNDERSTOOD && count == 20 * 6 + 1 && reach == 36 && s.registers[SOFADUCK_N] == n + 40
+    fine = fine && s.registers[SOFADUCK_PHASE] == SOFADUCK_NOT_UNDERSTOOD && count == 20 * 6 + 1 && reach == 36 && dictionaries == 20
+        && s.registers[SOFADUCK_N] == n + 40
         && s.registers[SOFADUCK_B] == b + 40;
     test("a handler halts when the room for its messages is spent", fine);
     whole = lent;
@@ -575,8 +592,9 @@ static void runs(void) {
     loaded(&image);
     s.contents_length = 4 * (n + 41);
     fine = sofaduck_state_begin(&s, OBJECT_box, SELECTOR_forever_, &proxy, 1) == 0;
-    while (fine && s.registers[SOFADUCK_PHASE] == SOFADUCK_RUNNING) fine = sofaduck_state_run(&s, 1, &count, &reach) == 0, parts += count;
-    test("bytecode by bytecode it is the same", fine && parts == 121 && memcmp(&whole, &lent, sizeof lent) == 0
+    while (fine && s.registers[SOFADUCK_PHASE] == SOFADUCK_RUNNING) 
+        fine = sofaduck_state_run(&s, 1, &count, &reach, &dictionaries) == 0, parts += count, added += dictionaries;
+    test("bytecode by bytecode it is the same", fine && parts == 121 && added == 20 && memcmp(&whole, &lent, sizeof lent) == 0
                                                     && memcmp(s.registers, before.registers, sizeof s.registers) == 0);
 }
 
@@ -635,13 +653,14 @@ static void lists(void) {
 static void saves(void) {
     static words copied, second;
     uint32_t length = 0, count = 0, reach = 0, counts[2] = {0, 0};
+    uint64_t dictionaries = 0;
     bool fine = true;
     for (unsigned edition = 1; edition <= 2; edition++) {
         file of = image;
         put(&of, 0, edition);
         loaded(&of);
         for (size_t i = 0; i < FAILURES && edition == 2; i++)
-            fine = fine && begun(&failures[i].h) && sofaduck_state_run(&s, 1, &count, &reach) == 0 && sofaduck_state_drop(&s) == 0;
+            fine = fine && begun(&failures[i].h) && sofaduck_state_run(&s, 1, &count, &reach, &dictionaries) == 0 && sofaduck_state_drop(&s) == 0;
         const unsigned n = s.registers[SOFADUCK_N], b = s.registers[SOFADUCK_B];
         fine = fine && n == get(&image, 1) + (edition == 2 ? 2 * FAILURES : 0);
         note();
@@ -656,12 +675,12 @@ static void saves(void) {
         loaded(&other);
         fine = fine && memcmp(s.registers, kept.registers, sizeof s.registers) == 0 && memcmp(lent.contents, copied.contents, 8 * n) == 0
             && memcmp(lent.bodies, copied.bodies, 2 * b) == 0;
-        fine = fine && begun(&failures[2].h) && sofaduck_state_run(&s, 9, counts, &reach) == 0;
+        fine = fine && begun(&failures[2].h) && sofaduck_state_run(&s, 9, counts, &reach, &dictionaries) == 0;
         second = lent, lent = copied;
         const uint16_t value = s.registers[SOFADUCK_VALUE];
         s = kept;
-        fine = fine && begun(&failures[2].h) && sofaduck_state_run(&s, 9, counts + 1, &reach) == 0 && counts[0] == counts[1]
-            && s.registers[SOFADUCK_VALUE] == value && s.registers[SOFADUCK_EDITION] == edition;
+        fine = fine && begun(&failures[2].h) && sofaduck_state_run(&s, 9, counts + 1, &reach, &dictionaries) == 0
+            && counts[0] == counts[1] && s.registers[SOFADUCK_VALUE] == value && s.registers[SOFADUCK_EDITION] == edition;
         const unsigned made = edition == 2 ? 2 : 0;
         fine = fine && s.registers[SOFADUCK_N] == n + made && memcmp(lent.contents, second.contents, 8 * (n + made)) == 0
             && memcmp(lent.bodies, second.bodies, 2 * (size_t)s.registers[SOFADUCK_B]) == 0;

@@ -3,59 +3,17 @@
  * of reach.source. */
 #define ABOUT "reach: "
 #include "frames.h"
-#include "tests.h"
+#include "machine.h"
 #include "reach.h"
-#include <string.h>
 
-enum { OBJECTS = 50, STACK = SOFADUCK_STACK + 64, ROUNDS = 400, LISTED = 40 }; /* room for so many objects; calls in a list */
-enum { CONTENTS = 4 * (100 + OBJECTS), BODIES = 500 + OBJECTS, WORDS = 5 * LISTED };
+enum { ROUNDS = 400, LISTED = 40, WORDS = 5 * LISTED }; /* calls in a list, and their words */
 
-/* A state with buffers of its own. */
-typedef struct {
-    sofaduck_state s;
-    uint16_t contents[CONTENTS], bodies[BODIES], stack[STACK], cache[SOFADUCK_CACHE];
-} machine;
-
-static uint8_t image[SOFADUCK_IMAGE];
-static size_t length;
 static machine first, whole, steps;
-
-/* Loaded, with a stack of so many words and room for so many objects more. */
-static void load(machine *m, size_t stack, unsigned objects) {
-    const size_t n = image[2] * 256u + image[3], b = image[4] * 256u + image[5];
-    memset(m->stack, 0xa5, sizeof m->stack);
-    m->s.contents = m->contents, m->s.contents_length = 4 * (n + objects);
-    m->s.bodies = m->bodies, m->s.bodies_length = b + objects;
-    m->s.stack = m->stack, m->s.stack_length = stack;
-    m->s.cache = m->cache, m->s.cache_length = SOFADUCK_CACHE;
-    if (m->s.contents_length > CONTENTS || m->s.bodies_length > BODIES || sofaduck_state_load(&m->s, image, length) != 0)
-        test("the image is loaded", false);
-}
 
 static uint32_t begin(machine *m, uint16_t selector, int argument) {
     const uint16_t word = sofaduck_word(argument);
     return sofaduck_state_begin(&m->s, OBJECT_box, selector, &word, selector == SELECTOR_deeper ? 0 : 1);
 }
-
-/* The same words and registers, in the other's buffers. */
-static void copy(machine *to, const machine *from) {
-    to->s = from->s;
-    to->s.contents = to->contents, to->s.bodies = to->bodies, to->s.stack = to->stack, to->s.cache = to->cache;
-    memcpy(to->contents, from->contents, sizeof to->contents);
-    memcpy(to->bodies, from->bodies, sizeof to->bodies);
-    memcpy(to->stack, from->stack, 2 * from->s.stack_length);
-    memcpy(to->cache, from->cache, sizeof to->cache);
-}
-
-/* Whether the two agree in registers, objects, cache, and of the stack as many words as the shorter has. */
-static bool same(const machine *a, const machine *b) {
-    const size_t stack = a->s.stack_length < b->s.stack_length ? a->s.stack_length : b->s.stack_length;
-    return memcmp(a->s.registers, b->s.registers, sizeof a->s.registers) == 0
-        && memcmp(a->contents, b->contents, 2 * a->s.contents_length) == 0 && memcmp(a->bodies, b->bodies, 2 * a->s.bodies_length) == 0
-        && memcmp(a->stack, b->stack, 2 * stack) == 0 && memcmp(a->cache, b->cache, sizeof a->cache) == 0;
-}
-
-static bool running(const machine *m) { return m->s.registers[SOFADUCK_PHASE] == SOFADUCK_RUNNING; }
 
 /* Handlers, the lengths of stack and the room for objects that they are tried with. Frames have 18 and 38 words. What must come of a run to the end,
  * or of 2,000 bytecodes, is worked out by hand from reach.source. */
@@ -96,9 +54,10 @@ static void worked(void) {
         const handler *const h = handlers + i;
         const uint32_t one = h->selector == SELECTOR_fill_ ? SOFADUCK_LARGE_FRAME : SOFADUCK_FRAME;
         uint32_t count = 77, reach = 78;
+        uint64_t dictionaries = 79;
         begun(h);
-        const bool none = sofaduck_state_run(&first.s, 0, &count, &reach) == 0 && count == 0 && reach == one;
-        const bool all = sofaduck_state_run(&first.s, 2000, &count, &reach) == 0 && first.s.registers[SOFADUCK_PHASE] == h->phase;
+        const bool none = sofaduck_state_run(&first.s, 0, &count, &reach, &dictionaries) == 0 && count == 0 && reach == one;
+        const bool all = sofaduck_state_run(&first.s, 2000, &count, &reach, &dictionaries) == 0 && first.s.registers[SOFADUCK_PHASE] == h->phase;
         if (reach != h->reach) printf("reach %u, not %u\n", (unsigned)reach, (unsigned)h->reach);
         test(h->what, none && all && reach == h->reach);
     }
@@ -109,17 +68,22 @@ static void every_length(void) {
     bool fine = true;
     for (size_t i = 0; i < HANDLERS && fine; i++) {
         uint32_t highest = 0;
+        uint64_t through = 0;
         begun(handlers + i);
         copy(&steps, &first);
         highest = frames_end(&steps.s);
         for (uint32_t n = 0; n < 900 && fine; n++) {
             uint32_t made[2], reach[2], before[2];
+            uint64_t dictionaries[2];
             copy(&whole, &first);
-            fine = sofaduck_state_run(&whole.s, n, made, reach) == 0 && reach[0] == highest && same(&whole, &steps);
+            fine = sofaduck_state_run(&whole.s, n, made, reach, dictionaries) == 0 && reach[0] == highest && dictionaries[0] == through
+                && same(&whole, &steps);
             if (!running(&whole)) break;
-            fine = fine && sofaduck_state_run(&whole.s, 0, before, before + 1) == 0 && before[0] == 0 && before[1] == frames_end(&steps.s);
-            fine = fine && stepped(&steps.s, 1, made + 1, reach + 1);
+            fine = fine && sofaduck_state_run(&whole.s, 0, before, before + 1, dictionaries) == 0 && before[0] == 0
+                && before[1] == frames_end(&steps.s) && dictionaries[0] == 0;
+            fine = fine && stepped(&steps.s, 1, made + 1, reach + 1, dictionaries + 1);
             if (highest < reach[1]) highest = reach[1];
+            through += dictionaries[1];
         }
     }
     test("runs of every length, against the frames after each bytecode", fine);
@@ -131,40 +95,44 @@ static void cut(void) {
     unsigned lower = 0; /* parts that reach less than one before them */
     for (unsigned round = 0; round < ROUNDS && fine; round++) {
         uint32_t granted = 0, most = 0, counted = 0, count = 0, reach = 0;
+        uint64_t added = 0, dictionaries = 0;
         begun(handlers + round % HANDLERS);
         copy(&whole, &first);
         for (unsigned part = 1 + below(8); part > 0 && running(&first) && fine; part--) {
             const uint32_t n = below(4) == 0 ? below(400) : below(40);
             uint32_t expected[2];
+            uint64_t walks;
             copy(&steps, &first);
-            fine = stepped(&steps.s, n, expected, expected + 1) && sofaduck_state_run(&first.s, n, &count, &reach) == 0
-                && count == expected[0] && reach == expected[1] && same(&first, &steps);
+            fine = stepped(&steps.s, n, expected, expected + 1, &walks) && sofaduck_state_run(&first.s, n, &count, &reach, &dictionaries) == 0
+                && count == expected[0] && reach == expected[1] && dictionaries == walks && same(&first, &steps);
             lower += reach < most;
-            granted += n, counted += count;
+            granted += n, counted += count, added += dictionaries;
             if (most < reach) most = reach;
         }
-        fine = fine && sofaduck_state_run(&whole.s, granted, &count, &reach) == 0 && count == counted && reach == most && same(&first, &whole);
+        fine = fine && sofaduck_state_run(&whole.s, granted, &count, &reach, &dictionaries) == 0 && count == counted && reach == most
+            && dictionaries == added && same(&first, &whole);
     }
-    test("of a run that is cut the largest reach is that of the whole", fine);
+    test("of a run that is cut the largest reach is that of the whole, and counts and dictionaries add up to its own", fine);
     test("a frame that returned before a run does not count in it", lower > ROUNDS / 20);
 }
 
 /* Eight large frames and 3,624 small ones are 65,536 words, which 16 bits do not hold. */
 static void largest(void) {
     uint32_t count = 77, reach = 78, made = 79, expected[2], answers[3 * SOFADUCK_ANSWER];
+    uint64_t dictionaries = 80, walks = 81;
     uint16_t words[WORDS];
     sofaduck_calls calls = {words, WORDS, 0, 0};
     load(&first, SOFADUCK_STACK, OBJECTS);
     bool fine = begin(&first, SELECTOR_fill_, 7) == 0;
     copy(&whole, &first), copy(&steps, &first);
-    fine = fine && sofaduck_state_run(&whole.s, 1000000, &count, &reach) == 0;
+    fine = fine && sofaduck_state_run(&whole.s, 1000000, &count, &reach, &dictionaries) == 0;
     test("a stack of 65,536 words is filled to the last", fine && whole.s.registers[SOFADUCK_PHASE] == SOFADUCK_NO_STACK_ROOM
                                                               && whole.s.registers[SOFADUCK_TOP] == 65518 && reach == 65536);
-    test("so it is bytecode by bytecode", stepped(&steps.s, 1000000, expected, expected + 1) && expected[0] == count && expected[1] == 65536
-                                              && same(&whole, &steps));
+    test("so it is bytecode by bytecode", stepped(&steps.s, 1000000, expected, expected + 1, &walks) && expected[0] == count
+                                              && expected[1] == 65536 && walks == dictionaries && same(&whole, &steps));
     copy(&steps, &first);
-    fine = sofaduck_state_run(&steps.s, count, &made, &reach) == 0 && made == count && reach == 65536 && running(&steps);
-    test("a run of 0 gives it too", fine && sofaduck_state_run(&steps.s, 0, &made, &reach) == 0 && made == 0 && reach == 65536);
+    fine = sofaduck_state_run(&steps.s, count, &made, &reach, &dictionaries) == 0 && made == count && reach == 65536 && running(&steps);
+    test("a run of 0 gives it too", fine && sofaduck_state_run(&steps.s, 0, &made, &reach, &dictionaries) == 0 && made == 0 && reach == 65536);
     sofaduck_put_run(&calls, count);
     sofaduck_put_run(&calls, 0);
     sofaduck_put_run(&calls, 1);
@@ -174,10 +142,10 @@ static void largest(void) {
     test("and so does play", fine && answers[2 * SOFADUCK_ANSWER + SOFADUCK_ANSWER_PHASE] == SOFADUCK_NO_STACK_ROOM);
 
     load(&steps, STACK, OBJECTS);
-    fine = begin(&steps, SELECTOR_fill_, 7) == 0 && sofaduck_state_run(&steps.s, 1000000, expected, &reach) == 0;
+    fine = begin(&steps, SELECTOR_fill_, 7) == 0 && sofaduck_state_run(&steps.s, 1000000, expected, &reach, &dictionaries) == 0;
     test("a longer stack is of no use", fine && expected[0] == count && reach == 65536 && same(&whole, &steps));
     load(&steps, SOFADUCK_STACK - 1, OBJECTS);
-    fine = begin(&steps, SELECTOR_fill_, 7) == 0 && sofaduck_state_run(&steps.s, 1000000, expected, &reach) == 0;
+    fine = begin(&steps, SELECTOR_fill_, 7) == 0 && sofaduck_state_run(&steps.s, 1000000, expected, &reach, &dictionaries) == 0;
     test("in 65,535 words there is one frame less", fine && expected[0] == count - 2 && reach == 65536 - 18);
 }
 
@@ -232,12 +200,10 @@ static void sized(void) {
 }
 
 int main(int argc, char **argv) {
-    FILE *file = argc == 2 ? fopen(argv[1], "rb") : NULL;
-    if (file == NULL || (length = fread(image, 1, sizeof image, file)) < 10) {
+    if (!read_image(argc, argv)) {
         fprintf(stderr, "usage: reach IMAGE, of reach.source\n");
         return 2;
     }
-    fclose(file);
     worked();
     every_length();
     cut();

@@ -6,7 +6,7 @@
 #include <stdlib.h>
 #include <string.h>
 
-#if SOFADUCK_VERSION_MAJOR != 3 || SOFADUCK_VERSION_MINOR < 0 || SOFADUCK_VERSION_PATCH < 0 || SOFADUCK_EDITIONS != 2
+#if SOFADUCK_VERSION_MAJOR != 4 || SOFADUCK_VERSION_MINOR < 0 || SOFADUCK_VERSION_PATCH < 0 || SOFADUCK_EDITIONS != 2
 #error "the version's numbers"
 #endif
 
@@ -44,8 +44,9 @@ static sofaduck_state loaded(const uint8_t *image, size_t length, size_t stack) 
 /* Begun on the box and run for so many bytecodes. */
 static sofaduck_state begun(uint16_t selector, const uint16_t *arguments, size_t given, uint32_t n) {
     uint32_t count = 0, reach = 0;
+    uint64_t dictionaries = 0;
     sofaduck_state s = loaded(border, border_length, STACK);
-    if (sofaduck_state_begin(&s, OBJECT_box, selector, arguments, given) != 0 || sofaduck_state_run(&s, n, &count, &reach) != 0)
+    if (sofaduck_state_begin(&s, OBJECT_box, selector, arguments, given) != 0 || sofaduck_state_run(&s, n, &count, &reach, &dictionaries) != 0)
         test("a handler is begun", 0);
     return s;
 }
@@ -129,14 +130,39 @@ static void lists(void) {
                                             && sofaduck_integer(s.registers[SOFADUCK_VALUE]) == -3);
     const sofaduck_answer begin = sofaduck_answer_at(answers, 0), run = sofaduck_answer_at(answers, 1);
     test("its answers are read", begin.number == 0 && begin.phase == SOFADUCK_IDLE && begin.count == 0 && begin.value == 0 && begin.reach == 0
-                                     && run.number == 0 && run.phase == SOFADUCK_FINISHED && run.count == 8 && sofaduck_integer(run.value) == -42
-                                     && run.reach == SOFADUCK_FRAME);
+                                     && begin.dictionaries == 0 && run.number == 0 && run.phase == SOFADUCK_FINISHED && run.count == 8
+                                     && sofaduck_integer(run.value) == -42 && run.reach == SOFADUCK_FRAME && run.dictionaries == 0);
     calls.length = calls.count = 0;
     test("a new list is put into the same words",
          sofaduck_put_run(&calls, 1) && sofaduck_state_play(&s, &calls, answers, ANSWERS, &made) == 0 && made == 1
              && sofaduck_answer_at(answers, 0).number == SOFADUCK_BAD_PHASE);
     free(answers), free(calls.words);
     end(&s);
+}
+
+/* The two words of an answer's dictionaries, and what number they are. */
+static void numbers(void) {
+    static const struct {
+        uint32_t high, low;
+        uint64_t number;
+    } tried[] = {
+        {0, 0, 0}, {0, 1, 1}, {0, 2147483648u, 2147483648u}, {0, 4294967295u, 4294967295u},
+        {1, 0, (uint64_t)4294967295u + 1}, {1, 2, (uint64_t)4294967295u + 3}, {23, 4294967272u, 24 * (uint64_t)4294967295u}, /* the most that a run gives */
+        {2147483648u, 2147483648u, UINT64_MAX / 2 + 1 + 2147483648u}, {4294967295u, 4294967295u, UINT64_MAX},
+    };
+    uint32_t *const answers = (uint32_t *)malloc(3 * SOFADUCK_ANSWER * sizeof *answers);
+    int fine = SOFADUCK_ANSWER == 7 && SOFADUCK_ANSWER_DICTIONARIES_HIGH == 5 && SOFADUCK_ANSWER_DICTIONARIES_LOW == 6;
+    if (answers == NULL) exit(2);
+    for (size_t i = 0; i < sizeof tried / sizeof *tried; i++)
+        for (size_t k = 0; k < 3; k++) {
+            memset(answers, 0x5a, 3 * SOFADUCK_ANSWER * sizeof *answers);
+            answers[7 * k + 5] = tried[i].high, answers[7 * k + 6] = tried[i].low;
+            const sofaduck_answer a = sofaduck_answer_at(answers, k);
+            fine = fine && sofaduck_answer_dictionaries(answers, k) == tried[i].number && a.dictionaries == tried[i].number
+                && a.number == 0x5a5a5a5a && a.phase == 0x5a5a5a5a && a.count == 0x5a5a5a5a && a.value == 0x5a5a && a.reach == 0x5a5a5a5a;
+        }
+    test("dictionaries are read from both words of an answer", fine);
+    free(answers);
 }
 
 /* What the text of an object is. */
@@ -217,14 +243,15 @@ static void message(void) {
     sofaduck_state s = loaded(messages, messages_length, STACK);
     const uint16_t box = s.registers[SOFADUCK_START_RECEIVER];
     uint32_t made = 0, reach = 0;
+    uint64_t dictionaries = 0;
     uint16_t selector = 77;
     size_t count = 77;
     sofaduck_frame f;
     memset(&f, 0, sizeof f);
     test("the edition is the last register", s.registers[SOFADUCK_EDITION] == 2 && SOFADUCK_EDITION == SOFADUCK_REGISTERS - 1);
     /* push three words and send unknown:and: with 1 and 2 */
-    int fine = sofaduck_state_begin(&s, box, s.registers[SOFADUCK_START_SELECTOR], NULL, 0) == 0 && sofaduck_state_run(&s, 4, &made, &reach) == 0
-        && made == 4 && sofaduck_top_frame(&s, &f) && f.base == SOFADUCK_FRAME && second_frames(&s) == 2;
+    int fine = sofaduck_state_begin(&s, box, s.registers[SOFADUCK_START_SELECTOR], NULL, 0) == 0 && sofaduck_state_run(&s, 4, &made, &reach, &dictionaries) == 0
+        && made == 4 && dictionaries == 1 && sofaduck_top_frame(&s, &f) && f.base == SOFADUCK_FRAME && second_frames(&s) == 2;
     const uint16_t object = s.stack[f.base + SOFADUCK_FRAME_TEMPORARIES], proxy = f.receiver;
     const uint16_t *arguments = sofaduck_message(&s, object, &selector, &count);
     test("a message has its selector and arguments",
@@ -250,7 +277,7 @@ static void message(void) {
     fine = fine && sofaduck_message(&s, object, &selector, &count) == NULL && sofaduck_state_check(&s) == 0;
     test("other words, edition 1 and a message without its array have none", fine && selector == 77 && count == 77);
     fine = sofaduck_state_drop(&s) == 0 && sofaduck_state_begin(&s, box, find(&s, "none:"), &proxy, 1) == 0
-        && sofaduck_state_run(&s, 9, &made, &reach) == 0;
+        && sofaduck_state_run(&s, 9, &made, &reach, &dictionaries) == 0;
     arguments = sofaduck_message(&s, s.registers[SOFADUCK_VALUE], &selector, &count);
     test("a message without arguments has none, and is one", fine && arguments != NULL && count == 0 && reads(&s, selector, "unknown"));
     end(&s);
@@ -317,6 +344,7 @@ static void frames(void) {
 static void every_send(void) {
     sofaduck_state s = loaded(sends, sends_length, STACK);
     uint32_t count = 0, reach = 0;
+    uint64_t dictionaries = 0;
     unsigned seen[256] = {0}, made = 0;
     int fine = sofaduck_state_begin(&s, s.registers[SOFADUCK_START_RECEIVER], s.registers[SOFADUCK_START_SELECTOR], NULL, 0) == 0;
     for (unsigned i = 0; fine && s.registers[SOFADUCK_PHASE] == SOFADUCK_RUNNING && i < 1000; i++) {
@@ -329,7 +357,7 @@ static void every_send(void) {
         const int code = sofaduck_code(&s, before.method, before.position);
         const uint16_t receiver = sofaduck_operand(&s, &before, arguments);
         const uint16_t last = sofaduck_operand(&s, &before, 0);
-        fine = fine && sofaduck_state_run(&s, 1, &count, &reach) == 0 && count == 1;
+        fine = fine && sofaduck_state_run(&s, 1, &count, &reach, &dictionaries) == 0 && count == 1;
         if (!fine || !sofaduck_top_frame(&s, &after) || after.base <= before.base) continue;
         fine = sent && sofaduck_method_selector(&s, after.method) == selector && after.receiver == receiver && code >= 0;
         if (fine && arguments > 0) fine = s.stack[after.base + SOFADUCK_FRAME_TEMPORARIES + arguments - 1] == last;
@@ -350,14 +378,16 @@ static int same(const sofaduck_state *s, const sofaduck_state *t) {
 static void snapshots(void) {
     static const uint16_t handlers[] = {SELECTOR_more, SELECTOR_deeper, SELECTOR_lost, SELECTOR_forever, SELECTOR_wide};
     uint32_t count[2] = {0, 0}, reach[2] = {0, 0};
+    uint64_t dictionaries[2] = {0, 0};
     int fine = 1;
     for (unsigned i = 0; i < 5; i++)
         for (unsigned n = 0; n < 60; n++) {
             sofaduck_state s = begun(handlers[i], NULL, 0, n), t = restored(&s, s.contents_length, s.bodies_length);
             fine = fine && sofaduck_state_check(&t) == 0;
             if (s.registers[SOFADUCK_PHASE] == SOFADUCK_RUNNING)
-                fine = fine && sofaduck_state_run(&s, 200, count, reach) == 0 && sofaduck_state_run(&t, 200, count + 1, reach + 1) == 0
-                    && count[0] == count[1] && reach[0] == reach[1];
+                fine = fine && sofaduck_state_run(&s, 200, count, reach, dictionaries) == 0
+                    && sofaduck_state_run(&t, 200, count + 1, reach + 1, dictionaries + 1) == 0 && count[0] == count[1] && reach[0] == reach[1]
+                    && dictionaries[0] == dictionaries[1];
             fine = fine && same(&s, &t) && second_frames(&s) == second_frames(&t);
             end(&s), end(&t);
         }
@@ -366,9 +396,9 @@ static void snapshots(void) {
     const size_t n = 4 * (border[2] * 256u + border[3]), b = border[4] * 256u + border[5];
     sofaduck_state s = lend(n, b, STACK);
     fine = sofaduck_state_load(&s, border, border_length) == 0 && sofaduck_state_begin(&s, OBJECT_box, SELECTOR_more, NULL, 0) == 0
-        && sofaduck_state_run(&s, 1, count, reach) == 0;
+        && sofaduck_state_run(&s, 1, count, reach, dictionaries) == 0;
     sofaduck_state t = restored(&s, n + 4, b + 2);
-    fine = fine && sofaduck_state_run(&s, 9, count, reach) == 0 && sofaduck_state_run(&t, 9, count, reach) == 0;
+    fine = fine && sofaduck_state_run(&s, 9, count, reach, dictionaries) == 0 && sofaduck_state_run(&t, 9, count, reach, dictionaries) == 0;
     test("in longer buffers a handler makes the object that it had no room for",
          fine && s.registers[SOFADUCK_VALUE] == SOFADUCK_NIL && t.registers[SOFADUCK_VALUE] == n / 2 + 2);
     end(&s), end(&t);
@@ -411,11 +441,12 @@ static void spoiled(void) {
         const uint8_t *const image = i % 2 == 0 ? border : messages;
         const size_t n = 4 * (image[2] * 256u + image[3]) + (i % 2 == 0 ? 0 : 8u), b = image[4] * 256u + image[5] + (i % 2 == 0 ? 0 : 4u);
         uint32_t count, reach;
+        uint64_t dictionaries;
         sofaduck_state s = lend(n, b, 18 + below(200));
         sofaduck_state_load(&s, image, i % 2 == 0 ? border_length : messages_length);
         const uint16_t begun = i % 2 == 0 ? handlers[below(4)] : s.registers[SOFADUCK_START_SELECTOR];
         if (sofaduck_state_begin(&s, i % 2 == 0 ? (uint16_t)OBJECT_box : s.registers[SOFADUCK_START_RECEIVER], begun, NULL, 0) == 0)
-            sofaduck_state_run(&s, below(20), &count, &reach);
+            sofaduck_state_run(&s, below(20), &count, &reach, &dictionaries);
         const size_t frame = s.registers[SOFADUCK_TOP] + (size_t)SOFADUCK_FRAME;
         for (unsigned k = 1 + below(6); k > 0; k--) {
             uint16_t *const buffers[] = {s.contents, s.bodies, s.stack, s.registers};
@@ -454,6 +485,7 @@ int main(int argc, char **argv) {
     }
     texts();
     lists();
+    numbers();
     selectors();
     elements();
     message();
