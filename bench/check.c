@@ -11,7 +11,7 @@
 #include <string.h>
 
 // contents and bodies longer than an image can use, so that its limits and not theirs are met
-enum { CONTENTS = 4 * (MOST_OBJECTS + 3), BODIES = MOST_WORDS + 100, STACK = 65536, CACHE = 192, SIZE = CONTENTS + BODIES + STACK + CACHE };
+enum { CONTENTS = 4 * (MOST_OBJECTS + 3), BODIES = MOST_WORDS + 100, STACK = 65536, CACHE = CACHE_WORDS, SIZE = CONTENTS + BODIES + STACK + CACHE };
 enum { RUNS = 400, IMAGES = 1200, HANDLERS = 8, SPOILED = 4 };
 
 void bench_table(uint16_t *table);
@@ -19,7 +19,7 @@ void bench_table(uint16_t *table);
 static uint16_t entries[256];
 static uint8_t image[MOST_IMAGE];
 static uint16_t words[4][SIZE];
-static uint64_t seed = 11;
+static uint64_t seed = 11, dictionaries; // those of all runs in both
 
 static unsigned below(unsigned n) { return random_below(&seed, n); }
 
@@ -64,16 +64,19 @@ static bool same(const machine *m, const machine *n) {
     return alike;
 }
 
-// A run in both: answers, count, reach and states have to agree. The answer, or 99.
+// A run in both: answers, count, reach, dictionaries and states have to agree. The answer, or 99.
 static uint32_t both(machine *ours, machine *theirs, uint32_t n, uint32_t *made) {
-    uint32_t count[2] = {0, 0}, reach[2] = {0, 0};
-    const uint32_t r = sofaduck_state_run(ours, n, count, reach), s = c_run(entries, theirs, n, count + 1, reach + 1);
-    if (r == s && count[0] == count[1] && reach[0] == reach[1] && same(ours, theirs)) {
+    uint32_t count[2] = {7, 7}, reach[2] = {7, 7};
+    uint64_t through[2] = {7, 7};
+    const uint32_t r = sofaduck_state_run(ours, n, count, reach, through), s = c_run(entries, theirs, n, count + 1, reach + 1, through + 1);
+    if (r == s && count[0] == count[1] && reach[0] == reach[1] && through[0] == through[1] && same(ours, theirs)) {
         *made = count[0];
+        dictionaries += r == 0 ? through[0] : 0;
         return r;
     }
-    printf("the runs differ: answers %u and %u, phases %u and %u, counts %u and %u, reach %u and %u%s\n", r, s, ours->registers[PHASE],
-           theirs->registers[PHASE], count[0], count[1], reach[0], reach[1], same(ours, theirs) ? "" : ", and so do the words");
+    printf("the runs differ: answers %u and %u, phases %u and %u, counts %u and %u, reach %u and %u, dictionaries %ju and %ju%s\n", r, s,
+           ours->registers[PHASE], theirs->registers[PHASE], count[0], count[1], reach[0], reach[1], (uintmax_t)through[0], (uintmax_t)through[1],
+           same(ours, theirs) ? "" : ", and so do the words");
     return 99;
 }
 
@@ -82,7 +85,7 @@ static bool begin_any(machine *m, unsigned least) {
     const objects o = objects_of(m);
     for (int i = 0; i < 20000; i++) {
         const unsigned selector = 2 * (1 + below(o.n)), receiver = below(8) == 0 ? 2 * below(32768) + 1 : 2 * (1 + below(o.n));
-        const unsigned method = is(&o, BYTES, selector) ? lookup(&o, selector, class_of(&o, receiver)) : 0;
+        const unsigned method = is(&o, BYTES, selector) ? lookup(&o, selector, class_of(&o, receiver)).method : 0;
         if (method == 0 || of(&o, method)->size < least) continue;
         uint16_t arguments[3];
         for (int k = 0; k < 3; k++) arguments[k] = below(2) == 0 ? 2 * (1 + below(o.n)) : 2 * below(20) + 1;
@@ -94,9 +97,9 @@ static bool begin_any(machine *m, unsigned least) {
 
 // The lookup of a selector from a class, in its place of the cache; none where it finds nothing.
 static void keep(machine *m, const objects *o, unsigned selector, unsigned class) {
-    uint16_t *const at = m->cache + 3 * ((selector & class) / 2 % 64);
-    const unsigned method = lookup(o, selector, class);
-    if (method != 0) at[0] = selector, at[1] = class, at[2] = method;
+    uint16_t *const at = m->cache + 4 * ((selector & class) / 2 % 64);
+    const found f = lookup(o, selector, class);
+    if (f.method != 0) at[0] = selector, at[1] = class, at[2] = f.method, at[3] = f.dictionaries;
 }
 
 // Lookups of one selector from all classes.
@@ -127,19 +130,20 @@ static double measure(const char *name, machine *m, int runs, double goal, FILE 
     double a = 1e18, b = 1e18;
     unsigned filled = 0;
     size_t frames = 1;
-    for (size_t i = 0; i < CACHE; i += 3) filled += m->cache[i] != 0;
+    for (size_t i = 0; i < CACHE; i += 4) filled += m->cache[i] != 0;
     for (size_t base = m->registers[TOP]; base != 0; base = m->stack[base]) frames++;
     for (int run = 0; run < runs; run++) {
         uint32_t count[2] = {7, 7}, reach[2] = {0, 0};
+        uint64_t through[2] = {7, 7};
         const double t0 = now();
-        const uint32_t r = sofaduck_state_run(m, 0, count, reach);
+        const uint32_t r = sofaduck_state_run(m, 0, count, reach, through);
         const double t1 = now();
-        const uint32_t s = c_run(entries, m, 0, count + 1, reach + 1);
+        const uint32_t s = c_run(entries, m, 0, count + 1, reach + 1, through + 1);
         const double t2 = now();
         times[run] = t1 - t0;
         if (t1 - t0 < a) a = t1 - t0;
         if (t2 - t1 < b) b = t2 - t1;
-        if (r != 0 || s != 0 || count[0] != 0 || count[1] != 0 || reach[0] != reach[1])
+        if (r != 0 || s != 0 || count[0] != 0 || count[1] != 0 || reach[0] != reach[1] || through[0] != 0 || through[1] != 0)
             return printf("%s: the runs of 0 bytecodes answer %u and %u, reach %u and %u\n", name, r, s, reach[0], reach[1]), -1;
     }
     printf("check %-8s %5u words, %4zu frames, %2u lookups   ours %9.2f us   C %9.2f us   speed relative to C: %.2f\n", name, m->registers[B],
@@ -165,12 +169,13 @@ static bool measure_deep(FILE *goals) {
     machine m = on(words[0], CONTENTS, BODIES, STACK);
     const size_t length = deep(image);
     uint32_t count = 0, reach = 0;
+    uint64_t through = 0;
     bool fine = sofaduck_state_load(&m, image, length) == 0;
     fine = fine && sofaduck_state_begin(&m, m.registers[START_RECEIVER], m.registers[START_SELECTOR], NULL, 0) == 0;
     // to the end of the stack; and once more, stopping one bytecode earlier
-    fine = fine && sofaduck_state_run(&m, 1000000, &count, &reach) == 0 && m.registers[PHASE] == 5;
+    fine = fine && sofaduck_state_run(&m, 1000000, &count, &reach, &through) == 0 && m.registers[PHASE] == 5;
     fine = fine && sofaduck_state_begin(&m, m.registers[START_RECEIVER], m.registers[START_SELECTOR], NULL, 0) == 0;
-    fine = fine && sofaduck_state_run(&m, count, &count, &reach) == 0 && m.registers[PHASE] == 1;
+    fine = fine && sofaduck_state_run(&m, count, &count, &reach, &through) == 0 && m.registers[PHASE] == 1;
     if (!fine) return printf("the deep image is refused, or does not fill the stack\n"), false;
     fill_cache_by(&m, m.registers[START_SELECTOR]);
     return measure("hostile", &m, 100, 0.66, goals) >= 0;
@@ -187,12 +192,17 @@ static unsigned any_class(const objects *o) {
 // One word of a state changed: the register, or the word of a buffer.
 static void spoil(machine *m) {
     static const uint16_t edges[] = {0, 1, 2, 3, 4, 5, 6, 8, 12, 18, 36, 65535};
-    const unsigned n = m->registers[N], where = below(13);
+    const unsigned n = m->registers[N], where = below(14);
     // a superclass
     if (where == 12) {
         const objects o = objects_of(m);
         const unsigned class = any_class(&o);
         m->bodies[of(&o, class)->start] = any_class(&o);
+        return;
+    }
+    // the dictionaries of a lookup that the cache holds, or of none
+    if (where == 13) {
+        m->cache[4 * below(CACHE / 4) + 3] = below(MOST_CHAIN + 2);
         return;
     }
     const buffer used[BUFFERS] = {
@@ -226,6 +236,14 @@ static bool chain_spoiled(const machine *m, const machine *before) {
         && c_judge(entries, m->contents, m->bodies, r[EDITION], r[N], r[B], r[START_RECEIVER], r[START_SELECTOR], notes) == 14;
 }
 
+// Whether one of these states has another number of dictionaries in an entry of the cache than the other, and the other words of it alike; the entry is
+// empty but for it, or has a lookup.
+static bool number_spoiled(const machine *m, const machine *before, bool empty) {
+    for (size_t i = 0; i < CACHE; i += 4)
+        if (m->cache[i + 3] != before->cache[i + 3] && memcmp(m->cache + i, before->cache + i, 6) == 0) return (m->cache[i] == 0) == empty;
+    return false;
+}
+
 // What at:, at:put: and size may meet in an object with elements behind named fields, the first two also by their index.
 enum { ANY, NO_ELEMENTS, INDEX_0, FIRST_ELEMENT, LAST_ELEMENT, PAST, FIELDS_COUNTED, CASES };
 
@@ -240,7 +258,7 @@ static void note(const machine *m, size_t met_by[CASES][3]) {
     const uint16_t receiver = sofaduck_operand(m, &at, count), x = count > 0 ? sofaduck_operand(m, &at, count - 1) : 0;
     if (!is(&o, FIELDS, receiver)) return;
     const unsigned above = body(&o, body(&o, at.method)[1])[0];
-    const unsigned method = lookup(&o, selector, code == 133 || code == 134 ? above : class_of(&o, receiver));
+    const unsigned method = lookup(&o, selector, code == 133 || code == 134 ? above : class_of(&o, receiver)).method;
     if (method == 0 || flag_of(body(&o, method)[0]) != 7) return;
     const unsigned extension = body(&o, method)[literals_of(body(&o, method)[0])], which = (extension >> 1 & 255) - 60;
     const uint16_t *const class = body(&o, class_of(&o, receiver));
@@ -288,8 +306,8 @@ static sending next_send(const machine *m) {
     s.code = sofaduck_code(m, at.method, at.position);
     s.start = s.code == 133 || s.code == 134 ? body(&o, body(&o, at.method)[1])[0] : class_of(&o, sofaduck_operand(m, &at, s.count));
     s.n = o.n;
-    s.found = lookup(&o, s.selector, s.start) != 0;
-    const uint16_t *const c = m->cache + 3 * ((DOES_NOT_UNDERSTAND & s.start) / 2 % 64);
+    s.found = lookup(&o, s.selector, s.start).method != 0;
+    const uint16_t *const c = m->cache + 4 * ((DOES_NOT_UNDERSTAND & s.start) / 2 % 64);
     s.kept = c[0] == DOES_NOT_UNDERSTAND && c[1] == s.start;
     return s;
 }
@@ -310,14 +328,14 @@ static void note_failure(const sending *s, const machine *m) {
         failed_with[!framed ? BY_PRIMITIVE : frame_of(body(&o, top[3])[0]) == 18 ? IN_SMALL : IN_LARGE]++;
         failed_with[FROM_CACHE] += s->kept;
     } else if (phase == 3) {
-        failed_with[m->registers[EDITION] == 1                       ? EDITION_1
-                    : s->selector == DOES_NOT_UNDERSTAND             ? OBJECT_6
-                    : lookup(&o, DOES_NOT_UNDERSTAND, s->start) == 0 ? NOT_FOUND
-                    : n + 2 > MOST_OBJECTS                           ? NO_OBJECT
-                    : words > MOST_WORDS                             ? NO_WORD
-                    : m->contents_length < 4 * (n + 2)               ? NO_CONTENTS
-                    : m->bodies_length < words                       ? NO_BODIES
-                                                                     : UNFIT]++;
+        failed_with[m->registers[EDITION] == 1                              ? EDITION_1
+                    : s->selector == DOES_NOT_UNDERSTAND                    ? OBJECT_6
+                    : lookup(&o, DOES_NOT_UNDERSTAND, s->start).method == 0 ? NOT_FOUND
+                    : n + 2 > MOST_OBJECTS                                  ? NO_OBJECT
+                    : words > MOST_WORDS                                    ? NO_WORD
+                    : m->contents_length < 4 * (n + 2)                      ? NO_CONTENTS
+                    : m->bodies_length < words                              ? NO_BODIES
+                                                                            : UNFIT]++;
     } else if (phase == 5 && !s->found) {
         failed_with[NO_FRAME]++;
     }
@@ -333,7 +351,7 @@ static bool all_met(const char *what, const char *const *names, const size_t *me
 }
 
 static bool differential(void) {
-    size_t phases[6] = {0}, answers[14] = {0}, met_by[CASES][3] = {{0}}, chains = 0, editions = 0, handlers = 0, spoiled = 0, bytecodes = 0;
+    size_t phases[6] = {0}, answers[14] = {0}, met_by[CASES][3] = {{0}}, numbers[2] = {0}, chains = 0, editions = 0, handlers = 0, spoiled = 0, bytecodes = 0;
     for (int i = 0; i < IMAGES; i++) {
         const unsigned edition = 1 + i / 2 % 2;
         const size_t length = i % 2 == 0 ? ordinary(image, edition, 400 + below(1000), 1000 + i) : lively(image, edition, 900 + below(1000), 1000 + i);
@@ -367,6 +385,7 @@ static bool differential(void) {
                 const uint32_t r = sofaduck_state_check(&other), s = c_check(entries, &theirs);
                 if (r != s) return printf("the checks answer %u and %u\n", r, s), false;
                 chains += r == 11 && chain_spoiled(&theirs, &ours);
+                for (int empty = 0; empty < 2; empty++) numbers[empty] += r == 11 && number_spoiled(&theirs, &ours, empty);
                 editions += r == 0 && theirs.registers[EDITION] != edition;
                 uint32_t count;
                 const uint32_t ran = both(&other, &theirs, below(2) == 0 ? 0 : below(30), &count);
@@ -376,14 +395,14 @@ static bool differential(void) {
             }
         }
     }
-    printf("%zu handlers of random images ran alike, %zu bytecodes; phases", handlers, bytecodes);
+    printf("%zu handlers of random images ran alike, %zu bytecodes, %ju dictionaries; phases", handlers, bytecodes, (uintmax_t)dictionaries);
     for (int p = 1; p < 6; p++) printf(" %d: %zu%s", p, phases[p], p < 5 ? "," : "\n");
     printf("%zu states with a changed word checked and ran alike: %zu accepted, %zu of them with the other edition, %zu refused by 3, %zu by 11, "
-           "%zu of them for a chain, %zu by 12\n",
-           spoiled, answers[0], editions, answers[3], answers[11], chains, answers[12]);
-    bool met = answers[0] > 0 && answers[3] > 0 && answers[11] > 0 && chains > 0 && editions > 0 && answers[12] > 0;
+           "%zu of them for a chain, %zu for the dictionaries of a cached lookup, %zu for those of none, %zu by 12\n",
+           spoiled, answers[0], editions, answers[3], answers[11], chains, numbers[0], numbers[1], answers[12]);
+    bool met = answers[0] > 0 && answers[3] > 0 && answers[11] > 0 && chains > 0 && numbers[0] > 0 && numbers[1] > 0 && editions > 0 && answers[12] > 0;
     for (int p = 1; p < 6; p++) met = met && phases[p] > 0;
-    if (!met) printf("a phase, an answer, a spoiled chain or another edition was never met\n");
+    if (!met) printf("a phase, an answer, a spoiled chain, spoiled dictionaries or another edition were never met\n");
     printf("elements behind named fields were met by at: %zu times, by at:put: %zu, by size %zu\n", met_by[ANY][0], met_by[ANY][1], met_by[ANY][2]);
     bool ends = true;
     for (int f = 0; f < CASES; f++)

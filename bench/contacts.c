@@ -42,7 +42,10 @@ static void make_singly(machine *m, uint32_t contacts, words *w) {
         const uint16_t x = argument(i);
         uint32_t *const begun = w->answers[i][0], *const ran = w->answers[i][1];
         begun[SOFADUCK_ANSWER_NUMBER] = sofaduck_state_begin(m, r[START_RECEIVER], r[START_SELECTOR], &x, 1);
-        ran[SOFADUCK_ANSWER_NUMBER] = sofaduck_state_run(m, GRANT, ran + SOFADUCK_ANSWER_COUNT, ran + SOFADUCK_ANSWER_REACH);
+        uint64_t dictionaries = 0;
+        ran[SOFADUCK_ANSWER_NUMBER] = sofaduck_state_run(m, GRANT, ran + SOFADUCK_ANSWER_COUNT, ran + SOFADUCK_ANSWER_REACH, &dictionaries);
+        ran[SOFADUCK_ANSWER_DICTIONARIES_HIGH] = dictionaries >> 32;
+        ran[SOFADUCK_ANSWER_DICTIONARIES_LOW] = dictionaries;
         ran[SOFADUCK_ANSWER_PHASE] = r[PHASE];
         ran[SOFADUCK_ANSWER_VALUE] = r[VALUE];
     }

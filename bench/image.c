@@ -212,7 +212,7 @@ uint32_t c_read(const uint16_t *entries, const uint8_t *image, size_t length, ui
     const size_t edition = word(image, 0), n = word(image, 1), b = word(image, 2);
     if (length != 10 + 8 * n + 2 * b) return 1;
     if (!limits_kept(edition, n, b)) return 2;
-    if (contents_length < 4 * n || bodies_length < b || cache_length != 192) return 3;
+    if (contents_length < 4 * n || bodies_length < b || cache_length != CACHE_WORDS) return 3;
     c_place(image, n, b, contents, bodies);
     uint8_t notes[MOST_BYTES];
     const uint32_t number = c_judge(entries, contents, bodies, edition, n, b, word(image, 3), word(image, 4), notes);

@@ -142,7 +142,7 @@ static inline uint16_t field(const objects *o, unsigned header, uint16_t receive
 // The arguments of 192 to 207.
 static const uint8_t counts[16] = {1, 2, 0, 0, 1, 0, 1, 0, 1, 0, 1, 1, 0, 1, 0, 0};
 
-static void run(machine *m, uint32_t grant, uint32_t *made, uint32_t *reach) {
+static void run(machine *m, uint32_t grant, uint32_t *made, uint32_t *reach, uint64_t *dictionaries) {
     const entry *const contents = (const entry *)m->contents - 1; // by object number
     uint16_t *const bodies = m->bodies, *const stack = m->stack, *const cache = m->cache;
     const size_t room = m->stack_length < 65536 ? m->stack_length : 65536;
@@ -150,6 +150,7 @@ static void run(machine *m, uint32_t grant, uint32_t *made, uint32_t *reach) {
     const uint16_t *method, *literals, *code;
     size_t at, before;
     uint32_t count = 0;
+    uint64_t read = 0;
     uint16_t value, phase = 1;
     const uint16_t *end;
 
@@ -211,6 +212,7 @@ static void run(machine *m, uint32_t grant, uint32_t *made, uint32_t *reach) {
                 m->registers[VALUE] = value;
                 *made = count + 1;
                 *reach = end - stack;
+                *dictionaries = read;
                 return;
             }
             frame = stack + frame[0];
@@ -290,9 +292,10 @@ static void run(machine *m, uint32_t grant, uint32_t *made, uint32_t *reach) {
             unsigned given = arguments;
             uint16_t sought = selector;
         seek:;
-            uint16_t *const kept = cache + 3 * ((sought & class) >> 1 & 63);
+            uint16_t *const kept = cache + 4 * ((sought & class) >> 1 & 63);
             const bool hit = kept[0] == sought && kept[1] == class;
-            const uint16_t callee = hit ? kept[2] : lookup(&o, sought, class);
+            const found f = hit ? (found){kept[2], kept[3]} : lookup(&o, sought, class);
+            const uint16_t callee = f.method;
             phase = 3;
             if (callee == 0) goto fails;
             const uint16_t *const other = bodies + START(callee);
@@ -331,7 +334,8 @@ static void run(machine *m, uint32_t grant, uint32_t *made, uint32_t *reach) {
             sp = receiver + 1;
         sent:
             phase = 1;
-            if (!hit) kept[0] = sought, kept[1] = class, kept[2] = callee;
+            read += f.dictionaries;
+            if (!hit) kept[0] = sought, kept[1] = class, kept[2] = callee, kept[3] = f.dictionaries;
             break;
         fails:
             if (m->registers[EDITION] < 2 || from == message || !message_fits(m, arguments)) goto halt;
@@ -348,12 +352,13 @@ halt:
     m->registers[TOP] = frame - stack;
     *made = count;
     *reach = end - stack;
+    *dictionaries = read;
 }
 
-uint32_t c_run(const uint16_t *entries, machine *m, uint32_t n, uint32_t *count, uint32_t *reach) {
+uint32_t c_run(const uint16_t *entries, machine *m, uint32_t n, uint32_t *count, uint32_t *reach, uint64_t *dictionaries) {
     const uint32_t number = c_check(entries, m);
     if (number != 0) return number;
     if (m->registers[PHASE] != 1) return 12;
-    run(m, n, count, reach);
+    run(m, n, count, reach, dictionaries);
     return 0;
 }

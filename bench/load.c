@@ -6,7 +6,7 @@
 #include <stdio.h>
 #include <string.h>
 
-enum { CONTENTS = 4 * 2047, BODIES = 24000, CACHE = 192, MOST_CACHE = 400, EDITS = 100000 };
+enum { CONTENTS = 4 * 2047, BODIES = 24000, CACHE = CACHE_WORDS, MOST_CACHE = 400, EDITS = 100000 };
 
 void bench_table(uint16_t *table);
 
@@ -199,10 +199,10 @@ static void retype(void) {
 
 // Headers and lengths at their bounds, over words that are all 0: rules 1 to 4.
 static bool heads(void) {
-    static const unsigned ns[] = {0, 4, 5, 7, 8, 2047, 2048, 65535}, bs[] = {0, 1, 24000, 24001, 65535};
+    static const unsigned ns[] = {0, 4, 5, 7, 8, 2047, 2048, 65535}, bs[] = {0, 1, 24000, 24001, 65535}, caches[] = {192, 255, 256, 257};
     size_t count = 0;
     memset(edited, 0, sizeof edited);
-    for (size_t i = 0; i < 8 * 5 * 4 * 5 * 3 * 3 * 3; i++) {
+    for (size_t i = 0; i < 8 * 5 * 4 * 5 * 3 * 3 * 4; i++) {
         size_t x = i;
         const unsigned n = ns[x % 8], b = bs[x / 8 % 5];
         x /= 40;
@@ -211,7 +211,7 @@ static bool heads(void) {
         const size_t length = lengths[x / 4 % 5];
         x /= 20;
         const size_t room = x % 3 == 0 ? CONTENTS : 4 * n < CONTENTS ? 4 * n + 1 - x % 3 : 0;
-        const size_t space = x / 3 % 3 == 0 ? BODIES : b < BODIES ? b + 1 - x / 3 % 3 : 0, cached = 191 + x / 9;
+        const size_t space = x / 3 % 3 == 0 ? BODIES : b < BODIES ? b + 1 - x / 3 % 3 : 0, cached = caches[x / 9];
         if (room > CONTENTS || space > BODIES) continue;
         fill();
         machine m = on(0, room, space, cached);

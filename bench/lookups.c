@@ -1,6 +1,6 @@
 // Times lookups that fail along 24 classes, ours and C's by turns; the least of all runs counts. Each is a begin that is refused by 9, put into one
 // list, so that a check is made once for all of them. One selector sought again and again is what a processor foresees best, many in random order
-// what it foresees least. Then lookups of all sorts in random images: both sides have to find the same and to read as many pairs.
+// what it foresees least. Then lookups of all sorts in random images: both sides have to find the same and to read as many pairs and dictionaries.
 #include "images.h"
 #include "machine.h"
 #include "measure.h"
@@ -12,7 +12,7 @@ enum { CALLS = 10 * CLIMBING, RUNS = 200, STACK = 64, IMAGES = 200, LOOKUPS = 10
 void bench_table(uint16_t *table);
 bool bench_lookup(const uint16_t *contents, size_t contents_length, const uint16_t *bodies, size_t bodies_length, const uint16_t *stack,
                   size_t stack_length, const uint16_t *cache, size_t cache_length, const uint16_t registers[REGISTERS], uint16_t selector,
-                  uint16_t class, uint16_t *method, size_t *pairs);
+                  uint16_t class, uint16_t *method, size_t *pairs, size_t *dictionaries);
 
 static uint16_t entries[256], list[4 * CALLS];
 static uint8_t image[MOST_IMAGE];
@@ -49,7 +49,7 @@ static uint32_t c_begins(const machine *m, const sofaduck_calls *calls, uint32_t
     uint32_t made = 0;
     for (const uint16_t *w = calls->words; w < calls->words + calls->length; w += 4 + w[3], made++) {
         uint32_t number = 8;
-        if (valid(&o, w[1]) && is(&o, BYTES, w[2])) number = lookup(&o, w[2], class_of(&o, w[1])) == 0 ? 9 : 0;
+        if (valid(&o, w[1]) && is(&o, BYTES, w[2])) number = lookup(&o, w[2], class_of(&o, w[1])).method == 0 ? 9 : 0;
         memset(to[made], 0, sizeof *to);
         to[made][SOFADUCK_ANSWER_NUMBER] = number;
     }
@@ -104,7 +104,7 @@ static unsigned any_class(const objects *o) {
 }
 
 static bool differential(void) {
-    size_t found = 0, failed = 0, early = 0, refused = 0;
+    size_t finding = 0, above_first = 0, failed = 0, along_all = 0, early = 0, refused = 0;
     for (int i = 0; i < IMAGES; i++) {
         unsigned unknown[CLIMBING];
         machine m = empty();
@@ -118,21 +118,25 @@ static bool differential(void) {
             const bool starts = is(&o, CLASS, class);
             const unsigned selector = starts ? any_selector(&o, class) : below(65536);
             uint16_t method = 65535;
-            size_t pairs = 99999;
+            size_t pairs = 99999, dictionaries = 99999;
             const bool made = bench_lookup(m.contents, m.contents_length, m.bodies, m.bodies_length, m.stack, m.stack_length, m.cache, m.cache_length,
-                                           m.registers, selector, class, &method, &pairs);
-            const unsigned found_there = starts ? lookup(&o, selector, class) : 65535;
+                                           m.registers, selector, class, &method, &pairs, &dictionaries);
+            const found f = starts ? lookup(&o, selector, class) : (found){65535, 99999};
             const size_t read = starts ? pairs_read(&o, selector, class) : 99999;
-            if (made != starts || method != found_there || pairs != read)
-                return printf("lookup: of %u from %u finds %u and %u, and reads %zu and %zu pairs\n", selector, class, method, found_there, pairs, read),
+            if (made != starts || method != f.method || pairs != read || dictionaries != f.dictionaries)
+                return printf("lookup: of %u from %u finds %u and %u, and reads %zu and %zu pairs in %zu and %u dictionaries\n", selector, class,
+                              method, f.method, pairs, read, dictionaries, f.dictionaries),
                        false;
-            refused += !made, found += made && method != 0, failed += made && method == 0;
+            refused += !made, finding += made && method != 0, failed += made && method == 0;
+            above_first += made && method != 0 && dictionaries > 1, along_all += made && method == 0 && dictionaries == MOST_CHAIN;
             early += made && pairs < pairs_read(&o, 65535, class);
         }
     }
-    printf("%zu lookups agree in what they find and in pairs read: %zu found, %zu failed, %zu left pairs unread; %zu from no class\n",
-           found + failed, found, failed, early, refused);
-    if (found == 0 || failed == 0 || early == 0 || refused == 0) return printf("lookup: one of these was never met\n"), false;
+    printf("%zu lookups agree in what they find and in pairs and dictionaries read: %zu found, %zu of them above the first class, %zu failed, %zu of "
+           "them in 24 classes, %zu left pairs unread; %zu from no class\n",
+           finding + failed, finding, above_first, failed, along_all, early, refused);
+    if (finding == 0 || above_first == 0 || failed == 0 || along_all == 0 || early == 0 || refused == 0)
+        return printf("lookup: one of these was never met\n"), false;
     return true;
 }
 

@@ -1,5 +1,5 @@
 // Times runs, ours, C's and Lua's by turns; the least of all runs counts. After each program the library and its C peer have to agree in
-// registers, counts, reaches and every word of the four buffers. Objects are never reclaimed, so each turn starts from the words as they were loaded.
+// registers, counts, reaches, dictionaries and every word of the four buffers. Objects are never reclaimed, so each turn starts from the words as they were loaded.
 // Arguments: a file to which the goals are added, and the command of Lua if there is one.
 #include "machine.h"
 #include "measure.h"
@@ -7,7 +7,7 @@
 #include <stdio.h>
 #include <string.h>
 
-enum { CONTENTS = 4 * 2047, BODIES = 24000, STACK = 4096, CACHE = 192, RUNS = 20, LUA_RUNS = 10 };
+enum { CONTENTS = 4 * 2047, BODIES = 24000, STACK = 4096, CACHE = CACHE_WORDS, RUNS = 20, LUA_RUNS = 10 };
 
 void bench_table(uint16_t *table);
 
@@ -30,26 +30,30 @@ static void copy(machine *to, const machine *from) {
 
 typedef struct {
     uint32_t number, count, reach;
+    uint64_t dictionaries;
 } outcome;
 
-// A program run to its end, so many bytecodes granted at a time. Count and reach are added up over all runs.
+// A program run to its end, so many bytecodes granted at a time. Count, reach and dictionaries are added up over all runs.
 static outcome whole(machine *m, bool peer, uint32_t grant) {
-    outcome r = {0, 0, 0};
+    outcome r = {0};
     while (r.number == 0 && m->registers[PHASE] == 1) {
         uint32_t count = 0, reach = 0;
-        r.number = peer ? c_run(entries, m, grant, &count, &reach) : sofaduck_state_run(m, grant, &count, &reach);
+        uint64_t dictionaries = 0;
+        r.number = peer ? c_run(entries, m, grant, &count, &reach, &dictionaries) : sofaduck_state_run(m, grant, &count, &reach, &dictionaries);
         r.count += count;
         r.reach += reach;
+        r.dictionaries += dictionaries;
     }
     return r;
 }
 
 static bool alike(const char *name, outcome r, outcome s) {
     if (r.number == 0 && s.number == 0 && ours.registers[PHASE] == 2 && r.count == s.count && r.reach == s.reach
-        && memcmp(words[1], words[2], sizeof words[1]) == 0 && memcmp(ours.registers, theirs.registers, sizeof ours.registers) == 0)
+        && r.dictionaries == s.dictionaries && memcmp(words[1], words[2], sizeof words[1]) == 0 && memcmp(ours.registers, theirs.registers, sizeof ours.registers) == 0)
         return true;
-    printf("%s: the runs differ, or do not finish: answers %u and %u, phases %u and %u, counts %u and %u, reaches %u and %u\n", name, r.number,
-           s.number, ours.registers[PHASE], theirs.registers[PHASE], r.count, s.count, r.reach, s.reach);
+    printf("%s: the runs differ, or do not finish: answers %u and %u, phases %u and %u, counts %u and %u, reaches %u and %u, dictionaries %ju and %ju\n",
+           name, r.number, s.number, ours.registers[PHASE], theirs.registers[PHASE], r.count, s.count, r.reach, s.reach, (uintmax_t)r.dictionaries,
+           (uintmax_t)s.dictionaries);
     return false;
 }
 
@@ -74,7 +78,7 @@ typedef struct {
 static bool measure(const program *p, const char *lua, FILE *goals) {
     static const uint32_t grants[2] = {1000000, 1000};
     double a[2] = {FAILED, FAILED}, b[2] = {FAILED, FAILED}, l[2] = {FAILED, FAILED};
-    outcome r = {0, 0, 0}, s = {0, 0, 0};
+    outcome r = {0}, s = {0};
     memset(words, 0, sizeof words);
     begun = on(words[0]), ours = on(words[1]), theirs = on(words[2]);
     const uint32_t loaded = sofaduck_state_load(&begun, image, p->make(image));
@@ -115,7 +119,7 @@ static bool measure(const program *p, const char *lua, FILE *goals) {
                p->name, 1e3 * r.count / a[0], 1e3 * r.count / b[0], 1e3 * made / a[0], 1e3 * made / b[0], a[0] / PROXY_SENDS, b[0] / PROXY_SENDS);
         return true;
     }
-    if (goals == NULL) return true;
+    if (goals == NULL || p->lua[0] == NULL) return true;
     fprintf(goals, "goal: run %s at C's speed: %.2f, %s\n", p->name, b[0] / a[0], verdict(b[0] >= a[0]));
     if (l[0] != FAILED && p->make == fib_image)
         fprintf(goals, "goal: run %s level with Lua: %.2f of Lua's speed, %s\n", p->name, l[0] / a[0], verdict(l[0] >= a[0]));
@@ -127,6 +131,7 @@ int main(int count, char **arguments) {
         {"fib", fib_image, {"fib", "functions"}},
         {"stores", stores_image, {"stores", NULL}},
         {"arithmetic", arithmetic_image, {"arithmetic", NULL}},
+        {"climbing", climbing_fib_image, {NULL, NULL}},
         {"proxy", proxy_image, {NULL, NULL}},
     };
     FILE *goals = count > 1 ? fopen(arguments[1], "a") : NULL;

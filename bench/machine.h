@@ -15,4 +15,4 @@ static inline objects objects_of(const machine *m) {
 
 // The peers take the table's entries beside what the library takes. Refused calls write nothing.
 uint32_t c_check(const uint16_t *entries, const machine *m);
-uint32_t c_run(const uint16_t *entries, machine *m, uint32_t n, uint32_t *count, uint32_t *reach);
+uint32_t c_run(const uint16_t *entries, machine *m, uint32_t n, uint32_t *count, uint32_t *reach, uint64_t *dictionaries);

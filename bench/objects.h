@@ -8,7 +8,7 @@
 enum { NIL_WORD = 2, FALSE_WORD = 4, TRUE_WORD = 6, INTEGER_CLASS = 8, SPECIAL_SELECTORS = 10 };
 enum { DOES_NOT_UNDERSTAND = 12, MESSAGE_CLASS = 14, ARRAY_CLASS = 16 }; // from edition 2 on
 enum { FIELDS, BYTES, CLASS, LIST, METHOD };
-enum { MOST_OBJECTS = 2047, MOST_WORDS = 24000, MOST_CHAIN = 24, CACHE_WORDS = 192 };
+enum { MOST_OBJECTS = 2047, MOST_WORDS = 24000, MOST_CHAIN = 24, CACHE_WORDS = 256 };
 
 typedef struct {
     uint16_t class, kind, start, size;
@@ -39,16 +39,20 @@ static inline bool limits_kept(size_t edition, size_t n, size_t b) {
     return (edition == 1 || edition == 2) && n >= (edition >= 2 ? 8 : 5) && n <= MOST_OBJECTS && b <= MOST_WORDS;
 }
 
-// The method under a selector in a class or above it, 0 if there is none. Of objects that were judged: no walk up is longer than MOST_CHAIN, and
-// selectors rise.
-static inline unsigned lookup(const objects *o, unsigned selector, unsigned class) {
-    for (; class != NIL_WORD; class = body(o, class)[0]) {
+// The method under a selector in a class or above it, 0 if there is none, and how many dictionaries were read. Of objects that were judged: no walk up
+// is longer than MOST_CHAIN, and selectors rise.
+typedef struct {
+    unsigned method, dictionaries;
+} found;
+static inline found lookup(const objects *o, unsigned selector, unsigned class) {
+    unsigned read = 1;
+    for (; class != NIL_WORD; class = body(o, class)[0], read++) {
         const unsigned dictionary = body(o, class)[1];
         const uint16_t *pair = body(o, dictionary), *end = pair + of(o, dictionary)->size;
         while (pair < end && *pair < selector) pair += 2;
-        if (pair < end && *pair == selector) return pair[1];
+        if (pair < end && *pair == selector) return (found){pair[1], read};
     }
-    return 0;
+    return (found){0, read - 1};
 }
 
 static inline bool in_chain(const objects *o, unsigned home, unsigned class) {

@@ -29,7 +29,8 @@ static void understands(unsigned class, unsigned count, const unsigned (*pairs)[
 
 // fib: n     n < 2 ifTrue: [^n]. ^(self fib: n - 1) + (self fib: n - 2)
 // start      1 to: 4 do: [:i | self fib: 20]
-size_t fib_image(uint8_t *image) {
+// The receiver's class is so many below the one that has the methods.
+static size_t fib_below(uint8_t *image, unsigned classes) {
     new_image(1);
     const unsigned fib = selector("fib:"), start = selector("start");
     const unsigned class = new_class(NIL, EMPTY, 0, 0);
@@ -53,8 +54,13 @@ size_t fib_image(uint8_t *image) {
     const uint16_t start_literals[] = {2 * fib, INTEGER(4), INTEGER(20)};
     const unsigned start_method = new_method(class, 0, 1, 0, start_literals, 3, start_code, sizeof start_code);
     understands(class, 2, (const unsigned[][2]){{fib, fib_method}, {start, start_method}});
-    return written(image, 2 * new_object(class, FIELDS, 0), 2 * start);
+    unsigned lowest = class;
+    for (unsigned i = 0; i < classes; i++) lowest = new_class(lowest, EMPTY, 0, 0);
+    return written(image, 2 * new_object(lowest, FIELDS, 0), 2 * start);
 }
+
+size_t fib_image(uint8_t *image) { return fib_below(image, 0); }
+size_t climbing_fib_image(uint8_t *image) { return fib_below(image, MOST_CHAIN - 1); }
 
 // A method that answers by a primitive; where it fails, the receiver.
 static unsigned primitive(unsigned class, unsigned number, unsigned arguments) {

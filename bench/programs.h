@@ -4,6 +4,8 @@
 size_t fib_image(uint8_t *image);
 size_t stores_image(uint8_t *image);
 size_t arithmetic_image(uint8_t *image);
+// The first of these with its methods at the top of a chain of 24 classes, and the receiver at the bottom.
+size_t climbing_fib_image(uint8_t *image);
 // One of edition 2 whose start words send PROXY_SENDS messages to an object that understands none, which answers each by its argument. Lua has none.
 enum { PROXY_SENDS = 1000 };
 size_t proxy_image(uint8_t *image);

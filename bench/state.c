@@ -25,9 +25,11 @@ static bool frames_fine(const objects *o, const uint16_t *stack, size_t length, 
 }
 
 static bool cache_fine(const objects *o, const uint16_t *cache) {
-    for (const uint16_t *c = cache; c < cache + CACHE_WORDS; c += 3) {
-        if (c[0] == 0 && c[1] == 0 && c[2] == 0) continue;
-        if (!is(o, CLASS, c[1]) || c[2] == 0 || lookup(o, c[0], c[1]) != c[2]) return false;
+    for (const uint16_t *c = cache; c < cache + CACHE_WORDS; c += 4) {
+        if (c[0] == 0 && c[1] == 0 && c[2] == 0 && c[3] == 0) continue;
+        if (!is(o, CLASS, c[1]) || c[2] == 0) return false;
+        const found f = lookup(o, c[0], c[1]);
+        if (f.method != c[2] || f.dictionaries != c[3]) return false;
     }
     return true;
 }
