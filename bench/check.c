@@ -351,7 +351,8 @@ static bool all_met(const char *what, const char *const *names, const size_t *me
 }
 
 static bool differential(void) {
-    size_t phases[6] = {0}, answers[14] = {0}, met_by[CASES][3] = {{0}}, numbers[2] = {0}, chains = 0, editions = 0, handlers = 0, spoiled = 0, bytecodes = 0;
+    size_t phases[6] = {0}, answers[14] = {0}, met_by[CASES][3] = {{0}}, numbers[2] = {0}, chains = 0, editions = 0;
+    size_t handlers = 0, spoiled = 0, bytecodes = 0;
     for (int i = 0; i < IMAGES; i++) {
         const unsigned edition = 1 + i / 2 % 2;
         const size_t length = i % 2 == 0 ? ordinary(image, edition, 400 + below(1000), 1000 + i) : lively(image, edition, 900 + below(1000), 1000 + i);

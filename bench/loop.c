@@ -1,6 +1,6 @@
 // Times runs, ours, C's and Lua's by turns; the least of all runs counts. After each program the library and its C peer have to agree in
-// registers, counts, reaches, dictionaries and every word of the four buffers. Objects are never reclaimed, so each turn starts from the words as they were loaded.
-// Arguments: a file to which the goals are added, and the command of Lua if there is one.
+// registers, counts, reaches, dictionaries and every word of the four buffers. Objects are never reclaimed, so each turn starts from the words as they
+// were loaded. Arguments: a file to which the goals are added, and the command of Lua if there is one.
 #include "machine.h"
 #include "measure.h"
 #include "programs.h"
@@ -49,7 +49,8 @@ static outcome whole(machine *m, bool peer, uint32_t grant) {
 
 static bool alike(const char *name, outcome r, outcome s) {
     if (r.number == 0 && s.number == 0 && ours.registers[PHASE] == 2 && r.count == s.count && r.reach == s.reach
-        && r.dictionaries == s.dictionaries && memcmp(words[1], words[2], sizeof words[1]) == 0 && memcmp(ours.registers, theirs.registers, sizeof ours.registers) == 0)
+        && r.dictionaries == s.dictionaries && memcmp(words[1], words[2], sizeof words[1]) == 0
+        && memcmp(ours.registers, theirs.registers, sizeof ours.registers) == 0)
         return true;
     printf("%s: the runs differ, or do not finish: answers %u and %u, phases %u and %u, counts %u and %u, reaches %u and %u, dictionaries %ju and %ju\n",
            name, r.number, s.number, ours.registers[PHASE], theirs.registers[PHASE], r.count, s.count, r.reach, s.reach, (uintmax_t)r.dictionaries,

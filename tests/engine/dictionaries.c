@@ -7,7 +7,7 @@
 #include "singly.h"
 #include "dictionaries.h"
 
-enum { ROUNDS = 400, GRANT = 200, LISTED = 12, ANSWERS = LISTED * SOFADUCK_ANSWER };
+enum { ROUNDS = 400, GRANT = 200, LISTED = 12, WORDS = 6 * LISTED, ANSWERS = SOFADUCK_ANSWER * LISTED }; /* calls in a list, their words and answers */
 
 static machine first, second, third;
 
@@ -32,6 +32,9 @@ static const handler handlers[] = {
     {"one three classes up", BOTTOM(SELECTOR_far_, OBJECT_low), ROOM, SOFADUCK_FINISHED, 5, 4},
     {"the same two classes up", BOTTOM(SELECTOR_far_, OBJECT_middle), ROOM, SOFADUCK_FINISHED, 5, 3},
     {"the same along another chain", BOTTOM(SELECTOR_far_, OBJECT_aside), ROOM, SOFADUCK_FINISHED, 5, 2},
+    {"the same by 131", BOTTOM(SELECTOR_long_, OBJECT_low), ROOM, SOFADUCK_FINISHED, 5, 4},
+    {"the same by 132", BOTTOM(SELECTOR_longer_, OBJECT_low), ROOM, SOFADUCK_FINISHED, 5, 4},
+    {"with two arguments, in a large frame", BOTTOM(SELECTOR_two_, OBJECT_middle), ROOM, SOFADUCK_FINISHED, 7, 3},
     {"24 classes", BOTTOM(SELECTOR_here_, OBJECT_bottom), ROOM, SOFADUCK_FINISHED, 5, 24},
     {"to an integer", BOTTOM(SELECTOR_here_, INTEGER(-7)), ROOM, SOFADUCK_FINISHED, 5, 2},
     {"to nil", BOTTOM(SELECTOR_here_, SOFADUCK_NIL), ROOM, SOFADUCK_FINISHED, 5, 2},
@@ -113,13 +116,12 @@ static bool plays(machine *m, const handler *h) {
     bool fine = true;
     for (size_t k = 0; k < 6; k++) {
         const sofaduck_answer a = sofaduck_answer_at(answers, k);
-        fine = fine && a.number == 0 && (k == 1 || k > 3 || (a.count == 0 && a.dictionaries == 0));
+        const bool runs = k == 1 || k > 3;
+        fine = fine && a.number == 0 && (runs || (a.count == 0 && a.dictionaries == 0));
     }
-    /* where objects are made the second time may find no room for them */
-    const bool twice = h->objects == OBJECTS;
-    return fine && sofaduck_answer_at(answers, 1).phase == h->phase && sofaduck_answer_at(answers, 1).count == h->count
-        && sofaduck_answer_dictionaries(answers, 1) == h->dictionaries
-        && (!twice || sofaduck_answer_dictionaries(answers, 4) + sofaduck_answer_dictionaries(answers, 5) == h->dictionaries);
+    const sofaduck_answer whole = sofaduck_answer_at(answers, 1);
+    return fine && whole.phase == h->phase && whole.count == h->count && whole.dictionaries == h->dictionaries
+        && sofaduck_answer_dictionaries(answers, 4) + sofaduck_answer_dictionaries(answers, 5) == h->dictionaries;
 }
 
 /* On an empty cache, on what that left, after forget, on a full one, by play, and bytecode by bytecode. */
@@ -131,15 +133,15 @@ static void worked(void) {
         load(&first, h->stack, h->objects);
         copy(&second, &first), copy(&third, &first);
         test(h->what, gives(&first, h));
-        bool kept = true;
-        if (h->objects == OBJECTS) kept = gives(&first, h) && sofaduck_state_forget(&first.s) == 0 && all(first.cache, SOFADUCK_CACHE, 0) && gives(&first, h);
+        bool others = gives(&first, h) && sofaduck_state_forget(&first.s) == 0 && all(first.cache, SOFADUCK_CACHE, 0) && gives(&first, h);
         fill(&second.s);
         copy(&first, &second);
-        kept = kept && sofaduck_state_check(&second.s) == 0 && !all(second.cache, 4, 0) && gives(&second, h);
-        test_of("on other caches", h->what, kept);
-        test_of("by play", h->what, plays(&first, h) && (copy(&second, &third), plays(&second, h)));
-        test_of("each bytecode", h->what, begun(&third, h) && stepped(&third.s, GRANT, &count, &reach, &dictionaries) && count == h->count
-                                              && dictionaries == h->dictionaries);
+        others = others && sofaduck_state_check(&second.s) == 0 && !all(second.cache, SOFADUCK_CACHE, 0) && gives(&second, h);
+        test_of("on other caches", h->what, others);
+        copy(&second, &third);
+        test_of("by play", h->what, plays(&first, h) && plays(&second, h));
+        test_of("bytecode by bytecode", h->what, begun(&third, h) && stepped(&third.s, GRANT, &count, &reach, &dictionaries) && count == h->count
+                                                     && dictionaries == h->dictionaries);
     }
 }
 
@@ -164,10 +166,11 @@ static void others(void) {
 
 /* As a tool finds the sends that climb: bytecode by bytecode, each send named before it is made. */
 static void attributed(void) {
+    const uint16_t low = OBJECT_low;
     uint32_t count = 0, reach = 0;
     uint64_t dictionaries = 0, through[2] = {0, 0};
     load(&first, 1000, OBJECTS);
-    bool fine = begun(&first, handlers + 27); /* own from the low class, then unknown, which object 6 takes four classes up */
+    bool fine = sofaduck_state_begin(&first.s, OBJECT_bottom, SELECTOR_lost_, &low, 1) == 0;
     while (fine && running(&first)) {
         sofaduck_frame f;
         uint16_t selector = 0;
@@ -186,16 +189,17 @@ static void lists(void) {
     uint64_t most = 0;
     unsigned phases = 0;
     for (unsigned round = 0; round < ROUNDS && alike; round++) {
-        uint32_t answers[2][ANSWERS], made = 0, count[2];
-        uint16_t words[LISTED * 6];
-        sofaduck_calls calls = {words, LISTED * 6, 0, 0};
+        uint32_t answers[ANSWERS], answer[SOFADUCK_ANSWER], made = 0;
+        uint16_t words[WORDS];
+        sofaduck_calls calls = {words, WORDS, 0, 0};
         load(&first, 18 + below(120), below(2) == 0 ? 0 : below(OBJECTS));
         copy(&second, &first);
         if (below(2) == 0) fill(&first.s);
         for (unsigned k = below(LISTED); k > 0; k--) {
-            static const uint16_t receivers[] = {OBJECT_low, OBJECT_middle, OBJECT_top, OBJECT_aside, OBJECT_child, OBJECT_twin, OBJECT_deaf, OBJECT_bottom, OBJECT_row, 5};
+            static const uint16_t others[] = {OBJECT_low,  OBJECT_middle, OBJECT_top,    OBJECT_aside, OBJECT_child,
+                                              OBJECT_twin, OBJECT_deaf,   OBJECT_bottom, OBJECT_row,   INTEGER(2)};
             const handler *const h = handlers + below(HANDLERS);
-            const uint16_t tried[] = {below(2) == 0 ? receivers[below(10)] : h->arguments[0], below(2) == 0 ? receivers[below(10)] : h->arguments[1]};
+            const uint16_t tried[] = {below(2) == 0 ? others[below(10)] : h->arguments[0], below(2) == 0 ? others[below(10)] : h->arguments[1]};
             const unsigned which = below(20);
             if (which < 9) sofaduck_put_begin(&calls, h->receiver, h->selector, tried, h->given);
             else if (which < 17) sofaduck_put_run(&calls, below(40));
@@ -203,22 +207,23 @@ static void lists(void) {
             else sofaduck_put_forget(&calls);
         }
         memset(answers, 0x5a, sizeof answers);
-        alike = sofaduck_state_play(&first.s, &calls, answers[0], ANSWERS, &made) == 0 && made == calls.count;
-        /* singly: runs by single bytecodes, and what they leave, on a cache that is emptied before each call */
+        alike = sofaduck_state_play(&first.s, &calls, answers, ANSWERS, &made) == 0 && made == calls.count;
         size_t at = 0;
         for (uint32_t k = 0; alike && k < made; k++) {
             const size_t size = words[at] == SOFADUCK_PLAY_BEGIN ? 4u + words[at + 3] : words[at] == SOFADUCK_PLAY_RUN ? 3 : 1;
             const bool runs = words[at] == SOFADUCK_PLAY_RUN && running(&second);
-            const sofaduck_answer a = sofaduck_answer_at(answers[0], k);
-            uint32_t reach = 0;
+            const sofaduck_answer a = sofaduck_answer_at(answers, k);
+            uint32_t count = 0, reach = 0;
             uint64_t walks = 0;
             memset(second.cache, 0, sizeof second.cache);
             copy(&third, &second);
-            alike = singly(&second.s, words + at, size, answers[1], SOFADUCK_ANSWER) == 1
-                && memcmp(answers[1], answers[0] + SOFADUCK_ANSWER * k, SOFADUCK_ANSWER * sizeof(uint32_t)) == 0;
-            if (runs) alike = alike && stepped(&third.s, 65536u * words[at + 1] + words[at + 2], count, &reach, &walks) && a.count == count[0]
-                && a.dictionaries == walks && a.reach == reach && same_but_cache(&second, &third);
-            if (runs) phases |= 1u << a.phase;
+            alike = singly(&second.s, words + at, size, answer, SOFADUCK_ANSWER) == 1
+                && memcmp(answer, answers + SOFADUCK_ANSWER * k, sizeof answer) == 0;
+            if (runs) {
+                alike = alike && stepped(&third.s, 65536u * words[at + 1] + words[at + 2], &count, &reach, &walks) && a.count == count
+                    && a.dictionaries == walks && a.reach == reach && same_but_cache(&second, &third);
+                phases |= 1u << a.phase;
+            }
             if (most < a.dictionaries) most = a.dictionaries;
             at += size;
         }

@@ -440,7 +440,8 @@ static void made(void) {
     const uint16_t argument = sofaduck_word(6);
     test("begin of object 6 itself is a begin as any other",
          sofaduck_state_begin(&s, OBJECT_proxy, SOFADUCK_DOES_NOT_UNDERSTAND, &argument, 1) == 0
-             && sofaduck_state_run(&s, 9, &count, &reach, &dictionaries) == 0 && dictionaries == 0 && s.registers[SOFADUCK_VALUE] == argument && s.registers[SOFADUCK_N] == before.registers[SOFADUCK_N]);
+             && sofaduck_state_run(&s, 9, &count, &reach, &dictionaries) == 0 && dictionaries == 0
+             && s.registers[SOFADUCK_VALUE] == argument && s.registers[SOFADUCK_N] == before.registers[SOFADUCK_N]);
     test("begin of object 6 without its argument: 10", sofaduck_state_begin(&s, OBJECT_proxy, SOFADUCK_DOES_NOT_UNDERSTAND, NULL, 0) == 10);
     note();
     test("begin of object 6 where nobody has it: 9",
@@ -448,7 +449,8 @@ static void made(void) {
     const uint16_t own = OBJECT_lower;
     test("a field that is there is answered, and no message made",
          sofaduck_state_begin(&s, OBJECT_lower, SELECTOR_field_, &own, 1) == 0 && sofaduck_state_run(&s, 9, &count, &reach, &dictionaries) == 0
-             && count == 3 && dictionaries == 1 && s.registers[SOFADUCK_VALUE] == sofaduck_word(3) && s.registers[SOFADUCK_N] == before.registers[SOFADUCK_N]);
+             && count == 3 && dictionaries == 1 && s.registers[SOFADUCK_VALUE] == sofaduck_word(3)
+             && s.registers[SOFADUCK_N] == before.registers[SOFADUCK_N]);
     const uint16_t sum[] = {sofaduck_word(3), sofaduck_word(4)};
     test("arithmetic that succeeds makes none", sofaduck_state_begin(&s, OBJECT_box, SELECTOR_sum_of_, sum, 2) == 0
                                                     && sofaduck_state_run(&s, 9, &count, &reach, &dictionaries) == 0 && dictionaries == 0

@@ -147,7 +147,8 @@ static void numbers(void) {
         uint64_t number;
     } tried[] = {
         {0, 0, 0}, {0, 1, 1}, {0, 2147483648u, 2147483648u}, {0, 4294967295u, 4294967295u},
-        {1, 0, (uint64_t)4294967295u + 1}, {1, 2, (uint64_t)4294967295u + 3}, {23, 4294967272u, 24 * (uint64_t)4294967295u}, /* the most that a run gives */
+        {1, 0, (uint64_t)4294967295u + 1}, {1, 2, (uint64_t)4294967295u + 3},
+        {23, 4294967272u, 24 * (uint64_t)4294967295u}, /* the most that a run gives */
         {2147483648u, 2147483648u, UINT64_MAX / 2 + 1 + 2147483648u}, {4294967295u, 4294967295u, UINT64_MAX},
     };
     uint32_t *const answers = (uint32_t *)malloc(3 * SOFADUCK_ANSWER * sizeof *answers);
@@ -250,8 +251,8 @@ static void message(void) {
     memset(&f, 0, sizeof f);
     test("the edition is the last register", s.registers[SOFADUCK_EDITION] == 2 && SOFADUCK_EDITION == SOFADUCK_REGISTERS - 1);
     /* push three words and send unknown:and: with 1 and 2 */
-    int fine = sofaduck_state_begin(&s, box, s.registers[SOFADUCK_START_SELECTOR], NULL, 0) == 0 && sofaduck_state_run(&s, 4, &made, &reach, &dictionaries) == 0
-        && made == 4 && dictionaries == 1 && sofaduck_top_frame(&s, &f) && f.base == SOFADUCK_FRAME && second_frames(&s) == 2;
+    int fine = sofaduck_state_begin(&s, box, s.registers[SOFADUCK_START_SELECTOR], NULL, 0) == 0
+        && sofaduck_state_run(&s, 4, &made, &reach, &dictionaries) == 0 && made == 4 && dictionaries == 1 && sofaduck_top_frame(&s, &f) && f.base == SOFADUCK_FRAME && second_frames(&s) == 2;
     const uint16_t object = s.stack[f.base + SOFADUCK_FRAME_TEMPORARIES], proxy = f.receiver;
     const uint16_t *arguments = sofaduck_message(&s, object, &selector, &count);
     test("a message has its selector and arguments",

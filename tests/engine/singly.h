@@ -1,4 +1,4 @@
-/* A list's calls made singly, for border.c and messages.c. */
+/* A list's calls made singly, for border.c, messages.c and dictionaries.c. */
 #include "sofaduck.h"
 #include <string.h>
 
