@@ -200,9 +200,11 @@ static void spoil(machine *m) {
         m->bodies[of(&o, class)->start] = any_class(&o);
         return;
     }
-    // the dictionaries of a lookup that the cache holds, or of none
+    // the dictionaries of a lookup that the cache holds, in its place or in another, or of none
     if (where == 13) {
-        m->cache[4 * below(CACHE / 4) + 3] = below(MOST_CHAIN + 2);
+        uint16_t *const at = m->cache + 4 * below(CACHE / 4);
+        if (below(2) == 0) memcpy(at, m->cache + 4 * below(CACHE / 4), 3 * sizeof *at);
+        at[3] = below(MOST_CHAIN + 2);
         return;
     }
     const buffer used[BUFFERS] = {

@@ -33,8 +33,8 @@ extern "C" {
 #endif
 
 /* The version of header and library, and the last edition of images that load accepts: it takes those from 1 to this. What was compiled with a header
- * of another first number is compiled anew. Until then a program with one before 4 comes to no harm: its cache has 192 words, by which load and every
- * other call are refused. */
+ * of another first number has to be compiled anew. With that of version 3 it comes to no harm before: its cache has 192 words, and so load and every
+ * other call are refused by 3. */
 #define SOFADUCK_VERSION_MAJOR 4
 #define SOFADUCK_VERSION_MINOR 0
 #define SOFADUCK_VERSION_PATCH 0

@@ -266,18 +266,27 @@ static void caches(void) {
     char line[100];
     for (size_t i = 0; i < 3; i++) {
         const uint16_t selector = filled[i][0], class = filled[i][1], right = dictionaries[i];
-        const uint16_t wrong[] = {0, (uint16_t)(right - 1), (uint16_t)(right + 1), (uint16_t)(3 - right), 25, (uint16_t)(right + 256), 65535};
+        const uint16_t wrong[] = {(uint16_t)(right - 1), (uint16_t)(right + 1), (uint16_t)(right + 256), 65535, 0};
         loaded();
         uint16_t *const entry = s.cache + 4 * ((selector & class) / 2 % 64);
         keep(&s, selector, class);
         snprintf(line, sizeof line, "check: a lookup kept with its dictionaries, %u", (unsigned)right);
         test(line, sofaduck_check(SOFADUCK_STATE(&s)) == 0 && entry[0] == selector && entry[1] == class && entry[3] == right);
-        for (size_t k = 0; k < sizeof wrong / sizeof *wrong; k++) {
-            if (wrong[k] == right) continue;
+        for (size_t k = 0; k < (right == 1 ? 4 : 5); k++) { /* one less than 1 is 0 already */
             entry[3] = wrong[k];
             snprintf(line, sizeof line, "a lookup kept with %u dictionaries, not %u", (unsigned)wrong[k], (unsigned)right);
             all_refused(line, 11);
         }
+        entry[3] = right;
+        for (size_t k = 0; k < SOFADUCK_CACHE; k++) s.cache[k] = entry[k % 4];
+        bool every = sofaduck_check(SOFADUCK_STATE(&s)) == 0;
+        for (size_t k = 3; k < SOFADUCK_CACHE; k += 4) {
+            s.cache[k] ^= 1;
+            every = every && sofaduck_check(SOFADUCK_STATE(&s)) == 11;
+            s.cache[k] ^= 1;
+        }
+        snprintf(line, sizeof line, "check: the same in each of 64 entries, %u", (unsigned)right);
+        test(line, every);
     }
     for (size_t i = 0; i < 4; i++) {
         static const uint16_t alone[] = {1, SOFADUCK_CHAIN, 256, 65535};

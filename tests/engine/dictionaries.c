@@ -233,24 +233,24 @@ static void lists(void) {
     test("they climb, and end in every phase", most > 100 && phases == 62);
 }
 
-/* 180 million sends through 24 dictionaries each are a number above 32 bits. */
+/* 180 million sends through 24 dictionaries each are a number above 32 bits, and of 270 million the low word has its highest bit too. A send and a jump
+ * are two bytecodes. */
 static void large(void) {
-    const uint32_t grant = 360000000;
-    const uint64_t expected = (uint64_t)24 * 180000000;
+    const uint32_t sends = 180000000, more = 270000000;
     uint32_t count = 0, reach = 0, made = 0, answers[2 * SOFADUCK_ANSWER];
     uint64_t dictionaries = 0;
     uint16_t words[7];
     sofaduck_calls calls = {words, 7, 0, 0};
     load(&first, 1000, OBJECTS);
     test("more than 32 bits, by run", sofaduck_state_begin(&first.s, OBJECT_bottom, SELECTOR_again, NULL, 0) == 0
-                                          && sofaduck_state_run(&first.s, grant, &count, &reach, &dictionaries) == 0 && count == grant
-                                          && dictionaries == expected && sofaduck_state_drop(&first.s) == 0);
+                                          && sofaduck_state_run(&first.s, 2 * sends, &count, &reach, &dictionaries) == 0 && count == 2 * sends
+                                          && dictionaries == 24 * (uint64_t)sends && sofaduck_state_drop(&first.s) == 0);
     sofaduck_put_begin(&calls, OBJECT_bottom, SELECTOR_again, NULL, 0);
-    sofaduck_put_run(&calls, grant);
+    sofaduck_put_run(&calls, 2 * more);
     test("more than 32 bits, by play, the high word first",
-         sofaduck_state_play(&first.s, &calls, answers, 2 * SOFADUCK_ANSWER, &made) == 0 && made == 2 && sofaduck_answer_at(answers, 1).count == grant
-             && sofaduck_answer_dictionaries(answers, 1) == expected && answers[SOFADUCK_ANSWER + 5] == 1
-             && answers[SOFADUCK_ANSWER + 6] == (uint32_t)expected);
+         sofaduck_state_play(&first.s, &calls, answers, 2 * SOFADUCK_ANSWER, &made) == 0 && made == 2 && sofaduck_answer_at(answers, 1).count == 2 * more
+             && sofaduck_answer_dictionaries(answers, 1) == 24 * (uint64_t)more && answers[SOFADUCK_ANSWER + 5] == 1
+             && answers[SOFADUCK_ANSWER + 6] == 24 * more);
 }
 
 int main(int argc, char **argv) {

@@ -252,7 +252,8 @@ static void message(void) {
     test("the edition is the last register", s.registers[SOFADUCK_EDITION] == 2 && SOFADUCK_EDITION == SOFADUCK_REGISTERS - 1);
     /* push three words and send unknown:and: with 1 and 2 */
     int fine = sofaduck_state_begin(&s, box, s.registers[SOFADUCK_START_SELECTOR], NULL, 0) == 0
-        && sofaduck_state_run(&s, 4, &made, &reach, &dictionaries) == 0 && made == 4 && dictionaries == 1 && sofaduck_top_frame(&s, &f) && f.base == SOFADUCK_FRAME && second_frames(&s) == 2;
+        && sofaduck_state_run(&s, 4, &made, &reach, &dictionaries) == 0 && made == 4 && dictionaries == 1
+        && sofaduck_top_frame(&s, &f) && f.base == SOFADUCK_FRAME && second_frames(&s) == 2;
     const uint16_t object = s.stack[f.base + SOFADUCK_FRAME_TEMPORARIES], proxy = f.receiver;
     const uint16_t *arguments = sofaduck_message(&s, object, &selector, &count);
     test("a message has its selector and arguments",
