@@ -12,7 +12,7 @@ use Rattle.bytecode.proofs.TestLaws.{true→T}
 use Rattle.model.specs.declared.Found.{Found}
 use Rattle.model.specs.Limits.{entryWords, classKind}
 use Rattle.model.specs.Objects.{Objects, objectsAt, isKind, isNilOr}
-use Rattle.model.specs.Lookup.{lookup, pairsRead}
+use Rattle.model.specs.Lookup.{lookup, dictionariesRead, pairsRead}
 use Rattle.model.specs.Rules.{IsRight}
 use Rattle.model.specs.Image.{Verdict, accepted}
 use Rattle.model.proofs.Parts.{or-right}
@@ -22,7 +22,7 @@ use Rattle.plain.proofs.FlatLaws.{check-right}
 use Rattle.sofaduck.specs.Border.{registersAt, stateOf, verdictOf}
 use Rattle.benchmark.specs.Lookups.{isAccepted, wordFound, LookupIs}
 
-module _ (words contents bodies stack cache : List ℕ) (selector class m p : ℕ) where
+module _ (words contents bodies stack cache : List ℕ) (selector class m p d : ℕ) where
   abbrev s : Flat
   s = stateOf words contents bodies stack cache
 
@@ -30,10 +30,10 @@ module _ (words contents bodies stack cache : List ℕ) (selector class m p : �
   o = objectsAt (getD words 0 0) (getD words 1 0) contents bodies
 
   -- check refuses
-  pub unchecked : (r : ℕ) → verdictOf r ≡ check s → (r ≡ 0 → ⊥) → LookupIs s selector class m p m p false
+  pub unchecked : (r : ℕ) → verdictOf r ≡ check s → (r ≡ 0 → ⊥) → LookupIs s selector class m p d m p d false
   unfolding if_then_else_
   unchecked zero e h = absurd (h refl)
-  unchecked (suc k) e h = record { made = ap (λ (v : Verdict). isAccepted v && isKind (flatObjects s) classKind class) e; found = refl; read = refl }
+  unchecked (suc k) e h = record { made = ap (λ (v : Verdict). isAccepted v && isKind (flatObjects s) classKind class) e; found = refl; read = refl; walked = refl }
 
   module _ {r : ℕ} (e : verdictOf r ≡ check s) (h : r ≡ 0) where
     yes : check s ≡ accepted
@@ -48,9 +48,9 @@ module _ (words contents bodies stack cache : List ℕ) (selector class m p : �
     entries = check-right s yes .contents
 
     module _ {x : Bool} (k : x ≡ isKind o classKind class) where
-      pub no-class : not x ≡ true → LookupIs s selector class m p m p false
+      pub no-class : not x ≡ true → LookupIs s selector class m p d m p d false
       unfolding registersAt if_then_else_
-      no-class q = record { made = sym (ap₂ (λ (v : Verdict) (b : Bool). isAccepted v && b) yes (sym k ∙ not-true x q)); found = refl; read = refl }
+      no-class q = record { made = sym (ap₂ (λ (v : Verdict) (b : Bool). isAccepted v && b) yes (sym k ∙ not-true x q)); found = refl; read = refl; walked = refl }
 
       is-class : not x ≡ false → isKind o classKind class ≡ true
       is-class q = sym k ∙ not-false x q
@@ -58,7 +58,8 @@ module _ (words contents bodies stack cache : List ℕ) (selector class m p : �
       pub starts : not x ≡ false → T (isNilOr o classKind class)
       starts q = or-right (eqb class nilWord) (isKind o classKind class) (true→T (is-class q))
 
-      pub looked : {f g : Found} {j : ℕ} → not x ≡ false → f ≡ lookup o selector class → j ≡ pairsRead o selector class → f ≡ g → LookupIs s selector class m p (wordFound g) j true
+      pub looked : {f g : Found} {j k : ℕ} → not x ≡ false → f ≡ lookup o selector class → j ≡ pairsRead o selector class → k ≡ dictionariesRead o selector class → f ≡ g
+          → LookupIs s selector class m p d (wordFound g) j k true
       unfolding registersAt if_then_else_
-      looked q a b c =
-          record { made = sym (ap₂ (λ (v : Verdict) (t : Bool). isAccepted v && t) yes (is-class q)); found = ap wordFound (sym c ∙ a); read = b }
+      looked q a b w c =
+          record { made = sym (ap₂ (λ (v : Verdict) (t : Bool). isAccepted v && t) yes (is-class q)); found = ap wordFound (sym c ∙ a); read = b; walked = w }

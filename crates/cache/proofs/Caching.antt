@@ -1,6 +1,6 @@
 -- An entry of the cache that has a selector and a class, and one that is filled.
 use Prim.Native.Nat.{ℕ, suc, _+_, _/_, _%_, _≤_, _<_}
-use mathlib.Core.Path.{_≡_, refl, sym, ap, ap₂, _∙_, subst}
+use mathlib.Core.Path.{_≡_, refl, sym, ap, _∙_, subst}
 use mathlib.Core.Bool.{Bool, true, false, _&&_}
 use mathlib.Core.List.{List}
 use native.Mathlib.Omega.{arith}
@@ -14,7 +14,7 @@ use Rattle.model.specs.declared.Found.{Found}
 use Rattle.model.specs.declared.Found.the-variants.{Method, Nothing}
 use Rattle.model.specs.Limits.{cacheEntries}
 use Rattle.model.specs.Objects.{Objects, objectsAt}
-use Rattle.model.specs.Lookup.{found, lookup}
+use Rattle.model.specs.Lookup.{found, lookup, dictionariesRead}
 use Rattle.plain.specs.Step.{looked}
 use Rattle.cache.specs.Caches.{Caches, Kept}
 use Rattle.plain.specs.Cache.{cacheEntryOf, cachePlace, filled, finds, emptyOr, cachedRight, cachedRightAt, cacheFine}
@@ -41,33 +41,41 @@ module _ (o : Objects) where
   found-is Nothing m t = absurd t
 
   -- no selector is 0, so the entry is not an empty one
-  fine-found : (s c m : ℕ) → 1 ≤ s → T (cachedRight o s c m) → found m ≡ lookup o s c
+  fine-found : (s c m k : ℕ) → 1 ≤ s → T (cachedRight o s c m k) → (found m ≡ lookup o s c) × (k ≡ dictionariesRead o s c)
   unfolding cachedRight
-  fine-found s c m h t =
-      found-is (lookup o s c) m (subst (λ (b : Bool). T (emptyOr (b && (eqb c 0 && eqb m 0)) (finds (lookup o s c) m))) (ne-eqb s 0 (λ q. omega arith)) t)
+  fine-found s c m k h t =
+      let both : T (finds (lookup o s c) m && eqb k (dictionariesRead o s c)) =
+      subst (λ (b : Bool). T (emptyOr (b && (eqb c 0 && (eqb m 0 && eqb k 0))) (finds (lookup o s c) m && eqb k (dictionariesRead o s c)))) (ne-eqb s 0 (λ q. omega arith)) t in (
+        found-is (lookup o s c) m (and-left (finds (lookup o s c) m) (eqb k (dictionariesRead o s c)) both),
+        eqb→eq k (dictionariesRead o s c) (and-right (finds (lookup o s c) m) (eqb k (dictionariesRead o s c)) both),
+      )
 
   pub cached-found : (cache : List ℕ) (s c e : ℕ) → T (cacheFine o cache) → 1 ≤ s → e < cacheEntries → getD cache (cachePlace e) 0 ≡ s → getD cache (cachePlace e + 1) 0 ≡ c
-      → found (getD cache (cachePlace e + 2) 0) ≡ lookup o s c
+      → (found (getD cache (cachePlace e + 2) 0) ≡ lookup o s c) × (getD cache (cachePlace e + 3) 0 ≡ dictionariesRead o s c)
   unfolding cacheFine
   cached-found cache s c e t h l p q =
-      fine-found s c (getD cache (cachePlace e + 2) 0) h
-      (subst (λ (y : ℕ). T (cachedRight o s y (getD cache (cachePlace e + 2) 0))) q
-      (subst (λ (x : ℕ). T (cachedRight o x (getD cache (cachePlace e + 1) 0) (getD cache (cachePlace e + 2) 0))) p
-      (below-at cacheEntries (cachedRightAt o cache) t e l)))
+      let m = getD cache (cachePlace e + 2) 0 in
+      let k = getD cache (cachePlace e + 3) 0 in
+      fine-found s c m k h
+      (subst (λ (y : ℕ). T (cachedRight o s y m k)) q
+      (subst (λ (x : ℕ). T (cachedRight o x (getD cache (cachePlace e + 1) 0) m k)) p (below-at cacheEntries (cachedRightAt o cache) t e l)))
 
--- three words of an entry
-pub entry-filled : (cache : List ℕ) (s c m e : ℕ) → e ≡ cacheEntryOf s c
-    → set (set (set cache (cachePlace e) s) (cachePlace e + 1) c) (cachePlace e + 2) m ≡ filled cache (looked s c m)
+-- the words of an entry
+pub entry-filled : (cache : List ℕ) (s c m k e : ℕ) → e ≡ cacheEntryOf s c
+    → set (set (set (set cache (cachePlace e) s) (cachePlace e + 1) c) (cachePlace e + 2) m) (cachePlace e + 3) k ≡ filled cache (looked s c m k)
 unfolding filled
-entry-filled cache s c m e p =
-    ap₂ (λ (i j : ℕ). set (set (set cache (cachePlace e) s) i c) j m) (one (cachePlace e)) (two (cachePlace e))
-    ∙ ap (λ (k : ℕ). set (set (set cache (cachePlace k) s) (suc (cachePlace k)) c) (suc (suc (cachePlace k))) m) p
+entry-filled cache s c m k e p =
+    (λ i. set (set (set (set cache (cachePlace e) s) (one (cachePlace e) i) c) (two (cachePlace e) i) m) (three (cachePlace e) i) k)
+    ∙ ap (λ (j : ℕ). set (set (set (set cache (cachePlace j) s) (suc (cachePlace j)) c) (suc (suc (cachePlace j))) m) (suc (suc (suc (cachePlace j)))) k) p
   where
-    one : (k : ℕ) → k + 1 ≡ suc k
-    one k = omega arith
+    one : (j : ℕ) → j + 1 ≡ suc j
+    one j = omega arith
 
-    two : (k : ℕ) → k + 2 ≡ suc (suc k)
-    two k = omega arith
+    two : (j : ℕ) → j + 2 ≡ suc (suc j)
+    two j = omega arith
+
+    three : (j : ℕ) → j + 3 ≡ suc (suc (suc j))
+    three j = omega arith
 
 -- ---- an entry that is there already
 
@@ -75,21 +83,26 @@ entry-below : (s c : ℕ) → cacheEntryOf s c < cacheEntries
 unfolding cacheEntryOf
 entry-below s c = omega arith
 
--- a cache of these objects has the method that a lookup in them finds
-pub found-kept : {n b : ℕ} {contents bodies cache : List ℕ} {selector class method : ℕ} → Caches n b contents bodies cache → 1 ≤ selector
-    → lookup (objectsAt n b contents bodies) selector class ≡ found method → Kept cache selector class method
-found-kept {cache = cache} {selector = s} {class = c} k named f =
-    record { held = λ p q. ap method-of (cached-found _ cache s c (cacheEntryOf s c) (k .fine) named (entry-below s c) p q ∙ f) }
+-- a cache of these objects has the method that a lookup in them finds, and how many dictionaries it reads
+pub found-kept : {n b : ℕ} {contents bodies cache : List ℕ} {selector class method dictionaries : ℕ} → Caches n b contents bodies cache → 1 ≤ selector
+    → lookup (objectsAt n b contents bodies) selector class ≡ found method → dictionaries ≡ dictionariesRead (objectsAt n b contents bodies) selector class
+    → Kept cache selector class method dictionaries
+found-kept {cache = cache} {selector = s} {class = c} k named f d =
+    record {
+      held = λ p q.
+          let h = cached-found _ cache s c (cacheEntryOf s c) (k .fine) named (entry-below s c) p q in (ap method-of (h .0 ∙ f), h .1 ∙ sym d);
+    }
   where
     method-of : Found → ℕ
     method-of (Method x) = x .0
     method-of Nothing = 0
 
 -- what is filled in then is there
-three-same : (l : List ℕ) (i j k : ℕ) {x y z : ℕ} → getD l i 0 ≡ x → getD l j 0 ≡ y → getD l k 0 ≡ z → set (set (set l i x) j y) k z ≡ l
-three-same l i j k p q r = rw (← p, set-getD, ← q, set-getD, ← r, set-getD)
+words-same : (l : List ℕ) (i j k h : ℕ) {x y z w : ℕ} → getD l i 0 ≡ x → getD l j 0 ≡ y → getD l k 0 ≡ z → getD l h 0 ≡ w → set (set (set (set l i x) j y) k z) h w ≡ l
+words-same l i j k h p q r t = rw (← p, set-getD, ← q, set-getD, ← r, set-getD, ← t, set-getD)
 
-pub entry-there : (cache : List ℕ) (s c m e : ℕ) → e ≡ cacheEntryOf s c → Kept cache s c m → getD cache (cachePlace e) 0 ≡ s → getD cache (cachePlace e + 1) 0 ≡ c
-    → cache ≡ filled cache (looked s c m)
-entry-there cache s c m e p k x y =
-    sym (three-same cache (cachePlace e) (cachePlace e + 1) (cachePlace e + 2) x y (rw p (k .held (rw p at x) (rw p at y)))) ∙ entry-filled cache s c m e p
+pub entry-there : (cache : List ℕ) (s c m k e : ℕ) → e ≡ cacheEntryOf s c → Kept cache s c m k → getD cache (cachePlace e) 0 ≡ s → getD cache (cachePlace e + 1) 0 ≡ c
+    → cache ≡ filled cache (looked s c m k)
+entry-there cache s c m k e p kept x y =
+    let h = kept .held (rw p at x) (rw p at y) in
+    sym (words-same cache (cachePlace e) (cachePlace e + 1) (cachePlace e + 2) (cachePlace e + 3) x y (rw p (h .0)) (rw p (h .1))) ∙ entry-filled cache s c m k e p

@@ -10,38 +10,47 @@ use Rattle.model.specs.declared.Found.{Found}
 use Rattle.model.specs.declared.Found.the-variants.{Method, Nothing}
 use Rattle.model.specs.Limits.{classKind, cacheEntries}
 use Rattle.model.specs.Objects.{Objects, isKind}
-use Rattle.model.specs.Lookup.{lookup}
+use Rattle.model.specs.Lookup.{lookup, dictionariesRead}
 use Rattle.model.proofs.LookupLaws.{lookup-none}
 use Rattle.readers.proofs.Loops.{Before, before-more, below-all, below-no}
 use Rattle.plain.specs.Cache.{finds, emptyOr, cachedRight, cachedRightAt, cacheFine}
 
-module _ (s c m : ℕ) where
-  pub empty-selector : (s ≡ 0 → ⊥) → false ≡ (eqb s 0 && (eqb c 0 && eqb m 0))
+module _ (s c m k : ℕ) where
+  pub empty-selector : (s ≡ 0 → ⊥) → false ≡ (eqb s 0 && (eqb c 0 && (eqb m 0 && eqb k 0)))
   empty-selector h = simp (ne-eqb s 0 h)
 
-  pub empty-class : s ≡ 0 → (c ≡ 0 → ⊥) → false ≡ (eqb s 0 && (eqb c 0 && eqb m 0))
+  pub empty-class : s ≡ 0 → (c ≡ 0 → ⊥) → false ≡ (eqb s 0 && (eqb c 0 && (eqb m 0 && eqb k 0)))
   empty-class e h = simp (eq-eqb s 0 e, ne-eqb c 0 h)
 
-  pub empty-method : s ≡ 0 → c ≡ 0 → eqb m 0 ≡ (eqb s 0 && (eqb c 0 && eqb m 0))
-  empty-method e f = simp (eq-eqb s 0 e, eq-eqb c 0 f)
+  pub empty-method : s ≡ 0 → c ≡ 0 → (m ≡ 0 → ⊥) → false ≡ (eqb s 0 && (eqb c 0 && (eqb m 0 && eqb k 0)))
+  empty-method e f h = simp (eq-eqb s 0 e, eq-eqb c 0 f, ne-eqb m 0 h)
 
-module _ (o : Objects) (s c m : ℕ) (e : Bool) (p : e ≡ (eqb s 0 && (eqb c 0 && eqb m 0))) where
-  pub entry-empty : e ≡ true → true ≡ cachedRight o s c m
+  pub empty-read : s ≡ 0 → c ≡ 0 → m ≡ 0 → eqb k 0 ≡ (eqb s 0 && (eqb c 0 && (eqb m 0 && eqb k 0)))
+  empty-read e f g = simp (eq-eqb s 0 e, eq-eqb c 0 f, eq-eqb m 0 g)
+
+module _ (o : Objects) (s c m k : ℕ) (e : Bool) (p : e ≡ (eqb s 0 && (eqb c 0 && (eqb m 0 && eqb k 0)))) where
+  pub entry-empty : e ≡ true → true ≡ cachedRight o s c m k
   unfolding cachedRight
-  entry-empty q = ap (λ (x : Bool). emptyOr x (finds (lookup o s c) m)) (sym q ∙ p)
+  entry-empty q = ap (λ (x : Bool). emptyOr x (finds (lookup o s c) m && eqb k (dictionariesRead o s c))) (sym q ∙ p)
 
-  entry-held : (f : Found) → e ≡ false → f ≡ lookup o s c → finds f m ≡ cachedRight o s c m
+  entry-held : (f : Found) → e ≡ false → f ≡ lookup o s c → (finds f m && eqb k (dictionariesRead o s c)) ≡ cachedRight o s c m k
   unfolding cachedRight
-  entry-held f q l = ap₂ (λ (x : Bool) (y : Found). emptyOr x (finds y m)) (sym q ∙ p) l
+  entry-held f q l = ap₂ (λ (x : Bool) (y : Found). emptyOr x (finds y m && eqb k (dictionariesRead o s c))) (sym q ∙ p) l
 
-  pub entry-other : (x : Bool) → e ≡ false → x ≡ isKind o classKind c → not x ≡ true → false ≡ cachedRight o s c m
-  entry-other x q k r = entry-held Nothing q (sym (lookup-none o s c (sym k ∙ not-true x r)))
+  pub entry-other : (x : Bool) → e ≡ false → x ≡ isKind o classKind c → not x ≡ true → false ≡ cachedRight o s c m k
+  entry-other x q h r = entry-held Nothing q (sym (lookup-none o s c (sym h ∙ not-true x r)))
 
-  pub entry-found : (f : Found) (k : Pointer) → e ≡ false → f ≡ lookup o s c → f ≡ Method k → eqb (k .0) m ≡ cachedRight o s c m
-  entry-found f k q l h = entry-held (Method k) q (sym h ∙ l)
+  module _ {f : Found} (q : e ≡ false) (l : f ≡ lookup o s c) where
+    pub entry-nothing : f ≡ Nothing → false ≡ cachedRight o s c m k
+    entry-nothing h = entry-held Nothing q (sym h ∙ l)
 
-  pub entry-nothing : (f : Found) → e ≡ false → f ≡ lookup o s c → f ≡ Nothing → false ≡ cachedRight o s c m
-  entry-nothing f q l h = entry-held Nothing q (sym h ∙ l)
+    -- of another method; or of this one, which leaves the number
+    pub entry-wrong : {h : Pointer} → f ≡ Method h → (h .0 ≡ m → ⊥) → false ≡ cachedRight o s c m k
+    entry-wrong {h = h} g d = ap (λ (x : Bool). x && eqb k (dictionariesRead o s c)) (sym (ne-eqb (h .0) m d)) ∙ entry-held (Method h) q (sym g ∙ l)
+
+    pub entry-found : {h : Pointer} {d : ℕ} → f ≡ Method h → h .0 ≡ m → d ≡ dictionariesRead o s c → eqb k d ≡ cachedRight o s c m k
+    entry-found {h = h} g a b =
+        ap (eqb k) b ∙ ap (λ (x : Bool). x && eqb k (dictionariesRead o s c)) (sym (eq-eqb (h .0) m a)) ∙ entry-held (Method h) q (sym g ∙ l)
 
 -- ---- all entries
 

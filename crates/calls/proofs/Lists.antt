@@ -1,5 +1,5 @@
 -- Lists of calls in words, and the words of their answers.
-use Prim.Native.Nat.{ℕ, zero, suc, _+_, _-_, _≤_, _<_}
+use Prim.Native.Nat.{ℕ, zero, suc, _+_, _*_, _-_, _≤_, _<_}
 use mathlib.Core.Path.{_≡_, refl, sym, ap, _∙_}
 use mathlib.Core.List.{List, [], _∷_, _++_}
 use native.Mathlib.Omega.{arith}
@@ -15,7 +15,7 @@ use Rattle.plain.specs.Calls.{Call, beginCall, runCall, dropCall, forgetCall, A
 use Rattle.plain.specs.Flat.{Flat}
 use Rattle.plain.specs.FlatCalls.{Given, gives, flatCall}
 use Rattle.plain.specs.CallLists.{nextState, lastState}
-use Rattle.calls.specs.Encoding.{sizeAt, runLength, beginAt, callAt, unlessNone, callsFrom, callsOf, answerSize, answerWords}
+use Rattle.calls.specs.Encoding.{sizeAt, runLength, beginAt, callAt, unlessNone, callsFrom, callsOf, answerSize, highWord, lowWord, answerWords}
 use Rattle.calls.specs.Listing.{listed}
 use Rattle.calls.specs.declared.Listed.the-variants as L
 use Rattle.calls.specs.Plays.{answered, answersOf}
@@ -189,7 +189,7 @@ pub all-words : (a : Answer) → length (answerWords a) ≡ answerSize
 unfolding answerWords
 all-words done = refl
 all-words (refusedBy k) = refl
-all-words (result p k v h) = refl
+all-words (result p k v h d) = refl
 all-words (wrote k) = refl
 
 -- ---- words put at a place
@@ -207,8 +207,9 @@ module _ (l ws : List ℕ) (at n : ℕ) (count : length ws ≡ n) (room : at + n
   pub put-behind : drop (at + n) (sets l at ws) ≡ drop (at + n) l
   put-behind = ap (drop (at + n)) put-is ∙ drop-at (take at l ++ ws) (drop (at + n) l) (at + n) long
 
-pub puts : (l : List ℕ) (at a b c d e : ℕ) → set (set (set (set (set l at a) (at + 1) b) (at + 2) c) (at + 3) d) (at + 4) e ≡ sets l at (a ∷ b ∷ c ∷ d ∷ e ∷ [])
-puts l at a b c d e = λ i. set (set (set (set (set l at a) (one at i) b) (two at i) c) (three at i) d) (four at i) e
+pub puts : (l : List ℕ) (at a b c d e f g : ℕ)
+    → set (set (set (set (set (set (set l at a) (at + 1) b) (at + 2) c) (at + 3) d) (at + 4) e) (at + 5) f) (at + 6) g ≡ sets l at (a ∷ b ∷ c ∷ d ∷ e ∷ f ∷ g ∷ [])
+puts l at a b c d e f g = λ i. set (set (set (set (set (set (set l at a) (one at i) b) (two at i) c) (three at i) d) (four at i) e) (five at i) f) (six at i) g
   where
     one : (x : ℕ) → x + 1 ≡ suc x
     one x = omega arith
@@ -221,3 +222,13 @@ puts l at a b c d e = λ i. set (set (set (set (set l at a) (one at i) b) (two a
 
     four : (x : ℕ) → x + 4 ≡ suc (suc (suc (suc x)))
     four x = omega arith
+
+    five : (x : ℕ) → x + 5 ≡ suc (suc (suc (suc (suc x))))
+    five x = omega arith
+
+    six : (x : ℕ) → x + 6 ≡ suc (suc (suc (suc (suc (suc x)))))
+    six x = omega arith
+
+-- The two words of a number are the number, and each fits in 32 bits.
+pub words-are : (n : ℕ) → n < 18446744073709551616 → (4294967296 * highWord n + lowWord n ≡ n) × (highWord n < 4294967296) × (lowWord n < 4294967296)
+words-are n h = (omega arith, omega arith, omega arith)

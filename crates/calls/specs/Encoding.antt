@@ -4,8 +4,8 @@
 --   2  drop
 --   3  forget
 -- The list ends where the words end, or at the first call that is not whole or has another first word.
--- An answer is five words: number (0 or the refusal), phase, count, value, reach.
-use Prim.Native.Nat.{ℕ, zero, suc, _+_, _-_, _*_}
+-- An answer is seven words: number (0 or the refusal), phase, count, value, reach, and the high and the low word of the dictionaries.
+use Prim.Native.Nat.{ℕ, zero, suc, _+_, _-_, _*_, _/_, _%_}
 use mathlib.Core.List.{List, [], _∷_, _++_}
 use lib.Dec.{leb, ltb, eqb}
 use lib.ListN.{length, getD}
@@ -53,14 +53,21 @@ callsOf words = callsFrom (length words) 0 words
 
 -- How many words an answer has
 abbrev pub answerSize : ℕ
-answerSize = 5
+answerSize = 7
+
+-- A number of 64 bits in two words of 32
+abbrev pub highWord : ℕ → ℕ
+highWord n = n / 4294967296
+
+abbrev pub lowWord : ℕ → ℕ
+lowWord n = n % 4294967296
 
 -- The words of an answer. No call of a list answers `wrote`, which is save's.
 unfoldable pub answerWords : Answer → List ℕ
-answerWords done = 0 ∷ 0 ∷ 0 ∷ 0 ∷ 0 ∷ []
-answerWords (refusedBy k) = k ∷ 0 ∷ 0 ∷ 0 ∷ 0 ∷ []
-answerWords (result phase count value reach) = 0 ∷ phase ∷ count ∷ value ∷ reach ∷ []
-answerWords (wrote k) = 0 ∷ 0 ∷ 0 ∷ 0 ∷ 0 ∷ []
+answerWords done = 0 ∷ 0 ∷ 0 ∷ 0 ∷ 0 ∷ 0 ∷ 0 ∷ []
+answerWords (refusedBy k) = k ∷ 0 ∷ 0 ∷ 0 ∷ 0 ∷ 0 ∷ 0 ∷ []
+answerWords (result phase count value reach dictionaries) = 0 ∷ phase ∷ count ∷ value ∷ reach ∷ highWord dictionaries ∷ lowWord dictionaries ∷ []
+answerWords (wrote k) = 0 ∷ 0 ∷ 0 ∷ 0 ∷ 0 ∷ 0 ∷ 0 ∷ []
 
 unfoldable pub allWords : List Answer → List ℕ
 allWords [] = []

@@ -5,7 +5,7 @@ ghost use Prim.Native.Nat.{_+_, _/_, _≤_, min};
 ghost use lib.ListN.{length, getD};
 ghost use lib.Seq.{sets};
 ghost use Rattle.plain.specs.Calls.{runCall};
-ghost use Rattle.calls.specs.Encoding.{sizeAt, beginAt, runLength, callAt, answerSize};
+ghost use Rattle.calls.specs.Encoding.{sizeAt, beginAt, runLength, callAt, answerSize, highWord, lowWord};
 ghost use Rattle.calls.specs.Plays.{mostCalls};
 ghost use Rattle.calls.specs.Listing.{listed, Inside};
 
@@ -13,7 +13,7 @@ ghost use Rattle.calls.specs.Listing.{listed, Inside};
 const MOST_CALLS: u32 = 4294967295;
 
 // How many words an answer has.
-pub const ANSWER_SIZE: usize = 5;
+pub const ANSWER_SIZE: usize = 7;
 
 // A call of a list. The arguments of a begin are the list's words from `from` to `end`.
 pub enum Listed {
@@ -127,13 +127,16 @@ pub fn write_answer(
     count: u32,
     value: u32,
     reach: u32,
+    dictionaries: u64,
 )
     requires { ⌜ at + answerSize ≤ length (now answers) ⌝ }
-    ensures { λ r. ⌜ now (answers .exit) ≡ sets (now (answers .entry)) at (number ∷ phase ∷ count ∷ value ∷ reach ∷ []) ⌝ }
+    ensures { λ r. ⌜ now (answers .exit) ≡ sets (now (answers .entry)) at (number ∷ phase ∷ count ∷ value ∷ reach ∷ highWord dictionaries ∷ lowWord dictionaries ∷ []) ⌝ }
 {
     answers[at] = number;
     answers[at + 1] = phase;
     answers[at + 2] = count;
     answers[at + 3] = value;
     answers[at + 4] = reach;
+    answers[at + 5] = (dictionaries / 4294967296) as u32;
+    answers[at + 6] = (dictionaries % 4294967296) as u32;
 }

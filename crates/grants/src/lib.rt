@@ -21,9 +21,10 @@ fn again(
     grant: u32,
     left: u32,
     reach: usize,
+    dictionaries: u64,
 ) -> Stretched
-    requires { ⌜ Fails grant edition (now contents) (now bodies) (now stack) (now cache) message n b (top .0) left reach ⌝ }
-    ensures { λ r. ⌜ AgainTo grant edition (now (contents .entry)) (now (bodies .entry)) (now (stack .entry)) (now (cache .entry)) message n b (top .0) left reach
+    requires { ⌜ Fails grant edition (now contents) (now bodies) (now stack) (now cache) message n b (top .0) left reach dictionaries ⌝ }
+    ensures { λ r. ⌜ AgainTo grant edition (now (contents .entry)) (now (bodies .entry)) (now (stack .entry)) (now (cache .entry)) message n b (top .0) left reach dictionaries
         (now (contents .exit)) (now (bodies .exit)) (now (stack .exit)) (now (cache .exit)) r ⌝ }
 {
     match messages::resend(contents, bodies, stack, cache, edition, n, b, top, message) {
@@ -35,14 +36,17 @@ fn again(
             value: 0,
             count: grant - left,
             reach: reach,
+            dictionaries: dictionaries,
         }),
         Resent::Sent {
             n: objects,
             b: words,
             top: base,
             end,
+            dictionaries: read,
         } => {
             let rest = left - 1;
+            let so_far = dictionaries + read as u64;
             let high = runs::higher(reach, end);
             match runs::stretch(
                 contents,
@@ -63,6 +67,7 @@ fn again(
                     value: e.value,
                     count: grant - rest + e.count,
                     reach: runs::higher(high, e.reach),
+                    dictionaries: so_far + e.dictionaries,
                 }),
                 Stretched::Failed {
                     message: next,
@@ -71,6 +76,7 @@ fn again(
                     top: at,
                     left: still,
                     reach: highest,
+                    dictionaries: more,
                 } => Stretched::Failed {
                     message: next,
                     n: grown,
@@ -78,6 +84,7 @@ fn again(
                     top: at,
                     left: still,
                     reach: runs::higher(high, highest),
+                    dictionaries: so_far + more,
                 },
             }
         }
@@ -98,9 +105,10 @@ fn resume(
     grant: u32,
     left: u32,
     reach: usize,
+    dictionaries: u64,
 ) -> Ended
-    requires { ⌜ Fails grant edition (now contents) (now bodies) (now stack) (now cache) message n b (top .0) left reach ⌝ }
-    ensures { λ r. ⌜ ResumesTo grant edition (now (contents .entry)) (now (bodies .entry)) (now (stack .entry)) (now (cache .entry)) message n b (top .0) left reach
+    requires { ⌜ Fails grant edition (now contents) (now bodies) (now stack) (now cache) message n b (top .0) left reach dictionaries ⌝ }
+    ensures { λ r. ⌜ ResumesTo grant edition (now (contents .entry)) (now (bodies .entry)) (now (stack .entry)) (now (cache .entry)) message n b (top .0) left reach dictionaries
         (now (contents .exit)) (now (bodies .exit)) (now (stack .exit)) (now (cache .exit)) r ⌝ }
 {
     let mut objects = n;
@@ -109,6 +117,7 @@ fn resume(
     let mut failed = message;
     let mut rest = left;
     let mut high = reach;
+    let mut sum = dictionaries;
     loop {
         match again(
             contents,
@@ -123,6 +132,7 @@ fn resume(
             grant,
             rest,
             high,
+            sum,
         ) {
             Stretched::Over(e) => {
                 return e;
@@ -134,6 +144,7 @@ fn resume(
                 top: at,
                 left: still,
                 reach: highest,
+                dictionaries: more,
             } => {
                 objects = grown;
                 words = longer;
@@ -141,6 +152,7 @@ fn resume(
                 failed = next;
                 rest = still;
                 high = highest;
+                sum = more;
             }
         }
     }
@@ -171,6 +183,7 @@ pub fn run(
             top: base,
             left,
             reach,
+            dictionaries,
         } => resume(
             contents,
             bodies,
@@ -184,6 +197,7 @@ pub fn run(
             grant,
             left,
             reach,
+            dictionaries,
         ),
     }
 }

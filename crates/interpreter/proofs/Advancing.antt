@@ -97,11 +97,11 @@ module _ {n b : ℕ} {contents bodies stack : List ℕ} {a : Active} (r : IsActi
       same = left ∙ ap (written a) (returns-word .frames)
 
       pub finishes : (cache : List ℕ) → top ≡ 0 → (edition receiver selector : ℕ)
-          → Made (stepFrom cache edition receiver selector) (finishedWith edition receiver selector n b w) contents bodies v cache contents bodies₁ stack₂ cache
+          → Made (stepFrom cache edition receiver selector) 0 (finishedWith edition receiver selector n b w) contents bodies v cache contents bodies₁ stack₂ cache
       finishes cache z edition receiver selector =
           let x = returns-word in
           made-as (x .steps edition receiver selector (roomAt contents bodies v cache))
-          (onto (x .words) same (λ (l s : List ℕ). Made (return-step edition receiver selector) (finishedWith edition receiver selector n b w) contents bodies v cache contents l s cache)
+          (onto (x .words) same (λ (l s : List ℕ). Made (return-step edition receiver selector) 0 (finishedWith edition receiver selector n b w) contents bodies v cache contents l s cache)
           (bottom-returns (r .runs) edition receiver selector w cache z))
 
       pub return-runs : Runs n b top contents bodies₁ stack₂
@@ -109,15 +109,15 @@ module _ {n b : ℕ} {contents bodies stack : List ℕ} {a : Active} (r : IsActi
 
       module _ (above : 0 < top) (stack′ : List ℕ) (f : Active) (h : Returned n b top contents bodies₁ stack₂ stack′ w f) where
         returns-below : (cache : List ℕ) (edition receiver selector : ℕ)
-            → Made (stepFrom cache edition receiver selector) (runningWith edition receiver selector n b (f .base .0)) contents bodies v cache contents bodies₁ (written f stack′) cache
+            → Made (stepFrom cache edition receiver selector) 0 (runningWith edition receiver selector n b (f .base .0)) contents bodies v cache contents bodies₁ (written f stack′) cache
         returns-below cache edition receiver selector =
             let x = returns-word in
             made-as (x .steps edition receiver selector (roomAt contents bodies v cache))
-            (subst (λ (s : List ℕ). Made (return-step edition receiver selector) (runningWith edition receiver selector n b (f .base .0)) contents bodies v cache contents bodies₁ s cache)
+            (subst (λ (s : List ℕ). Made (return-step edition receiver selector) 0 (runningWith edition receiver selector n b (f .base .0)) contents bodies v cache contents bodies₁ s cache)
             (sym (h .words))
-            (subst (λ (t : ℕ). Made (return-step edition receiver selector) (runningWith edition receiver selector n b t) contents bodies v cache contents bodies₁
+            (subst (λ (t : ℕ). Made (return-step edition receiver selector) 0 (runningWith edition receiver selector n b t) contents bodies v cache contents bodies₁
             (pushedOn n b t contents bodies₁ stack₂ w) cache) (sym (h .base))
-            (onto (x .words) same (λ (l s : List ℕ). Made (return-step edition receiver selector) (runningWith edition receiver selector n b (frameSender s top)) contents bodies v cache
+            (onto (x .words) same (λ (l s : List ℕ). Made (return-step edition receiver selector) 0 (runningWith edition receiver selector n b (frameSender s top)) contents bodies v cache
             contents l (pushedOn n b (frameSender s top) contents l s w) cache) (sender-returns (r .runs) above edition receiver selector w cache))))
 
         -- the frame below ends where the top one began
@@ -183,18 +183,18 @@ module _ {n b : ℕ} {contents bodies stack : List ℕ} {a : Active} (r : IsActi
         as-sent : (receiver selector : ℕ) → stepFrom cache edition receiver selector ≡ send-step cache bodies stack edition receiver selector
         as-sent receiver selector = sends-it .1 .steps edition receiver selector (roomAt contents bodies v cache)
 
-        pub answers : (n′ b′ : ℕ) → answer ≡ Answered n′ b′ → (receiver selector : ℕ)
-            → AdvancedIs edition receiver selector n b a contents bodies stack cache contents′ bodies′ stack′ cache′ (A.Answered n′ b′ (m .next) (record { 0 = a .end .0 - m .count }))
-        answers n′ b′ d receiver selector =
+        pub answers : (n′ b′ read : ℕ) → answer ≡ Answered n′ b′ read → (receiver selector : ℕ)
+            → AdvancedIs edition receiver selector n b a contents bodies stack cache contents′ bodies′ stack′ cache′ (A.Answered n′ b′ (m .next) (record { 0 = a .end .0 - m .count }) read)
+        answers n′ b′ read d receiver selector =
             let x : SentIs (send-step cache bodies stack edition receiver selector) (failed-step cache bodies stack edition receiver selector) edition receiver selector n b a m contents bodies stack cache contents′ bodies′ stack′ cache′
-            (Answered n′ b′) = said (Answered n′ b′) d receiver selector in
+            (Answered n′ b′ read) = said (Answered n′ b′ read) d receiver selector in
             (made-as (as-sent receiver selector) (x .0), x .1)
 
-        pub enters : (f : Active) (end : ℕ) → answer ≡ Entered f end → (receiver selector : ℕ)
-            → AdvancedIs edition receiver selector n b a contents bodies stack cache contents′ bodies′ stack′ cache′ (A.Top f end)
-        enters f end d receiver selector =
+        pub enters : (f : Active) (end read : ℕ) → answer ≡ Entered f end read → (receiver selector : ℕ)
+            → AdvancedIs edition receiver selector n b a contents bodies stack cache contents′ bodies′ stack′ cache′ (A.Top f end read)
+        enters f end read d receiver selector =
             let x : SentIs (send-step cache bodies stack edition receiver selector) (failed-step cache bodies stack edition receiver selector) edition receiver selector n b a m contents bodies stack cache contents′ bodies′ stack′ cache′
-            (Entered f end) = said (Entered f end) d receiver selector in
+            (Entered f end read) = said (Entered f end read) d receiver selector in
             (made-as (as-sent receiver selector) (x .0), x .1, x .2)
 
         -- a stack that is full

@@ -34,25 +34,25 @@ pub record Returned (n b top : ℕ) (contents bodies stack stack′ : List ℕ) 
 -- held; another one is held then in its place; else its words are written.
 abbrev pub AdvancedIs : ℕ → ℕ → ℕ → ℕ → ℕ → Active → List ℕ → List ℕ → List ℕ → List ℕ → List ℕ → List ℕ → List ℕ → List ℕ → Advanced → Type 0
 AdvancedIs edition receiver selector n b a contents bodies stack cache contents′ bodies′ stack′ cache′ (Next q e) =
-    Made (stepOf edition receiver selector n b a contents bodies stack cache) (runningWith edition receiver selector n b (a .base .0))
+    Made (stepOf edition receiver selector n b a contents bodies stack cache) 0 (runningWith edition receiver selector n b (a .base .0))
     contents bodies (written a stack) cache contents′ bodies′ (written (movedOn a q e) stack′) cache′
     × Onward a stack stack′ (e .0)
-AdvancedIs edition receiver selector n b a contents bodies stack cache contents′ bodies′ stack′ cache′ (Answered n′ b′ q e) =
-    Made (stepOf edition receiver selector n b a contents bodies stack cache) (runningWith edition receiver selector n′ b′ (a .base .0))
+AdvancedIs edition receiver selector n b a contents bodies stack cache contents′ bodies′ stack′ cache′ (Answered n′ b′ q e read) =
+    Made (stepOf edition receiver selector n b a contents bodies stack cache) read (runningWith edition receiver selector n′ b′ (a .base .0))
     contents bodies (written a stack) cache contents′ bodies′ (written (movedOn a q e) stack′) cache′
     × Onward a stack stack′ (e .0)
-AdvancedIs edition receiver selector n b a contents bodies stack cache contents′ bodies′ stack′ cache′ (Top f end) =
-    Made (stepOf edition receiver selector n b a contents bodies stack cache) (runningWith edition receiver selector n b (f .base .0))
+AdvancedIs edition receiver selector n b a contents bodies stack cache contents′ bodies′ stack′ cache′ (Top f end read) =
+    Made (stepOf edition receiver selector n b a contents bodies stack cache) read (runningWith edition receiver selector n b (f .base .0))
     contents bodies (written a stack) cache contents′ bodies′ stack′ cache′
     × Held n b (f .base .0) contents′ bodies′ stack′ f
     × (end ≡ frameEnd n b (f .base .0) contents′ bodies′ stack′)
 AdvancedIs edition receiver selector n b a contents bodies stack cache contents′ bodies′ stack′ cache′ (Below f) =
-    Made (stepOf edition receiver selector n b a contents bodies stack cache) (runningWith edition receiver selector n b (f .base .0))
+    Made (stepOf edition receiver selector n b a contents bodies stack cache) 0 (runningWith edition receiver selector n b (f .base .0))
     contents bodies (written a stack) cache contents′ bodies′ (written f stack′) cache′
     × Stands n b contents′ bodies′ stack′ f
     × (frameEnd n b (f .base .0) contents′ bodies′ (written f stack′) ≤ a .base .0)
 AdvancedIs edition receiver selector n b a contents bodies stack cache contents′ bodies′ stack′ cache′ (Finished w) =
-    Made (stepOf edition receiver selector n b a contents bodies stack cache) (finishedWith edition receiver selector n b w) contents bodies (written a stack) cache contents′ bodies′ stack′ cache′
+    Made (stepOf edition receiver selector n b a contents bodies stack cache) 0 (finishedWith edition receiver selector n b w) contents bodies (written a stack) cache contents′ bodies′ stack′ cache′
 AdvancedIs edition receiver selector n b a contents bodies stack cache contents′ bodies′ stack′ cache′ (Halted k) =
     Halts (stepOf edition receiver selector n b a contents bodies stack cache) k contents bodies (written a stack) cache contents′ bodies′ stack′ cache′
 AdvancedIs edition receiver selector n b a contents bodies stack cache contents′ bodies′ stack′ cache′ (Failed m) =

@@ -13,7 +13,7 @@ use sends::Sent;
 use steps::Event;
 
 // What a bytecode leads to: the running frame goes on, at another position and with operands up to another end, after a send that was
-// answered with the number of objects and body words then; or a new frame is on top, which ends at `end`; or the frame below is, after a
+// answered with the number of objects and body words then; or a new frame is on top, which ends at `end`; both with the dictionaries that the lookup read; or the frame below is, after a
 // return; or the value that the run finishes with; or a send that failed, whose message may be sent; or a halt, with the phase that says why.
 pub enum Advanced {
     Next {
@@ -25,10 +25,12 @@ pub enum Advanced {
         b: usize,
         position: CodePosition,
         end: StackPosition,
+        dictionaries: usize,
     },
     Top {
         frame: Active,
         end: usize,
+        dictionaries: usize,
     },
     Below(Active),
     Finished(u16),
@@ -94,6 +96,7 @@ pub fn advance(
                 Sent::Answered {
                     n: objects,
                     b: words,
+                    dictionaries: read,
                 } => {
                     let next = message.next;
                     Advanced::Answered {
@@ -101,11 +104,17 @@ pub fn advance(
                         b: words,
                         position: next,
                         end: StackPosition(active.end.0 - message.count),
+                        dictionaries: read,
                     }
                 }
-                Sent::Entered { frame, end } => Advanced::Top {
+                Sent::Entered {
+                    frame,
+                    end,
+                    dictionaries: read,
+                } => Advanced::Top {
                     frame: frame,
                     end: end,
+                    dictionaries: read,
                 },
                 Sent::Full => {
                     frames::leave(stack, active);

@@ -133,7 +133,7 @@ none-given s image k t e = go (loadVerdict (roomOf s) image) e
     is-refused : Given → Type 0
     is-refused (gives (refusedBy i) x) = Unit {0}
     is-refused (gives (wrote i) x) = ⊥
-    is-refused (gives (result p i v h) x) = ⊥
+    is-refused (gives (result p i v h d) x) = ⊥
     is-refused (gives done x) = ⊥
     is-refused noAnswer = ⊥
 

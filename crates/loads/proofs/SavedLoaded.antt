@@ -140,7 +140,7 @@ module _ (t s : Flat) (image : List ℕ) (g : flatLoad t image ≡ gives done s)
       is-done : Given → Type 0
       is-done (gives done x) = Unit {0}
       is-done (gives (refusedBy k) x) = ⊥
-      is-done (gives (result p k v h) x) = ⊥
+      is-done (gives (result p k v h d) x) = ⊥
       is-done (gives (wrote k) x) = ⊥
       is-done noAnswer = ⊥
 
@@ -188,7 +188,7 @@ saves-as (S.Wrote j) output output′ k e = (ap S.Wrote (ap number e), ap writte
     number : A.Saved → ℕ
     number (saved (wrote i) l) = i
     number (saved (refusedBy i) l) = i
-    number (saved (result p i v h) l) = i
+    number (saved (result p i v h d) l) = i
     number (saved done l) = 0
 
     written : A.Saved → List ℕ
@@ -198,7 +198,7 @@ saves-as (S.Refused j) output output′ k e = absurd (subst is-refused e tt)
     is-refused : A.Saved → Type 0
     is-refused (saved (refusedBy i) l) = Unit {0}
     is-refused (saved (wrote i) l) = ⊥
-    is-refused (saved (result p i v h) l) = ⊥
+    is-refused (saved (result p i v h d) l) = ⊥
     is-refused (saved done l) = ⊥
 
 loads-as : (a : Loaded) (contents bodies stack cache : List ℕ) (t : Flat) → loadGives a contents bodies stack cache ≡ gives done t
@@ -210,7 +210,7 @@ loads-as (L.Refused k r) contents bodies stack cache t e = absurd (subst is-refu
     is-refused : Given → Type 0
     is-refused (gives (refusedBy i) x) = Unit {0}
     is-refused (gives (wrote i) x) = ⊥
-    is-refused (gives (result p i v h) x) = ⊥
+    is-refused (gives (result p i v h d) x) = ⊥
     is-refused (gives done x) = ⊥
     is-refused noAnswer = ⊥
 

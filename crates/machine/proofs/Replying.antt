@@ -11,7 +11,7 @@ use Rattle.plain.specs.Calls.{Call, done}
 use Rattle.plain.specs.Flat.{Flat, flat}
 use Rattle.plain.specs.Check.{check}
 use Rattle.plain.specs.FlatCalls.{Given, gives, flatBegin, flatRun, flatDrop, flatForget, flatCall}
-use Rattle.calls.specs.Encoding.{answerWords}
+use Rattle.calls.specs.Encoding.{highWord, lowWord, answerWords}
 use Rattle.calls.specs.Listing.{listed, Inside}
 use Rattle.calls.specs.Plays.{Plays}
 use Rattle.calls.specs.declared.Listed.{Listed}
@@ -42,9 +42,9 @@ module _ (contents bodies stack cache : List ℕ) (g : Given) where
     begun-refused k r q = ap (λ (y : Begun). beginGives y contents bodies stack cache) (sym q) ∙ e
 
   module _ (x : Ran) (e : runGives x contents bodies stack cache ≡ g) where
-    pub ran-done : (r : Registers) (count reach : ℕ) → x ≡ N.Done r count reach → replyGives (P.Ran count reach r) contents bodies stack cache ≡ g
+    pub ran-done : (r : Registers) (count reach dictionaries : ℕ) → x ≡ N.Done r count reach dictionaries → replyGives (P.Ran count reach dictionaries r) contents bodies stack cache ≡ g
     unfolding runGives registersIn answerIn
-    ran-done r count reach q = ap (λ (y : Ran). runGives y contents bodies stack cache) (sym q) ∙ e
+    ran-done r count reach dictionaries q = ap (λ (y : Ran). runGives y contents bodies stack cache) (sym q) ∙ e
 
     pub ran-refused : (k : ℕ) (r : Registers) → x ≡ N.Refused k r → replyGives (P.Refused k r) contents bodies stack cache ≡ g
     unfolding runGives registersIn answerIn
@@ -99,14 +99,15 @@ module _ (x : Reply) (answers answers′ : List ℕ) (at : ℕ) where
   noted : (y : Reply) → x ≡ y → answers′ ≡ sets answers at (answerWords (answerIn y)) → Noted (registersIn y)
   noted y q e = (ap registersIn (sym q), e ∙ ap (λ (z : Reply). sets answers at (answerWords (answerIn z))) (sym q))
 
-  pub noted-done : (r : Registers) → x ≡ P.Done r → answers′ ≡ sets answers at (0 ∷ 0 ∷ 0 ∷ 0 ∷ 0 ∷ []) → Noted r
+  pub noted-done : (r : Registers) → x ≡ P.Done r → answers′ ≡ sets answers at (0 ∷ 0 ∷ 0 ∷ 0 ∷ 0 ∷ 0 ∷ 0 ∷ []) → Noted r
   noted-done r q e = unfold registersIn answerIn answerWords in noted (P.Done r) q e
 
-  pub noted-refused : (k : ℕ) (r : Registers) → x ≡ P.Refused k r → answers′ ≡ sets answers at (k ∷ 0 ∷ 0 ∷ 0 ∷ 0 ∷ []) → Noted r
+  pub noted-refused : (k : ℕ) (r : Registers) → x ≡ P.Refused k r → answers′ ≡ sets answers at (k ∷ 0 ∷ 0 ∷ 0 ∷ 0 ∷ 0 ∷ 0 ∷ []) → Noted r
   noted-refused k r q e = unfold registersIn answerIn answerWords in noted (P.Refused k r) q e
 
-  pub noted-ran : (count reach : ℕ) (r : Registers) → x ≡ P.Ran count reach r → answers′ ≡ sets answers at (0 ∷ r .phase ∷ count ∷ r .value ∷ reach ∷ []) → Noted r
-  noted-ran count reach r q e = unfold registersIn answerIn answerWords in noted (P.Ran count reach r) q e
+  pub noted-ran : (count reach dictionaries : ℕ) (r : Registers) → x ≡ P.Ran count reach dictionaries r
+      → answers′ ≡ sets answers at (0 ∷ r .phase ∷ count ∷ r .value ∷ reach ∷ highWord dictionaries ∷ lowWord dictionaries ∷ []) → Noted r
+  noted-ran count reach dictionaries r q e = unfold registersIn answerIn answerWords in noted (P.Ran count reach dictionaries r) q e
 
 -- the registers that were given back are those of the call
 pub noted-gives : (x : Reply) (contents bodies stack cache : List ℕ) (g : Given) → replyGives x contents bodies stack cache ≡ g

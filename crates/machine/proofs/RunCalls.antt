@@ -70,9 +70,9 @@ module _ (r : Registers) (contents bodies stack cache : List ℕ) (n : ℕ) wher
         runs-small = ran .small
 
         pub runs-done : (r₁ r₂ : Registers) → registersOf r₁ ≡ withSizes (registersOf r) (z .n) (z .b) → registersOf r₂ ≡ withPhase (registersOf r₁) (z .phase) (z .top) (z .value)
-            → runGives (N.Done r₂ (z .count) (z .reach)) contents′ bodies′ stack′ cache′ ≡ flatRun s n
+            → runGives (N.Done r₂ (z .count) (z .reach) (z .dictionaries)) contents′ bodies′ stack′ cache′ ≡ flatRun s n
         unfolding runGives
         runs-done r₁ r₂ d f =
             let e : registersOf r₂ ≡ endedWith (r .edition) (r .receiver) (r .selector) z = f ∙ ap (λ (x : R.Registers). withPhase x (z .phase) (z .top) (z .value)) d in
-            (λ i. gives (result (e i .phase) (z .count) (e i .value) (z .reach)) (flat (e i) contents′ bodies′ stack′ cache′)) ∙ ran .gave
-            ∙ ap (runsFrom n 0 0) (sym start-is) ∙ whole-run n s ∙ sym (run-passes s yes n true (eq-eqb (r .phase) running p))
+            (λ i. gives (result (e i .phase) (z .count) (e i .value) (z .reach) (z .dictionaries)) (flat (e i) contents′ bodies′ stack′ cache′)) ∙ ran .gave
+            ∙ ap (runsFrom n 0 0 0) (sym start-is) ∙ whole-run n s ∙ sym (run-passes s yes n true (eq-eqb (r .phase) running p))

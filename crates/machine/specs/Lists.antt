@@ -18,12 +18,12 @@ use Rattle.machine.specs.declared.Played.the-variants as M
 unfoldable pub registersIn : Reply → Registers
 registersIn (P.Done r) = r
 registersIn (P.Refused k r) = r
-registersIn (P.Ran count reach r) = r
+registersIn (P.Ran count reach dictionaries r) = r
 
 unfoldable pub answerIn : Reply → Answer
 answerIn (P.Done r) = done
 answerIn (P.Refused k r) = refusedBy k
-answerIn (P.Ran count reach r) = result (r .phase) count (r .value) reach
+answerIn (P.Ran count reach dictionaries r) = result (r .phase) count (r .value) reach dictionaries
 
 abbrev pub replyGives : Reply → List ℕ → List ℕ → List ℕ → List ℕ → Given
 replyGives p contents bodies stack cache = gives (answerIn p) (state (registersIn p) contents bodies stack cache)

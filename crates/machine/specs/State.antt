@@ -36,9 +36,9 @@ unfoldable pub beginGives : Begun → List ℕ → List ℕ → List ℕ → Lis
 beginGives (B.Started r) contents bodies stack cache = gives done (state r contents bodies stack cache)
 beginGives (B.Refused k r) contents bodies stack cache = gives (refusedBy k) (state r contents bodies stack cache)
 
--- Run: phase and value are in the registers that come back, count and reach beside them.
+-- Run: phase and value are in the registers that come back, count, reach and dictionaries beside them.
 unfoldable pub runGives : Ran → List ℕ → List ℕ → List ℕ → List ℕ → Given
-runGives (N.Done r count reach) contents bodies stack cache = gives (result (r .phase) count (r .value) reach) (state r contents bodies stack cache)
+runGives (N.Done r count reach dictionaries) contents bodies stack cache = gives (result (r .phase) count (r .value) reach dictionaries) (state r contents bodies stack cache)
 runGives (N.Refused k r) contents bodies stack cache = gives (refusedBy k) (state r contents bodies stack cache)
 
 -- Drop: the registers come back, changed or as they were.

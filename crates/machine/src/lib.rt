@@ -50,6 +50,7 @@ pub enum Ran {
         registers: Registers,
         count: u32,
         reach: u32,
+        dictionaries: u64,
     },
     Refused(u32, Registers),
 }
@@ -77,11 +78,11 @@ pub enum Played {
 }
 
 // A call of a list that was made: its answer, and the registers that it left. Phase and value of a run are those of the registers; beside them it
-// has its count and its reach.
+// has its count, its reach and its sum of dictionaries.
 enum Reply {
     Done(Registers),
     Refused(u32, Registers),
-    Ran(u32, u32, Registers),
+    Ran(u32, u32, u64, Registers),
 }
 
 // The image's rules, the frames and the cache of a state whose buffers are long enough and whose counts and registers are right. The notes
@@ -259,14 +260,14 @@ fn write_reply(reply: Reply, answers: &mut [u32], at: usize) -> Registers
 {
     match reply {
         Reply::Done(registers) => {
-            calls::write_answer(answers, at, 0, 0, 0, 0, 0);
+            calls::write_answer(answers, at, 0, 0, 0, 0, 0, 0);
             registers
         }
         Reply::Refused(k, registers) => {
-            calls::write_answer(answers, at, k, 0, 0, 0, 0);
+            calls::write_answer(answers, at, k, 0, 0, 0, 0, 0);
             registers
         }
-        Reply::Ran(count, reach, registers) => {
+        Reply::Ran(count, reach, dictionaries, registers) => {
             calls::write_answer(
                 answers,
                 at,
@@ -275,6 +276,7 @@ fn write_reply(reply: Reply, answers: &mut [u32], at: usize) -> Registers
                 count,
                 registers.value as u32,
                 reach,
+                dictionaries,
             );
             registers
         }
@@ -415,6 +417,7 @@ impl Registers {
             registers: registers,
             count: ended.count,
             reach: ended.reach as u32,
+            dictionaries: ended.dictionaries,
         }
     }
 
@@ -489,7 +492,8 @@ impl Registers {
                     registers: next,
                     count,
                     reach,
-                } => Reply::Ran(count, reach, next),
+                    dictionaries,
+                } => Reply::Ran(count, reach, dictionaries, next),
                 Ran::Refused(k, next) => Reply::Refused(k, next),
             },
             Listed::Drop => Reply::Done(self.with_phase(0, 0, 0)),

@@ -19,7 +19,7 @@ use Rattle.model.specs.Limits.{hasMessages, entryWords, methodKind, primitiveFl
 use Rattle.model.specs.Word.{objectNumber, failureSelector}
 use Rattle.model.specs.Objects.{Objects, objectsAt, start, bodyWords, isKind, classOf, part}
 use Rattle.model.specs.Method.{home, flag, temporaryCount, frameWords, literalCount, frameSize, argumentCount, primitiveNumber}
-use Rattle.model.specs.Lookup.{found, lookup, inChain}
+use Rattle.model.specs.Lookup.{found, lookup, dictionariesRead, inChain}
 use Rattle.model.specs.Rules.{Right}
 use Rattle.model.specs.Image.{Room}
 use Rattle.model.specs.Primitive.{appended, arrayMade, messageMade, messageWord, hasMessageRoom}
@@ -53,21 +53,27 @@ use Rattle.frames.proofs.Standing.{noted-small}
 use Rattle.primitives.specs.Outcomes.{roomFor, Stand, MessageRoom}
 use Rattle.sends.specs.Sends.{Guarded, Halts}
 use Rattle.messages.specs.declared.Receiver.{Receiver}
-use Rattle.messages.specs.Resends.{Resends, Seeks, FailureFound, SoughtIs, ReceiverIs, FrameFits, PlacedIs, Enters, ResentIs}
+use Rattle.model.proofs.LookupLaws.{read-few}
+use Rattle.cache.specs.declared.Lookup.{Lookup}
+use Rattle.messages.specs.Resends.{Resends, Seeks, FailureFound, FoundIs, SoughtIs, ReceiverIs, FrameFits, PlacedIs, Enters, ResentIs}
 use Rattle.messages.specs.declared.Placed.{Placed}
 use Rattle.messages.specs.declared.Placed.the-variants as P
 use Rattle.messages.specs.declared.Resent.the-variants as R
 
 -- what was found, by cases
-pub sought-found : (e : ℕ) (o : Objects) (contents bodies class count : ℕ) (f : Found) → f ≡ lookup o failureSelector class → hasMessages e ≡ true
-    → hasMessageRoom (roomFor contents bodies) o count ≡ true → SoughtIs e o contents bodies class count f
-sought-found e o contents bodies class count (Method m) p t h = record { messages = t; finds = sym p; room = h }
-sought-found e o contents bodies class count Nothing p t h = inr (inl (sym p))
+pub sought-found : (e : ℕ) (o : Objects) (contents bodies class count read : ℕ) (f : Found) → f ≡ lookup o failureSelector class → read ≡ dictionariesRead o failureSelector class
+    → hasMessages e ≡ true → hasMessageRoom (roomFor contents bodies) o count ≡ true → FoundIs e o contents bodies class count read f
+sought-found e o contents bodies class count read (Method m) p q t h = record { messages = t; finds = sym p; reads = q; room = h }
+sought-found e o contents bodies class count read Nothing p q t h = inr (inl (sym p))
+
+pub not-sought : (e : ℕ) (o : Objects) (contents bodies class count : ℕ) (r : Lookup) → r .found ≡ Nothing → FoundIs e o contents bodies class count (r .dictionaries) Nothing
+    → SoughtIs e o contents bodies class count r
+not-sought e o contents bodies class count r p s = subst (FoundIs e o contents bodies class count (r .dictionaries)) (sym p) s
 
 -- what an answer says, in a case of it
-pub sought-method : {e : ℕ} {o : Objects} {contents bodies class count : ℕ} (y : Found) (m : Pointer) → y ≡ Method m → SoughtIs e o contents bodies class count y
-    → FailureFound e o contents bodies class count (m .0)
-sought-method {e} {o} {contents} {bodies} {class} {count} y m p s = subst (SoughtIs e o contents bodies class count) p s
+pub sought-method : {e : ℕ} {o : Objects} {contents bodies class count : ℕ} (y : Lookup) (m : Pointer) → y .found ≡ Method m → SoughtIs e o contents bodies class count y
+    → FailureFound e o contents bodies class count (m .0) (y .dictionaries)
+sought-method {e} {o} {contents} {bodies} {class} {count} y m p s = subst (FoundIs e o contents bodies class count (y .dictionaries)) p s
 
 pub placed-at : {o : Objects} {room base m : ℕ} (y : Placed) (temporaries end : ℕ) → y ≡ P.At temporaries end → PlacedIs o room base m y → FrameFits o room base m temporaries end
 placed-at {o} {room} {base} {m} y temporaries end p s = subst (PlacedIs o room base m) p s
@@ -116,22 +122,22 @@ module _ {e n b top : ℕ} {contents bodies stack cache : List ℕ} {q : Message
       record { cause = notUnderstood; steps = s; phase = refl; stays = record { entries = refl; words = refl; frames = refl; cached = refl } }
 
   -- no message is sent
-  pub unsent : (y : Found) → y ≡ Nothing → SoughtIs e o (length contents) (length bodies) class count y → (receiver₀ selector₀ : ℕ)
+  pub unsent : (y : Lookup) → y .found ≡ Nothing → SoughtIs e o (length contents) (length bodies) class count y → (receiver₀ selector₀ : ℕ)
       → Halts (x receiver₀ selector₀) 3 contents bodies stack cache contents bodies stack cache
-  unsent y i s receiver₀ selector₀ = halts-3 receiver₀ selector₀ (go (hasMessages e) refl (subst (SoughtIs e o (length contents) (length bodies) class count) i s))
+  unsent y i s receiver₀ selector₀ = halts-3 receiver₀ selector₀ (go (hasMessages e) refl (subst (FoundIs e o (length contents) (length bodies) class count (y .dictionaries)) i s))
     where
       sought : (t : hasMessages e ≡ true) (f : Found) → lookup o failureSelector class ≡ f → hasMessageRoom room o count ≡ false → x receiver₀ selector₀ ≡ halts notUnderstood
       sought t Nothing p h = message-none (r .sending) room e receiver₀ selector₀ t p
       sought t (Method m) p h = message-roomless (r .sending) room e receiver₀ selector₀ t (m .0) p h
 
-      go : (t : Bool) → hasMessages e ≡ t → SoughtIs e o (length contents) (length bodies) class count Nothing → x receiver₀ selector₀ ≡ halts notUnderstood
+      go : (t : Bool) → hasMessages e ≡ t → FoundIs e o (length contents) (length bodies) class count (y .dictionaries) Nothing → x receiver₀ selector₀ ≡ halts notUnderstood
       go false p s = no-messages (r .sending) room e receiver₀ selector₀ p
       go true p (inl h) = no-messages (r .sending) room e receiver₀ selector₀ h
       go true p (inr (inl h)) = message-none (r .sending) room e receiver₀ selector₀ p h
       go true p (inr (inr h)) = sought p (lookup o failureSelector class) refl (sym same-room ∙ h)
 
   -- a method was found
-  module _ (m : ℕ) (f : FailureFound e o (length contents) (length bodies) class count m) where
+  module _ (m : ℕ) {read : ℕ} (f : FailureFound e o (length contents) (length bodies) class count m read) where
     has-room : hasMessageRoom room o count ≡ true
     has-room = sym same-room ∙ f .room
 
@@ -143,6 +149,9 @@ module _ {e n b top : ℕ} {contents bodies stack cache : List ℕ} {q : Message
 
     facts : FoundFacts o failureSelector class m
     facts = lookup-facts (r .right) failureSelector class m (f .finds)
+
+    pub read-fits : read < 65536
+    read-fits = let l = read-few o failureSelector class in let e = f .reads in omega arith
 
     pub holds-method : Holds methodKind n b contents bodies m
     holds-method = record { right = (e, r .right); kinds = facts .method }
@@ -225,7 +234,7 @@ module _ {e n b top : ℕ} {contents bodies stack cache : List ℕ} {q : Message
 
         -- it answers
         module _ (answers : (eqb (flag o m) primitiveFlag && eqb (primitiveNumber o m) 110) ≡ true) (stack′ cache′ : List ℕ)
-            (es : stack′ ≡ set (set (set stack (p .place) falseWord) (top + 1) (q .next .0)) (top + 2) (p .left + 1)) (ek : cache′ ≡ filled cache (S.looked failureSelector class m)) where
+            (es : stack′ ≡ set (set (set stack (p .place) falseWord) (top + 1) (q .next .0)) (top + 2) (p .left + 1)) (ek : cache′ ≡ filled cache (S.looked failureSelector class m read)) where
           is-primitive : flag o m ≡ primitiveFlag
           is-primitive = eqb-true (flag o m) primitiveFlag (T→true _ (and-left (eqb (flag o m) primitiveFlag) (eqb (primitiveNumber o m) 110) (true→T answers)))
 
@@ -254,9 +263,9 @@ module _ {e n b top : ℕ} {contents bodies stack cache : List ℕ} {q : Message
               ∙ getD-set-other stack (p .place) (top + 3) falseWord 0 (λ i. omega arith)
 
           pub answer-sent : (end receiver₀ selector₀ : ℕ) → end ≡ top + frameSize o running
-              → ResentIs e receiver₀ selector₀ n b top q contents bodies stack cache contents′ bodies′ stack′ cache′ (R.Sent (n + 2) (b + (count + 2)) (record { 0 = top }) end)
+              → ResentIs e receiver₀ selector₀ n b top q contents bodies stack cache contents′ bodies′ stack′ cache′ (R.Sent (n + 2) (b + (count + 2)) (record { 0 = top }) end read)
           answer-sent end receiver₀ selector₀ z₁ = (
-            message-answer-made (r .sending) room e receiver₀ selector₀ (f .messages) m (f .finds) has-room cache falseWord o₁ (n + 2) (b + (count + 2)) contents′ bodies′ stack′ cache′ word
+            message-answer-made (r .sending) room e receiver₀ selector₀ (f .messages) m (f .finds) has-room (f .reads) cache falseWord o₁ (n + 2) (b + (count + 2)) contents′ bodies′ stack′ cache′ word
                 answers-false objects-are words-are (stands .entries) (stands .words)
                 (es ∙ ap₂ (λ (i k : ℕ). set (set (set stack i falseWord) (top + 1) (q .next .0)) (top + 2) (k + 1)) (z .stands) (z .below)) ek,
             z₁ ∙ ap (λ (k : ℕ). top + k) (sym (frame-size running (is-method (r .sending .runs)))) ∙ ap₂ (λ (y : Objects) (k : ℕ). top + frameSize y k) (sym objects-after) (sym same-method),
@@ -334,7 +343,7 @@ module _ {e n b top : ℕ} {contents bodies stack cache : List ℕ} {q : Message
 
             module _ (contents′ bodies′ stack′ cache′ : List ℕ) (d : Stand (messageMade o (q .selector) (part stack (p .place + 1) count)) contents bodies contents′ bodies′)
                 (es : stack′ ≡ sets (set (set stack (top + 1) (q .next .0)) (top + 2) (p .left)) base (newWords top m (getD stack (p .place) 0) temporaries (messageWord o ∷ [])))
-                (ek : cache′ ≡ filled cache (S.looked failureSelector class m)) where
+                (ek : cache′ ≡ filled cache (S.looked failureSelector class m read)) where
               abbrev moved : List ℕ
               moved = set (set stack (top + 1) (q .next .0)) (top + 2) (p .left)
 
@@ -359,10 +368,10 @@ module _ {e n b top : ℕ} {contents bodies stack cache : List ℕ} {q : Message
                   temporaries (messageWord o ∷ []) es (omega arith)
 
               pub frame-sent : (receiver₀ selector₀ : ℕ)
-                  → ResentIs e receiver₀ selector₀ n b top q contents bodies stack cache contents′ bodies′ stack′ cache′ (R.Sent (n + 2) (b + (count + 2)) (record { 0 = base }) end)
+                  → ResentIs e receiver₀ selector₀ n b top q contents bodies stack cache contents′ bodies′ stack′ cache′ (R.Sent (n + 2) (b + (count + 2)) (record { 0 = base }) end read)
               frame-sent receiver₀ selector₀ =
                   let u = stands contents′ bodies′ d in (
-                    message-frame-made (r .sending) room e receiver₀ selector₀ (f .messages) m (f .finds) has-room cache base (n + 2) (b + (count + 2)) contents′ bodies′ stack′ cache′ based₁
+                    message-frame-made (r .sending) room e receiver₀ selector₀ (f .messages) m (f .finds) has-room (f .reads) cache base (n + 2) (b + (count + 2)) contents′ bodies′ stack′ cache′ based₁
                         is-entered (fits-same ∙ k .fits) objects-are words-are (u .entries) (u .words)
                         (es ∙ (λ i. sets (set (set stack (top + 1) (q .next .0)) (top + 2) (z .below i)) base (newWords top m (receiver-read i)
                         ((k .holds ∙ sym (temporaries-same ext (r .right) m (facts .method))) i) (messageWord o ∷ [])))) ek,

@@ -12,7 +12,7 @@ use Rattle.model.specs.Limits.{hasMessages, classKind}
 use Rattle.model.specs.Word.{failureSelector}
 use Rattle.model.specs.Objects.{Objects, objectsAt, isNilOr}
 use Rattle.model.specs.Method.{temporaryCount, frameSize}
-use Rattle.model.specs.Lookup.{found, lookup}
+use Rattle.model.specs.Lookup.{found, lookup, dictionariesRead}
 use Rattle.model.specs.Rules.{Right, IsRight}
 use Rattle.model.specs.Primitive.{hasMessageRoom}
 use Rattle.plain.specs.State.{fitsStack}
@@ -20,6 +20,7 @@ use Rattle.plain.specs.Flat.{frameDepth, frameMethod, operandsStart}
 use Rattle.plain.specs.Running.{runningWith, Made, roomAt, Sending, failedStep}
 use Rattle.frames.specs.declared.Message.{Message}
 use Rattle.frames.specs.Active.{frameEnd}
+use Rattle.cache.specs.declared.Lookup.{Lookup}
 use Rattle.cache.specs.Caches.{Caches}
 use Rattle.primitives.specs.Outcomes.{roomFor}
 use Rattle.sends.specs.Sends.{Halts}
@@ -42,16 +43,20 @@ pub record Seeks (n b : ℕ) (contents bodies cache : List ℕ) (class count : �
   pub caches : Caches n b contents bodies cache
   pub few : count < 65536
 
--- What it found: a method under object 6, where the edition has messages and there is room for one
-pub record FailureFound (e : ℕ) (o : Objects) (contents bodies class count m : ℕ) : Type 0 where
+-- What it found: a method under object 6, where the edition has messages and there is room for one, and how many dictionaries the search read
+pub record FailureFound (e : ℕ) (o : Objects) (contents bodies class count m read : ℕ) : Type 0 where
   pub messages : hasMessages e ≡ true
   pub finds : lookup o failureSelector class ≡ found m
+  pub reads : read ≡ dictionariesRead o failureSelector class
   pub room : hasMessageRoom (roomFor contents bodies) o count ≡ true
 
-abbrev pub SoughtIs : ℕ → Objects → ℕ → ℕ → ℕ → ℕ → Found → Type 0
-SoughtIs e o contents bodies class count (Method m) = FailureFound e o contents bodies class count (m .0)
-SoughtIs e o contents bodies class count Nothing =
+abbrev pub FoundIs : ℕ → Objects → ℕ → ℕ → ℕ → ℕ → ℕ → Found → Type 0
+FoundIs e o contents bodies class count read (Method m) = FailureFound e o contents bodies class count (m .0) read
+FoundIs e o contents bodies class count read Nothing =
     (hasMessages e ≡ false) ⊎ ((lookup o failureSelector class ≡ Nothing) ⊎ (hasMessageRoom (roomFor contents bodies) o count ≡ false))
+
+abbrev pub SoughtIs : ℕ → Objects → ℕ → ℕ → ℕ → ℕ → Lookup → Type 0
+SoughtIs e o contents bodies class count r = FoundIs e o contents bodies class count (r .dictionaries) (r .found)
 
 -- The receiver's place and the operands below it
 pub record ReceiverIs (n b top : ℕ) (contents bodies stack : List ℕ) (count : ℕ) (r : Receiver) : Type 0 where
@@ -79,9 +84,9 @@ pub record Enters (stack : List ℕ) (top next left base temporaries : ℕ) : Ty
 
 -- What a message leads to: the step of the send that failed is made, or it halts and nothing changes.
 abbrev pub ResentIs : (e receiver selector n b top : ℕ) (m : Message) (contents bodies stack cache contents′ bodies′ stack′ cache′ : List ℕ) → Resent → Type 0
-ResentIs e receiver selector n b top m contents bodies stack cache contents′ bodies′ stack′ cache′ (R.Sent n′ b′ t end) =
+ResentIs e receiver selector n b top m contents bodies stack cache contents′ bodies′ stack′ cache′ (R.Sent n′ b′ t end read) =
     Made
-    (failedStep (roomAt contents bodies stack cache) e receiver selector n b top contents bodies stack (m .selector) (m .count) (m .class .0) (m .next .0))
+    (failedStep (roomAt contents bodies stack cache) e receiver selector n b top contents bodies stack (m .selector) (m .count) (m .class .0) (m .next .0)) read
     (runningWith e receiver selector n′ b′ (t .0)) contents bodies stack cache contents′ bodies′ stack′ cache′
     × (end ≡ frameEnd n′ b′ (t .0) contents′ bodies′ stack′)
 ResentIs e receiver selector n b top m contents bodies stack cache contents′ bodies′ stack′ cache′ (R.Halted k) =

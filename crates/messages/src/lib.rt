@@ -7,6 +7,7 @@ ghost use lib.Dec.{eqb};
 ghost use lib.ListN.{length, set};
 ghost use lib.Seq.{sets};
 ghost use Rattle.bytecode.specs.Constant.{falseWord};
+ghost use Rattle.model.specs.declared.Found.the-variants.{Nothing};
 ghost use Rattle.model.specs.Limits.{methodKind, primitiveFlag};
 ghost use Rattle.model.specs.Objects.{objectsAt};
 ghost use Rattle.model.specs.Method.{flag, primitiveNumber};
@@ -15,6 +16,7 @@ ghost use Rattle.plain.specs.Flat.{frameDepth};
 ghost use Rattle.objects.specs.Lent.{Holds};
 ghost use Rattle.frames.specs.Words.{newWords};
 ghost use Rattle.messages.specs.Resends.{Resends, Seeks, SoughtIs, ReceiverIs, PlacedIs, Enters, ResentIs};
+use cache::Lookup;
 use frames::Message;
 use model::CodePosition;
 use model::Found;
@@ -22,7 +24,7 @@ use model::Pointer;
 use model::StackPosition;
 use model::limits;
 
-// What the message leads to: a running handler, with the number of objects and body words then, its top frame and where that ends; or a halt, with the
+// What the message leads to: a running handler, with the number of objects and body words then, its top frame and where that ends, and the dictionaries that the search read; or a halt, with the
 // phase that says why.
 pub enum Resent {
     Sent {
@@ -30,6 +32,7 @@ pub enum Resent {
         b: usize,
         top: StackPosition,
         end: usize,
+        dictionaries: usize,
     },
     Halted(u16),
 }
@@ -46,7 +49,16 @@ enum Placed {
     Full,
 }
 
-// The method under object 6, where the edition has messages and there is room for one.
+fn nothing() -> Lookup
+    ensures { λ r. ⌜ r .found ≡ Nothing ⌝ }
+{
+    Lookup {
+        found: Found::Nothing,
+        dictionaries: 0,
+    }
+}
+
+// The method under object 6 and the dictionaries that the search for it read, where the edition has messages and there is room for one.
 fn sought(
     contents: &[u16],
     bodies: &[u16],
@@ -56,14 +68,14 @@ fn sought(
     b: usize,
     class: Pointer,
     count: usize,
-) -> Found
+) -> Lookup
     requires { ⌜ Seeks n b (now contents) (now bodies) (now cache) (class .0) count ⌝ }
     ensures { λ r. ⌜ SoughtIs edition (objectsAt n b (now (contents .entry)) (now (bodies .entry))) (length (now (contents .entry))) (length (now (bodies .entry))) (class .0) count r ⌝ }
 {
     if !readers::edition::has_messages(edition) {
-        return Found::Nothing;
+        return nothing();
     }
-    let found = cache::cached(
+    let lookup = cache::cached(
         contents,
         bodies,
         cache,
@@ -73,9 +85,9 @@ fn sought(
         class,
     );
     if !primitives::has_message_room(contents.len(), bodies.len(), n, b, count) {
-        return Found::Nothing;
+        return nothing();
     }
-    found
+    lookup
 }
 
 // Where the receiver of a send with so many arguments stands.
@@ -198,7 +210,9 @@ pub fn resend(
 {
     let class = message.class;
     let count = message.count;
-    let found = sought(contents, bodies, cache, edition, n, b, class, count);
+    let lookup = sought(contents, bodies, cache, edition, n, b, class, count);
+    let found = lookup.found;
+    let dictionaries = lookup.dictionaries;
     let Found::Method(method) = found else {
         return Resent::Halted(limits::NOT_UNDERSTOOD);
     };
@@ -212,12 +226,13 @@ pub fn resend(
     if answers(contents, bodies, n, b, method) {
         primitives::make_message(contents, bodies, stack, n, b, selector, place + 1, count);
         answer(stack, top, message.next, left, place);
-        cache::fill(cache, limits::FAILURE_SELECTOR, class, method);
+        cache::fill(cache, limits::FAILURE_SELECTOR, class, method, dictionaries);
         return Resent::Sent {
             n: n + 2,
             b: b + (count + 2),
             top: top,
             end: base.0,
+            dictionaries: dictionaries,
         };
     }
     if !sends::runs_on(contents, bodies, n, b, method, receiver, message.sure) {
@@ -238,12 +253,13 @@ pub fn resend(
                 temporaries,
                 (2 * (n + 2)) as u16,
             );
-            cache::fill(cache, limits::FAILURE_SELECTOR, class, method);
+            cache::fill(cache, limits::FAILURE_SELECTOR, class, method, dictionaries);
             Resent::Sent {
                 n: n + 2,
                 b: b + (count + 2),
                 top: base,
                 end: end,
+                dictionaries: dictionaries,
             }
         }
         Placed::Full => Resent::Halted(limits::NO_STACK_ROOM),

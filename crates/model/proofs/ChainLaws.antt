@@ -1,4 +1,4 @@
--- The tests of chains and lookups decide what is said of them without a bound (02, M-101).
+-- The tests of chains and lookups decide what is said of them without a bound (02, M-101), how many dictionaries a lookup reads included (M-105).
 use Prim.Native.Nat.{ℕ, zero, suc, _+_, _/_, _%_, _≤_}
 use mathlib.Core.Path.{_≡_, refl, sym, ap, ap₂, _∙_, subst}
 use mathlib.Core.Logic.{_↔_, _⊎_, inl, inr}
@@ -12,7 +12,7 @@ use Rattle.model.specs.declared.Found.the-variants.{Method, Nothing}
 use Rattle.model.specs.Limits.{classKind}
 use Rattle.model.specs.Word.{isPointer}
 use Rattle.model.specs.Objects.{Objects, superclassWord, dictionaryWord, isKind, kind}
-use Rattle.model.specs.Lookup.{found, findIn, lookupWithin, pairsWithin, inChainWithin, endsWithin, Chain, none, more, Looks, ended, here, above, InChain, same, higher}
+use Rattle.model.specs.Lookup.{found, findIn, lookupWithin, dictionariesWithin, pairsWithin, inChainWithin, endsWithin, Chain, none, more, Looks, ended, here, above, InChain, same, higher}
 use Rattle.model.proofs.Parts.{or-right}
 use Rattle.model.proofs.PairLaws.{pairs-up-to, pairs-are, pairs-hit, pairs-miss, pairs-none}
 
@@ -40,10 +40,10 @@ named o k w t =
 no-both : {b : Bool} → b ≡ true → b ≡ false → ⊥
 no-both p q = subst T (sym p ∙ q) tt
 
--- what a lookup comes to and how many pairs it reads, said otherwise
-looked : {o : Objects} {s c k p q : ℕ} {f g : Found} → g ≡ f → q ≡ p → Looks o s c f k p → Looks o s c g k q
-looked {o = o} {s = s} {c = c} {k = k} {p = p} {g = g} e h l =
-    subst (λ (x : ℕ). Looks o s c g k x) (sym h) (subst (λ (x : Found). Looks o s c x k p) (sym e) l)
+-- what a lookup comes to and how much it reads, said otherwise
+looked : {o : Objects} {s c j k p q : ℕ} {f g : Found} → g ≡ f → j ≡ k → q ≡ p → Looks o s c f k p → Looks o s c g j q
+looked {o = o} {s = s} {c = c} {j = j} {k = k} {p = p} {g = g} e d h l =
+    subst (λ (x : ℕ). Looks o s c g j x) (sym h) (subst (λ (x : ℕ). Looks o s c g x p) (sym d) (subst (λ (x : Found). Looks o s c x k p) (sym e) l))
 
 module _ (o : Objects) where
   -- How a lookup and a chain turn
@@ -60,6 +60,33 @@ module _ (o : Objects) where
   unfolding lookupWithin
   no-class zero s c e = refl
   no-class (suc left) s c e = rw (e, lookupWithin)
+
+  -- and how many dictionaries it reads
+  pub read-hit : (left s c m : ℕ) → isKind o classKind c ≡ true → findIn o (dictionaryWord o c) s ≡ found m → dictionariesWithin (suc left) o s c ≡ 1
+  unfolding dictionariesWithin
+  read-hit left s c m e h = rw (e, h, dictionariesWithin)
+
+  pub read-miss : (left s c : ℕ) → isKind o classKind c ≡ true → findIn o (dictionaryWord o c) s ≡ Nothing
+      → dictionariesWithin (suc left) o s c ≡ suc (dictionariesWithin left o s (superclassWord o c))
+  unfolding dictionariesWithin
+  read-miss left s c e h = rw (e, h, dictionariesWithin)
+
+  pub read-none : (left s c : ℕ) → isKind o classKind c ≡ false → dictionariesWithin left o s c ≡ 0
+  unfolding dictionariesWithin
+  read-none zero s c e = refl
+  read-none (suc left) s c e = rw (e, dictionariesWithin)
+
+  -- no more than there are turns
+  pub read-within : (n s c : ℕ) → dictionariesWithin n o s c ≤ n
+  unfolding dictionariesWithin
+  read-within zero s c = omega arith
+  read-within (suc n) s c = go (isKind o classKind c) (findIn o (dictionaryWord o c) s) refl refl (read-within n s (superclassWord o c))
+    where
+      go : (b : Bool) (f : Found) → isKind o classKind c ≡ b → findIn o (dictionaryWord o c) s ≡ f → dictionariesWithin n o s (superclassWord o c) ≤ n
+          → dictionariesWithin (suc n) o s c ≤ suc n
+      go true (Method m) p q ih = let e = read-hit n s c (m .0) p q in omega arith
+      go true Nothing p q ih = let e = read-miss n s c p q in omega arith
+      go false f p q ih = let e = read-none (suc n) s c p in omega arith
 
   pub chain-class : (left a c : ℕ) → isKind o classKind c ≡ true → inChainWithin (suc left) o a c ≡ (eqb a c || inChainWithin left o a (superclassWord o c))
   unfolding inChainWithin
@@ -134,33 +161,40 @@ module _ (o : Objects) where
       omega arith
 
   -- A lookup along a chain that ends in time is the whole lookup.
-  pub looks : (n s c : ℕ) → T (endsWithin n o c) → (k : ℕ) × Looks o s c (lookupWithin n o s c) k (pairsWithin n o s c)
+  pub looks : (n s c : ℕ) → T (endsWithin n o c) → Looks o s c (lookupWithin n o s c) (dictionariesWithin n o s c) (pairsWithin n o s c)
   looks zero s c t = go (isKind o classKind c) refl
     where
-      go : (b : Bool) → isKind o classKind c ≡ b → (k : ℕ) × Looks o s c (lookupWithin 0 o s c) k (pairsWithin 0 o s c)
+      go : (b : Bool) → isKind o classKind c ≡ b → Looks o s c (lookupWithin 0 o s c) (dictionariesWithin 0 o s c) (pairsWithin 0 o s c)
       go true p = absurd (subst T (ends-last c p) t)
-      go false p = (0, looked (no-class 0 s c p) (pairs-none o 0 s c p) (ended p))
+      go false p = looked (no-class 0 s c p) (read-none 0 s c p) (pairs-none o 0 s c p) (ended p)
   looks (suc n) s c t = go (isKind o classKind c) (findIn o (dictionaryWord o c) s) refl refl (looks n s (superclassWord o c))
     where
       go : (b : Bool) (f : Found) → isKind o classKind c ≡ b → findIn o (dictionaryWord o c) s ≡ f
-          → (T (endsWithin n o (superclassWord o c)) → (k : ℕ) × Looks o s (superclassWord o c) (lookupWithin n o s (superclassWord o c)) k (pairsWithin n o s (superclassWord o c)))
-          → (k : ℕ) × Looks o s c (lookupWithin (suc n) o s c) k (pairsWithin (suc n) o s c)
-      go true (Method m) p q ih = (1, looked (class-hit n s c (m .0) p q) (pairs-hit o n s c (m .0) p q) (here p q (pairs-up-to o (dictionaryWord o c) s)))
+          → (T (endsWithin n o (superclassWord o c))
+          → Looks o s (superclassWord o c) (lookupWithin n o s (superclassWord o c)) (dictionariesWithin n o s (superclassWord o c)) (pairsWithin n o s (superclassWord o c)))
+          → Looks o s c (lookupWithin (suc n) o s c) (dictionariesWithin (suc n) o s c) (pairsWithin (suc n) o s c)
+      go true (Method m) p q ih =
+          looked (class-hit n s c (m .0) p q) (read-hit n s c (m .0) p q) (pairs-hit o n s c (m .0) p q) (here p q (pairs-up-to o (dictionaryWord o c) s))
       go true Nothing p q ih =
-          let r = ih (subst T (ends-class n c p) t) in
-          (suc (r .0), looked (class-miss n s c p q) (pairs-miss o n s c p q) (above p q (pairs-up-to o (dictionaryWord o c) s) (r .1)))
-      go false f p q ih = (0, looked (no-class (suc n) s c p) (pairs-none o (suc n) s c p) (ended p))
+          looked (class-miss n s c p q) (read-miss n s c p q) (pairs-miss o n s c p q)
+          (above p q (pairs-up-to o (dictionaryWord o c) s) (ih (subst T (ends-class n c p) t)))
+      go false f p q ih = looked (no-class (suc n) s c p) (read-none (suc n) s c p) (pairs-none o (suc n) s c p) (ended p)
 
-  pub looks-few : (n s c k : ℕ) (f : Found) {p : ℕ} → T (endsWithin n o c) → Looks o s c f k p → (f ≡ lookupWithin n o s c) × (k ≤ n) × (p ≡ pairsWithin n o s c)
-  looks-few n s c zero f t (ended p) = (sym (no-class n s c p), omega arith, sym (pairs-none o n s c p))
+  pub looks-few : (n s c k : ℕ) (f : Found) {p : ℕ} → T (endsWithin n o c) → Looks o s c f k p
+      → (f ≡ lookupWithin n o s c) × (k ≡ dictionariesWithin n o s c) × (k ≤ n) × (p ≡ pairsWithin n o s c)
+  looks-few n s c zero f t (ended p) = (sym (no-class n s c p), sym (read-none n s c p), omega arith, sym (pairs-none o n s c p))
   looks-few zero s c (suc k) f t (here p q u) = absurd (subst T (ends-last c p) t)
   looks-few zero s c (suc k) f t (above p q u l) = absurd (subst T (ends-last c p) t)
   looks-few (suc n) s c (suc k) f t (here {m = m} p q u) =
-      (sym (class-hit n s c m p q), omega arith, pairs-are o (dictionaryWord o c) s u ∙ sym (pairs-hit o n s c m p q))
+      (sym (class-hit n s c m p q), sym (read-hit n s c m p q), omega arith, pairs-are o (dictionaryWord o c) s u ∙ sym (pairs-hit o n s c m p q))
   looks-few (suc n) s c (suc k) f t (above p q u l) =
       let r = looks-few n s (superclassWord o c) k f (subst T (ends-class n c p) t) l in
-      let h = r .1 in
-      (r .0 ∙ sym (class-miss n s c p q), omega arith, ap₂ _+_ (pairs-are o (dictionaryWord o c) s u) (r .2) ∙ sym (pairs-miss o n s c p q))
+      let h = r .2 in (
+        r .0 ∙ sym (class-miss n s c p q),
+        ap suc (r .1) ∙ sym (read-miss n s c p q),
+        omega arith,
+        ap₂ _+_ (pairs-are o (dictionaryWord o c) s u) (r .3) ∙ sym (pairs-miss o n s c p q),
+      )
 
   -- and the test whether a class is in it decides that.
   pub test→in : (n a c : ℕ) → T (inChainWithin n o a c) → InChain o a c

@@ -8,9 +8,9 @@ use Rattle.bytecode.proofs.TestLaws.{true→T}
 use Rattle.model.specs.declared.Found.the-variants.{Nothing}
 use Rattle.model.specs.Limits.{classKind, longestChain}
 use Rattle.model.specs.Objects.{Objects, isKind, superclassWord}
-use Rattle.model.specs.Lookup.{lookup, pairsRead, inChain, endsWithin, Chain, InChain, same, higher, ReadsFew}
+use Rattle.model.specs.Lookup.{lookup, dictionariesRead, pairsRead, inChain, endsWithin, Chain, InChain, same, higher, ReadsFew}
 use Rattle.model.specs.Rules.{rule14}
-use Rattle.model.proofs.ChainLaws.{no-class, ends-none, decides-chain, looks, looks-few, test→in, in→test}
+use Rattle.model.proofs.ChainLaws.{no-class, read-within, ends-none, decides-chain, looks, looks-few, test→in, in→test}
 use Rattle.model.proofs.Facts.{Right, short-chain, chains-rule, chain-ends}
 
 pub decides-chains : (o : Objects) → T (rule14 o) ↔ ((c : ℕ) → T (isKind o classKind c) → (k : ℕ) × (Chain o c k × (k ≤ longestChain)))
@@ -21,6 +21,11 @@ decides-chains o =
 pub lookup-none : (o : Objects) (s c : ℕ) → isKind o classKind c ≡ false → lookup o s c ≡ Nothing
 unfolding lookup
 lookup-none o s c p = no-class o longestChain s c p
+
+-- a lookup reads at most 24 dictionaries, in any objects
+pub read-few : (o : Objects) (s c : ℕ) → dictionariesRead o s c ≤ longestChain
+unfolding dictionariesRead
+read-few o s c = read-within o longestChain s c
 
 in-joined : {o : Objects} {a h c : ℕ} → InChain o a (superclassWord o h) → InChain o h c → InChain o a c
 in-joined {o = o} {a = a} i (same {c = c} p e) = higher p (subst (λ (w : ℕ). InChain o a (superclassWord o w)) e i)
@@ -36,7 +41,7 @@ module _ {e : ℕ} {o : Objects} (r : Right e o) where
       go false p = true→T (ends-none o longestChain c p)
 
   pub reads-few : (s c : ℕ) → ReadsFew o s c
-  unfolding lookup pairsRead
+  unfolding lookup dictionariesRead pairsRead
   reads-few s c = record { ends = looks o longestChain s c (ends c); few = λ f k p l. looks-few o longestChain s c k f (ends c) l }
 
   pub decides-in : (a c : ℕ) → T (inChain o a c) ↔ InChain o a c

@@ -1,10 +1,10 @@
--- How many pairs lookups read (02, M-102), worked.
+-- How many dictionaries and pairs lookups read (02, M-102, M-105), worked.
 use mathlib.Core.Path.{_≡_, refl}
 use mathlib.Core.List.{[], _∷_}
 use Rattle.model.specs.Limits.{classKind, listKind}
 use Rattle.model.specs.Word.{isPointer, pointer}
 use Rattle.model.specs.Objects.{Objects, isKind}
-use Rattle.model.specs.Lookup.{findFrom, findIn, pairsFrom, pairsIn, pairsWithin, pairsRead}
+use Rattle.model.specs.Lookup.{findFrom, findIn, pairsFrom, pairsIn, pairsWithin, pairsRead, dictionariesWithin, dictionariesRead}
 
 -- Two dictionaries, 1 with the selectors 20, 24, 30 and 2 with none; and three classes, each below the one before: 3 and 5 have the first, 4 the second.
 objects : Objects
@@ -31,9 +31,14 @@ record Pairs : Type 0 where
   fails-late : pairsRead objects 32 (pointer 5) ≡ 6
   found-there : pairsRead objects 24 (pointer 5) ≡ 2
   found-above : pairsRead objects 30 (pointer 4) ≡ 3
+  -- dictionaries: both ends counted, the one that two classes share each time, an empty one too
+  reads-own : dictionariesRead objects 24 (pointer 5) ≡ 1
+  reads-above : dictionariesRead objects 24 (pointer 4) ≡ 2
+  reads-all : dictionariesRead objects 22 (pointer 5) ≡ 3
+  reads-none : dictionariesRead objects 24 (pointer 1) ≡ 0
 
 pairs : Pairs
-unfolding pairsRead pairsWithin pairsIn pairsFrom findIn findFrom isKind isPointer objects
+unfolding dictionariesRead dictionariesWithin pairsRead pairsWithin pairsIn pairsFrom findIn findFrom isKind isPointer objects
 pairs =
     record {
       below-all = refl;
@@ -48,4 +53,8 @@ pairs =
       fails-late = refl;
       found-there = refl;
       found-above = refl;
+      reads-own = refl;
+      reads-above = refl;
+      reads-all = refl;
+      reads-none = refl;
     }

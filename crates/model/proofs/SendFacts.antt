@@ -16,7 +16,7 @@ use Rattle.model.specs.Limits.{fieldsKind, bytesKind, classKind, methodK
 use Rattle.model.specs.Word.{isValid, pointer, integerClass}
 use Rattle.model.specs.Objects.{Objects, classWord, kind, size, bodyWord, isKind, isNilOr, classOf, superclassWord, dictionaryWord, fieldCount, form, pairCount, pairSelector, pairMethod}
 use Rattle.model.specs.Method.{home, argumentCount}
-use Rattle.model.specs.Lookup.{found, findFrom, findIn, lookup, inChain, Looks, ended, here, above, InChain, same, higher}
+use Rattle.model.specs.Lookup.{found, findFrom, findIn, lookup, dictionariesRead, inChain, Looks, ended, here, above, InChain, same, higher}
 use Rattle.model.specs.Rules.{takesCount, sendFine}
 use Rattle.model.proofs.ChainLaws.{named, class-below}
 use Rattle.model.proofs.Facts.{Right, Valid, odd, names, naming, valid-cases, valid-name, valid-kind, pointer-of, in-words, word-valid, Fits, fixed, indexed, bytes, other, entry-class, entry-fits, class-facts, known-facts, integer-class, nil-no-class, pair-facts, pair-home}
@@ -76,7 +76,7 @@ module _ {e : ℕ} {o : Objects} (r : Right e o) where
       record { holder = h .holder; classes = h .classes; chain = higher p (h .chain); pair = h .pair }
 
   holder-of : (s c m : ℕ) → lookup o s c ≡ found m → Holder o s c m
-  holder-of s c m e = let l = reads-few r s c .ends in holder-by s c m (l .0) (lookup o s c) (l .1) e
+  holder-of s c m e = holder-by s c m (dictionariesRead o s c) (lookup o s c) (reads-few r s c .ends) e
 
   -- every method under a selector takes the count that the test says
   count-at : (c s m n : ℕ) → T (isKind o classKind c) → PairOf o (dictionaryWord o c) s m → T (takesCount o s n) → argumentCount o m ≡ n

@@ -23,10 +23,10 @@ use Rattle.model.specs.Limits.{fieldsKind, bytesKind, classKind, listKin
 use Rattle.model.specs.Word.{isValid, pointer}
 use Rattle.model.specs.Objects.{Objects, kind, size, isKind, superclassWord, dictionaryWord, pairCount, pairSelector, pairMethod}
 use Rattle.model.specs.Method.{literal, temporaryCount, literalCount, codeWords, codeSize, frameWords, argumentCount}
-use Rattle.model.specs.Lookup.{found, findFrom, findIn, lookupWithin, lookup, inChainWithin, inChain, endsWithin}
+use Rattle.model.specs.Lookup.{found, findFrom, findIn, lookupWithin, lookup, dictionariesWithin, dictionariesRead, inChainWithin, inChain, endsWithin}
 use Rattle.model.specs.Depth.{walkFrom, successorsAt, depthAfterAt, rulesAt, fineAt, depthTable}
 use Rattle.model.specs.Rules.{takesCount, sendFine, variableFine, placeFine, isWritable, specialSelector, isSame, isClass, allowed, methodTable, rule8}
-use Rattle.model.proofs.ChainLaws.{named, class-hit, class-miss, no-class, chain-class, chain-none, ends-class, ends-none}
+use Rattle.model.proofs.ChainLaws.{named, class-hit, class-miss, no-class, read-hit, read-miss, read-none, chain-class, chain-none, ends-class, ends-none}
 use Rattle.model.proofs.Parts.{below-same, upTo-same, implying}
 use Rattle.model.proofs.Facts.{Right, naming, named-pointer, least, known-facts, inside-selectors, special-valid, class-facts, pair-facts, method-facts}
 use Rattle.model.proofs.Extends.{Extends, valid-grows, kind-kept, kind-same, kind-valid, superclass-same, dictionary-same, pair-count-same, pair-selector-same, pair-method-same, home-fields-same, temporaries-same, literal-count-same, literal-same, frame-same, code-size-same, code-same, arguments-same}
@@ -74,25 +74,36 @@ module _ {e : ℕ} {o o′ : Objects} (x : Extends o o′) (r : Right e o) where
       ∙ find-from-same d s 0 (pairCount o d) l (omega arith)
 
   -- turn by turn
-  lookup-turns : (left s c : ℕ) → lookupWithin left o′ s c ≡ lookupWithin left o s c
-  unfolding lookupWithin
-  lookup-turns zero s c = refl
+  lookup-turns : (left s c : ℕ) → (lookupWithin left o′ s c ≡ lookupWithin left o s c) × (dictionariesWithin left o′ s c ≡ dictionariesWithin left o s c)
+  unfolding lookupWithin dictionariesWithin
+  lookup-turns zero s c = (refl, refl)
   lookup-turns (suc left) s c = go (isKind o classKind c) (findIn o (dictionaryWord o c) s) refl refl (lookup-turns left s)
     where
       same : isKind o′ classKind c ≡ isKind o classKind c
       same = kind-same x classKind c (omega arith) (omega arith)
 
-      go : (b : Bool) (f : Found) → isKind o classKind c ≡ b → findIn o (dictionaryWord o c) s ≡ f → ((a : ℕ) → lookupWithin left o′ s a ≡ lookupWithin left o s a)
-          → lookupWithin (suc left) o′ s c ≡ lookupWithin (suc left) o s c
-      go true (Method w) p q ih = class-hit o′ left s c (w .0) (same ∙ p) (find-same c s (true→T p) ∙ q) ∙ sym (class-hit o left s c (w .0) p q)
+      go : (b : Bool) (f : Found) → isKind o classKind c ≡ b → findIn o (dictionaryWord o c) s ≡ f
+          → ((a : ℕ) → (lookupWithin left o′ s a ≡ lookupWithin left o s a) × (dictionariesWithin left o′ s a ≡ dictionariesWithin left o s a))
+          → (lookupWithin (suc left) o′ s c ≡ lookupWithin (suc left) o s c) × (dictionariesWithin (suc left) o′ s c ≡ dictionariesWithin (suc left) o s c)
+      go true (Method w) p q ih =
+          let f′ = find-same c s (true→T p) ∙ q in
+          (class-hit o′ left s c (w .0) (same ∙ p) f′ ∙ sym (class-hit o left s c (w .0) p q), read-hit o′ left s c (w .0) (same ∙ p) f′ ∙ sym (read-hit o left s c (w .0) p q))
       go true Nothing p q ih =
-          class-miss o′ left s c (same ∙ p) (find-same c s (true→T p) ∙ q) ∙ ap (lookupWithin left o′ s) (superclass-same x r c (true→T p)) ∙ ih (superclassWord o c)
-          ∙ sym (class-miss o left s c p q)
-      go false f p q ih = no-class o′ (suc left) s c (same ∙ p) ∙ sym (no-class o (suc left) s c p)
+          let f′ = find-same c s (true→T p) ∙ q in
+          let up = superclass-same x r c (true→T p) in (
+            class-miss o′ left s c (same ∙ p) f′ ∙ ap (lookupWithin left o′ s) up ∙ ih (superclassWord o c) .0 ∙ sym (class-miss o left s c p q),
+            read-miss o′ left s c (same ∙ p) f′ ∙ ap (λ (a : ℕ). suc (dictionariesWithin left o′ s a)) up ∙ ap suc (ih (superclassWord o c) .1) ∙ sym (read-miss o left s c p q),
+          )
+      go false f p q ih =
+          (no-class o′ (suc left) s c (same ∙ p) ∙ sym (no-class o (suc left) s c p), read-none o′ (suc left) s c (same ∙ p) ∙ sym (read-none o (suc left) s c p))
+
+  -- what is found, and how many dictionaries are read
+  pub walk-same : (s c : ℕ) → (lookup o′ s c ≡ lookup o s c) × (dictionariesRead o′ s c ≡ dictionariesRead o s c)
+  unfolding lookup dictionariesRead
+  walk-same s c = lookup-turns longestChain s c
 
   pub lookup-same : (s c : ℕ) → lookup o′ s c ≡ lookup o s c
-  unfolding lookup
-  lookup-same s c = lookup-turns longestChain s c
+  lookup-same s c = walk-same s c .0
 
   -- chains
   chain-turns : (left a c : ℕ) → inChainWithin left o′ a c ≡ inChainWithin left o a c

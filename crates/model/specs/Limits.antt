@@ -145,12 +145,12 @@ largestInteger = 16383
 abbrev pub mostElements : ℕ
 mostElements = 16383
 
--- 01, "Calls": the cache of lookups
+-- 01, "Calls": the cache of lookups. An entry is a selector, a class, a method and a number of dictionaries (02, M-105).
 abbrev pub cacheEntries : ℕ
 cacheEntries = 64
 
 abbrev pub cacheEntryWords : ℕ
-cacheEntryWords = 3
+cacheEntryWords = 4
 
 abbrev pub cacheWords : ℕ
 cacheWords = cacheEntries * cacheEntryWords

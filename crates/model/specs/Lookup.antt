@@ -1,4 +1,4 @@
--- Lookup and the class chain (01, "Plain machine": lookup; 02, M-101, M-102). Classes are given by their words. A chain has at most 24 classes,
+-- Lookup and the class chain (01, "Plain machine": lookup; 02, M-101, M-102, M-105). Classes are given by their words. A chain has at most 24 classes,
 -- so lookups and tests of a chain need no more turns.
 use Prim.Native.Nat.{ℕ, zero, suc, _+_, _≤_, _<_}
 use mathlib.Core.Path.{_≡_}
@@ -32,6 +32,19 @@ lookupWithin (suc left) o s c =
 
 unfoldable pub lookup : Objects → ℕ → ℕ → Found
 lookup o s c = lookupWithin longestChain o s c
+
+-- How many dictionaries a lookup reads (02, M-105): those from the class where it starts to the one that has the method, both counted, a shared one each time. 02
+-- asks for the number of a lookup that finds; of one that fails it is all of the chain.
+unfoldable pub dictionariesWithin : ℕ → Objects → ℕ → ℕ → ℕ
+dictionariesWithin zero o s c = 0
+dictionariesWithin (suc left) o s c =
+    elim (isKind o classKind c) [
+      | true ↦ suc (elim (findIn o (dictionaryWord o c) s) [ Method m ↦ 0 | Nothing ↦ dictionariesWithin left o s (superclassWord o c) ])
+      | false ↦ 0
+    ]
+
+unfoldable pub dictionariesRead : Objects → ℕ → ℕ → ℕ
+dictionariesRead o s c = dictionariesWithin longestChain o s c
 
 -- How many pairs a lookup reads that leaves each dictionary at the first selector not below the one sought (02, M-102). Where selectors rise it
 -- finds what `lookup` finds: none behind that one is the one sought. 02 asks for the number where the selector has kind 1; it is defined for
@@ -93,8 +106,8 @@ pub data InChain (o : Objects) (a : ℕ) : ℕ → Type 0 where
   same : {c : ℕ} → isKind o classKind c ≡ true → a ≡ c → InChain o a c
   higher : {c : ℕ} → isKind o classKind c ≡ true → InChain o a (superclassWord o c) → InChain o a c
 
--- For whoever budgets a lookup: it ends, comes to what `lookup` says, and reads at most 24 dictionaries and as many of their pairs as `pairsRead`
--- says, whether it finds or fails.
+-- For whoever budgets a lookup: it ends, comes to what `lookup` says, and reads as many dictionaries as `dictionariesRead` says, at most 24, and as many of
+-- their pairs as `pairsRead` says, whether it finds or fails.
 pub record ReadsFew (o : Objects) (s c : ℕ) : Type 0 where
-  pub ends : (k : ℕ) × Looks o s c (lookup o s c) k (pairsRead o s c)
-  pub few : (f : Found) (k p : ℕ) → Looks o s c f k p → (f ≡ lookup o s c) × (k ≤ longestChain) × (p ≡ pairsRead o s c)
+  pub ends : Looks o s c (lookup o s c) (dictionariesRead o s c) (pairsRead o s c)
+  pub few : (f : Found) (k p : ℕ) → Looks o s c f k p → (f ≡ lookup o s c) × (k ≡ dictionariesRead o s c) × (k ≤ longestChain) × (p ≡ pairsRead o s c)

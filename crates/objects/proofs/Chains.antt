@@ -14,11 +14,11 @@ use Rattle.model.specs.declared.Found.{Found}
 use Rattle.model.specs.declared.Found.the-variants.{Method, Nothing}
 use Rattle.model.specs.Limits.{classKind, longestChain}
 use Rattle.model.specs.Objects.{Objects, objectsAt, isKind, isNilOr, superclassWord, dictionaryWord}
-use Rattle.model.specs.Lookup.{found, findIn, lookupWithin, lookup, pairsIn, pairsWithin, pairsRead, inChainWithin, inChain}
+use Rattle.model.specs.Lookup.{found, findIn, lookupWithin, lookup, dictionariesWithin, dictionariesRead, pairsIn, pairsWithin, pairsRead, inChainWithin, inChain}
 use Rattle.model.specs.Rules.{Right, IsRight}
 use Rattle.model.proofs.Facts.{nil-no-class, class-facts, selectors-rise}
 use Rattle.model.proofs.PairLaws.{pairs-hit, pairs-miss, pairs-none}
-use Rattle.model.proofs.ChainLaws.{class-hit, class-miss, no-class, chain-class, chain-none}
+use Rattle.model.proofs.ChainLaws.{class-hit, class-miss, no-class, read-hit, read-miss, read-none, chain-class, chain-none}
 use Rattle.objects.specs.Searches.{IsDictionary}
 
 one-left : (left : ℕ) → 0 < left → suc (left - 1) ≡ left
@@ -78,33 +78,43 @@ chain-over left o a c h = ap (λ (k : ℕ). inChainWithin k o a c) (none left h)
     none : (left : ℕ) → left ≤ 0 → 0 ≡ left
     none left h = omega arith
 
--- A lookup that has come to class c with so many turns left, and has read so many pairs: what is found from here, and read from here on, is what is
--- found and read from the start. The last field bounds the sum.
+-- A lookup that has come to class c with so many turns left, one dictionary having been read in each turn before, and so many pairs: what is found from here, and
+-- read from here on, is what is found and read from the start. The last fields bound the sums.
 pub record LookupAt (o : Objects) (s start left pairs c : ℕ) : Type 0 where
   pub classes : T (isNilOr o classKind c)
   pub finds : lookupWithin left o s c ≡ lookup o s start
+  pub walks : longestChain - left + dictionariesWithin left o s c ≡ dictionariesRead o s start
   pub reads : pairs + pairsWithin left o s c ≡ pairsRead o s start
+  pub turns : left ≤ longestChain
   pub few : pairs + 12000 * left ≤ 288000
 
 pub lookup-first : {o : Objects} {s c : ℕ} → T (isNilOr o classKind c) → LookupAt o s c longestChain 0 c
-unfolding lookup pairsRead
-lookup-first t = record { classes = t; finds = refl; reads = omega arith; few = omega arith }
+unfolding lookup dictionariesRead pairsRead
+lookup-first t = record { classes = t; finds = refl; walks = omega arith; reads = omega arith; turns = omega arith; few = omega arith }
 
 module _ {e : ℕ} {o : Objects} (r : Right e o) {s a left pairs c : ℕ} (t : LookupAt o s a left pairs c) where
   -- the chain is over, or no turn is left
-  pub lookup-nil : c ≡ 2 → (Nothing ≡ lookup o s a) × (pairs ≡ pairsRead o s a)
+  pub lookup-nil : c ≡ 2 → (Nothing ≡ lookup o s a) × (longestChain - left ≡ dictionariesRead o s a) × (pairs ≡ pairsRead o s a)
   lookup-nil h =
       let k = nil-none r c h in
       let z = pairs-none o left s c k in
+      let y = read-none o left s c k in
+      let v = t .walks in
       let w = t .reads in
-      (sym (no-class o left s c k) ∙ t .finds, omega arith)
+      (sym (no-class o left s c k) ∙ t .finds, omega arith, omega arith)
 
-  pub lookup-over : left ≤ 0 → (Nothing ≡ lookup o s a) × (pairs ≡ pairsRead o s a)
-  unfolding lookupWithin pairsWithin
-  lookup-over h = (ap (λ (k : ℕ). lookupWithin k o s c) none ∙ t .finds, sum)
+  pub lookup-over : left ≤ 0 → (Nothing ≡ lookup o s a) × (longestChain ≡ dictionariesRead o s a) × (pairs ≡ pairsRead o s a)
+  unfolding lookupWithin dictionariesWithin pairsWithin
+  lookup-over h = (ap (λ (k : ℕ). lookupWithin k o s c) none ∙ t .finds, all, sum)
     where
       none : 0 ≡ left
       none = omega arith
+
+      all : longestChain ≡ dictionariesRead o s a
+      all =
+          let z : 0 ≡ dictionariesWithin left o s c = ap (λ (k : ℕ). dictionariesWithin k o s c) none in
+          let w = t .walks in
+          omega arith
 
       sum : pairs ≡ pairsRead o s a
       sum =
@@ -123,14 +133,17 @@ module _ {e : ℕ} {o : Objects} (r : Right e o) {s a left pairs c : ℕ} (t : L
     is-class : isKind o classKind c ≡ true
     is-class = T→true (isKind o classKind c) h
 
-    pub lookup-hit : (m : Pointer) → f ≡ Method m → (Method m ≡ lookup o s a) × (pairs + p ≡ pairsRead o s a)
+    pub lookup-hit : (m : Pointer) → f ≡ Method m → (Method m ≡ lookup o s a) × (longestChain - left + 1 ≡ dictionariesRead o s a) × (pairs + p ≡ pairsRead o s a)
     lookup-hit m q =
         let k : findIn o (dictionaryWord o c) s ≡ found (m .0) = sym search-here ∙ q in
         let z = pairs-hit o (left - 1) s c (m .0) is-class k in
         let u = ap (λ (k : ℕ). pairsWithin k o s c) (one-left left l) in
         let v = pairs-here in
         let w = t .reads in
-        (sym (class-hit o (left - 1) s c (m .0) is-class k) ∙ ap (λ (k : ℕ). lookupWithin k o s c) (one-left left l) ∙ t .finds, omega arith)
+        let n = read-hit o (left - 1) s c (m .0) is-class k in
+        let i = ap (λ (k : ℕ). dictionariesWithin k o s c) (one-left left l) in
+        let j = t .walks in
+        (sym (class-hit o (left - 1) s c (m .0) is-class k) ∙ ap (λ (k : ℕ). lookupWithin k o s c) (one-left left l) ∙ t .finds, omega arith, omega arith)
 
     pub lookup-up : (w : ℕ) → p ≤ 12000 → w ≡ superclassWord o c → f ≡ Nothing → LookupAt o s a (left - 1) (pairs + p) w
     lookup-up w few e q =
@@ -141,9 +154,16 @@ module _ {e : ℕ} {o : Objects} (r : Right e o) {s a left pairs c : ℕ} (t : L
         let i = ap (pairsWithin (left - 1) o s) e in
         let j = t .reads in
         let n = t .few in
+        let z₂ = read-miss o (left - 1) s c is-class k in
+        let u₂ = ap (λ (k : ℕ). dictionariesWithin k o s c) (one-left left l) in
+        let i₂ = ap (dictionariesWithin (left - 1) o s) e in
+        let j₂ = t .walks in
+        let n₂ = t .turns in
         record {
           classes = class-above r c w e h;
           finds = ap (lookupWithin (left - 1) o s) e ∙ sym (class-miss o (left - 1) s c is-class k) ∙ ap (λ (k : ℕ). lookupWithin k o s c) (one-left left l) ∙ t .finds;
+          walks = omega arith;
           reads = omega arith;
+          turns = omega arith;
           few = omega arith;
         }

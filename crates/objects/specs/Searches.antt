@@ -23,7 +23,8 @@ pub record FirstPlace (bodies : List ℕ) (from count s at : ℕ) : Type 0 where
   pub below : (j : ℕ) → j < index → getD bodies (from + 2 * j) 0 < s
   pub stops : index + 1 < count → s ≤ getD bodies at 0
 
--- What was found, and how many pairs were read
-pub record SearchIs (f : Found) (p : ℕ) (r : Search) : Type 0 where
+-- What was found, and how many dictionaries and pairs were read
+pub record SearchIs (f : Found) (k p : ℕ) (r : Search) : Type 0 where
   pub finds : r .found ≡ f
+  pub walks : r .dictionaries ≡ k
   pub reads : r .pairs ≡ p

@@ -10,7 +10,7 @@ ghost use Rattle.model.specs.Limits.{entryWords, classKind, listKind, methodKin
 ghost use Rattle.model.specs.Word.{isValid, objectNumber};
 ghost use Rattle.model.specs.Objects.{objectsAt, classOf, isNilOr, superclassWord, dictionaryWord, fieldCount, form, atFront};
 ghost use Rattle.model.specs.Method.{header, home, literal, flag, literalCount, extension, primitiveNumber, argumentCount};
-ghost use Rattle.model.specs.Lookup.{findIn, lookup, pairsIn, pairsRead, inChain};
+ghost use Rattle.model.specs.Lookup.{findIn, lookup, dictionariesRead, pairsIn, pairsRead, inChain};
 ghost use Rattle.model.specs.Rules.{IsRight};
 ghost use Rattle.model.specs.Primitive.{storeWord, objectByte, storeByte};
 ghost use Rattle.readers.specs.Places.{Inside};
@@ -28,9 +28,10 @@ pub struct Code {
     pub size: usize,
 }
 
-// What a search for a method comes to: what it found, and how many pairs of dictionaries it read.
+// What a search for a method comes to: what it found, how many dictionaries it read, and how many of their pairs.
 pub struct Search {
     pub found: Found,
+    pub dictionaries: usize,
     pub pairs: usize,
 }
 
@@ -221,7 +222,7 @@ fn first_place(bodies: &[u16], from: usize, count: usize, s: u16) -> usize
 // The method under a selector in a dictionary. Selectors rise, so none behind the first that is not below is the one sought.
 fn find_in(contents: &[u16], bodies: &[u16], n: usize, b: usize, d: Pointer, s: u16) -> Search
     requires { ⌜ IsDictionary n b (now contents) (now bodies) (d .0) ⌝ }
-    ensures { λ r. ⌜ SearchIs (findIn (objectsAt n b (now (contents .entry)) (now (bodies .entry))) (d .0) s)
+    ensures { λ r. ⌜ SearchIs (findIn (objectsAt n b (now (contents .entry)) (now (bodies .entry))) (d .0) s) 1
         (pairsIn (objectsAt n b (now (contents .entry)) (now (bodies .entry))) (d .0) s) r ⌝ }
 {
     let k = d.0 as usize / 2;
@@ -230,6 +231,7 @@ fn find_in(contents: &[u16], bodies: &[u16], n: usize, b: usize, d: Pointer, s: 
     if count == 0 {
         return Search {
             found: Found::Nothing,
+            dictionaries: 1,
             pairs: 0,
         };
     }
@@ -238,11 +240,13 @@ fn find_in(contents: &[u16], bodies: &[u16], n: usize, b: usize, d: Pointer, s: 
     if bodies[at] == s {
         return Search {
             found: Found::Method(Pointer(bodies[at + 1])),
+            dictionaries: 1,
             pairs: pairs,
         };
     }
     Search {
         found: Found::Nothing,
+        dictionaries: 1,
         pairs: pairs,
     }
 }
@@ -258,6 +262,7 @@ pub fn lookup(
 ) -> Search
     requires { ⌜ IsRight (objectsAt n b (now contents) (now bodies)) × T (isNilOr (objectsAt n b (now contents) (now bodies)) classKind (class .0)) ⌝ }
     ensures { λ r. ⌜ SearchIs (lookup (objectsAt n b (now (contents .entry)) (now (bodies .entry))) s (class .0))
+        (dictionariesRead (objectsAt n b (now (contents .entry)) (now (bodies .entry))) s (class .0))
         (pairsRead (objectsAt n b (now (contents .entry)) (now (bodies .entry))) s (class .0)) r ⌝ }
 {
     let mut c = class;
@@ -267,6 +272,7 @@ pub fn lookup(
         if c.0 == limits::NIL {
             return Search {
                 found: Found::Nothing,
+                dictionaries: limits::LONGEST_CHAIN - left,
                 pairs: pairs,
             };
         }
@@ -280,6 +286,7 @@ pub fn lookup(
             Found::Method(m) => {
                 return Search {
                     found: Found::Method(m),
+                    dictionaries: limits::LONGEST_CHAIN - left + 1,
                     pairs: pairs,
                 };
             }
@@ -290,6 +297,7 @@ pub fn lookup(
     }
     Search {
         found: Found::Nothing,
+        dictionaries: limits::LONGEST_CHAIN,
         pairs: pairs,
     }
 }

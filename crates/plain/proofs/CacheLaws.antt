@@ -1,19 +1,20 @@
 -- The cache stays right where lookups stay what they were, and where a lookup that found is filled in.
-use Prim.Native.Nat.{ℕ, suc, _+_, _≤_, _<_}
-use mathlib.Core.Path.{_≡_, refl, sym, ap, _∙_, subst}
+use Prim.Native.Nat.{ℕ, zero, suc, _+_, _≤_, _<_}
+use mathlib.Core.Path.{_≡_, refl, sym, ap, ap₂, _∙_, subst}
 use mathlib.Core.Bool.{Bool, true, false, _&&_}
 use mathlib.Core.Logic.{_⊎_, inl, inr}
 use mathlib.Core.List.{List, [], _∷_}
 use native.Mathlib.Omega.{arith}
-use native.Mathlib.Decide.{ℕ-discrete}
+use native.Mathlib.Decide.{ℕ-discrete, decLt}
 use lib.Dec.{T, eqb, eqb-refl}
-use lib.ListN.{length, getD, set, getD-replicate}
+use lib.ListN.{length, getD, set, getD-replicate, length-set}
 use lib.Seq.{sets, length-sets, getD-set-same, getD-set-other}
-use Rattle.bytecode.proofs.TestLaws.{below-at, at-below}
+use borrow.Author.Tests.{eq-eqb}
+use Rattle.bytecode.proofs.TestLaws.{true→T, and-both, below-at, at-below}
 use Rattle.model.specs.declared.Found.{Found}
 use Rattle.model.specs.Limits.{cacheEntries, cacheEntryWords, cacheWords}
 use Rattle.model.specs.Objects.{Objects}
-use Rattle.model.specs.Lookup.{found, lookup}
+use Rattle.model.specs.Lookup.{found, lookup, dictionariesRead}
 use Rattle.plain.specs.Step.{Looked, noLookup, looked}
 use Rattle.plain.specs.Cache.{cacheEntryOf, cachePlace, filled, emptyCache, finds, emptyOr, cachedRight, cachedRightAt, cacheFine}
 use Rattle.plain.proofs.Preserve.{LookedRight}
@@ -24,6 +25,20 @@ sets-other [] l i j h = refl
 sets-other (w ∷ ws) l i j (inl h) = sets-other ws (set l i w) (suc i) j (inl (omega arith)) ∙ getD-set-other l i j w 0 (λ e. omega arith)
 sets-other (w ∷ ws) l i j (inr h) = sets-other ws (set l i w) (suc i) j (inr (omega arith)) ∙ getD-set-other l i j w 0 (λ e. omega arith)
 
+pub sets-at : (ws l : List ℕ) (i j : ℕ) → i + length ws ≤ length l → j < length ws → getD (sets l i ws) (i + j) 0 ≡ getD ws j 0
+sets-at [] l i j h k = absurd (omega arith)
+sets-at (w ∷ ws) l i zero h k =
+    ap (λ (x : ℕ). getD (sets (set l i w) (suc i) ws) x 0) (plus-zero i) ∙ sets-other ws (set l i w) (suc i) i (inl (omega arith)) ∙ getD-set-same l i w 0 (omega arith)
+  where
+    plus-zero : (x : ℕ) → x + 0 ≡ x
+    plus-zero x = omega arith
+sets-at (w ∷ ws) l i (suc j) h k =
+    ap (λ (x : ℕ). getD (sets (set l i w) (suc i) ws) x 0) (plus-suc i j)
+    ∙ sets-at ws (set l i w) (suc i) j (subst (λ (n : ℕ). suc i + length ws ≤ n) (sym (length-set l i w)) (omega arith)) (omega arith)
+  where
+    plus-suc : (x y : ℕ) → x + suc y ≡ suc x + y
+    plus-suc x y = omega arith
+
 entry-below : (s c : ℕ) → cacheEntryOf s c < cacheEntries
 unfolding cacheEntryOf
 entry-below s c = omega arith
@@ -32,74 +47,70 @@ or-right : (a b : Bool) → T b → T (emptyOr a b)
 or-right true b t = tt
 or-right false b t = t
 
+right-same : (o o′ : Objects) (s c m k : ℕ) → lookup o′ s c ≡ lookup o s c → dictionariesRead o′ s c ≡ dictionariesRead o s c → cachedRight o′ s c m k ≡ cachedRight o s c m k
+unfolding cachedRight
+right-same o o′ s c m k e h =
+    ap₂ (λ (f : Found) (d : ℕ). emptyOr (eqb s 0 && (eqb c 0 && (eqb m 0 && eqb k 0))) (finds f m && eqb k d)) e h
+
+first : (cache : List ℕ) (i : ℕ) → getD cache (cachePlace i) 0 ≡ getD cache (cachePlace i + 0) 0
+first cache i = ap (λ (x : ℕ). getD cache x 0) (plus-none (cachePlace i))
+  where
+    plus-none : (x : ℕ) → x ≡ x + 0
+    plus-none x = omega arith
+
+-- Words that stand at an entry's place are the entry that is asked for.
+entry-words : (o : Objects) (cache : List ℕ) (i s c m k : ℕ) → getD cache (cachePlace i) 0 ≡ s → getD cache (cachePlace i + 1) 0 ≡ c → getD cache (cachePlace i + 2) 0 ≡ m
+    → getD cache (cachePlace i + 3) 0 ≡ k → T (cachedRight o s c m k) → T (cachedRightAt o cache i)
+entry-words o cache i s c m k a b d e t =
+    subst (λ (x : ℕ). T (cachedRight o x (getD cache (cachePlace i + 1) 0) (getD cache (cachePlace i + 2) 0) (getD cache (cachePlace i + 3) 0))) (sym a)
+    (subst (λ (x : ℕ). T (cachedRight o s x (getD cache (cachePlace i + 2) 0) (getD cache (cachePlace i + 3) 0))) (sym b)
+    (subst (λ (x : ℕ). T (cachedRight o s c x (getD cache (cachePlace i + 3) 0))) (sym d) (subst (λ (x : ℕ). T (cachedRight o s c m x)) (sym e) t)))
+
 module _ (o : Objects) where
-  found-fine : (s c m : ℕ) → lookup o s c ≡ found m → T (cachedRight o s c m)
+  found-fine : (s c m k : ℕ) → lookup o s c ≡ found m → k ≡ dictionariesRead o s c → T (cachedRight o s c m k)
   unfolding cachedRight
-  found-fine s c m e =
-      or-right (eqb s 0 && (eqb c 0 && eqb m 0)) (finds (lookup o s c) m) (subst (λ (f : Found). T (finds f m)) (sym e) (eqb-refl m))
+  found-fine s c m k e h =
+      or-right (eqb s 0 && (eqb c 0 && (eqb m 0 && eqb k 0))) (finds (lookup o s c) m && eqb k (dictionariesRead o s c))
+      (and-both (finds (lookup o s c) m) (eqb k (dictionariesRead o s c)) (subst (λ (f : Found). T (finds f m)) (sym e) (eqb-refl m)) (true→T (eq-eqb k (dictionariesRead o s c) h)))
 
   -- the entry of a lookup that found is filled in
   pub cache-filled : (cache : List ℕ) (l : Looked) → length cache ≡ cacheWords → LookedRight o l → T (cacheFine o cache) → T (cacheFine o (filled cache l))
   unfolding filled cacheFine
   cache-filled cache noLookup n r t = t
-  cache-filled cache (looked s c m) n r t = at-below cacheEntries (cachedRightAt o cache′) (λ i h. go i h (ℕ-discrete i e))
+  cache-filled cache (looked s c m k) n r t = at-below cacheEntries (cachedRightAt o cache′) (λ i h. go i h (ℕ-discrete i e))
     where
       e : ℕ
       e = cacheEntryOf s c
 
+      words : List ℕ
+      words = s ∷ c ∷ m ∷ k ∷ []
+
       cache′ : List ℕ
-      cache′ = set (set (set cache (cachePlace e) s) (suc (cachePlace e)) c) (suc (suc (cachePlace e))) m
+      cache′ = sets cache (cachePlace e) words
 
       low : e < cacheEntries
       low = entry-below s c
 
-      word0 : getD cache′ (cachePlace e) 0 ≡ s
-      word0 =
-          getD-set-other (set (set cache (cachePlace e) s) (suc (cachePlace e)) c) (suc (suc (cachePlace e))) (cachePlace e) m 0 (λ q. omega arith)
-          ∙ getD-set-other (set cache (cachePlace e) s) (suc (cachePlace e)) (cachePlace e) c 0 (λ q. omega arith)
-          ∙ getD-set-same cache (cachePlace e) s 0 (let b = low in omega arith)
-
-      word1 : getD cache′ (cachePlace e + 1) 0 ≡ c
-      word1 =
-          ap (λ (k : ℕ). getD cache′ k 0) (plus-one (cachePlace e))
-          ∙ getD-set-other (set (set cache (cachePlace e) s) (suc (cachePlace e)) c) (suc (suc (cachePlace e))) (suc (cachePlace e)) m 0 (λ q. omega arith)
-          ∙ getD-set-same (set cache (cachePlace e) s) (suc (cachePlace e)) c 0
-          (subst (λ (k : ℕ). suc (cachePlace e) < k) (sym (lib.ListN.length-set cache (cachePlace e) s)) (let b = low in omega arith))
-        where
-          plus-one : (k : ℕ) → k + 1 ≡ suc k
-          plus-one k = omega arith
-
-      word2 : getD cache′ (cachePlace e + 2) 0 ≡ m
-      word2 =
-          ap (λ (k : ℕ). getD cache′ k 0) (plus-two (cachePlace e))
-          ∙ getD-set-same (set (set cache (cachePlace e) s) (suc (cachePlace e)) c) (suc (suc (cachePlace e))) m 0
-          (subst (λ (k : ℕ). suc (suc (cachePlace e)) < k)
-          (sym (lib.ListN.length-set (set cache (cachePlace e) s) (suc (cachePlace e)) c ∙ lib.ListN.length-set cache (cachePlace e) s)) (let b = low in omega arith))
-        where
-          plus-two : (k : ℕ) → k + 2 ≡ suc (suc k)
-          plus-two k = omega arith
+      inside : (j : ℕ) → j < cacheEntryWords → getD cache′ (cachePlace e + j) 0 ≡ getD words j 0
+      inside j h = sets-at words cache (cachePlace e) j (let b = low in omega arith) h
 
       apart : (i j : ℕ) → (i ≡ e → ⊥) → j < cacheEntryWords → getD cache′ (cachePlace i + j) 0 ≡ getD cache (cachePlace i + j) 0
-      apart i j d h =
-          getD-set-other (set (set cache (cachePlace e) s) (suc (cachePlace e)) c) (suc (suc (cachePlace e))) (cachePlace i + j) m 0 (λ q. d (omega arith))
-          ∙ getD-set-other (set cache (cachePlace e) s) (suc (cachePlace e)) (cachePlace i + j) c 0 (λ q. d (omega arith))
-          ∙ getD-set-other cache (cachePlace e) (cachePlace i + j) s 0 (λ q. d (omega arith))
-
-      add-zero : (k : ℕ) → k ≡ k + 0
-      add-zero k = omega arith
+      apart i j d h = sets-other words cache (cachePlace e) (cachePlace i + j) (side (decLt i e) (decLt e i))
+        where
+          side : Dec (i < e) → Dec (e < i) → (cachePlace i + j < cachePlace e) ⊎ (cachePlace e + length words ≤ cachePlace i + j)
+          side (yes l) q = inl (omega arith)
+          side (no l) (yes q) = inr (omega arith)
+          side (no l) (no q) = absurd (d (omega arith))
 
       go : (i : ℕ) → i < cacheEntries → Dec (i ≡ e) → T (cachedRightAt o cache′ i)
       go i h (yes q) =
-          subst (λ (k : ℕ). T (cachedRightAt o cache′ k)) (sym q)
-          (subst (λ (a : ℕ). T (cachedRight o a (getD cache′ (cachePlace e + 1) 0) (getD cache′ (cachePlace e + 2) 0))) (sym word0)
-          (subst (λ (b : ℕ). T (cachedRight o s b (getD cache′ (cachePlace e + 2) 0))) (sym word1)
-          (subst (λ (d : ℕ). T (cachedRight o s c d)) (sym word2) (found-fine s c m r))))
+          subst (λ (x : ℕ). T (cachedRightAt o cache′ x)) (sym q)
+          (entry-words o cache′ e s c m k (first cache′ e ∙ inside 0 (omega arith)) (inside 1 (omega arith)) (inside 2 (omega arith)) (inside 3 (omega arith))
+          (found-fine s c m k (r .0) (r .1)))
       go i h (no d) =
-          subst (λ (a : ℕ). T (cachedRight o a (getD cache′ (cachePlace i + 1) 0) (getD cache′ (cachePlace i + 2) 0)))
-          (sym (ap (λ (k : ℕ). getD cache′ k 0) (add-zero (cachePlace i)) ∙ apart i 0 d (omega arith) ∙ ap (λ (k : ℕ). getD cache k 0) (sym (add-zero (cachePlace i)))))
-          (subst (λ (b : ℕ). T (cachedRight o (getD cache (cachePlace i) 0) b (getD cache′ (cachePlace i + 2) 0))) (sym (apart i 1 d (omega arith)))
-          (subst (λ (k : ℕ). T (cachedRight o (getD cache (cachePlace i) 0) (getD cache (cachePlace i + 1) 0) k)) (sym (apart i 2 d (omega arith)))
-          (below-at cacheEntries (cachedRightAt o cache) t i h)))
+          entry-words o cache′ i (getD cache (cachePlace i) 0) (getD cache (cachePlace i + 1) 0) (getD cache (cachePlace i + 2) 0) (getD cache (cachePlace i + 3) 0)
+          (first cache′ i ∙ apart i 0 d (omega arith) ∙ sym (first cache i)) (apart i 1 d (omega arith)) (apart i 2 d (omega arith)) (apart i 3 d (omega arith))
+          (below-at cacheEntries (cachedRightAt o cache) t i h)
 
   -- an empty cache is right
   pub cache-empty : T (cacheFine o emptyCache)
@@ -111,21 +122,19 @@ module _ (o : Objects) where
 
       all-zero : (i : ℕ) → i < cacheEntries → T (cachedRightAt o emptyCache i)
       all-zero i h =
-          subst (λ (a : ℕ). T (cachedRight o a (getD emptyCache (cachePlace i + 1) 0) (getD emptyCache (cachePlace i + 2) 0))) (sym (zero-at (cachePlace i) (omega arith)))
-          (subst (λ (b : ℕ). T (cachedRight o 0 b (getD emptyCache (cachePlace i + 2) 0))) (sym (zero-at (cachePlace i + 1) (omega arith)))
-          (subst (λ (d : ℕ). T (cachedRight o 0 0 d)) (sym (zero-at (cachePlace i + 2) (omega arith))) tt))
+          entry-words o emptyCache i 0 0 0 0 (zero-at (cachePlace i) (omega arith)) (zero-at (cachePlace i + 1) (omega arith)) (zero-at (cachePlace i + 2) (omega arith))
+          (zero-at (cachePlace i + 3) (omega arith)) tt
 
 -- lookups that are what they were keep the cache right
-pub cache-kept : (o o′ : Objects) → ((s c : ℕ) → lookup o′ s c ≡ lookup o s c) → (cache : List ℕ) → T (cacheFine o cache) → T (cacheFine o′ cache)
-unfolding cacheFine cachedRight
-cache-kept o o′ same cache t =
-    at-below cacheEntries (cachedRightAt o′ cache)
-    (λ i h. subst (λ (f : Found). T (emptyOr
-    (eqb (getD cache (cachePlace i) 0) 0 && (eqb (getD cache (cachePlace i + 1) 0) 0 && eqb (getD cache (cachePlace i + 2) 0) 0))
-    (finds f (getD cache (cachePlace i + 2) 0))))
-    (sym (same (getD cache (cachePlace i) 0) (getD cache (cachePlace i + 1) 0))) (below-at cacheEntries (cachedRightAt o cache) t i h))
+pub cache-kept : (o o′ : Objects) → ((s c : ℕ) → (lookup o′ s c ≡ lookup o s c) × (dictionariesRead o′ s c ≡ dictionariesRead o s c))
+    → (cache : List ℕ) → T (cacheFine o cache) → T (cacheFine o′ cache)
+unfolding cacheFine
+cache-kept o o′ same cache t = at-below cacheEntries (cachedRightAt o′ cache) (λ i h. right-kept _ _ _ _ (same _ _) (below-at cacheEntries (cachedRightAt o cache) t i h))
+  where
+    right-kept : (s c m k : ℕ) → (lookup o′ s c ≡ lookup o s c) × (dictionariesRead o′ s c ≡ dictionariesRead o s c) → T (cachedRight o s c m k) → T (cachedRight o′ s c m k)
+    right-kept s c m k e r = subst T (sym (right-same o o′ s c m k (e .0) (e .1))) r
 
 pub length-filled : (cache : List ℕ) (l : Looked) → length (filled cache l) ≡ length cache
 unfolding filled
 length-filled cache noLookup = refl
-length-filled cache (looked s c m) = length-sets cache (cachePlace (cacheEntryOf s c)) (s ∷ c ∷ m ∷ [])
+length-filled cache (looked s c m k) = length-sets cache (cachePlace (cacheEntryOf s c)) (s ∷ c ∷ m ∷ k ∷ [])

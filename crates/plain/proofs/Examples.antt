@@ -5,13 +5,14 @@ use mathlib.Core.Bool.{true}
 use mathlib.Core.List.{[], _∷_, _++_}
 use mathlib.Core.Option.{none}
 use lib.ListN.{replicate, take}
+use Rattle.model.specs.Objects.{part}
 use Rattle.model.specs.Depth.{depthTable}
 use Rattle.plain.specs.Calls.{wrote}
 use Rattle.plain.specs.Flat.{Flat}
 use Rattle.plain.specs.Reach.{reachIn}
 use Rattle.plain.specs.FlatCalls.{saved, flatLoad, flatBegin, flatRun, flatSave}
 use Rattle.plain.proofs.Computing.{computing}
-use Rattle.plain.proofs.Images.{method, addTwo, buffers, stateOf}
+use Rattle.plain.proofs.Images.{method, addTwo, buffers, stateOf, readBy}
 use Rattle.plain.proofs.SuperSends.{superImage}
 
 -- Both branches of a jump are examined: push true, jump on false over the next byte, return self, and an unused byte.
@@ -41,3 +42,19 @@ reaches : reachIn (flatRun (sender 40) 0) ∷ reachIn (flatRun (sender 40) 2) �
     ≡ 18 ∷ 36 ∷ 36 ∷ 36 ∷ 18 ∷ 18 ∷ []
 unfolding computing superImage
 reaches = refl
+
+-- Dictionaries: none before the send, one for the super send that finds in the class above, no more for the rest; the same where the cache has the lookup; none where
+-- the send halts, and none for arithmetic that succeeds.
+abbrev again : Flat
+again = stateOf (flatBegin (stateOf (flatRun (sender 40) 9)) 36 28 [])
+
+reads : readBy (flatRun (sender 40) 1) ∷ readBy (flatRun (sender 40) 2) ∷ readBy (flatRun (sender 40) 9) ∷ readBy (flatRun again 9) ∷ readBy (flatRun (sender 35) 9)
+    ∷ readBy (flatRun (stateOf (flatBegin (stateOf (flatLoad (buffers 21 40 7) (addTwo 81))) 81 20 [])) 9) ∷ []
+    ≡ 0 ∷ 1 ∷ 1 ∷ 1 ∷ 0 ∷ 0 ∷ []
+unfolding computing superImage addTwo
+reads = refl
+
+-- The entry of that lookup: selector, class, method, dictionaries
+kept : part (again .cache) 36 4 ≡ 26 ∷ 18 ∷ 32 ∷ 1 ∷ []
+unfolding computing superImage
+kept = refl

@@ -17,7 +17,7 @@ use Rattle.model.specs.Word.{isValid}
 use Rattle.model.specs.Objects.{Objects, objectsAt, isKind, part}
 use Rattle.model.specs.Method.{temporaryCount, frameWords, frameSize, argumentCount, codeWords, codeSize}
 use Rattle.model.specs.Depth.{noteAt, rulesAt}
-use Rattle.model.specs.Lookup.{found, lookup}
+use Rattle.model.specs.Lookup.{found, lookup, dictionariesRead}
 use Rattle.model.specs.Rules.{methodTable, allowed}
 use Rattle.model.specs.Image.{Room}
 use Rattle.model.proofs.Facts.{method-facts}
@@ -26,7 +26,7 @@ use Rattle.model.proofs.SendFacts.{FoundFacts, lookup-facts}
 use Rattle.model.proofs.Lent.{contents-room, bodies-room, front-same}
 use Rattle.plain.specs.Registers.{running, noStackRoom}
 use Rattle.plain.specs.State.{Frame, Plain, withObjects, withFrames, movedTo, newFrame, fitsStack}
-use Rattle.plain.specs.Step.{looked, Stepped, leadsTo, halts, provided, without, hasWord, onTop, pushed, answered, entered, unfit, activate, framed, changed, activated, afterLookup, popped}
+use Rattle.plain.specs.Step.{looked, lookedUp, Stepped, leadsTo, halts, provided, without, hasWord, onTop, pushed, answered, entered, unfit, activate, framed, changed, activated, afterLookup, popped}
 use Rattle.plain.specs.Flat.{frameDepth, frameMethod, operandsStart, frameAt}
 use Rattle.plain.specs.FlatCalls.{atFront, laid}
 use Rattle.plain.specs.Cache.{filled}
@@ -201,27 +201,27 @@ module _ {n b top : ℕ} {contents bodies stack : List ℕ} {selector count clas
     send-none e = ap (afterLookup room p (popped f position (suc count)) rest selector class receiver given) e
 
     module _ (m : ℕ) (e : lookup o selector class ≡ found m) where
-      send-found : x ≡ activated room p (popped f position (suc count)) rest m receiver given (looked selector class m) otherwise (activate edition room o m receiver given)
+      send-found : x ≡ activated room p (popped f position (suc count)) rest m receiver given (lookedUp o selector class m) otherwise (activate edition room o m receiver given)
       send-found = ap (afterLookup room p (popped f position (suc count)) rest selector class receiver given) e
 
       pub send-unfit : activate edition room o m receiver given ≡ unfit → x ≡ otherwise
-      send-unfit a = send-found ∙ ap (activated room p (popped f position (suc count)) rest m receiver given (looked selector class m) otherwise) a
+      send-unfit a = send-found ∙ ap (activated room p (popped f position (suc count)) rest m receiver given (lookedUp o selector class m) otherwise) a
 
       -- an answer
       abbrev answeredTop : ℕ → Frame
       answeredTop w = movedTo f position (take (f .depth - suc count) (f .operands) ++ (w ∷ []))
 
       send-answered : (w : ℕ) (o′ : Objects) → activate edition room o m receiver given ≡ answered w o′
-          → x ≡ leadsTo (withObjects (onTop p (answeredTop w) rest) o′) (looked selector class m)
+          → x ≡ leadsTo (withObjects (onTop p (answeredTop w) rest) o′) (lookedUp o selector class m)
       unfolding pushed frameAt
       send-answered w o′ a =
-          send-found ∙ ap (activated room p (popped f position (suc count)) rest m receiver given (looked selector class m) otherwise) a
-          ∙ ap (λ (t : Bool). changed o′ (provided t (leadsTo (onTop p (answeredTop w) rest) (looked selector class m))))
+          send-found ∙ ap (activated room p (popped f position (suc count)) rest m receiver given (lookedUp o selector class m) otherwise) a
+          ∙ ap (λ (t : Bool). changed o′ (provided t (leadsTo (onTop p (answeredTop w) rest) (lookedUp o selector class m))))
           (T→true (hasWord o (popped f position (suc count)) (length (without f (suc count)))) word-left)
 
       -- a frame that does not fit
-      send-entered : activate edition room o m receiver given ≡ entered → x ≡ framed room p (popped f position (suc count)) rest m receiver given (looked selector class m)
-      send-entered a = send-found ∙ ap (activated room p (popped f position (suc count)) rest m receiver given (looked selector class m) otherwise) a
+      send-entered : activate edition room o m receiver given ≡ entered → x ≡ framed room p (popped f position (suc count)) rest m receiver given (lookedUp o selector class m)
+      send-entered a = send-found ∙ ap (activated room p (popped f position (suc count)) rest m receiver given (lookedUp o selector class m) otherwise) a
 
       pub send-full : activate edition room o m receiver given ≡ entered → fitsStack (room .stack) (top + frameSize o (frameMethod stack top)) (frameSize o m) ≡ false → x ≡ halts noStackRoom
       unfolding framed frameAt
@@ -233,46 +233,52 @@ module _ {n b top : ℕ} {contents bodies stack : List ℕ} {selector count clas
 
       send-framed : (base : ℕ) → base ≡ top + frameSize o (frameMethod stack top) → activate edition room o m receiver given ≡ entered
           → fitsStack (room .stack) (top + frameSize o (frameMethod stack top)) (frameSize o m) ≡ true
-          → x ≡ leadsTo (enteredState base) (looked selector class m)
+          → x ≡ leadsTo (enteredState base) (lookedUp o selector class m)
       unfolding framed frameAt
-      send-framed base g a q = send-entered a ∙ if-yes _ _ q ∙ ap (λ (k : ℕ). leadsTo (enteredState k) (looked selector class m)) (sym g)
+      send-framed base g a q = send-entered a ∙ if-yes _ _ q ∙ ap (λ (k : ℕ). leadsTo (enteredState k) (lookedUp o selector class m)) (sym g)
 
       -- ---- the buffers after it
 
-      pub answered-made : (cache : List ℕ) (w n′ b′ : ℕ) (o′ : Objects) (contents′ bodies′ stack′ cache′ : List ℕ) → activate edition room o m receiver given ≡ answered w o′ → o′ .n ≡ n′
-          → o′ .b ≡ b′
-          → contents′ ≡ atFront (o′ .contents) contents → bodies′ ≡ atFront (o′ .bodies) bodies
-          → stack′ ≡ set (set (set stack (operandsStart o (frameMethod stack top) top + (depth - suc count)) w) (top + 1) position) (top + 2) (depth - suc count + 1)
-          → cache′ ≡ filled cache (looked selector class m)
-          → Made x (runningWith edition receiver₀ selector₀ n′ b′ top) contents bodies stack cache contents′ bodies′ stack′ cache′
-      answered-made cache w n′ b′ o′ contents′ bodies′ stack′ cache′ a en eb ec ed es ek =
-          record {
-            state = withObjects (onTop p (answeredTop w) rest) o′;
-            lookup = looked selector class m;
-            steps = send-answered w o′ a;
-            registers = λ i.
-                runningWith edition receiver₀ selector₀ (en i) (eb i) top;
-            entries = ec;
-            words = ed;
-            frames = es ∙ answer-written w;
-            cached = ek;
-          }
+      module _ {d : ℕ} (read : d ≡ dictionariesRead o selector class) where
+        number : (s : Plain) → leadsTo s (lookedUp o selector class m) ≡ leadsTo s (looked selector class m d)
+        number s = ap (λ (k : ℕ). leadsTo s (looked selector class m k)) (sym read)
 
-      pub entered-made : (cache : List ℕ) (base : ℕ) (contents′ bodies′ stack′ cache′ : List ℕ) → base ≡ top + frameSize o (frameMethod stack top)
-          → activate edition room o m receiver given ≡ entered
-          → fitsStack (room .stack) (top + frameSize o (frameMethod stack top)) (frameSize o m) ≡ true → contents′ ≡ contents → bodies′ ≡ bodies
-          → stack′ ≡ sets (set (set stack (top + 1) position) (top + 2) (depth - suc count)) base (newImage top m receiver (temporaryCount o m) given)
-          → cache′ ≡ filled cache (looked selector class m)
-          → Made x (runningWith edition receiver₀ selector₀ n b base) contents bodies stack cache contents′ bodies′ stack′ cache′
-      entered-made cache base contents′ bodies′ stack′ cache′ g a q ec ed es ek =
-          record {
-            state = enteredState base;
-            lookup = looked selector class m;
-            steps = send-framed base g a q;
-            registers = refl;
-            entries = ec
-                ∙ own-contents;
-            words = ed ∙ own-bodies;
-            frames = es ∙ frame-written o m base given;
-            cached = ek;
-          }
+        pub answered-made : (cache : List ℕ) (w n′ b′ : ℕ) (o′ : Objects) (contents′ bodies′ stack′ cache′ : List ℕ) → activate edition room o m receiver given ≡ answered w o′ → o′ .n ≡ n′
+            → o′ .b ≡ b′
+            → contents′ ≡ atFront (o′ .contents) contents → bodies′ ≡ atFront (o′ .bodies) bodies
+            → stack′ ≡ set (set (set stack (operandsStart o (frameMethod stack top) top + (depth - suc count)) w) (top + 1) position) (top + 2) (depth - suc count + 1)
+            → cache′ ≡ filled cache (looked selector class m d)
+            → Made x d (runningWith edition receiver₀ selector₀ n′ b′ top) contents bodies stack cache contents′ bodies′ stack′ cache′
+        answered-made cache w n′ b′ o′ contents′ bodies′ stack′ cache′ a en eb ec ed es ek =
+            record {
+              state = withObjects (onTop p (answeredTop w) rest) o′;
+              lookup = looked selector class m d;
+              steps = send-answered w o′ a ∙ number (withObjects (onTop p (answeredTop w) rest) o′);
+              reads = refl;
+              registers = λ i.
+                  runningWith edition receiver₀ selector₀ (en i) (eb i) top;
+              entries = ec;
+              words = ed;
+              frames = es ∙ answer-written w;
+              cached = ek;
+            }
+
+        pub entered-made : (cache : List ℕ) (base : ℕ) (contents′ bodies′ stack′ cache′ : List ℕ) → base ≡ top + frameSize o (frameMethod stack top)
+            → activate edition room o m receiver given ≡ entered
+            → fitsStack (room .stack) (top + frameSize o (frameMethod stack top)) (frameSize o m) ≡ true → contents′ ≡ contents → bodies′ ≡ bodies
+            → stack′ ≡ sets (set (set stack (top + 1) position) (top + 2) (depth - suc count)) base (newImage top m receiver (temporaryCount o m) given)
+            → cache′ ≡ filled cache (looked selector class m d)
+            → Made x d (runningWith edition receiver₀ selector₀ n b base) contents bodies stack cache contents′ bodies′ stack′ cache′
+        entered-made cache base contents′ bodies′ stack′ cache′ g a q ec ed es ek =
+            record {
+              state = enteredState base;
+              lookup = looked selector class m d;
+              steps = send-framed base g a q ∙ number (enteredState base);
+              reads = refl;
+              registers = refl;
+              entries = ec
+                  ∙ own-contents;
+              words = ed ∙ own-bodies;
+              frames = es ∙ frame-written o m base given;
+              cached = ek;
+            }

@@ -31,7 +31,7 @@ use Rattle.model.specs.Image.{Room}
 use Rattle.model.specs.Primitive.{messageWord, hasMessageRoom}
 use Rattle.plain.specs.Registers.{Cause, notUnderstood, noBoolean, noStackRoom}
 use Rattle.plain.specs.State.{Frame, Plain, objects, movedTo}
-use Rattle.plain.specs.Step.{Looked, noLookup, looked, Stepped, leadsTo, halts, missing, _>>=_, provided, operand, without, literalOf, fieldOf, hasWord, pushed, read, storedField, stored, returned, Activation, answered, entered, unfit, activate, framed, changed, activated, messaged, resent, failed, afterLookup, popped, sends, aboveHome, triedPrimitive, orSends, arithmeticSends, specialSends, jumps, execute, stepFrame, step}
+use Rattle.plain.specs.Step.{Looked, noLookup, lookedUp, Stepped, leadsTo, halts, missing, _>>=_, provided, operand, without, literalOf, fieldOf, hasWord, pushed, read, storedField, stored, returned, Activation, answered, entered, unfit, activate, framed, changed, activated, messaged, resent, failed, afterLookup, popped, sends, aboveHome, triedPrimitive, orSends, arithmeticSends, specialSends, jumps, execute, stepFrame, step}
 use Rattle.plain.specs.Calls.{halted}
 use Rattle.plain.specs.Causes.{SendsOf, Sent, argumentsOf, Fails, withMessage, Because, HaltsFor}
 
@@ -109,7 +109,7 @@ module _ (room : Room) (s : Plain) (f : Frame) (rest : List Frame) where
     resent-halts t q g h Nothing e = (t, g, inr (inl e))
     resent-halts t q g h (Method m) e =
         if-cases (Caused C) (hasMessageRoom room (objects s) (length (argumentsOf f (t .count)))) _ _
-        (λ b. message-halts t q g h b m e _ refl (looked failureSelector (t .class) (m .0))) (λ b. (t, g, inr (inr (inl b))))
+        (λ b. message-halts t q g h b m e _ refl (lookedUp (objects s) failureSelector (t .class) (m .0))) (λ b. (t, g, inr (inr (inl b))))
 
     failed-halts : (t : Sent (objects s) f i) (q : ℕ) → Fails room s f t
         → Caused C (failed room s (popped f q (suc (t .count))) rest (t .selector) (t .class) (t .receiver) (argumentsOf f (t .count)))
@@ -130,7 +130,7 @@ module _ (room : Room) (s : Plain) (f : Frame) (rest : List Frame) where
     lookup-halts : (t : Sent (objects s) f i) (q : ℕ) (x : Found) → lookup (objects s) (t .selector) (t .class) ≡ x
         → Caused C (afterLookup room s (popped f q (suc (t .count))) rest (t .selector) (t .class) (t .receiver) (argumentsOf f (t .count)) x)
     lookup-halts t q Nothing e = failed-halts t q (inl e)
-    lookup-halts t q (Method m) e = found-halts t q m e _ refl (looked (t .selector) (t .class) (m .0))
+    lookup-halts t q (Method m) e = found-halts t q m e _ refl (lookedUp (objects s) (t .selector) (t .class) (m .0))
 
     send-halts : (q : ℕ) (from : ℕ → ℕ) (selector count : ℕ) → ((receiver : ℕ) → SendsOf (objects s) f receiver selector (from receiver) count i)
         → Caused C (sends room s f rest q from selector count)

@@ -6,6 +6,7 @@ use Rattle.bytecode.specs.Constant.{nilWord}
 use Rattle.model.specs.Image.{bytesOf}
 use Rattle.plain.specs.Registers.{noRegisters}
 use Rattle.plain.specs.Flat.{Flat}
+use Rattle.plain.specs.Calls.{done, refusedBy, result, wrote}
 use Rattle.plain.specs.FlatCalls.{Given, gives, noAnswer}
 
 -- An object: its class, kind and size, and the words of its body
@@ -69,11 +70,18 @@ addTwo receiver =
     class nilWord 16 1 5 ∷
     [])
 
--- Buffers of so many words, all alike, and the state that a call left
+-- Buffers of so many words, all alike; the state that a call left, and the dictionaries that a run read
 abbrev pub buffers : ℕ → ℕ → ℕ → Flat
 buffers objects stack fill =
-    record { registers = noRegisters; contents = replicate (4 * objects) fill; bodies = replicate 90 fill; stack = replicate stack fill; cache = replicate 192 fill }
+    record { registers = noRegisters; contents = replicate (4 * objects) fill; bodies = replicate 90 fill; stack = replicate stack fill; cache = replicate 256 fill }
 
 abbrev pub stateOf : Given → Flat
 stateOf (gives a s) = s
 stateOf noAnswer = record { registers = noRegisters; contents = []; bodies = []; stack = []; cache = [] }
+
+abbrev pub readBy : Given → ℕ
+readBy (gives done s) = 0
+readBy (gives (refusedBy k) s) = 0
+readBy (gives (result phase count value reach dictionaries) s) = dictionaries
+readBy (gives (wrote k) s) = 0
+readBy noAnswer = 0

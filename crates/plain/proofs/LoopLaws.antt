@@ -1,5 +1,5 @@
 -- The turns of the run loop, and its ways out.
-use Prim.Native.Nat.{ℕ, suc, _+_, _-_, _≤_, _<_, max}
+use Prim.Native.Nat.{ℕ, suc, _+_, _-_, _*_, _≤_, _<_, max}
 use mathlib.Core.Path.{_≡_, refl, sym, ap, _∙_, subst}
 use mathlib.Core.Bool.{false}
 use mathlib.Core.List.{List}
@@ -7,12 +7,13 @@ use native.Mathlib.Omega.{arith}
 use lib.Dec.{eqb}
 use Rattle.model.proofs.Extends.{Extends}
 use Rattle.model.specs.Image.{accepted}
+use Rattle.model.specs.Limits.{longestChain}
 use Rattle.model.specs.Method.{frameSize}
 use Rattle.model.specs.Objects.{objectsAt}
 use Rattle.plain.specs.Registers.{Registers, running, Cause, phaseOf, withPhase}
 use Rattle.plain.specs.Step.{halts, step}
 use Rattle.plain.specs.Cache.{filled}
-use Rattle.plain.specs.Calls.{Ran, ran, stuck, steps, result, reachOf}
+use Rattle.plain.specs.Calls.{Ran, ran, stuck, steps, result, reachOf, dictionariesOf}
 use Rattle.plain.specs.State.{Plain, objects}
 use Rattle.plain.specs.Flat.{Flat, flat, roomOf, plainOf, frameMethod, frameAt, framesFrom}
 use Rattle.plain.specs.Check.{check}
@@ -21,7 +22,7 @@ use Rattle.plain.specs.Running.{runningWith, Made}
 use Rattle.plain.specs.RunLoop.{topEnd, flatAfterRunFrom, runsFrom, Turn}
 use Rattle.plain.specs.Reach.{added}
 use Rattle.plain.proofs.FlatLaws.{FlatRight, check-right, right-check}
-use Rattle.plain.proofs.TurnLaws.{runs-start, runs-out, runs-over, turn-plain, turn-room, turn-level, turn-right, turn-runs, halt-runs, extends-p}
+use Rattle.plain.proofs.TurnLaws.{runs-start, runs-out, runs-over, turn-plain, turn-room, turn-level, turn-right, turn-runs, turn-reads, halt-runs, extends-p}
 use Rattle.plain.proofs.MadeLaws.{made-flat}
 
 -- the end of the top frame is a number of the buffers
@@ -34,7 +35,7 @@ left-one : (grant count : ℕ) → count < grant → grant - count ≡ suc (gran
 left-one grant count h = omega arith
 
 -- The start
-pub turn-start : (s : Flat) (grant reach : ℕ) → check s ≡ accepted → s .registers .phase ≡ running → reach ≡ topEnd (plainOf s) → Turn s grant s 0 reach
+pub turn-start : (s : Flat) (grant reach : ℕ) → check s ≡ accepted → s .registers .phase ≡ running → reach ≡ topEnd (plainOf s) → Turn s grant s 0 reach 0
 turn-start s grant reach c e h =
     record {
       made = omega arith;
@@ -42,34 +43,40 @@ turn-start s grant reach c e h =
       phase = e;
       lengths = refl;
       high = omega arith;
-      rest = runs-start grant s (check-right s c) ∙ (λ i. runsFrom (all grant i) 0 (sym h i) s);
+      few = omega arith;
+      rest = runs-start grant s (check-right s c) ∙ (λ i. runsFrom (all grant i) 0 (sym h i) 0 s);
     }
   where
     all : (k : ℕ) → k ≡ k - 0
     all k = omega arith
 
-module _ (s₀ : Flat) (grant : ℕ) (s : Flat) (count reach : ℕ) (t : Turn s₀ grant s count reach) where
+-- A bytecode that is made reads no more dictionaries than a chain has.
+pub made-few : (s : Flat) → check s ≡ accepted → s .registers .phase ≡ running → {d : ℕ} {r : Registers} {contents′ bodies′ stack′ cache′ : List ℕ}
+    → Made (step (roomOf s) (plainOf s)) d r (s .contents) (s .bodies) (s .stack) (s .cache) contents′ bodies′ stack′ cache′ → d ≤ longestChain
+made-few s c e m = let g = turn-reads s (check-right s c) e (m .state) (m .lookup) (m .steps) in let k = m .reads in omega arith
+
+module _ (s₀ : Flat) (grant : ℕ) (s : Flat) (count reach read : ℕ) (t : Turn s₀ grant s count reach read) where
   right-s : FlatRight s
   right-s = check-right s (t .checked)
 
   -- The grant is used up.
-  pub loop-out : grant ≤ count → gives (result (s .registers .phase) count (s .registers .value) reach) s ≡ runsFrom grant 0 0 s₀
-  loop-out h = sym (t .rest ∙ ap (λ (k : ℕ). runsFrom k count reach s) none ∙ runs-out count reach s right-s (t .high))
+  pub loop-out : grant ≤ count → gives (result (s .registers .phase) count (s .registers .value) reach read) s ≡ runsFrom grant 0 0 0 s₀
+  loop-out h = sym (t .rest ∙ ap (λ (k : ℕ). runsFrom k count reach read s) none ∙ runs-out count reach read s right-s (t .high))
     where
       none : grant - count ≡ 0
       none = let m = t .made in omega arith
 
   module _ (more : count < grant) where
-    rest-more : runsFrom grant 0 0 s₀ ≡ runsFrom (suc (grant - (count + 1))) count reach s
-    rest-more = t .rest ∙ ap (λ (k : ℕ). runsFrom k count reach s) (left-one grant count more)
+    rest-more : runsFrom grant 0 0 0 s₀ ≡ runsFrom (suc (grant - (count + 1))) count reach read s
+    rest-more = t .rest ∙ ap (λ (k : ℕ). runsFrom k count reach read s) (left-one grant count more)
 
     -- A bytecode halts.
-    pub loop-halts : (c : Cause) → step (roomOf s) (plainOf s) ≡ halts c → gives (result (phaseOf c) count 0 reach)
-        (flat (withPhase (s .registers) (phaseOf c) (s .registers .top) 0) (s .contents) (s .bodies) (s .stack) (s .cache)) ≡ runsFrom grant 0 0 s₀
-    loop-halts c e = sym (rest-more ∙ halt-runs s right-s (t .phase) c e (grant - (count + 1)) count reach (t .high))
+    pub loop-halts : (c : Cause) → step (roomOf s) (plainOf s) ≡ halts c → gives (result (phaseOf c) count 0 reach read)
+        (flat (withPhase (s .registers) (phaseOf c) (s .registers .top) 0) (s .contents) (s .bodies) (s .stack) (s .cache)) ≡ runsFrom grant 0 0 0 s₀
+    loop-halts c e = sym (rest-more ∙ halt-runs s right-s (t .phase) c e (grant - (count + 1)) count reach read (t .high))
 
     -- A bytecode is made.
-    module _ (r : Registers) (contents′ bodies′ stack′ cache′ : List ℕ) (m : Made (step (roomOf s) (plainOf s)) r (s .contents) (s .bodies) (s .stack) (s .cache) contents′ bodies′ stack′ cache′) where
+    module _ (r : Registers) (contents′ bodies′ stack′ cache′ : List ℕ) {more-read : ℕ} (m : Made (step (roomOf s) (plainOf s)) more-read r (s .contents) (s .bodies) (s .stack) (s .cache) contents′ bodies′ stack′ cache′) where
       abbrev s′ : Flat
       s′ = flat r contents′ bodies′ stack′ cache′
 
@@ -88,10 +95,10 @@ module _ (s₀ : Flat) (grant : ℕ) (s : Flat) (count reach : ℕ) (t : Turn s�
       plain-s′ : plainOf s′ ≡ m .state
       plain-s′ = ap plainOf s′-is ∙ turn-plain s right-s (t .phase) (m .state) (m .lookup) (m .steps)
 
-      runs-s′ : runsFrom grant 0 0 s₀ ≡ runsFrom (grant - (count + 1)) (count + 1) (max reach (topEnd (plainOf s′))) s′
+      runs-s′ : runsFrom grant 0 0 0 s₀ ≡ runsFrom (grant - (count + 1)) (count + 1) (max reach (topEnd (plainOf s′))) (read + more-read) s′
       runs-s′ =
-          rest-more ∙ turn-runs s right-s (t .phase) (m .state) (m .lookup) (m .steps) (grant - (count + 1)) count reach (t .high)
-          ∙ (λ i. runsFrom (grant - (count + 1)) (count + 1) (max reach (topEnd (sym plain-s′ i))) (sym s′-is i))
+          rest-more ∙ turn-runs s right-s (t .phase) (m .state) (m .lookup) (m .steps) (grant - (count + 1)) count reach read (t .high)
+          ∙ (λ i. runsFrom (grant - (count + 1)) (count + 1) (max reach (topEnd (sym plain-s′ i))) (read + m .reads i) (sym s′-is i))
 
       -- the objects hold those before
       pub loop-extends : Extends (objects (plainOf s)) (objects (plainOf s′))
@@ -106,8 +113,8 @@ module _ (s₀ : Flat) (grant : ℕ) (s : Flat) (count reach : ℕ) (t : Turn s�
           omega arith
 
       -- and the run goes on,
-      pub loop-next : r .phase ≡ running → (reach′ : ℕ) → reach′ ≡ max reach (topEnd (plainOf s′)) → Turn s₀ grant s′ (count + 1) reach′
-      loop-next a reach′ h =
+      pub loop-next : r .phase ≡ running → (reach′ read′ : ℕ) → reach′ ≡ max reach (topEnd (plainOf s′)) → read′ ≡ read + more-read → Turn s₀ grant s′ (count + 1) reach′ read′
+      loop-next a reach′ read′ h q =
           record {
             made = omega arith;
             checked = right-check s′ right-s′;
@@ -115,66 +122,72 @@ module _ (s₀ : Flat) (grant : ℕ) (s : Flat) (count reach : ℕ) (t : Turn s�
             lengths = ap roomOf s′-is ∙ turn-room s right-s (t .phase) (m .state)
                 (m .lookup) (m .steps) ∙ t .lengths;
             high = omega arith;
-            rest = runs-s′ ∙ ap (λ (k : ℕ). runsFrom (grant - (count + 1)) (count + 1) k s′) (sym h);
+            few = let f = t .few in let g = made-few s (t .checked) (t .phase) m in omega arith;
+            rest = runs-s′ ∙ (λ i. runsFrom (grant - (count + 1)) (count + 1) (sym h i) (sym q i) s′);
           }
 
       -- or is over, no frame standing.
-      pub loop-over : eqb (r .phase) running ≡ false → topEnd (plainOf s′) ≡ 0 → gives (result (r .phase) (count + 1) (r .value) reach) s′ ≡ runsFrom grant 0 0 s₀
-      loop-over e z =
-          sym (runs-s′ ∙ ap (λ (k : ℕ). runsFrom (grant - (count + 1)) (count + 1) k s′) (highest z)
-          ∙ runs-over (grant - (count + 1)) (count + 1) reach s′ right-s′ (omega arith) e)
+      pub loop-over : eqb (r .phase) running ≡ false → topEnd (plainOf s′) ≡ 0 → more-read ≡ 0
+          → gives (result (r .phase) (count + 1) (r .value) reach read) s′ ≡ runsFrom grant 0 0 0 s₀
+      loop-over e z none =
+          sym (runs-s′ ∙ (λ i. runsFrom (grant - (count + 1)) (count + 1) (highest z i) (same none i) s′)
+          ∙ runs-over (grant - (count + 1)) (count + 1) reach read s′ right-s′ (omega arith) e)
         where
           highest : topEnd (plainOf s′) ≡ 0 → max reach (topEnd (plainOf s′)) ≡ reach
           highest z = omega arith
 
+          same : more-read ≡ 0 → read + more-read ≡ read
+          same n = omega arith
+
 -- ---- a run in two parts
 
-added-runs : (k h left k′ h′ : ℕ) (s : Flat) → added k h (runsFrom left k′ h′ s) ≡ runsFrom left (k + k′) (max h h′) s
+added-runs : (k h d left k′ h′ d′ : ℕ) (s : Flat) → added k h d (runsFrom left k′ h′ d′ s) ≡ runsFrom left (k + k′) (max h h′) (d + d′) s
 unfolding runsFrom
-added-runs k h left k′ h′ s = go (steps (roomOf s) left (plainOf s))
+added-runs k h d left k′ h′ d′ s = go (steps (roomOf s) left (plainOf s))
   where
-    counts : (j : ℕ) → k + (k′ + j) ≡ k + k′ + j
-    counts j = omega arith
+    counts : (a b c : ℕ) → a + (b + c) ≡ a + b + c
+    counts a b c = omega arith
 
     ends : (r : ℕ) → max h (max h′ r) ≡ max (max h h′) r
     ends r = omega arith
 
-    go : (x : Ran) → added k h (flatAfterRunFrom k′ h′ s x) ≡ flatAfterRunFrom (k + k′) (max h h′) s x
+    go : (x : Ran) → added k h d (flatAfterRunFrom k′ h′ d′ s x) ≡ flatAfterRunFrom (k + k′) (max h h′) (d + d′) s x
     go (ran j p ts) =
-        λ i. gives (result (p .registers .phase) (counts j i) (p .registers .value) (ends (reachOf (plainOf s) ts) i))
+        λ i. gives (result (p .registers .phase) (counts k k′ j i) (p .registers .value) (ends (reachOf (plainOf s) ts) i) (counts d d′ (dictionariesOf ts) i))
         (withPlain s p (stackAfter (s .stack) ts) (cacheAfter (s .cache) ts))
     go stuck = refl
 
--- behind k bytecodes with reach h
-pub runs-behind : (left k h : ℕ) (s : Flat) → runsFrom left k h s ≡ added k h (runsFrom left 0 0 s)
-runs-behind left k h s = (λ i. runsFrom left (none i) (lowest i) s) ∙ sym (added-runs k h left 0 0 s)
+-- behind k bytecodes with reach h and d dictionaries
+pub runs-behind : (left k h d : ℕ) (s : Flat) → runsFrom left k h d s ≡ added k h d (runsFrom left 0 0 0 s)
+runs-behind left k h d s = (λ i. runsFrom left (none k i) (lowest i) (none d i) s) ∙ sym (added-runs k h d left 0 0 0 s)
   where
-    none : k ≡ k + 0
-    none = omega arith
+    none : (j : ℕ) → j ≡ j + 0
+    none j = omega arith
 
     lowest : h ≡ max h 0
     lowest = omega arith
 
-module _ {s₀ : Flat} {grant : ℕ} {s : Flat} {k h : ℕ} (t : Turn s₀ grant s k h) where
-  rest-is : runsFrom grant 0 0 s₀ ≡ added k h (runsFrom (grant - k) 0 0 s)
-  rest-is = t .rest ∙ runs-behind (grant - k) k h s
+module _ {s₀ : Flat} {grant : ℕ} {s : Flat} {k h d : ℕ} (t : Turn s₀ grant s k h d) where
+  rest-is : runsFrom grant 0 0 0 s₀ ≡ added k h d (runsFrom (grant - k) 0 0 0 s)
+  rest-is = t .rest ∙ runs-behind (grant - k) k h d s
 
   -- What is left of the run goes on,
-  pub turn-then : {s′ : Flat} {k′ h′ : ℕ} → Turn s (grant - k) s′ k′ h′ → Turn s₀ grant s′ (k + k′) (max h h′)
-  turn-then {s′} {k′} {h′} u =
+  pub turn-then : {s′ : Flat} {k′ h′ d′ : ℕ} → Turn s (grant - k) s′ k′ h′ d′ → Turn s₀ grant s′ (k + k′) (max h h′) (d + d′)
+  turn-then {s′} {k′} {h′} {d′} u =
       record {
         made = let m = t .made in let m′ = u .made in omega arith;
         checked = u .checked;
         phase = u .phase;
         lengths = u .lengths ∙ t .lengths;
         high = let e = u .high in omega arith;
-        rest = rest-is ∙ ap (added k h) (u .rest) ∙ added-runs k h (grant - k - k′) k′ h′ s′ ∙ ap (λ (left : ℕ). runsFrom left (k + k′) (max h h′) s′) less;
+        few = let f = t .few in let g = u .few in omega arith;
+        rest = rest-is ∙ ap (added k h d) (u .rest) ∙ added-runs k h d (grant - k - k′) k′ h′ d′ s′ ∙ ap (λ (left : ℕ). runsFrom left (k + k′) (max h h′) (d + d′) s′) less;
       }
     where
       less : grant - k - k′ ≡ grant - (k + k′)
       less = omega arith
 
   -- or is over.
-  pub over-then : {phase count value reach : ℕ} {s′ : Flat} → gives (result phase count value reach) s′ ≡ runsFrom (grant - k) 0 0 s
-      → gives (result phase (k + count) value (max h reach)) s′ ≡ runsFrom grant 0 0 s₀
-  over-then e = ap (added k h) e ∙ sym rest-is
+  pub over-then : {phase count value reach read : ℕ} {s′ : Flat} → gives (result phase count value reach read) s′ ≡ runsFrom (grant - k) 0 0 0 s
+      → gives (result phase (k + count) value (max h reach) (d + read)) s′ ≡ runsFrom grant 0 0 0 s₀
+  over-then e = ap (added k h d) e ∙ sym rest-is

@@ -24,7 +24,7 @@ use native.Mathlib.Omega.{arith}
 -- a bytecode that moves the top frame on, as one that was made
 pub moved-made : (n b top : ℕ) (contents bodies stack cache bodies′ stack′ : List ℕ) → Runs n b top contents bodies stack → Moved n b top contents bodies stack bodies′ stack′
     → (e receiver selector : ℕ) (room : Room)
-    → Made (step room (runningAt e receiver selector n b top contents bodies stack)) (runningWith e receiver selector n b top) contents bodies stack cache contents bodies′ stack′ cache
+    → Made (step room (runningAt e receiver selector n b top contents bodies stack)) 0 (runningWith e receiver selector n b top) contents bodies stack cache contents bodies′ stack′ cache
 unfolding filled
 moved-made n b top contents bodies stack cache bodies′ stack′ r m e receiver selector room =
     let x = m e receiver selector room in
@@ -32,6 +32,7 @@ moved-made n b top contents bodies stack cache bodies′ stack′ r m e receiver
       state = x .state;
       lookup = noLookup;
       steps = x .steps;
+      reads = refl;
       registers = x .registers;
       entries = sym (ap (λ (l : List ℕ). atFront l contents)
           (x .contents) ∙ front-same (entryWords * n) contents (contents-room n b contents bodies (r .right)));
@@ -42,13 +43,13 @@ moved-made n b top contents bodies stack cache bodies′ stack′ r m e receiver
     }
 
 -- the same step under another name
-pub made-as : {x y : Stepped} {r : Registers} {contents bodies stack cache contents′ bodies′ stack′ cache′ : List ℕ} → x ≡ y
-    → Made y r contents bodies stack cache contents′ bodies′ stack′ cache′ → Made x r contents bodies stack cache contents′ bodies′ stack′ cache′
+pub made-as : {x y : Stepped} {read : ℕ} {r : Registers} {contents bodies stack cache contents′ bodies′ stack′ cache′ : List ℕ} → x ≡ y
+    → Made y read r contents bodies stack cache contents′ bodies′ stack′ cache′ → Made x read r contents bodies stack cache contents′ bodies′ stack′ cache′
 made-as e m =
-    record { state = m .state; lookup = m .lookup; steps = e ∙ m .steps; registers = m .registers; entries = m .entries; words = m .words; frames = m .frames; cached = m .cached }
+    record { state = m .state; lookup = m .lookup; steps = e ∙ m .steps; reads = m .reads; registers = m .registers; entries = m .entries; words = m .words; frames = m .frames; cached = m .cached }
 
-pub made-flat : (r₀ : Registers) {x : Stepped} {r : Registers} {contents bodies stack cache contents′ bodies′ stack′ cache′ : List ℕ}
-    (m : Made x r contents bodies stack cache contents′ bodies′ stack′ cache′)
+pub made-flat : (r₀ : Registers) {x : Stepped} {read : ℕ} {r : Registers} {contents bodies stack cache contents′ bodies′ stack′ cache′ : List ℕ}
+    (m : Made x read r contents bodies stack cache contents′ bodies′ stack′ cache′)
     → flat r contents′ bodies′ stack′ cache′ ≡ withPlain (flat r₀ contents bodies stack cache) (m .state) (laid stack (m .state .registers .top) (m .state .frames)) (filled cache (m .lookup))
 made-flat r₀ m = λ i. flat (sym (m .registers) i) (m .entries i) (m .words i) (m .frames i) (m .cached i)
 

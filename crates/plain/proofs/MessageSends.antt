@@ -8,10 +8,10 @@ use Rattle.bytecode.specs.Constant.{nilWord}
 use Rattle.model.specs.Objects.{part}
 use Rattle.plain.specs.Registers.{noRegisters}
 use Rattle.plain.specs.Flat.{Flat}
-use Rattle.plain.specs.FlatCalls.{flatLoad, flatBegin, flatRun}
+use Rattle.plain.specs.FlatCalls.{Given, flatLoad, flatBegin, flatRun}
 use Rattle.plain.specs.Program.{line, step80}
 use Rattle.plain.proofs.Computing.{computing}
-use Rattle.plain.proofs.Images.{Object, object, editionWith, stateOf}
+use Rattle.plain.proofs.Images.{Object, object, editionWith, stateOf, readBy}
 
 -- classes, lists and methods are of class 9
 abbrev class : ℕ → ℕ → ℕ → ℕ → Object
@@ -103,10 +103,14 @@ message-sends =
 -- The array stands first, with the argument, then the message: its selector and the array. Where the stack has no room for the frame, in phase 5, nothing is made.
 abbrev lent : ℕ → Flat
 lent stack =
-    record { registers = noRegisters; contents = replicate 108 0; bodies = replicate 95 0; stack = replicate stack 0; cache = replicate 192 0 }
+    record { registers = noRegisters; contents = replicate 108 0; bodies = replicate 95 0; stack = replicate stack 0; cache = replicate 256 0 }
+
+unfoldable pub ran : Object → ℕ → Given
+ran bar stack = flatRun (stateOf (flatBegin (stateOf (flatLoad (lent stack) (messageImage 2 28 returnsMessage pushesField bar))) 50 28 [])) 3
 
 unfoldable pub after : ℕ → Flat
-after stack = stateOf (flatRun (stateOf (flatBegin (stateOf (flatLoad (lent stack) (messageImage 2 28 returnsMessage pushesField sendsFoo))) 50 28 [])) 3)
+unfolding ran
+after stack = stateOf (ran sendsFoo stack)
 
 pub record Made : Type 0 where
   pub objects : after 36 .registers .n ≡ 27
@@ -124,3 +128,13 @@ pub made : Made
 unfolding computing messageImage after
 made =
     record { objects = refl; words = refl; entries = refl; bodies = refl; argument = refl; phase = refl; none = refl; noWords = refl; noEntries = refl; noBodies = refl }
+
+-- The dictionaries that object 6 was sought in, not those that the failed search read before: two from B's objects, one above B by super. None where the frame does not fit.
+pub record Read : Type 0 where
+  pub fromB : readBy (ran sendsFoo 36) ≡ 2
+  pub aboveB : readBy (ran (super 26 50) 36) ≡ 1
+  pub halted : readBy (ran sendsFoo 35) ≡ 0
+
+pub read : Read
+unfolding computing messageImage ran
+read = record { fromB = refl; aboveB = refl; halted = refl }

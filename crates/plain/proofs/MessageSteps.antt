@@ -18,13 +18,13 @@ use Rattle.model.specs.Limits.{hasMessages, receiverFlag, fieldFlag, primitiveF
 use Rattle.model.specs.Word.{isValid, failureSelector}
 use Rattle.model.specs.Objects.{Objects, objectsAt}
 use Rattle.model.specs.Method.{flag, temporaryCount, frameSize, argumentCount, primitiveNumber}
-use Rattle.model.specs.Lookup.{found, lookup}
+use Rattle.model.specs.Lookup.{found, lookup, dictionariesRead}
 use Rattle.model.specs.Image.{Room}
 use Rattle.model.specs.Primitive.{Outcome, answers, fails, primitive, messageMade, messageWord, hasMessageRoom}
 use Rattle.model.proofs.MessageLaws.{message-fails, identity-answers}
 use Rattle.plain.specs.Registers.{running, notUnderstood, noStackRoom}
 use Rattle.plain.specs.State.{Frame, Plain, withObjects, withFrames, movedTo, newFrame, fitsStack}
-use Rattle.plain.specs.Step.{Looked, looked, Stepped, leadsTo, halts, provided, without, hasWord, onTop, pushed, Activation, answered, entered, unfit, entering, primitiveAnswered, activate, framed, changed, activated, messaged, resent, failed, popped}
+use Rattle.plain.specs.Step.{Looked, looked, lookedUp, Stepped, leadsTo, halts, provided, without, hasWord, onTop, pushed, Activation, answered, entered, unfit, entering, primitiveAnswered, activate, framed, changed, activated, messaged, resent, failed, popped}
 use Rattle.plain.specs.Flat.{frameDepth, frameMethod, operandsStart, frameAt}
 use Rattle.plain.specs.FlatCalls.{atFront}
 use Rattle.plain.specs.Cache.{filled}
@@ -126,7 +126,7 @@ module _ {n b top : ℕ} {contents bodies stack : List ℕ} {selector count clas
         sent = messageWord o ∷ []
 
         abbrev l : Looked
-        l = looked failureSelector class m
+        l = lookedUp o failureSelector class m
 
         abbrev activation : Activation
         activation = activate edition room o₁ m receiver sent
@@ -157,17 +157,22 @@ module _ {n b top : ℕ} {contents bodies stack : List ℕ} {selector count clas
             ∙ ap (λ (t : Bool). changed o′ (provided t (leadsTo (onTop (messaged p selector given) (answeredTop w) rest) l)))
             (T→true (hasWord o₁ (popped f position (suc count)) (length (without f (suc count)))) has)
 
-        pub message-answer-made : (cache : List ℕ) (w : ℕ) (o′ : Objects) (n′ b′ : ℕ) (contents′ bodies′ stack′ cache′ : List ℕ)
+        -- the number that the search for object 6 gave
+        number : {d : ℕ} (s : Plain) → d ≡ dictionariesRead o failureSelector class → leadsTo s l ≡ leadsTo s (looked failureSelector class m d)
+        number s read = ap (λ (k : ℕ). leadsTo s (looked failureSelector class m k)) (sym read)
+
+        pub message-answer-made : {d : ℕ} → d ≡ dictionariesRead o failureSelector class → (cache : List ℕ) (w : ℕ) (o′ : Objects) (n′ b′ : ℕ) (contents′ bodies′ stack′ cache′ : List ℕ)
             → T (hasWord o₁ (popped f position (suc count)) (length (without f (suc count)))) → activation ≡ answered w o′ → o′ .n ≡ n′ → o′ .b ≡ b′
             → contents′ ≡ atFront (o′ .contents) contents → bodies′ ≡ atFront (o′ .bodies) bodies
             → stack′ ≡ set (set (set stack (operandsStart o (frameMethod stack top) top + (depth - suc count)) w) (top + 1) position) (top + 2) (depth - suc count + 1)
-            → cache′ ≡ filled cache l
-            → Made y (runningWith edition receiver₀ selector₀ n′ b′ top) contents bodies stack cache contents′ bodies′ stack′ cache′
-        message-answer-made cache w o′ n′ b′ contents′ bodies′ stack′ cache′ has a en eb ec ed es ek =
+            → cache′ ≡ filled cache (looked failureSelector class m d)
+            → Made y d (runningWith edition receiver₀ selector₀ n′ b′ top) contents bodies stack cache contents′ bodies′ stack′ cache′
+        message-answer-made {d = d} read cache w o′ n′ b′ contents′ bodies′ stack′ cache′ has a en eb ec ed es ek =
             record {
               state = withObjects (onTop p (answeredTop w) rest) o′;
-              lookup = l;
-              steps = message-answered has w o′ a;
+              lookup = looked failureSelector class m d;
+              steps = message-answered has w o′ a ∙ number (withObjects (onTop p (answeredTop w) rest) o′) read;
+              reads = refl;
               registers = λ i. runningWith edition receiver₀ selector₀ (en i) (eb i) top;
               entries = ec;
               words = ed;
@@ -184,17 +189,18 @@ module _ {n b top : ℕ} {contents bodies stack : List ℕ} {selector count clas
         unfolding framed frameAt
         message-framed base g a q = by-activation entered a ∙ if-yes _ _ q ∙ ap (λ (k : ℕ). leadsTo (enteredState k) l) (sym g)
 
-        pub message-frame-made : (cache : List ℕ) (base n′ b′ : ℕ) (contents′ bodies′ stack′ cache′ : List ℕ) → base ≡ top + frameSize o₁ (frameMethod stack top) → activation ≡ entered
+        pub message-frame-made : {d : ℕ} → d ≡ dictionariesRead o failureSelector class → (cache : List ℕ) (base n′ b′ : ℕ) (contents′ bodies′ stack′ cache′ : List ℕ) → base ≡ top + frameSize o₁ (frameMethod stack top) → activation ≡ entered
             → fitsStack (room .stack) (top + frameSize o₁ (frameMethod stack top)) (frameSize o₁ m) ≡ true → o₁ .n ≡ n′ → o₁ .b ≡ b′
             → contents′ ≡ atFront (o₁ .contents) contents → bodies′ ≡ atFront (o₁ .bodies) bodies
             → stack′ ≡ sets (set (set stack (top + 1) position) (top + 2) (depth - suc count)) base (newImage top m receiver (temporaryCount o₁ m) sent)
-            → cache′ ≡ filled cache l
-            → Made y (runningWith edition receiver₀ selector₀ n′ b′ base) contents bodies stack cache contents′ bodies′ stack′ cache′
-        message-frame-made cache base n′ b′ contents′ bodies′ stack′ cache′ g a q en eb ec ed es ek =
+            → cache′ ≡ filled cache (looked failureSelector class m d)
+            → Made y d (runningWith edition receiver₀ selector₀ n′ b′ base) contents bodies stack cache contents′ bodies′ stack′ cache′
+        message-frame-made {d = d} read cache base n′ b′ contents′ bodies′ stack′ cache′ g a q en eb ec ed es ek =
             record {
               state = enteredState base;
-              lookup = l;
-              steps = message-framed base g a q;
+              lookup = looked failureSelector class m d;
+              steps = message-framed base g a q ∙ number (enteredState base) read;
+              reads = refl;
               registers = λ i. runningWith edition receiver₀ selector₀ (en i) (eb i) base;
               entries = ec;
               words = ed;

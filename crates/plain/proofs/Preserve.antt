@@ -26,7 +26,7 @@ use Rattle.model.specs.Word.{isPointer, isValid, objectNumber, booleanWord, fai
 use Rattle.model.specs.Objects.{Objects, classOf, isKind, size, bodyWord, fieldCount}
 use Rattle.model.specs.Method.{home, flag, temporaryCount, frameWords, frameSize, literalCount, literal, argumentCount, primitiveNumber, runsCode}
 use Rattle.model.specs.Depth.{noteAt, isSome}
-use Rattle.model.specs.Lookup.{found, lookup, inChain}
+use Rattle.model.specs.Lookup.{found, lookup, dictionariesRead, inChain}
 use Rattle.model.specs.Rules.{methodTable, allowed, placeFine, variableFine, isWritable, sendFine, takesCount, specialSelector, isSame, isClass}
 use Rattle.model.specs.Image.{Room}
 use Rattle.model.specs.Arithmetic.{arithmetic}
@@ -37,7 +37,7 @@ use Rattle.model.proofs.DepthLaws.{spot-start}
 use Rattle.plain.specs.Registers.{running, finished, notUnderstood}
 use Rattle.plain.specs.RunLoop.{firstEnd, topEnd}
 use Rattle.plain.specs.State.{Frame, Plain, objects, withObjects, movedTo, withTemporaries, newFrame, fitsStack}
-use Rattle.plain.specs.Step.{Looked, noLookup, looked, Stepped, leadsTo, halts, missing, _>>=_, provided, operand, without, fieldOf, literalOf, onTop, hasWord, pushed, read, storedField, stored, returned, Activation, answered, entered, unfit, entering, fieldAnswered, primitiveAnswered, activate, framed, changed, activated, resent, failed, afterLookup, popped, sends, aboveHome, triedPrimitive, orSends, arithmeticSends, specialSends, jumps, execute}
+use Rattle.plain.specs.Step.{Looked, noLookup, looked, lookedUp, Stepped, leadsTo, halts, missing, _>>=_, provided, operand, without, fieldOf, literalOf, onTop, hasWord, pushed, read, storedField, stored, returned, Activation, answered, entered, unfit, entering, fieldAnswered, primitiveAnswered, activate, framed, changed, activated, resent, failed, afterLookup, popped, sends, aboveHome, triedPrimitive, orSends, arithmeticSends, specialSends, jumps, execute}
 use Rattle.plain.proofs.FrameLaws.{FrameRight, Fits, fits, FramesRight, note-is, within}
 use Rattle.plain.proofs.NowLaws.{Now}
 use Rattle.plain.proofs.StepLaws.{Valid, valid-append, valid-one, valid-replicate, Finds, element, moved-right, stored-temporary, has-word, new-top, operand-finds, without-length, without-valid, arguments-length, arguments-valid}
@@ -198,7 +198,7 @@ module _ (After : Objects → Objects → Type 0) (room : Room) (edition : ℕ) 
 -- a lookup that was made and found
 abbrev pub LookedRight : Objects → Looked → Type 0
 LookedRight o noLookup = Unit {0}
-LookedRight o (looked s c m) = lookup o s c ≡ found m
+LookedRight o (looked s c m k) = (lookup o s c ≡ found m) × (k ≡ dictionariesRead o s c)
 
 -- the shape of a state in phase 1 or 2
 pub data Shape (stack : ℕ) (s : Plain) : Type 0 where
@@ -498,7 +498,7 @@ module _ (After : Objects → Objects → Type 0) (room : Room) (s : Plain) wher
           let c : argumentCount o₁ (m .0) ≡ 1 = w₁ .lookupCount failureSelector class (m .0) 1 e₁ (w₁ .failureCount t) in
           let v₁ = world .grows o₁ (made .0) receiver v in
           let va = valid-one (o₁ .n) (messageWord o) (made .1) in
-          activated-goes o₁ (made .0) (m .0) receiver (messageWord o ∷ []) (looked failureSelector class (m .0)) e (w₁ .lookupMethod failureSelector class (m .0) e₁) c v₁ va
+          activated-goes o₁ (made .0) (m .0) receiver (messageWord o ∷ []) (lookedUp o failureSelector class (m .0)) (e, refl) (w₁ .lookupMethod failureSelector class (m .0) e₁) c v₁ va
           (halts notUnderstood) tt (activate edition room o₁ (m .0) receiver (messageWord o ∷ [])) (activates After room edition o₁ w₁ (m .0) receiver (messageWord o ∷ []) v₁ va c))
           (λ h. tt)
 
@@ -512,7 +512,7 @@ module _ (After : Objects → Objects → Type 0) (room : Room) (s : Plain) wher
       found-goes selector class receiver t vs v Nothing e = failed-goes selector class receiver vs v
       found-goes selector class receiver t vs v (Method m) e =
           let c : argumentCount o (m .0) ≡ length arguments′ = world .lookupCount selector class (m .0) n e t ∙ sym (arguments-length o f r n (omega arith)) in
-          activated-goes o (world .self) (m .0) receiver arguments′ (looked selector class (m .0)) e (world .lookupMethod selector class (m .0) e) c v (arguments-valid o f r n)
+          activated-goes o (world .self) (m .0) receiver arguments′ (lookedUp o selector class (m .0)) (e, refl) (world .lookupMethod selector class (m .0) e) c v (arguments-valid o f r n)
           (failed room s f′ rest selector class receiver arguments′) (failed-goes selector class receiver vs v)
           (activate edition room o (m .0) receiver arguments′) (activates After room edition o (next o (world .self)) (m .0) receiver arguments′ v (arguments-valid o f r n) c)
 

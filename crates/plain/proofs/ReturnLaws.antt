@@ -48,7 +48,7 @@ module _ {n b top : ℕ} {contents bodies stack : List ℕ} (r : Runs n b top co
 
   -- From the bottom frame: finished with the value
   pub bottom-returns : (e receiver selector w : ℕ) (cache : List ℕ) → top ≡ 0
-      → Made (returned (runningAt e receiver selector n b top contents bodies stack) f (restFrames n b top contents bodies stack) w)
+      → Made (returned (runningAt e receiver selector n b top contents bodies stack) f (restFrames n b top contents bodies stack) w) 0
       (finishedWith e receiver selector n b w) contents bodies stack cache contents bodies stack cache
   unfolding returned laid filled
   bottom-returns e receiver selector w cache z =
@@ -57,6 +57,7 @@ module _ {n b top : ℕ} {contents bodies stack : List ℕ} (r : Runs n b top co
         lookup = noLookup;
         steps = ap
             (λ (t : ℕ). returned (runningAt e receiver selector n b top contents bodies stack) f (unlessBottom t (framesFrom top o stack s)) w) z;
+        reads = refl;
         registers = refl;
         entries = sym (front-same (entryWords * n) contents (contents-room n b contents bodies (r .right)));
         words = sym
@@ -176,7 +177,7 @@ module _ {n b top : ℕ} {contents bodies stack : List ℕ} (r : Runs n b top co
     provided-yes t x e = ap (λ (c : Bool). provided c x) e
 
     pub sender-returns : (e receiver selector w : ℕ) (cache : List ℕ)
-        → Made (returned (runningAt e receiver selector n b top contents bodies stack) f (restFrames n b top contents bodies stack) w)
+        → Made (returned (runningAt e receiver selector n b top contents bodies stack) f (restFrames n b top contents bodies stack) w) 0
         (runningWith e receiver selector n b s) contents bodies stack cache contents bodies (after w) cache
     unfolding returned filled frameAt
     sender-returns e receiver selector w cache =
@@ -188,6 +189,7 @@ module _ {n b top : ℕ} {contents bodies stack : List ℕ} (r : Runs n b top co
           steps = ap (λ (fs : List Frame). returned p f fs w) (below .are)
               ∙ provided-yes (ltb (temporaryCount o (below .g .method) + below .g .depth) (frameWords o (below .g .method))) _
               (lt-ltb (temporaryCount o (below .g .method) + below .g .depth) (frameWords o (below .g .method)) (let x = limits .3 in omega arith));
+          reads = refl;
           registers =
               refl;
           entries = sym (front-same (entryWords * n) contents (contents-room n b contents bodies (r .right)));

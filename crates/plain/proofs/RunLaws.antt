@@ -1,5 +1,5 @@
 -- A run from a right state: every step exists, and the state after it is right; its frames stand in the stack, and the cache is right.
-use Prim.Native.Nat.{ℕ, zero, suc, _*_, _≤_, _<_, max}
+use Prim.Native.Nat.{ℕ, zero, suc, _+_, _*_, _≤_, _<_, max}
 use mathlib.Core.Path.{_≡_, refl, sym, ap, _∙_, subst}
 use mathlib.Core.Bool.{Bool, true, false}
 use mathlib.Core.List.{List, [], _∷_}
@@ -8,17 +8,18 @@ use borrow.Author.Tests.{eqb-true, eqb-false}
 use lib.Dec.{T, eqb}
 use lib.ListN.{length}
 use Rattle.bytecode.specs.Code.{nextAt, decodeAt}
-use Rattle.model.specs.Limits.{entryWords, cacheWords, mostStackWords}
+use Rattle.model.specs.Limits.{entryWords, cacheWords, longestChain, mostStackWords}
 use Rattle.model.specs.Objects.{Objects}
 use Rattle.model.specs.Method.{codeWords, codeSize}
 use Rattle.model.specs.Image.{Room}
 use Rattle.model.proofs.Facts.{Right}
 use Rattle.model.proofs.Extends.{Extends, extends-refl, extends-trans}
-use Rattle.model.proofs.Unchanged.{lookup-same}
+use Rattle.model.proofs.LookupLaws.{read-few}
+use Rattle.model.proofs.Unchanged.{walk-same}
 use Rattle.plain.specs.Registers.{idle, running, hasFrames, Cause, notUnderstood, noBoolean, noStackRoom, phaseOf}
 use Rattle.plain.specs.State.{Frame, Plain, objects}
-use Rattle.plain.specs.Step.{Looked, Stepped, leadsTo, halts, missing, stepFrame, step}
-use Rattle.plain.specs.Calls.{Taken, taken, Ran, ran, stuck, counted, halted, onward, ifRunning, steps, largestEnd, standingEnd, reachOf}
+use Rattle.plain.specs.Step.{readIn, Looked, noLookup, looked, Stepped, leadsTo, halts, missing, stepFrame, step}
+use Rattle.plain.specs.Calls.{Taken, taken, Ran, ran, stuck, counted, halted, onward, ifRunning, steps, largestEnd, standingEnd, reachOf, dictionariesOf}
 use Rattle.plain.specs.Flat.{framesFrom}
 use Rattle.plain.specs.Cache.{filled, cacheFine}
 use Rattle.plain.specs.FlatCalls.{laid, stackAfter, cacheAfter}
@@ -26,7 +27,7 @@ use Rattle.plain.specs.RunLoop.{firstEnd, topEnd}
 use Rattle.plain.proofs.FrameLaws.{FrameRight, FramesRight}
 use Rattle.plain.proofs.LaidLaws.{laid-back, length-laid}
 use Rattle.plain.proofs.NowLaws.{now}
-use Rattle.plain.proofs.Preserve.{World, Shape, runs, ends, Goes, executes}
+use Rattle.plain.proofs.Preserve.{World, Shape, runs, ends, LookedRight, Goes, executes}
 use Rattle.plain.proofs.StateLaws.{PlainRight, Stands, goes, rests, waits}
 use Rattle.plain.proofs.CacheLaws.{cache-filled, cache-kept, length-filled}
 use Rattle.plain.specs.CallLists.{Halted}
@@ -83,6 +84,11 @@ end-inside room p s = subst (Inside room) (sym (end-is-top room p s)) (go s)
     go (goes (ends a b c f)) = subst (Inside room) (sym (no-frames p f)) (nowhere room)
     go (rests a b c f) = subst (Inside room) (sym (no-frames p f)) (nowhere room)
     go (waits a b c f) = top-inside (p .registers .edition) (objects p) room (p .registers .top) (p .frames) f
+
+-- A step reads no more dictionaries than a chain has.
+pub reads-within : (o : Objects) (l : Looked) → LookedRight o l → readIn l ≤ longestChain
+reads-within o noLookup r = omega arith
+reads-within o (looked s c m k) r = let a = r .1 in let b = read-few o s c in omega arith
 
 -- What is needed of all objects that a run meets
 abbrev pub Worlds : Room → Type 0
@@ -156,6 +162,7 @@ module _ (room : Room) (worlds : Worlds room) where
     pub stackLength : length (stackAfter stack ts) ≡ length stack
     pub cacheLength : length (cacheAfter cache ts) ≡ length cache
     pub reach : Inside room (reachOf p ts)
+    pub few : dictionariesOf ts ≤ longestChain * k
 
   abbrev pub RunGoes : ℕ → Plain → List ℕ → List ℕ → Ran → Type 0
   RunGoes n p stack cache (ran k p′ ts) = RanRight n p stack cache k p′ ts
@@ -165,7 +172,7 @@ module _ (room : Room) (worlds : Worlds room) where
   none : (n : ℕ) (p p′ : Plain) (stack cache : List ℕ) → PlainRight room p → PlainRight room p′ → objects p′ ≡ objects p → Stood p′ stack → T (cacheFine (objects p) cache)
       → (p′ .registers .phase ≡ running → 0 ≡ n) → (p .registers .phase < 3 → 3 ≤ p′ .registers .phase → Halted room p′ (p′ .registers .phase))
       → ((p .registers .phase ≡ idle → ⊥) → p′ .registers .phase ≡ idle → ⊥) → RanRight n p stack cache 0 p′ []
-  unfolding stackAfter cacheAfter reachOf
+  unfolding stackAfter cacheAfter reachOf dictionariesOf
   none n p p′ stack cache r r′ e s c w h i =
       record {
         made = omega arith;
@@ -179,15 +186,16 @@ module _ (room : Room) (worlds : Worlds room) where
         stackLength = refl;
         cacheLength = refl;
         reach = end-inside room p (r .stands);
+        few = omega arith;
       }
 
   -- one step and a run
   more : (n : ℕ) (p p₁ : Plain) (l : Looked) (stack cache : List ℕ) → PlainRight room p → (p₁ .registers .phase ≡ idle → ⊥) → p₁ .registers .phase < 3
       → Extends (objects p) (objects p₁) → length (filled cache l) ≡ length cache
-      → length (laid stack (p₁ .registers .top) (p₁ .frames)) ≡ length stack → (x : Ran)
+      → length (laid stack (p₁ .registers .top) (p₁ .frames)) ≡ length stack → readIn l ≤ longestChain → (x : Ran)
       → RunGoes n p₁ (laid stack (p₁ .registers .top) (p₁ .frames)) (filled cache l) x → RunGoes (suc n) p stack cache (counted (taken l p₁) x)
-  unfolding stackAfter cacheAfter reachOf
-  more n p p₁ l stack cache r i b e lc ls (ran k p′ ts) g =
+  unfolding stackAfter cacheAfter reachOf dictionariesOf
+  more n p p₁ l stack cache r i b e lc ls lr (ran k p′ ts) g =
       record {
         made = let m = g .made in omega arith;
         whole = λ q. ap suc (g .whole q);
@@ -201,8 +209,9 @@ module _ (room : Room) (worlds : Worlds room) where
         cacheLength = g .cacheLength
             ∙ lc;
         reach = higher-inside room (standingEnd p) (reachOf p₁ ts) (end-inside room p (r .stands)) (g .reach);
+        few = let f = g .few in omega arith;
       }
-  more n p p₁ l stack cache r i b e lc ls stuck g = g
+  more n p p₁ l stack cache r i b e lc ls lr stuck g = g
 
   shape-busy : (p : Plain) → Shape (room .stack) p → p .registers .phase ≡ idle → ⊥
   shape-busy p (runs a b f) e = omega arith
@@ -236,9 +245,9 @@ module _ (room : Room) (worlds : Worlds room) where
           let ls₁ = length-laid stack (p₁ .registers .top) (p₁ .frames) in
           let lc₁ = length-filled cache l in
           let d : Extends (objects p) (objects p₁) = g .0 .after .extends in
-          more n p p₁ l stack cache r (shape-busy p₁ (g .0 .shape)) (shape-goes p₁ (g .0 .shape)) d lc₁ ls₁ (steps room n p₁)
+          more n p p₁ l stack cache r (shape-busy p₁ (g .0 .shape)) (shape-goes p₁ (g .0 .shape)) d lc₁ ls₁ (reads-within (objects p) l (g .1)) (steps room n p₁)
           (again p₁ (laid stack (p₁ .registers .top) (p₁ .frames)) (filled cache l) r₁ (ls₁ ∙ ls) (lc₁ ∙ lc) (shape-stood p₁ stack ls (g .0 .shape))
-          (cache-kept (objects p) (objects p₁) (lookup-same d (r .image)) (filled cache l) (cache-filled (objects p) cache l lc (g .1) c)))
+          (cache-kept (objects p) (objects p₁) (walk-same d (r .image)) (filled cache l) (cache-filled (objects p) cache l lc (g .1) c)))
       after-step (halts cause) x g e again =
           none (suc n) p (halted p cause) stack cache r (halted-right p r e cause) refl (λ q. s (ap hasFrames e)) c
           (λ q. absurd (let h = cause-least cause in omega arith)) (λ a b. (cause, refl, halts-for room p cause x)) (λ i q. let h = cause-least cause in omega arith)

@@ -28,7 +28,7 @@ use Rattle.model.specs.Image.{Room, buffersFine, loadVerdict}
 use Rattle.model.specs.Primitive.{messageWord, hasMessageRoom, hasRoom, make, new, newWith, perform, primitive}
 use Rattle.plain.specs.Registers.{running, notUnderstood, noBoolean, noStackRoom, phaseOf}
 use Rattle.plain.specs.State.{Frame, Plain, objects, newFrame, fitsStack}
-use Rattle.plain.specs.Step.{Looked, looked, Stepped, leadsTo, halts, missing, _>>=_, Activation, answered, entered, unfit, activate, framed, activated, messaged, resent, failed, afterLookup, sends, orSends, arithmeticSends, specialSends, noLookup, operand, without, pushed, popped, literalOf, aboveHome, triedPrimitive, execute, stepFrame, step}
+use Rattle.plain.specs.Step.{Looked, lookedUp, Stepped, leadsTo, halts, missing, _>>=_, Activation, answered, entered, unfit, activate, framed, activated, messaged, resent, failed, afterLookup, sends, orSends, arithmeticSends, specialSends, noLookup, operand, without, pushed, popped, literalOf, aboveHome, triedPrimitive, execute, stepFrame, step}
 use Rattle.plain.specs.Calls.{loaded, Begun, begun, declined, beginActivated, beginFound, begin, taken, Ran, ran, stuck, counted, onward, ifRunning, steps, largestEnd, standingEnd, reachOf}
 use Rattle.plain.specs.Calls.{Call, beginCall, runCall, dropCall, forgetCall, afterBegin, afterRun, runIf, call}
 use Rattle.plain.specs.Flat.{roomOf}
@@ -132,7 +132,7 @@ module _ (room : Room) (k : ℕ) where
   resent-alike s f rest selector class receiver arguments Nothing = same (room .stack) k _
   resent-alike s f rest selector class receiver arguments (Method m) =
       choice-alike (hasMessageRoom room (objects s) (length arguments)) _ _ _ _
-      (acts-alike (messaged s selector arguments) f rest (s .registers .edition) (m .0) receiver (messageWord (objects s) ∷ []) (looked failureSelector class (m .0)) (halts notUnderstood)
+      (acts-alike (messaged s selector arguments) f rest (s .registers .edition) (m .0) receiver (messageWord (objects s) ∷ []) (lookedUp (objects s) failureSelector class (m .0)) (halts notUnderstood)
       (halts notUnderstood) (same (room .stack) k (halts notUnderstood)))
       (same (room .stack) k (halts notUnderstood))
 
@@ -147,7 +147,7 @@ module _ (room : Room) (k : ℕ) where
       → Alike (room .stack) k (afterLookup room s f rest selector class receiver arguments x) (afterLookup other s f rest selector class receiver arguments x)
   looked-alike s f rest selector class receiver arguments Nothing = failed-alike s f rest selector class receiver arguments
   looked-alike s f rest selector class receiver arguments (Method m) =
-      acts-alike s f rest (s .registers .edition) (m .0) receiver arguments (looked selector class (m .0)) _ _ (failed-alike s f rest selector class receiver arguments)
+      acts-alike s f rest (s .registers .edition) (m .0) receiver arguments (lookedUp (objects s) selector class (m .0)) _ _ (failed-alike s f rest selector class receiver arguments)
 
   sends-alike : (s : Plain) (f : Frame) (rest : List Frame) (position : ℕ) (from : ℕ → ℕ) (selector count : ℕ)
       → Alike (room .stack) k (sends room s f rest position from selector count) (sends other s f rest position from selector count)

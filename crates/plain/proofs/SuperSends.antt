@@ -67,7 +67,7 @@ before-right = refl
 -- the letter of 01 would make the frame,
 abbrev byLetter : Flat → List Frame → Stepped
 byLetter s [] = missing
-byLetter s (f ∷ rest) = activated (roomOf s) (plainOf s) (popped f 3 1) rest 32 3 [] (looked 26 18 32) (halts notUnderstood) entered
+byLetter s (f ∷ rest) = activated (roomOf s) (plainOf s) (popped f 3 1) rest 32 3 [] (looked 26 18 32 1) (halts notUnderstood) entered
 
 abbrev afterStep : Flat → Stepped → Flat
 afterStep s (leadsTo p l) = withPlain s p (laid (s .stack) (p .registers .top) (p .frames)) (s .cache)

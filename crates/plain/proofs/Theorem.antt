@@ -1,5 +1,5 @@
 -- The two machines agree on every list of calls: the statements are in specs/CallLists.antt.
-use Prim.Native.Nat.{ℕ, suc, _≤_}
+use Prim.Native.Nat.{ℕ, suc, _*_, _≤_}
 use mathlib.Core.Path.{_≡_, refl, sym, ap, _∙_, subst}
 use mathlib.Core.Logic.{inl, inr, _≢_}
 use mathlib.Core.Bool.{Bool, true, false}
@@ -8,15 +8,15 @@ use native.Mathlib.Omega.{arith}
 use borrow.Author.Tests.{eqb-true}
 use lib.Dec.{T, eqb}
 use lib.ListN.{length, length-replicate}
-use Rattle.model.specs.Limits.{cacheWords}
+use Rattle.model.specs.Limits.{cacheWords, longestChain}
 use Rattle.model.specs.Objects.{Objects}
 use Rattle.model.specs.Image.{Room, Verdict}
 use Rattle.model.proofs.Facts.{Right}
 use Rattle.model.proofs.Extends.{Extends, extends-refl}
-use Rattle.model.proofs.Unchanged.{lookup-same}
+use Rattle.model.proofs.Unchanged.{walk-same}
 use Rattle.plain.specs.Registers.{idle, running, hasFrames}
 use Rattle.plain.specs.State.{Plain, objects}
-use Rattle.plain.specs.Calls.{loaded, Begun, begun, declined, begin, Ran, ran, stuck, steps, reachOf, dropped, Call, beginCall, runCall, dropCall, forgetCall, Answer, done, refusedBy, result, wrote, Called, called, impossible, call, afterBegin, afterRun, runIf}
+use Rattle.plain.specs.Calls.{loaded, Begun, begun, declined, begin, Ran, ran, stuck, steps, reachOf, dictionariesOf, dropped, Call, beginCall, runCall, dropCall, forgetCall, Answer, done, refusedBy, result, wrote, Called, called, impossible, call, afterBegin, afterRun, runIf}
 use Rattle.plain.specs.Cache.{emptyCache, cacheFine}
 use Rattle.plain.specs.Flat.{Flat, roomOf, flatObjects, plainOf, framesFrom}
 use Rattle.plain.specs.Check.{check}
@@ -39,7 +39,7 @@ use Rattle.plain.proofs.TurnLaws.{flat-runs}
 number-of : Answer → ℕ
 number-of done = 0
 number-of (refusedBy k) = k
-number-of (result p k v h) = 0
+number-of (result p k v h d) = 0
 number-of (wrote k) = 0
 
 other-number : (a : Answer) (k : ℕ) → (number-of a ≡ k → ⊥) → a ≢ refusedBy k
@@ -54,13 +54,13 @@ keeps o o′ r r′ x =
 
 -- ---- how a run ends
 
-run-ends : (room : Room) (n k reach : ℕ) (p : Plain) → k ≤ n → (p .registers .phase ≡ running → k ≡ n) → (p .registers .phase ≡ idle → ⊥)
-    → (3 ≤ p .registers .phase → Halted room p (p .registers .phase)) → Inside room reach → Stands (room .stack) p
-    → RunEnds room n p (result (p .registers .phase) k (p .registers .value) reach)
-run-ends room n k reach p m w i h x (goes (runs a b f)) = (m, x .stack, x .most, inl (a, w a))
-run-ends room n k reach p m w i h x (goes (ends a b c f)) = (m, x .stack, x .most, inr (inl a))
-run-ends room n k reach p m w i h x (rests a b c f) = absurd (i a)
-run-ends room n k reach p m w i h x (waits a b c f) = (m, x .stack, x .most, inr (inr (h a)))
+run-ends : (room : Room) (n k reach read : ℕ) (p : Plain) → k ≤ n → (p .registers .phase ≡ running → k ≡ n) → (p .registers .phase ≡ idle → ⊥)
+    → (3 ≤ p .registers .phase → Halted room p (p .registers .phase)) → Inside room reach → read ≤ longestChain * k → Stands (room .stack) p
+    → RunEnds room n p (result (p .registers .phase) k (p .registers .value) reach read)
+run-ends room n k reach read p m w i h x few (goes (runs a b f)) = (m, x .stack, x .most, few, inl (a, w a))
+run-ends room n k reach read p m w i h x few (goes (ends a b c f)) = (m, x .stack, x .most, few, inr (inl a))
+run-ends room n k reach read p m w i h x few (rests a b c f) = absurd (i a)
+run-ends room n k reach read p m w i h x few (waits a b c f) = (m, x .stack, x .most, few, inr (inr (h a)))
 
 -- ---- one call
 
@@ -136,7 +136,7 @@ module _ (s : Flat) (right : FlatRight s) where
   unfolding number-of
   begin-agrees receiver selector arguments (begun p′) g =
       leads (beginCall receiver selector arguments) done p′ (laid (s .stack) 0 (p′ .frames)) (s .cache) (g .right) (g .extends) (begin-stood p′ g)
-      (length-laid (s .stack) 0 (p′ .frames)) refl (cache-kept (objects p) (objects p′) (lookup-same (g .extends) (right .plain .image)) (s .cache) cached)
+      (length-laid (s .stack) 0 (p′ .frames)) refl (cache-kept (objects p) (objects p′) (walk-same (g .extends) (right .plain .image)) (s .cache) cached)
       (other-number done 3 (λ e. omega arith)) (other-number done 11 (λ e. omega arith)) tt
   begin-agrees receiver selector arguments (declined k) g = refuses (beginCall receiver selector arguments) k g tt
 
@@ -144,10 +144,10 @@ module _ (s : Flat) (right : FlatRight s) where
   run-agrees : (n : ℕ) → p .registers .phase ≡ running → (x : Ran) → RunGoes room (worlds room) n p (s .stack) (s .cache) x → Both (runCall n) (F.flatAfterRun s x) (afterRun p x)
   unfolding number-of
   run-agrees n i (ran k p′ ts) g =
-      leads (runCall n) (result (p′ .registers .phase) k (p′ .registers .value) (reachOf p ts)) p′ (stackAfter (s .stack) ts) (cacheAfter (s .cache) ts) (g .right) (g .extends) (g .stood)
-      (g .stackLength) (g .cacheLength) (g .cached) (other-number (result (p′ .registers .phase) k (p′ .registers .value) (reachOf p ts)) 3 (λ e. omega arith))
-      (other-number (result (p′ .registers .phase) k (p′ .registers .value) (reachOf p ts)) 11 (λ e. omega arith))
-      (run-ends room n k (reachOf p ts) p′ (g .made) (g .whole) (g .busy (λ e. omega arith)) (g .halts (omega arith)) (g .reach) (g .right .stands))
+      leads (runCall n) (result (p′ .registers .phase) k (p′ .registers .value) (reachOf p ts) (dictionariesOf ts)) p′ (stackAfter (s .stack) ts) (cacheAfter (s .cache) ts) (g .right) (g .extends) (g .stood)
+      (g .stackLength) (g .cacheLength) (g .cached) (other-number (result (p′ .registers .phase) k (p′ .registers .value) (reachOf p ts) (dictionariesOf ts)) 3 (λ e. omega arith))
+      (other-number (result (p′ .registers .phase) k (p′ .registers .value) (reachOf p ts) (dictionariesOf ts)) 11 (λ e. omega arith))
+      (run-ends room n k (reachOf p ts) (dictionariesOf ts) p′ (g .made) (g .whole) (g .busy (λ e. omega arith)) (g .halts (omega arith)) (g .reach) (g .few) (g .right .stands))
   run-agrees n i stuck g = absurd g
 
   run-by : (n : ℕ) (b : Bool) → eqb (s .registers .phase) running ≡ b → Both (runCall n) (F.flatRunIf s n b) (runIf room n p b)

@@ -14,23 +14,9 @@ use Rattle.plain.specs.State.{Frame, movedTo, withTemporaries}
 use Rattle.plain.specs.Flat.{frameSender, frameDepth, frameMethod, frameAt, framesFrom, unlessBottom}
 use Rattle.plain.specs.FlatCalls.{frameImage, laid}
 use Rattle.plain.proofs.FrameLaws.{FrameRight, FramesRight, depth-within}
-use Rattle.plain.proofs.CacheLaws.{sets-other}
+use Rattle.plain.proofs.CacheLaws.{sets-other, sets-at}
 
 -- ---- words written over a list
-
-sets-at : (ws l : List ℕ) (i j : ℕ) → i + length ws ≤ length l → j < length ws → getD (sets l i ws) (i + j) 0 ≡ getD ws j 0
-sets-at [] l i j h k = absurd (omega arith)
-sets-at (w ∷ ws) l i zero h k =
-    ap (λ (x : ℕ). getD (sets (set l i w) (suc i) ws) x 0) (plus-zero i) ∙ sets-other ws (set l i w) (suc i) i (inl (omega arith)) ∙ getD-set-same l i w 0 (omega arith)
-  where
-    plus-zero : (x : ℕ) → x + 0 ≡ x
-    plus-zero x = omega arith
-sets-at (w ∷ ws) l i (suc j) h k =
-    ap (λ (x : ℕ). getD (sets (set l i w) (suc i) ws) x 0) (plus-suc i j)
-    ∙ sets-at ws (set l i w) (suc i) j (subst (λ (n : ℕ). suc i + length ws ≤ n) (sym (length-set l i w)) (omega arith)) (omega arith)
-  where
-    plus-suc : (x y : ℕ) → x + suc y ≡ suc x + y
-    plus-suc x y = omega arith
 
 -- A list that has the words where they are written, and is as before elsewhere
 pub written : (stack s : List ℕ) (t : ℕ) (ws : List ℕ) → length s ≡ length stack → t + length ws ≤ length stack

@@ -5,11 +5,11 @@
 -- plain one, and check accepts it; no call meets a bytecode that pops an empty stack, pushes past a frame, leaves its code or touches what is
 -- not there; a run does all its bytecodes, or finishes, or halts where a listed cause stands: a send that fails, for want of a method or by a super send
 -- of one that can run on the receiver, and whose message is not sent; no boolean for a jump; no room for a frame.
-use Prim.Native.Nat.{ℕ, _≤_, _<_}
+use Prim.Native.Nat.{ℕ, _*_, _≤_, _<_}
 use mathlib.Core.Path.{_≡_}
 use mathlib.Core.Logic.{_⊎_, _≢_}
 use mathlib.Core.List.{List, [], _∷_}
-use Rattle.model.specs.Limits.{entryWords, classKind, mostStackWords}
+use Rattle.model.specs.Limits.{entryWords, classKind, longestChain, mostStackWords}
 use Rattle.model.specs.Objects.{Objects, entryWord, kind, bodyWords, bodyWord}
 use Rattle.model.specs.Lookup.{ReadsFew}
 use Rattle.model.specs.Image.{Room, accepted, loadVerdict}
@@ -28,10 +28,11 @@ use Rattle.plain.specs.FlatCalls.{Given, gives, noAnswer, flatLoad, flat
 abbrev pub Halted : Room → Plain → ℕ → Type 0
 Halted room p phase = (cause : Cause) × (phase ≡ phaseOf cause) × HaltsFor room p cause (p .frames)
 
--- How a run ended, and the state that it left: all n bytecodes made, or finished, or halted for a cause. It stayed inside the stack.
+-- How a run ended, and the state that it left: all n bytecodes made, or finished, or halted for a cause. It stayed inside the stack, and read at most 24
+-- dictionaries for each bytecode, so that 64 bits hold their number.
 abbrev pub RunEnds : Room → ℕ → Plain → Answer → Type 0
-RunEnds room n p (result phase count value reach) =
-    (count ≤ n) × (reach ≤ room .stack) × (reach ≤ mostStackWords) × (((phase ≡ running) × (count ≡ n)) ⊎ ((phase ≡ finished) ⊎ Halted room p phase))
+RunEnds room n p (result phase count value reach dictionaries) =
+    (count ≤ n) × (reach ≤ room .stack) × (reach ≤ mostStackWords) × (dictionaries ≤ longestChain * count) × (((phase ≡ running) × (count ≡ n)) ⊎ ((phase ≡ finished) ⊎ Halted room p phase))
 RunEnds room n p done = ⊥
 RunEnds room n p (refusedBy k) = k ≡ 12
 RunEnds room n p (wrote k) = ⊥
@@ -132,7 +133,7 @@ WritesCache forgetCall = Unit {0}
 abbrev pub IsRefused : Given → Type 0
 IsRefused (gives done s) = ⊥
 IsRefused (gives (refusedBy k) s) = Unit {0}
-IsRefused (gives (result phase count value reach) s) = ⊥
+IsRefused (gives (result phase count value reach dictionaries) s) = ⊥
 IsRefused (gives (wrote k) s) = ⊥
 IsRefused noAnswer = ⊥
 

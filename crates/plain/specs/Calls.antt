@@ -14,7 +14,7 @@ use Rattle.model.specs.Rules.{rule8}
 use Rattle.model.specs.Image.{Room, imageHeader, imageObjects}
 use Rattle.plain.specs.Registers.{idle, running, finished, Cause, phaseOf}
 use Rattle.plain.specs.State.{Frame, Plain, objects, withObjects, withFrames, newFrame, fitsStack}
-use Rattle.plain.specs.Step.{Looked, Stepped, leadsTo, halts, missing, Activation, answered, entered, unfit, activate, step}
+use Rattle.plain.specs.Step.{Looked, readIn, Stepped, leadsTo, halts, missing, Activation, answered, entered, unfit, activate, step}
 
 -- The machine starts with the image's objects and start words, no frames, phase and value 0.
 unfoldable pub loaded : List ℕ → Plain
@@ -112,11 +112,16 @@ unfoldable pub reachOf : Plain → List Taken → ℕ
 reachOf s [] = standingEnd s
 reachOf s (taken l s′ ∷ ts) = max (standingEnd s) (reachOf s′ ts)
 
+-- The dictionaries that the lookups of a run read (02, M-105): the sum over its steps. A send that halts is no step; where object 6 was sent, the step has looked up object 6.
+unfoldable pub dictionariesOf : List Taken → ℕ
+dictionariesOf [] = 0
+dictionariesOf (taken l s ∷ ts) = readIn l + dictionariesOf ts
+
 -- Drop removes the frames.
 unfoldable pub dropped : Plain → Plain
 dropped s = withFrames s [] idle 0 0
 
--- The calls of a list, and their answers. `result` is phase, count, value and reach.
+-- The calls of a list, and their answers. `result` is phase, count, value, reach and dictionaries.
 pub data Call : Type 0 where
   beginCall : ℕ → ℕ → List ℕ → Call
   runCall : ℕ → Call
@@ -126,7 +131,7 @@ pub data Call : Type 0 where
 pub data Answer : Type 0 where
   done : Answer
   refusedBy : ℕ → Answer
-  result : ℕ → ℕ → ℕ → ℕ → Answer
+  result : ℕ → ℕ → ℕ → ℕ → ℕ → Answer
   wrote : ℕ → Answer
 
 -- The answer and the state after the call; nothing where a step that does not exist was met
@@ -140,7 +145,7 @@ afterBegin s (declined k) = called (refusedBy k) s
 
 -- A run from s
 abbrev pub afterRun : Plain → Ran → Called
-afterRun s (ran k s′ ts) = called (result (s′ .registers .phase) k (s′ .registers .value) (reachOf s ts)) s′
+afterRun s (ran k s′ ts) = called (result (s′ .registers .phase) k (s′ .registers .value) (reachOf s ts) (dictionariesOf ts)) s′
 afterRun s stuck = impossible
 
 -- Run is refused by 12 outside phase 1; drop and forget are not refused. A refused call and forget change nothing.

@@ -12,7 +12,7 @@ use Rattle.model.specs.Image.{Verdict, accepted, refused, unless, _then_, buffe
 pub use Rattle.model.specs.Objects.{atFront}
 use Rattle.plain.specs.Registers.{Registers, noRegisters, running}
 use Rattle.plain.specs.State.{Frame, Plain}
-use Rattle.plain.specs.Calls.{loaded, Begun, begun, declined, begin, Ran, ran, stuck, Taken, taken, steps, reachOf}
+use Rattle.plain.specs.Calls.{loaded, Begun, begun, declined, begin, Ran, ran, stuck, Taken, taken, steps, reachOf, dictionariesOf}
 use Rattle.plain.specs.Calls.{dropped, Answer, done, refusedBy, result, wrote, Call, beginCall, runCall, dropCall, forgetCall}
 use Rattle.plain.specs.Cache.{filled, emptyCache}
 use Rattle.plain.specs.Flat.{Flat, roomOf, flatObjects, plainOf}
@@ -60,10 +60,10 @@ flatAfterBegin s (declined k) = gives (refusedBy k) s
 unfoldable pub flatBegin : Flat → ℕ → ℕ → List ℕ → Given
 flatBegin s receiver selector arguments = checked s (check s) (flatAfterBegin s (begin (roomOf s) (plainOf s) receiver selector arguments))
 
--- Run: phase, count, value and reach
+-- Run: phase, count, value, reach and dictionaries
 abbrev pub flatAfterRun : Flat → Ran → Given
 flatAfterRun s (ran k p ts) =
-    gives (result (p .registers .phase) k (p .registers .value) (reachOf (plainOf s) ts)) (withPlain s p (stackAfter (s .stack) ts) (cacheAfter (s .cache) ts))
+    gives (result (p .registers .phase) k (p .registers .value) (reachOf (plainOf s) ts) (dictionariesOf ts)) (withPlain s p (stackAfter (s .stack) ts) (cacheAfter (s .cache) ts))
 flatAfterRun s stuck = noAnswer
 
 abbrev pub flatRunIf : Flat → ℕ → Bool → Given

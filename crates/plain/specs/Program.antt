@@ -26,7 +26,7 @@ lineOfLoad room s (refused k) = refusal k
 
 -- room for every image, and a stack of 1,024 words
 abbrev pub step80Room : Room
-step80Room = record { contents = 8188; bodies = 24000; stack = 1024; cache = 192 }
+step80Room = record { contents = 8188; bodies = 24000; stack = 1024; cache = 256 }
 
 unfoldable pub step80 : List ℕ → Line
 step80 bytes = lineOfLoad step80Room (loaded bytes) (loadVerdict step80Room bytes)

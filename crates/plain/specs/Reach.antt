@@ -12,26 +12,26 @@ use Rattle.plain.specs.Check.{check}
 use Rattle.plain.specs.FlatCalls.{Given, gives, noAnswer, flatLoad, flatRun}
 use Rattle.plain.specs.CallLists.{nextState, Same}
 
--- The answer of a run behind one that made k bytecodes and has reach h, as that of both
-abbrev pub added : ℕ → ℕ → Given → Given
-added k h (gives done s) = gives done s
-added k h (gives (refusedBy i) s) = gives (refusedBy i) s
-added k h (gives (result phase count value reach) s) = gives (result phase (k + count) value (max h reach)) s
-added k h (gives (wrote i) s) = gives (wrote i) s
-added k h noAnswer = noAnswer
+-- The answer of a run behind one that made k bytecodes, has reach h and read d dictionaries, as that of both
+abbrev pub added : ℕ → ℕ → ℕ → Given → Given
+added k h d (gives done s) = gives done s
+added k h d (gives (refusedBy i) s) = gives (refusedBy i) s
+added k h d (gives (result phase count value reach dictionaries) s) = gives (result phase (k + count) value (max h reach) (d + dictionaries)) s
+added k h d (gives (wrote i) s) = gives (wrote i) s
+added k h d noAnswer = noAnswer
 
--- A run of m bytecodes whose handler is still running and a run of n behind it are one run of m + n: the state is the same, the bytecodes made are
--- added up, and reach is the larger of the two.
+-- A run of m bytecodes whose handler is still running and a run of n behind it are one run of m + n: the state is the same, the bytecodes made and
+-- the dictionaries read are added up, and reach is the larger of the two.
 abbrev pub Continues : Type 0
 Continues =
-    (s s₁ : Flat) (m n count value reach : ℕ) → check s ≡ accepted → flatRun s m ≡ gives (result running count value reach) s₁
-    → flatRun s (m + n) ≡ added count reach (flatRun s₁ n)
+    (s s₁ : Flat) (m n count value reach dictionaries : ℕ) → check s ≡ accepted → flatRun s m ≡ gives (result running count value reach dictionaries) s₁
+    → flatRun s (m + n) ≡ added count reach dictionaries (flatRun s₁ n)
 
 -- The reach of an answer, 0 where it has none
 abbrev pub reachIn : Given → ℕ
 reachIn (gives done s) = 0
 reachIn (gives (refusedBy i) s) = 0
-reachIn (gives (result phase count value reach) s) = reach
+reachIn (gives (result phase count value reach dictionaries) s) = reach
 reachIn (gives (wrote i) s) = 0
 reachIn noAnswer = 0
 
@@ -59,7 +59,7 @@ withStack room k = record { contents = room .contents; bodies = room .bodies; st
 abbrev pub Within : Room → ℕ → Called → Type 0
 Within room k (called done p) = standingEnd p ≤ k
 Within room k (called (refusedBy i) p) = i ≡ 13 → k ≤ room .stack
-Within room k (called (result phase count value reach) p) = (reach ≤ k) × (phase ≡ phaseOf noStackRoom → k ≤ room .stack)
+Within room k (called (result phase count value reach dictionaries) p) = (reach ≤ k) × (phase ≡ phaseOf noStackRoom → k ≤ room .stack)
 Within room k (called (wrote i) p) = ⊥
 Within room k impossible = ⊥
 

@@ -17,7 +17,7 @@ use Rattle.model.specs.Rules.{Right, takesCount, methodTable}
 use Rattle.model.specs.Image.{Room}
 use Rattle.plain.specs.Registers.{Registers, running, finished}
 use Rattle.plain.specs.State.{Frame, Plain}
-use Rattle.plain.specs.Step.{Looked, noLookup, Stepped, leadsTo, afterLookup, failed, popped, step}
+use Rattle.plain.specs.Step.{Looked, noLookup, readIn, Stepped, leadsTo, afterLookup, failed, popped, step}
 use Rattle.plain.specs.Flat.{frameSender, framePosition, frameDepth, frameMethod, operandsStart, frameAt, unlessBottom, framesFrom}
 use Rattle.plain.specs.Check.{framesFine}
 use Rattle.plain.specs.Cache.{filled}
@@ -78,11 +78,12 @@ abbrev pub Moved : ℕ → ℕ → ℕ → List ℕ → List ℕ → List ℕ �
 Moved n b top contents bodies stack bodies′ stack′ =
     (e receiver selector : ℕ) (room : Room) → Moves room (runningAt e receiver selector n b top contents bodies stack) bodies stack bodies′ stack′
 
--- Any bytecode that was made: the registers and the buffers after it
-pub record Made (x : Stepped) (r : Registers) (contents bodies stack cache contents′ bodies′ stack′ cache′ : List ℕ) : Type 0 where
+-- Any bytecode that was made: the dictionaries that its lookup read, the registers and the buffers after it
+pub record Made (x : Stepped) (read : ℕ) (r : Registers) (contents bodies stack cache contents′ bodies′ stack′ cache′ : List ℕ) : Type 0 where
   pub state : Plain
   pub lookup : Looked
   pub steps : x ≡ leadsTo state lookup
+  pub reads : readIn lookup ≡ read
   pub registers : state .registers ≡ r
   pub entries : contents′ ≡ atFront (state .contents) contents
   pub words : bodies′ ≡ atFront (state .bodies) bodies

@@ -21,7 +21,7 @@ use Rattle.model.specs.Limits.{hasMessages, fieldsKind, receiverFlag, fieldFlag
 use Rattle.model.specs.Word.{booleanWord, objectNumber, failureSelector}
 use Rattle.model.specs.Objects.{Objects, classOf, size, bodyWord, superclassWord, isKind}
 use Rattle.model.specs.Method.{home, flag, temporaryCount, literalCount, literal, codeWords, codeSize, frameWords, frameSize, primitiveNumber, argumentCount}
-use Rattle.model.specs.Lookup.{lookup, inChain}
+use Rattle.model.specs.Lookup.{lookup, dictionariesRead, inChain}
 use Rattle.model.specs.Rules.{specialSelector, isSame, isClass}
 use Rattle.model.specs.Image.{Room}
 use Rattle.model.specs.Arithmetic.{arithmetic}
@@ -29,10 +29,19 @@ use Rattle.model.specs.Primitive.{Outcome, answers, fails, primitive, storeWord
 use Rattle.plain.specs.Registers.{running, finished, Cause, notUnderstood, noBoolean, noStackRoom}
 use Rattle.plain.specs.State.{Frame, Plain, objects, withObjects, withFrames, movedTo, withTemporaries, newFrame, fitsStack}
 
--- What a step looked up: nothing, or a selector and a class with the method found. The cache is filled by it.
+-- What a step looked up: nothing, or a selector and a class with the method found and the number of dictionaries read (02, M-105). The cache is filled by it.
 pub data Looked : Type 0 where
   noLookup : Looked
-  looked : ℕ → ℕ → ℕ → Looked
+  looked : ℕ → ℕ → ℕ → ℕ → Looked
+
+-- The dictionaries that it read: none where nothing was looked up
+abbrev pub readIn : Looked → ℕ
+readIn noLookup = 0
+readIn (looked s c m k) = k
+
+-- A lookup that found a method
+abbrev pub lookedUp : Objects → ℕ → ℕ → ℕ → Looked
+lookedUp o s c m = looked s c m (dictionariesRead o s c)
 
 -- A step leads to a state; or halts, which leaves the state before the bytecode; or does not exist.
 pub data Stepped : Type 0 where
@@ -164,7 +173,7 @@ abbrev pub resent : Room → Plain → Frame → List Frame → ℕ → ℕ → 
 resent room s f rest selector class receiver arguments Nothing = halts notUnderstood
 resent room s f rest selector class receiver arguments (Method m) =
     if hasMessageRoom room (objects s) (length arguments)
-    then activated room (messaged s selector arguments) f rest (m .0) receiver (messageWord (objects s) ∷ []) (looked failureSelector class (m .0)) (halts notUnderstood)
+    then activated room (messaged s selector arguments) f rest (m .0) receiver (messageWord (objects s) ∷ []) (lookedUp (objects s) failureSelector class (m .0)) (halts notUnderstood)
     (activate (s .registers .edition) room (messageMade (objects s) selector arguments) (m .0) receiver (messageWord (objects s) ∷ []))
     else halts notUnderstood
 
@@ -179,7 +188,7 @@ failed room s f rest selector class receiver arguments =
 abbrev pub afterLookup : Room → Plain → Frame → List Frame → ℕ → ℕ → ℕ → List ℕ → Found → Stepped
 afterLookup room s f rest selector class receiver arguments Nothing = failed room s f rest selector class receiver arguments
 afterLookup room s f rest selector class receiver arguments (Method m) =
-    activated room s f rest (m .0) receiver arguments (looked selector class (m .0)) (failed room s f rest selector class receiver arguments)
+    activated room s f rest (m .0) receiver arguments (lookedUp (objects s) selector class (m .0)) (failed room s f rest selector class receiver arguments)
     (activate (s .registers .edition) room (objects s) (m .0) receiver arguments)
 
 -- The frame at its next position without the k uppermost operands

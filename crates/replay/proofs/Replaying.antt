@@ -23,7 +23,7 @@ use Rattle.loads.specs.declared.Loaded.the-variants as L
 is-done : Given → Type 0
 is-done (gives done s) = Unit {0}
 is-done (gives (refusedBy k) s) = ⊥
-is-done (gives (result p k v h) s) = ⊥
+is-done (gives (result p k v h d) s) = ⊥
 is-done (gives (wrote k) s) = ⊥
 is-done noAnswer = ⊥
 

@@ -1,7 +1,8 @@
 -- How the run loop ends, from a state in phase 1 given by N, B, top and the lent words.
-use Prim.Native.Nat.{ℕ, _-_, _≤_, _<_}
+use Prim.Native.Nat.{ℕ, _*_, _-_, _/_, _%_, _≤_, _<_}
 use mathlib.Core.Path.{_≡_}
 use mathlib.Core.List.{List}
+use Rattle.model.specs.Limits.{longestChain}
 use Rattle.model.specs.Image.{accepted}
 use Rattle.plain.specs.Step.{step}
 use Rattle.plain.specs.Flat.{Flat, flat}
@@ -23,6 +24,13 @@ abbrev pub endedWith : (e receiver selector : ℕ) → Ended → R.Registers
 endedWith e receiver selector r =
     record { n = r .n; b = r .b; startReceiver = receiver; startSelector = selector; phase = r .phase; top = r .top; value = r .value; edition = e }
 
+-- The two numbers of the loop's tally
+abbrev pub reachIn : ℕ → ℕ
+reachIn tally = tally % 131072
+
+abbrev pub dictionariesIn : ℕ → ℕ
+dictionariesIn tally = tally / 131072
+
 -- Check accepts the state, with some start words.
 pub record Goes (e n b top : ℕ) (contents bodies stack cache : List ℕ) : Type 0 where
   pub receiver : ℕ
@@ -31,13 +39,14 @@ pub record Goes (e n b top : ℕ) (contents bodies stack cache : List ℕ) : Typ
 
 -- The run from s ended so.
 pub record RunsTo (s : Flat) (grant e receiver selector : ℕ) (contents bodies stack cache : List ℕ) (r : Ended) : Type 0 where
-  pub gave : gives (result (r .phase) (r .count) (r .value) (r .reach)) (flat (endedWith e receiver selector r) contents bodies stack cache) ≡ runsFrom grant 0 0 s
+  pub gave : gives (result (r .phase) (r .count) (r .value) (r .reach) (r .dictionaries)) (flat (endedWith e receiver selector r) contents bodies stack cache) ≡ runsFrom grant 0 0 0 s
   pub within : r .count ≤ grant
   pub small : r .reach ≤ 65536
+  pub few : r .dictionaries ≤ longestChain * r .count
 
 -- The run from s came to a send that failed, with so many bytecodes left: its step is that of its message.
-pub record RunsFail (s : Flat) (grant e receiver selector : ℕ) (contents bodies stack cache : List ℕ) (m : Message) (n b top left reach : ℕ) : Type 0 where
-  pub turn : Turn s grant (startOf e receiver selector n b top contents bodies stack cache) (grant - left) reach
+pub record RunsFail (s : Flat) (grant e receiver selector : ℕ) (contents bodies stack cache : List ℕ) (m : Message) (n b top left reach read : ℕ) : Type 0 where
+  pub turn : Turn s grant (startOf e receiver selector n b top contents bodies stack cache) (grant - left) reach read
   pub sending : Sending n b top contents bodies stack (m .selector) (m .count) (m .class .0) (m .next .0) (m .sure)
   pub steps : step (roomAt contents bodies stack cache) (runningAt e receiver selector n b top contents bodies stack)
       ≡ failedStep (roomAt contents bodies stack cache) e receiver selector n b top contents bodies stack (m .selector) (m .count) (m .class .0) (m .next .0)
@@ -47,8 +56,8 @@ pub record RunsFail (s : Flat) (grant e receiver selector : ℕ) (contents bodie
 
 abbrev pub StretchedIs : (s : Flat) (grant e receiver selector : ℕ) (contents bodies stack cache : List ℕ) → Stretched → Type 0
 StretchedIs s grant e receiver selector contents bodies stack cache (Over r) = RunsTo s grant e receiver selector contents bodies stack cache r
-StretchedIs s grant e receiver selector contents bodies stack cache (Failed m n b top left reach) =
-    RunsFail s grant e receiver selector contents bodies stack cache m n b (top .0) left reach
+StretchedIs s grant e receiver selector contents bodies stack cache (Failed m n b top left reach read) =
+    RunsFail s grant e receiver selector contents bodies stack cache m n b (top .0) left reach read
 
 -- With all start words that check accepts
 abbrev pub StretchesOn : (e n b top : ℕ) (contents bodies stack cache : List ℕ) (grant : ℕ) (contents′ bodies′ stack′ cache′ : List ℕ) → Stretched → Type 0

@@ -1,16 +1,17 @@
 // The run loop, over N, B, top and the lent words. The start words are none of its business: what it promises holds for all of them.
 ghost use mathlib.Core.Path.{_≡_};
-ghost use Prim.Native.Nat.{_≤_, max};
+ghost use Prim.Native.Nat.{_+_, _≤_, _<_, max};
+ghost use Rattle.model.specs.Limits.{longestChain};
 ghost use Rattle.plain.specs.Running.{Runs};
 ghost use Rattle.frames.specs.Active.{frameEnd};
-ghost use Rattle.runs.specs.Ends.{Goes, StretchesOn};
+ghost use Rattle.runs.specs.Ends.{reachIn, dictionariesIn, Goes, StretchesOn};
 use frames::Message;
 use interpreter::Advanced;
 use model::Pointer;
 use model::StackPosition;
 use model::limits;
 
-// How a run ended: the registers but for the start words, the bytecodes made, and reach, the largest end of a frame that stood in it.
+// How a run ended: the registers but for the start words, the bytecodes made, reach, the largest end of a frame that stood in it, and the dictionaries that its lookups read.
 pub struct Ended {
     pub n: u16,
     pub b: u16,
@@ -19,9 +20,10 @@ pub struct Ended {
     pub value: u16,
     pub count: u32,
     pub reach: usize,
+    pub dictionaries: u64,
 }
 
-// How a stretch of a run ended: with the run, or at a send that failed, with so many bytecodes left and reach so far.
+// How a stretch of a run ended: with the run, or at a send that failed, with so many bytecodes left, reach and dictionaries so far.
 pub enum Stretched {
     Over(Ended),
     Failed {
@@ -31,6 +33,7 @@ pub enum Stretched {
         top: StackPosition,
         left: u32,
         reach: usize,
+        dictionaries: u64,
     },
 }
 
@@ -60,6 +63,29 @@ pub fn higher(reach: usize, end: usize) -> usize
     reach
 }
 
+// What the tally of a run holds: reach so far, and so many times the dictionaries read so far. In one number, since a loop that carries one more takes longer at every bytecode.
+const TALLY: usize = 131072;
+
+// The tally where a frame ends there.
+fn raised(tally: usize, end: usize) -> usize
+    requires { ⌜ (end ≤ 65536) × (tally < 9223372036854775808) ⌝ }
+    ensures { λ r. ⌜ (reachIn r ≡ max (reachIn tally) end) × (dictionariesIn r ≡ dictionariesIn tally) ⌝ }
+{
+    let reach = tally % TALLY;
+    if reach < end {
+        return tally + (end - reach);
+    }
+    tally
+}
+
+// The tally with so many dictionaries more.
+fn counted(tally: usize, read: usize) -> usize
+    requires { ⌜ (tally < 9223372036854775808) × (read ≤ longestChain) ⌝ }
+    ensures { λ r. ⌜ (reachIn r ≡ reachIn tally) × (dictionariesIn r ≡ dictionariesIn tally + read) ⌝ }
+{
+    tally + TALLY * read
+}
+
 // A run of at most so many bytecodes, from a state in phase 1 that check accepts, up to the first send that fails.
 pub fn stretch(
     contents: &mut [u16],
@@ -80,7 +106,7 @@ pub fn stretch(
     let mut words = b;
     let start = StackPosition(top);
     let mut left = grant;
-    let mut reach = frame_end(contents, bodies, stack, objects, words, start);
+    let mut tally = frame_end(contents, bodies, stack, objects, words, start);
     let mut active = frames::hold(contents, bodies, stack, objects, words, start);
     while 0 < left {
         match interpreter::advance(
@@ -103,16 +129,23 @@ pub fn stretch(
                 b: longer,
                 position,
                 end,
+                dictionaries: read,
             } => {
                 objects = grown;
                 words = longer;
+                tally = counted(tally, read);
                 active.position = position;
                 active.end = end;
                 left -= 1;
             }
-            Advanced::Top { frame, end } => {
+            Advanced::Top {
+                frame,
+                end,
+                dictionaries: read,
+            } => {
                 active = frame;
-                reach = higher(reach, end);
+                let highest = raised(tally, end);
+                tally = counted(highest, read);
                 left -= 1;
             }
             Advanced::Below(frame) => {
@@ -127,7 +160,8 @@ pub fn stretch(
                     top: 0,
                     value: w,
                     count: grant - left + 1,
-                    reach: reach,
+                    reach: tally % TALLY,
+                    dictionaries: (tally / TALLY) as u64,
                 });
             }
             Advanced::Failed(message) => {
@@ -138,7 +172,8 @@ pub fn stretch(
                     b: words,
                     top: base,
                     left: left,
-                    reach: reach,
+                    reach: tally % TALLY,
+                    dictionaries: (tally / TALLY) as u64,
                 };
             }
             Advanced::Halted(k) => {
@@ -149,7 +184,8 @@ pub fn stretch(
                     top: active.base.0 as u16,
                     value: 0,
                     count: grant - left,
-                    reach: reach,
+                    reach: tally % TALLY,
+                    dictionaries: (tally / TALLY) as u64,
                 });
             }
         }
@@ -162,6 +198,7 @@ pub fn stretch(
         top: active.base.0 as u16,
         value: 0,
         count: grant,
-        reach: reach,
+        reach: tally % TALLY,
+        dictionaries: (tally / TALLY) as u64,
     })
 }

@@ -12,9 +12,10 @@ use Rattle.bytecode.proofs.TestLaws.{true→T}
 use Rattle.model.specs.Word.{isValid}
 use Rattle.model.specs.Objects.{Objects, objectsAt, classOf, part}
 use Rattle.model.specs.Method.{home, frameSize}
-use Rattle.model.specs.Lookup.{found, lookup, inChain}
+use Rattle.model.specs.Lookup.{found, lookup, dictionariesRead, inChain}
 use Rattle.model.specs.declared.Found.the-variants.{Nothing}
 use Rattle.model.specs.Image.{Room}
+use Rattle.model.proofs.LookupLaws.{read-few}
 use Rattle.plain.specs.Registers.{noStackRoom}
 use Rattle.plain.specs.Step.{looked, Stepped, Activation, entered, unfit, entering, activate}
 use Rattle.plain.specs.Flat.{frameDepth, frameMethod, operandsStart}
@@ -103,6 +104,10 @@ module _ {n b : ℕ} {contents bodies stack : List ℕ} {a : Active} {q : Messag
         stays = record { entries = refl; words = refl; frames = refl; cached = refl };
       }
 
+  -- how many dictionaries the lookup read, for the cache
+  pub read-fits : {d : ℕ} → d ≡ dictionariesRead o (q .selector) (q .class .0) → d < 65536
+  read-fits e = let l = read-few o (q .selector) (q .class .0) in omega arith
+
   module _ (m : ℕ) (e : lookup o (q .selector) (q .class .0) ≡ found m) where
     pub activable : Activable n b contents bodies m (getD stack place 0)
     activable =
@@ -125,16 +130,16 @@ module _ {n b : ℕ} {contents bodies stack : List ℕ} {a : Active} {q : Messag
       by-case y p = subst (ActivatedIs activation (entering o m receiver) contents bodies contents′ bodies′) p is-activated
 
       -- an answer
-      pub made-answer : (w n′ b′ : ℕ) (stack′ cache′ : List ℕ) → x ≡ Answer w n′ b′ → stack′ ≡ set stack place w → cache′ ≡ filled cache (looked (q .selector) (q .class .0) m)
-          → (receiver₀ selector₀ : ℕ)
-          → Made (step cache edition receiver₀ selector₀) (runningWith edition receiver₀ selector₀ n′ b′ top) contents bodies v cache contents′ bodies′ (written (behindSend a q) stack′) cache′
+      pub made-answer : (w n′ b′ : ℕ) {d : ℕ} (stack′ cache′ : List ℕ) → d ≡ dictionariesRead o (q .selector) (q .class .0) → x ≡ Answer w n′ b′ → stack′ ≡ set stack place w
+          → cache′ ≡ filled cache (looked (q .selector) (q .class .0) m d) → (receiver₀ selector₀ : ℕ)
+          → Made (step cache edition receiver₀ selector₀) d (runningWith edition receiver₀ selector₀ n′ b′ top) contents bodies v cache contents′ bodies′ (written (behindSend a q) stack′) cache′
           × Onward a stack stack′ (a .end .0 - count)
-      made-answer w n′ b′ stack′ cache′ p es ek receiver₀ selector₀ =
+      made-answer w n′ b′ stack′ cache′ read p es ek receiver₀ selector₀ =
           let y : Answers activation w n′ b′ contents bodies contents′ bodies′ = by-case (Answer w n′ b′) p in
           let k = sent-needs in
           let z = ends r in
           let i : a .end .0 - count - a .operands .0 ≡ frameDepth v top - suc count + 1 = one-more (a .end .0) count (a .operands .0) k ∙ ap (λ (t : ℕ). t + 1) left-is in (
-            answered-made s room edition receiver₀ selector₀ m e cache w n′ b′ (y .after) contents′ bodies′ (written (behindSend a q) stack′) cache′ (y .answer) (y .count) (y .size)
+            answered-made s room edition receiver₀ selector₀ m e read cache w n′ b′ (y .after) contents′ bodies′ (written (behindSend a q) stack′) cache′ (y .answer) (y .count) (y .size)
                 (y .entries) (y .words)
                 (ap (written (behindSend a q)) es ∙ puts a stack place w (omega arith) (q .next) (record { 0 = a .end .0 - count })
                 ∙ ap₂ (λ (u t : ℕ). set (set (set v u w) (top + 1) (q .next .0)) (top + 2) t) place-is i) ek,
@@ -250,11 +255,11 @@ module _ {n b : ℕ} {contents bodies stack : List ℕ} {a : Active} {q : Messag
                   method : frameMethod stack′ (f .base .0) ≡ m
                   method = new-method n b contents bodies (frame-at .fresh) moved stack′ top (getD stack place 0) temporaries (part stack (place + 1) count) es room-there
 
-              pub made-frame : cache′ ≡ filled cache (looked (q .selector) (q .class .0) m) → (receiver₀ selector₀ : ℕ)
-                  → Made (step cache edition receiver₀ selector₀) (runningWith edition receiver₀ selector₀ n b (f .base .0)) contents bodies v cache contents′ bodies′ stack′ cache′
+              pub made-frame : {d : ℕ} → d ≡ dictionariesRead o (q .selector) (q .class .0) → cache′ ≡ filled cache (looked (q .selector) (q .class .0) m d) → (receiver₀ selector₀ : ℕ)
+                  → Made (step cache edition receiver₀ selector₀) d (runningWith edition receiver₀ selector₀ n b (f .base .0)) contents bodies v cache contents′ bodies′ stack′ cache′
                   × Held n b (f .base .0) contents′ bodies′ stack′ f × (end ≡ frameEnd n b (f .base .0) contents′ bodies′ stack′)
-              made-frame ek receiver₀ selector₀ = (
-                entered-made s room edition receiver₀ selector₀ m e cache (f .base .0) contents′ bodies′ stack′ cache′ (frame-at .above) (enters (frame-at .chain)) (frame-at .fits)
+              made-frame read ek receiver₀ selector₀ = (
+                entered-made s room edition receiver₀ selector₀ m e read cache (f .base .0) contents′ bodies′ stack′ cache′ (frame-at .above) (enters (frame-at .chain)) (frame-at .fits)
                     (leaves .entries) (leaves .words)
                     (es ∙ (λ i. sets (moved-is i) (f .base .0) (newWords top m (receiver-read i) (frame-at .holds i) (arguments-read i)))) ek,
                 held,

@@ -81,13 +81,14 @@ pub record Fails (x y : Stepped) (contents bodies stack cache contents′ bodies
 abbrev pub behindSend : Active → Message → Active
 behindSend a m = movedOn a (m .next) (record { 0 = a .end .0 - m .count })
 
--- What a send by the frame that the loop holds leads to, of which x is the step, and y that of its message
+-- What a send by the frame that the loop holds leads to, of which x is the step, and y that of its message. Where it is made, it says how many dictionaries its lookup
+-- read.
 abbrev pub SentIs : Stepped → Stepped → ℕ → ℕ → ℕ → ℕ → ℕ → Active → Message → List ℕ → List ℕ → List ℕ → List ℕ → List ℕ → List ℕ → List ℕ → List ℕ → Sent → Type 0
-SentIs x y e receiver selector n b a m contents bodies stack cache contents′ bodies′ stack′ cache′ (Answered n′ b′) =
-    Made x (runningWith e receiver selector n′ b′ (a .base .0)) contents bodies (written a stack) cache contents′ bodies′ (written (behindSend a m) stack′) cache′
+SentIs x y e receiver selector n b a m contents bodies stack cache contents′ bodies′ stack′ cache′ (Answered n′ b′ read) =
+    Made x read (runningWith e receiver selector n′ b′ (a .base .0)) contents bodies (written a stack) cache contents′ bodies′ (written (behindSend a m) stack′) cache′
     × Onward a stack stack′ (a .end .0 - m .count)
-SentIs x y e receiver selector n b a m contents bodies stack cache contents′ bodies′ stack′ cache′ (Entered f end) =
-    Made x (runningWith e receiver selector n b (f .base .0)) contents bodies (written a stack) cache contents′ bodies′ stack′ cache′
+SentIs x y e receiver selector n b a m contents bodies stack cache contents′ bodies′ stack′ cache′ (Entered f end read) =
+    Made x read (runningWith e receiver selector n b (f .base .0)) contents bodies (written a stack) cache contents′ bodies′ stack′ cache′
     × Held n b (f .base .0) contents′ bodies′ stack′ f
     × (end ≡ frameEnd n b (f .base .0) contents′ bodies′ stack′)
 SentIs x y e receiver selector n b a m contents bodies stack cache contents′ bodies′ stack′ cache′ Full =

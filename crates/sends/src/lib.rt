@@ -33,11 +33,19 @@ enum Base {
     Unfit,
 }
 
-// What a send leads to: an answer, with the number of objects and body words then; a new top frame, and where it ends; or a halt, with the
+// What a send leads to: an answer, with the number of objects and body words then; a new top frame, and where it ends; either with the dictionaries that its lookup read; or a halt, with the
 // phase that says why.
 pub enum Sent {
-    Answered { n: usize, b: usize },
-    Entered { frame: Active, end: usize },
+    Answered {
+        n: usize,
+        b: usize,
+        dictionaries: usize,
+    },
+    Entered {
+        frame: Active,
+        end: usize,
+        dictionaries: usize,
+    },
     Full,
     Failed,
 }
@@ -211,7 +219,9 @@ pub fn send(
     let selector = message.selector;
     let class = message.class;
     let count = message.count;
-    let found = cache::cached(contents, bodies, cache, n, b, selector, class);
+    let lookup = cache::cached(contents, bodies, cache, n, b, selector, class);
+    let found = lookup.found;
+    let dictionaries = lookup.dictionaries;
     let Found::Method(method) = found else {
         return Sent::Failed;
     };
@@ -227,10 +237,11 @@ pub fn send(
             b: words,
         } => {
             stack[place] = word;
-            cache::fill(cache, selector, class, method);
+            cache::fill(cache, selector, class, method, dictionaries);
             Sent::Answered {
                 n: objects,
                 b: words,
+                dictionaries: dictionaries,
             }
         }
         Activated::Unfit => Sent::Failed,
@@ -266,10 +277,11 @@ pub fn send(
                         place + 1,
                         count,
                     );
-                    cache::fill(cache, selector, class, method);
+                    cache::fill(cache, selector, class, method, dictionaries);
                     Sent::Entered {
                         frame: frame,
                         end: end,
+                        dictionaries: dictionaries,
                     }
                 }
                 Base::Full => Sent::Full,

@@ -144,32 +144,33 @@ module _ (words contents bodies stack cache : List ℕ) (b : Registers) (t : reg
         go (suc k) p = (p, refl)
 
   module _ (n : ℕ) (contents′ bodies′ stack′ cache′ words′ : List ℕ) (x : Ran) (e : runGives x contents′ bodies′ stack′ cache′ ≡ flatRun (state b contents bodies stack cache) n)
-      (count reach : ℕ) where
+      (count reach dictionaries : ℕ) where
     e₀ : runGives x contents′ bodies′ stack′ cache′ ≡ flatRun (stateOf words contents bodies stack cache) n
     e₀ = e ∙ ap (λ (s : Flat). flatRun s n) same
 
-    pub run-done : (r : Registers) (made highest : ℕ) → x ≡ N.Done r made highest → registersAt words′ ≡ registersOf r
-        → (gives (runAnswer 0 (registersAt words′) made highest) (stateOf words′ contents′ bodies′ stack′ cache′) ≡ flatRun (stateOf words contents bodies stack cache) n)
-        × KeptIfRefused 0 count made × KeptIfRefused 0 reach highest
+    pub run-done : (r : Registers) (made highest read : ℕ) → x ≡ N.Done r made highest read → registersAt words′ ≡ registersOf r
+        → (gives (runAnswer 0 (registersAt words′) made highest read) (stateOf words′ contents′ bodies′ stack′ cache′) ≡ flatRun (stateOf words contents bodies stack cache) n)
+        × KeptIfRefused 0 count made × KeptIfRefused 0 reach highest × KeptIfRefused 0 dictionaries read
     unfolding runGives
-    run-done r made highest q p = (
-      (λ i. gives (result (p i .phase) made (p i .value) highest) (flat (p i) contents′ bodies′ stack′ cache′))
+    run-done r made highest read q p = (
+      (λ i. gives (result (p i .phase) made (p i .value) highest read) (flat (p i) contents′ bodies′ stack′ cache′))
           ∙ ap (λ (y : Ran). runGives y contents′ bodies′ stack′ cache′) (sym q) ∙ e₀,
+      tt,
       tt,
       tt,
     )
 
     pub run-refused : (k : ℕ) (r : Registers) → x ≡ N.Refused k r → registersAt words′ ≡ registersOf r
-        → (gives (runAnswer k (registersAt words′) count reach) (stateOf words′ contents′ bodies′ stack′ cache′) ≡ flatRun (stateOf words contents bodies stack cache) n)
-        × KeptIfRefused k count count × KeptIfRefused k reach reach
+        → (gives (runAnswer k (registersAt words′) count reach dictionaries) (stateOf words′ contents′ bodies′ stack′ cache′) ≡ flatRun (stateOf words contents bodies stack cache) n)
+        × KeptIfRefused k count count × KeptIfRefused k reach reach × KeptIfRefused k dictionaries dictionaries
     unfolding runGives
     run-refused k r q p = go k (placed contents′ bodies′ stack′ cache′ p ∙ ap (λ (y : Ran). runGives y contents′ bodies′ stack′ cache′) (sym q) ∙ e₀)
       where
         go : (k : ℕ) → gives (refusedBy k) (stateOf words′ contents′ bodies′ stack′ cache′) ≡ flatRun (stateOf words contents bodies stack cache) n
-            → (gives (runAnswer k (registersAt words′) count reach) (stateOf words′ contents′ bodies′ stack′ cache′) ≡ flatRun (stateOf words contents bodies stack cache) n)
-            × KeptIfRefused k count count × KeptIfRefused k reach reach
+            → (gives (runAnswer k (registersAt words′) count reach dictionaries) (stateOf words′ contents′ bodies′ stack′ cache′) ≡ flatRun (stateOf words contents bodies stack cache) n)
+            × KeptIfRefused k count count × KeptIfRefused k reach reach × KeptIfRefused k dictionaries dictionaries
         go zero g = absurd (let h : 1 ≤ 0 = subst NumberedIn (sym g) (run-number (stateOf words contents bodies stack cache) n) in omega arith)
-        go (suc k) g = (g, refl, refl)
+        go (suc k) g = (g, refl, refl, refl)
 
   module _ (calls answers contents′ bodies′ stack′ cache′ answers′ words′ : List ℕ) (x : Played)
       (e : PromisedPlay (state b contents bodies stack cache) calls answers x contents′ bodies′ stack′ cache′ answers′) (before : ℕ) where

@@ -27,7 +27,7 @@ use Rattle.calls.specs.Plays.{Played, played, unplayed, playIf, flatPlay}
 abbrev pub Numbered : Answer → Type 0
 Numbered done = Unit {0}
 Numbered (refusedBy k) = 1 ≤ k
-Numbered (result p k v h) = Unit {0}
+Numbered (result p k v h d) = Unit {0}
 Numbered (wrote k) = Unit {0}
 
 abbrev pub NumberedIn : Given → Type 0

@@ -31,10 +31,10 @@ abbrev pub KeptIfRefused : ℕ → ℕ → ℕ → Type 0
 KeptIfRefused zero before after = Unit {0}
 KeptIfRefused (suc k) before after = after ≡ before
 
--- Run: phase and value are in the registers, count and reach are written.
-abbrev pub runAnswer : ℕ → Registers → (count reach : ℕ) → Answer
-runAnswer zero r count reach = result (r .phase) count (r .value) reach
-runAnswer (suc k) r count reach = refusedBy (suc k)
+-- Run: phase and value are in the registers, count, reach and dictionaries are written.
+abbrev pub runAnswer : ℕ → Registers → (count reach dictionaries : ℕ) → Answer
+runAnswer zero r count reach dictionaries = result (r .phase) count (r .value) reach dictionaries
+runAnswer (suc k) r count reach dictionaries = refusedBy (suc k)
 
 -- Save: the length is written.
 abbrev pub saveAnswer : ℕ → ℕ → Answer

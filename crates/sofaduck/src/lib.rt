@@ -122,11 +122,13 @@ pub extern "C" fn sofaduck_run(
     grant: u32,
     count: &mut u32,
     reach: &mut u32,
+    dictionaries: &mut u64,
 ) -> u32
-    ensures { λ r. ⌜ (gives (runAnswer r (registersAt (now (registers .exit))) (now (count .exit)) (now (reach .exit)))
+    ensures { λ r. ⌜ (gives (runAnswer r (registersAt (now (registers .exit))) (now (count .exit)) (now (reach .exit)) (now (dictionaries .exit)))
         (stateOf (now (registers .exit)) (now (contents .exit)) (now (bodies .exit)) (now (stack .exit)) (now (cache .exit)))
         ≡ flatRun (stateOf (now (registers .entry)) (now (contents .entry)) (now (bodies .entry)) (now (stack .entry)) (now (cache .entry))) grant)
-        × KeptIfRefused r (now (count .entry)) (now (count .exit)) × KeptIfRefused r (now (reach .entry)) (now (reach .exit)) ⌝ }
+        × KeptIfRefused r (now (count .entry)) (now (count .exit)) × KeptIfRefused r (now (reach .entry)) (now (reach .exit))
+        × KeptIfRefused r (now (dictionaries .entry)) (now (dictionaries .exit)) ⌝ }
 {
     let before = read_registers(registers);
     match before.run(contents, bodies, stack, cache, grant) {
@@ -134,10 +136,12 @@ pub extern "C" fn sofaduck_run(
             registers: r,
             count: made,
             reach: highest,
+            dictionaries: read,
         } => {
             write_registers(registers, r);
             *count = made;
             *reach = highest;
+            *dictionaries = read;
             0
         }
         Ran::Refused(k, r) => {

@@ -27,7 +27,7 @@ pub printed : (image out out′ : List ℕ) (r : ℕ) (l : Line) → l ≡ step8
 printed image out out′ r l e w =
     (front-counts (lineBytes l) (drop r out) out′ r (w .0) (w .1), subst (λ (x : Line). (r ≡ length (lineBytes x)) × (out′ ≡ lineBytes x ++ drop r out)) e w)
 
-module _ (image contents bodies stack cache : List ℕ) (lengths : (length contents ≡ 8188) × (length bodies ≡ 24000) × (length stack ≡ 1024) × (length cache ≡ 192)) where
+module _ (image contents bodies stack cache : List ℕ) (lengths : (length contents ≡ 8188) × (length bodies ≡ 24000) × (length stack ≡ 1024) × (length cache ≡ 256)) where
   abbrev s : Flat
   s = flat R.noRegisters contents bodies stack cache
 
@@ -66,10 +66,10 @@ module _ (image contents bodies stack cache : List ℕ) (lengths : (length conte
           of-none h = run-none image s₂ begins h
 
           module _ (h : r₂ .phase ≡ 1) (z : Ran) (contents₃ bodies₃ stack₃ cache₃ : List ℕ) (n : runGives z contents₃ bodies₃ stack₃ cache₃ ≡ flatRun s₂ 1000) where
-            pub of-run : (r₃ : Registers) (count reach : ℕ) → z ≡ N.Done r₃ count reach → line (r₃ .phase) count (r₃ .value) ≡ step80 image
+            pub of-run : (r₃ : Registers) (count reach dictionaries : ℕ) → z ≡ N.Done r₃ count reach dictionaries → line (r₃ .phase) count (r₃ .value) ≡ step80 image
             unfolding runGives
-            of-run r₃ count reach o =
-                run-done image s₂ begins h (r₃ .phase) count (r₃ .value) reach (state r₃ contents₃ bodies₃ stack₃ cache₃) (ap (λ (w : Ran). runGives w contents₃ bodies₃ stack₃ cache₃) (sym o) ∙ n)
+            of-run r₃ count reach dictionaries o =
+                run-done image s₂ begins h (r₃ .phase) count (r₃ .value) reach dictionaries (state r₃ contents₃ bodies₃ stack₃ cache₃) (ap (λ (w : Ran). runGives w contents₃ bodies₃ stack₃ cache₃) (sym o) ∙ n)
 
             -- which never comes
             pub of-refused-run : (k : ℕ) (r₃ : Registers) → z ≡ N.Refused k r₃ → refusal k ≡ step80 image

@@ -20,13 +20,13 @@ use Rattle.plain.proofs.Theorem.{from-load}
 abbrev lineOf : Answer → Line
 lineOf done = noLine
 lineOf (refusedBy k) = refusal k
-lineOf (result phase count value reach) = line phase count value
+lineOf (result phase count value reach dictionaries) = line phase count value
 lineOf (wrote k) = noLine
 
 abbrev IsRefused : Answer → Type 0
 IsRefused done = ⊥
 IsRefused (refusedBy k) = Unit {0}
-IsRefused (result phase count value reach) = ⊥
+IsRefused (result phase count value reach dictionaries) = ⊥
 IsRefused (wrote k) = ⊥
 
 abbrev answerOf : Given → Answer
@@ -154,10 +154,10 @@ module _ (image : List ℕ) (s : Flat) (b : Began image s) where
         (λ s′ p′. Agrees step80Room [] s′ p′)) (eq-eqb (b .plain .registers .phase) running (sym same-phase ∙ e))
         (unfold Agrees call flatCall in b .agrees))
 
-    pub run-done : (phase count value reach : ℕ) (s′ : Flat) → gives (result phase count value reach) s′ ≡ flatRun s 1000 → line phase count value ≡ step80 image
-    run-done phase count value reach s′ q = go (steps step80Room 1000 (b .plain)) (both-run (gives (result phase count value reach) s′) q) ∙ b .prints
+    pub run-done : (phase count value reach dictionaries : ℕ) (s′ : Flat) → gives (result phase count value reach dictionaries) s′ ≡ flatRun s 1000 → line phase count value ≡ step80 image
+    run-done phase count value reach dictionaries s′ q = go (steps step80Room 1000 (b .plain)) (both-run (gives (result phase count value reach dictionaries) s′) q) ∙ b .prints
       where
-        go : (x : Ran) → BothRun (gives (result phase count value reach) s′) x → line phase count value ≡ lineOfRun x
+        go : (x : Ran) → BothRun (gives (result phase count value reach dictionaries) s′) x → line phase count value ≡ lineOfRun x
         go (ran k p′ ts) t = ap lineOf (t .0 .answer)
         go stuck t = absurd t
 

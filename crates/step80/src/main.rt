@@ -47,7 +47,7 @@ fn answer(
     cache: &mut [u16],
     out: &mut [u8],
 ) -> usize
-    requires { ⌜ (length (now contents) ≡ 8188) × (length (now bodies) ≡ 24000) × (length (now stack) ≡ 1024) × (length (now cache) ≡ 192) × (64 ≤ length (now out)) ⌝ }
+    requires { ⌜ (length (now contents) ≡ 8188) × (length (now bodies) ≡ 24000) × (length (now stack) ≡ 1024) × (length (now cache) ≡ 256) × (64 ≤ length (now out)) ⌝ }
     ensures { λ r. ⌜ Counts r (now (out .exit)) ⌝ }
     ensures { λ r. ⌜ (r ≡ length (lineBytes (step80 (now (image .entry))))) × (now (out .exit) ≡ lineBytes (step80 (now (image .entry))) ++ drop r (now (out .entry))) ⌝ }
 {
@@ -85,7 +85,7 @@ fn work(
     cache: &mut [u16],
     out: &mut [u8],
 )
-    requires { ⌜ (length (now contents) ≡ 8188) × (length (now bodies) ≡ 24000) × (length (now stack) ≡ 1024) × (length (now cache) ≡ 192) × (64 ≤ length (now out)) ⌝ }
+    requires { ⌜ (length (now contents) ≡ 8188) × (length (now bodies) ≡ 24000) × (length (now stack) ≡ 1024) × (length (now cache) ≡ 256) × (64 ≤ length (now out)) ⌝ }
 {
     let Input::Bytes(n) = read_all(image) else {
         os::fail(b"read");
@@ -103,7 +103,7 @@ fn main() {
     let mut contents = [0u16; 8188];
     let mut bodies = [0u16; 24000];
     let mut stack = [0u16; 1024];
-    let mut cache = [0u16; 192];
+    let mut cache = [0u16; 256];
     let mut out = [0u8; 64];
     work(
         &mut image,

@@ -27,7 +27,7 @@ pub enum Reading {
 }
 
 // Words of the cache.
-const CACHE_WORDS: usize = 192;
+const CACHE_WORDS: usize = 256;
 
 // Rule 8 for words that come without arguments: a valid receiver and a kind 1 selector.
 pub fn starts_fine(contents: &[u16], n: usize, receiver: u16, selector: u16) -> bool

@@ -9,8 +9,8 @@ sofaduck-check-requires c κs = search needs
 
 returns : tie.Need-returns
 returns c =
-    let a = c .before .before .before .before .before .before .args in
-    unchecked (a .registers .now) (a .contents .now) (a .bodies .now) (a .stack .now) (a .cache .now) (a .selector) (a .class) _ _ _ (c .before .sofaduck-check .ensures) (c .if1 .taken)
+    let at-start = c .before .before .before .before .before .before in
+    let a = at-start .args in unchecked (a .registers .now) (a .contents .now) (a .bodies .now) (a .stack .now) (a .cache .now) (a .selector) (a .class) _ _ _ _ (c .before .sofaduck-check .ensures) (c .if1 .taken)
 
 element-copy-out-n : tie.Need-element-copy-out-n
 element-copy-out-n c = search needs
@@ -20,27 +20,22 @@ element-copy-out-b c = search needs
 
 is-class-requires : tie.Need-is-class-requires
 is-class-requires c κs =
-    let at-check = c .before .before .before in
-    let a = at-check .before .before .before .before .before .args in
-    entries (a .registers .now) (a .contents .now) (a .bodies .now) (a .stack .now) (a .cache .now) (a .selector) (a .class) 0 0 (at-check .sofaduck-check .ensures) (c .before .before .if1 .left)
+    let at-start = c .before .before .before .before .before .before .before .before in
+    let a = at-start .args in entries (a .registers .now) (a .contents .now) (a .bodies .now) (a .stack .now) (a .cache .now) (a .selector) (a .class) 0 0 0 (c .before .before .before .sofaduck-check .ensures) (c .before .before .if1 .left)
 
 returns-2 : tie.Need-returns-2
 returns-2 c =
-    let at-check = c .before .before .before .before .before in
-    let a = at-check .before .before .before .before .before .args in
-    no-class (a .registers .now) (a .contents .now) (a .bodies .now) (a .stack .now) (a .cache .now) (a .selector) (a .class) _ _ (at-check .sofaduck-check .ensures) (c .before .before .before .before .if1 .left)
-    (c .before .is-class .ensures (getD (a .registers .now) 1 0) (a .bodies .now)) (c .if2 .taken)
+    let at-if1 = c .before .before .before .before in
+    let at-sofaduck-check = at-if1 .before in
+    let at-start = at-sofaduck-check .before .before .before .before .before in
+    let a = at-start .args in no-class (a .registers .now) (a .contents .now) (a .bodies .now) (a .stack .now) (a .cache .now) (a .selector) (a .class) _ _ _ (at-sofaduck-check .sofaduck-check .ensures) (at-if1 .if1 .left) (c .before .is-class .ensures (getD (a .registers .now) 1 0) (a .bodies .now)) (c .if2 .taken)
 
 lookup-requires : tie.Need-lookup-requires
 lookup-requires c κs =
     let at-if1 = c .before .before .before .before in
-    let at-check = at-if1 .before in
-    let a = at-check .before .before .before .before .before .args in (
-      right (a .registers .now) (a .contents .now) (a .bodies .now) (a .stack .now) (a .cache .now) (a .selector) (a .class) 0 0 (at-check .sofaduck-check .ensures) (at-if1 .if1 .left),
-      starts
-          (a .registers .now) (a .contents .now) (a .bodies .now) (a .stack .now) (a .cache .now) (a .selector) (a .class) 0 0 (at-check .sofaduck-check .ensures) (at-if1 .if1 .left)
-          (c .before .is-class .ensures (getD (a .registers .now) 1 0) (a .bodies .now)) (c .if2 .left),
-    )
+    let at-sofaduck-check = at-if1 .before in
+    let at-start = at-sofaduck-check .before .before .before .before .before in
+    let a = at-start .args in (right (a .registers .now) (a .contents .now) (a .bodies .now) (a .stack .now) (a .cache .now) (a .selector) (a .class) 0 0 0 (at-sofaduck-check .sofaduck-check .ensures) (at-if1 .if1 .left), starts (a .registers .now) (a .contents .now) (a .bodies .now) (a .stack .now) (a .cache .now) (a .selector) (a .class) 0 0 0 (at-sofaduck-check .sofaduck-check .ensures) (at-if1 .if1 .left) (c .before .is-class .ensures (getD (a .registers .now) 1 0) (a .bodies .now)) (c .if2 .left))
 
 enum-known-found : tie.Need-enum-known-found
 enum-known-found c = search needs
@@ -50,23 +45,20 @@ enum-told c = search needs
 
 returns-3 : tie.Need-returns-3
 returns-3 c =
-    let at-lookup = c .before .before .before in
-    let at-is-class = at-lookup .before .before in
+    let at-if2 = c .before .before .before .before in
+    let at-is-class = at-if2 .before in
     let at-if1 = at-is-class .before .before .before in
-    let a = at-if1 .before .before .before .before .before .before .args in
-    looked (a .registers .now) (a .contents .now) (a .bodies .now) (a .stack .now) (a .cache .now) (a .selector) (a .class) _ _ (at-if1 .before .sofaduck-check .ensures) (at-if1 .if1 .left)
-    (at-is-class .is-class .ensures (getD (a .registers .now) 1 0) (a .bodies .now)) (at-lookup .before .if2 .left) (at-lookup .lookup .ensures .finds) (at-lookup .lookup .ensures .reads)
-    (c .before .found .given .1)
+    let at-sofaduck-check = at-if1 .before in
+    let at-start = at-sofaduck-check .before .before .before .before .before in
+    let a = at-start .args in looked (a .registers .now) (a .contents .now) (a .bodies .now) (a .stack .now) (a .cache .now) (a .selector) (a .class) _ _ _ (at-sofaduck-check .sofaduck-check .ensures) (at-if1 .if1 .left) (at-is-class .is-class .ensures (getD (a .registers .now) 1 0) (a .bodies .now)) (at-if2 .if2 .left) (c .before .before .before .lookup .ensures .finds) (c .before .before .before .lookup .ensures .reads) (c .before .before .before .lookup .ensures .walks) (c .before .found .given .1)
 
 returns-4 : tie.Need-returns-4
 returns-4 c =
-    let at-lookup = c .before .before in
-    let at-is-class = at-lookup .before .before in
+    let at-is-class = c .before .before .before .before in
     let at-if1 = at-is-class .before .before .before in
-    let a = at-if1 .before .before .before .before .before .before .args in
-    looked (a .registers .now) (a .contents .now) (a .bodies .now) (a .stack .now) (a .cache .now) (a .selector) (a .class) _ _ (at-if1 .before .sofaduck-check .ensures) (at-if1 .if1 .left)
-    (at-is-class .is-class .ensures (getD (a .registers .now) 1 0) (a .bodies .now)) (at-lookup .before .if2 .left) (at-lookup .lookup .ensures .finds) (at-lookup .lookup .ensures .reads)
-    (c .enum-told .given .1)
+    let at-sofaduck-check = at-if1 .before in
+    let at-start = at-sofaduck-check .before .before .before .before .before in
+    let a = at-start .args in looked (a .registers .now) (a .contents .now) (a .bodies .now) (a .stack .now) (a .cache .now) (a .selector) (a .class) _ _ _ (at-sofaduck-check .sofaduck-check .ensures) (at-if1 .if1 .left) (at-is-class .is-class .ensures (getD (a .registers .now) 1 0) (a .bodies .now)) (c .before .before .before .if2 .left) (c .before .before .lookup .ensures .finds) (c .before .before .lookup .ensures .reads) (c .before .before .lookup .ensures .walks) (c .enum-told .given .1)
 
 pub bench-lookup-spec : {M : Type 1} → statement M
 bench-lookup-spec =

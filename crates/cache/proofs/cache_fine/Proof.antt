@@ -45,17 +45,21 @@ mul-cached-right-3 c = omega (arith, (c .before .before .before .before .before 
 shared-slice-read-cached-right-3 : tie.Need-shared-slice-read-cached-right-3 Inv-loop μ-loop
 shared-slice-read-cached-right-3 c = omega (arith, (c .before .before .before .before .before .before .before .before .pre) .1)
 
+add-cached-right-3 : tie.Need-add-cached-right-3 Inv-loop μ-loop
+add-cached-right-3 c = omega (arith, c .before .before .before .before .before .before .before .before .pre .1)
+
+mul-cached-right-4 : tie.Need-mul-cached-right-4 Inv-loop μ-loop
+mul-cached-right-4 c = omega (arith, c .before .before .before .before .before .before .before .before .pre .1)
+
+shared-slice-read-cached-right-4 : tie.Need-shared-slice-read-cached-right-4 Inv-loop μ-loop
+shared-slice-read-cached-right-4 c = omega (arith, c .before .before .before .before .before .before .before .before .before .pre .1)
+
 cached-right-requires : tie.Need-cached-right-requires Inv-loop μ-loop
-cached-right-requires c κs = (c .before .before .before .before .before .before .before .before .pre) .0
+cached-right-requires c κs = c .before .before .before .before .before .before .before .before .before .pre .0
 
 returns : tie.Need-returns Inv-loop μ-loop
-returns c =
-    let at-loop-test = c .before .before .before .before .before in
-    let at-loop = at-loop-test .before in
-    let at-start = at-loop .before .before .before .before in
-    let a = at-start .args in
-    cache-no (objectsAt (a .n) (a .b) (a .contents .now) (a .bodies .now)) (a .cache .now) (at-loop .loop .i) _ (omega (arith, at-loop-test .loop-test .taken))
-    (c .before .cached-right .ensures) (c .if1 .taken)
+returns c = let a = c .before .before .before .before .before .before .before .before .before .before .before .args in
+    cache-no (objectsAt (a .n) (a .b) (a .contents .now) (a .bodies .now)) (a .cache .now) (c .before .before .before .before .before .before .before .loop .i) _ (omega (arith, c .before .before .before .before .before .before .loop-test .taken)) (c .before .cached-right .ensures) (c .if1 .taken)
 
 add-i : tie.Need-add-i Inv-loop μ-loop
 add-i c = omega arith
@@ -64,14 +68,10 @@ loop-less : tie.Need-loop-less Inv-loop μ-loop
 loop-less c = omega arith
 
 loop-again : tie.Need-loop-again Inv-loop μ-loop
-loop-again c =
-    let at-loop = c .before .before .before .before .before .before in
-    let at-start = at-loop .before .before .before .before in
-    let a = at-start .args in (
-      omega arith,
-      cache-more (objectsAt (a .n) (a .b) (a .contents .now) (a .bodies .now)) (a .cache .now) (at-loop .loop .i) _ (at-loop .loop .inv .1) (c .before .cached-right .ensures)
-          (c .if1 .left),
-    )
+loop-again c = let a = c .before .before .before .before .before .before .before .before .before .before .before .args in (
+  omega arith,
+  cache-more (objectsAt (a .n) (a .b) (a .contents .now) (a .bodies .now)) (a .cache .now) (c .before .before .before .before .before .before .before .loop .i) _ (c .before .before .before .before .before .before .before .loop .inv .1) (c .before .cached-right .ensures) (c .if1 .left),
+)
 
 returns-2 : tie.Need-returns-2 Inv-loop μ-loop
 returns-2 c =
@@ -94,6 +94,9 @@ cache-fine-spec =
     add-cached-right-2
     mul-cached-right-3
     shared-slice-read-cached-right-3
+    add-cached-right-3
+    mul-cached-right-4
+    shared-slice-read-cached-right-4
     cached-right-requires
     returns
     add-i

@@ -18,11 +18,8 @@ same-length : tie.Need-same-length
 same-length c = search needs
 
 returns : tie.Need-returns
-returns c =
-    let at-is-of = c .before in
-    let at-entry = at-is-of .before .before in
-    let h = entry-of _ _ _ _ (at-is-of .is-of .ensures) (c .if1 .taken) in
-    entry-there _ _ _ _ _ (at-entry .entry .ensures .0) (at-entry .before .before .pre .1) (h .0) (h .1)
+returns c = let h = entry-of _ _ _ _ (c .before .is-of .ensures) (c .if1 .taken) in
+    entry-there _ _ _ _ _ _ (c .before .before .before .entry .ensures .0) (c .before .before .before .before .before .pre .1) (h .0) (h .1)
 
 mul-cache : tie.Need-mul-cache
 mul-cache c = search needs
@@ -48,11 +45,23 @@ mul-cache-3 c = search needs
 slice-write-cache-3 : tie.Need-slice-write-cache-3
 slice-write-cache-3 c = simp length-set (omega arith)
 
+cast-cache : tie.Need-cast-cache
+cast-cache c = omega (arith, c .before .before .before .before .before .pre .2)
+
+add-cache-3 : tie.Need-add-cache-3
+add-cache-3 c = search needs
+
+mul-cache-4 : tie.Need-mul-cache-4
+mul-cache-4 c = search needs
+
+slice-write-cache-4 : tie.Need-slice-write-cache-4
+slice-write-cache-4 c = simp length-set (omega arith)
+
 same-length-2 : tie.Need-same-length-2
 same-length-2 c = search needs
 
 returns-2 : tie.Need-returns-2
-returns-2 c = entry-filled _ _ _ _ _ (c .before .before .before .entry .ensures .0)
+returns-2 c = entry-filled _ _ _ _ _ _ (c .before .before .before .entry .ensures .0)
 
 pub fill-spec : {M : Type 1} → statement M
 fill-spec =
@@ -71,5 +80,9 @@ fill-spec =
     add-cache-2
     mul-cache-3
     slice-write-cache-3
+    cast-cache
+    add-cache-3
+    mul-cache-4
+    slice-write-cache-4
     same-length-2
     returns-2)

@@ -47,11 +47,35 @@ mul-answers-5 c = search needs
 slice-write-answers-5 : tie.Need-slice-write-answers-5
 slice-write-answers-5 c = simp length-set (omega arith)
 
+cast-answers : tie.Need-cast-answers
+cast-answers c = omega arith
+
+add-answers-5 : tie.Need-add-answers-5
+add-answers-5 c = search needs
+
+mul-answers-6 : tie.Need-mul-answers-6
+mul-answers-6 c = search needs
+
+slice-write-answers-6 : tie.Need-slice-write-answers-6
+slice-write-answers-6 c = simp length-set (omega arith)
+
+cast-answers-2 : tie.Need-cast-answers-2
+cast-answers-2 c = omega arith
+
+add-answers-6 : tie.Need-add-answers-6
+add-answers-6 c = search needs
+
+mul-answers-7 : tie.Need-mul-answers-7
+mul-answers-7 c = search needs
+
+slice-write-answers-7 : tie.Need-slice-write-answers-7
+slice-write-answers-7 c = simp length-set (omega arith)
+
 same-length : tie.Need-same-length
 same-length c = search needs
 
 returns : tie.Need-returns
-returns c = puts (c .args .answers .now) (c .args .at) (c .args .number) (c .args .phase) (c .args .count) (c .args .value) (c .args .reach)
+returns c = puts (c .args .answers .now) (c .args .at) (c .args .number) (c .args .phase) (c .args .count) (c .args .value) (c .args .reach) _ _
 
 pub write-answer-spec : {M : Type 1} → statement M
 write-answer-spec =
@@ -71,5 +95,13 @@ write-answer-spec =
     add-answers-4
     mul-answers-5
     slice-write-answers-5
+    cast-answers
+    add-answers-5
+    mul-answers-6
+    slice-write-answers-6
+    cast-answers-2
+    add-answers-6
+    mul-answers-7
+    slice-write-answers-7
     same-length
     returns)

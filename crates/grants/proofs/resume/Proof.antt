@@ -8,12 +8,12 @@ use Rattle.grants.proofs.resume.Statement.{statement}
 use Rattle.grants.proofs.resume.Tie as tie
 
 abbrev Inv-loop : tie.InvT-loop
-Inv-loop contents₀ bodies₀ stack₀ cache₀ edition n b grant left reach objects₀ words₀ base₀ failed₀ rest₀ high₀ contents bodies stack cache objects words base failed rest high =
-    (start : Flat) (receiver selector : ℕ) → RunsFail start grant edition receiver selector contents₀ bodies₀ stack₀ cache₀ failed₀ n b (base₀ .0) left reach
-    → RunsFail start grant edition receiver selector contents bodies stack cache failed objects words (base .0) rest high
+Inv-loop contents₀ bodies₀ stack₀ cache₀ edition n b grant left reach read objects₀ words₀ base₀ failed₀ rest₀ high₀ sum₀ contents bodies stack cache objects words base failed rest high sum =
+    (start : Flat) (receiver selector : ℕ) → RunsFail start grant edition receiver selector contents₀ bodies₀ stack₀ cache₀ failed₀ n b (base₀ .0) left reach read
+    → RunsFail start grant edition receiver selector contents bodies stack cache failed objects words (base .0) rest high sum
 
 abbrev μ-loop : tie.MeasureT-loop
-μ-loop contents₀ bodies₀ stack₀ cache₀ edition n b grant left reach objects₀ words₀ base₀ failed₀ rest₀ high₀ contents bodies stack cache objects words base failed rest high = rest
+μ-loop contents₀ bodies₀ stack₀ cache₀ edition n b grant left reach read objects₀ words₀ base₀ failed₀ rest₀ high₀ sum₀ contents bodies stack cache objects words base failed rest high sum = rest
 
 loop-holds : tie.Need-loop-holds Inv-loop μ-loop
 loop-holds c = λ start receiver selector f. f
@@ -22,8 +22,7 @@ again-requires : tie.Need-again-requires Inv-loop μ-loop
 again-requires c κs =
     let at-loop = c .before .before .before .before in
     let at-start = at-loop .before .before .before .before .before in
-    let w = at-start .pre in
-    record { start = w .start; receiver = w .receiver; selector = w .selector; run = at-loop .loop .inv (w .start) (w .receiver) (w .selector) (w .run) }
+    let w = at-start .pre in record { start = w .start; receiver = w .receiver; selector = w .selector; run = at-loop .loop .inv (w .start) (w .receiver) (w .selector) (w .run) }
 
 enum-known-e : tie.Need-enum-known-e Inv-loop μ-loop
 enum-known-e c = search needs
@@ -33,69 +32,50 @@ same-length c =
     let at-again = c .before .before .before .before .before .before .before .before .before .before .before in
     let at-loop = at-again .before .before .before .before .before in
     let at-start = at-loop .before .before .before .before .before in
-    let w = at-start .pre in
-    let k = failed-lengths (at-loop .loop .inv (w .start) (w .receiver) (w .selector) (w .run)) in
-    let k₀ = failed-lengths (w .run) in
-    at-again .again .kept .0 ∙ k .0 ∙ sym (k₀ .0)
+    let w = at-start .pre in let k = failed-lengths (at-loop .loop .inv (w .start) (w .receiver) (w .selector) (w .run)) in let k₀ = failed-lengths (w .run) in at-again .again .kept .0 ∙ k .0 ∙ sym (k₀ .0)
 
 same-length-2 : tie.Need-same-length-2 Inv-loop μ-loop
 same-length-2 c =
     let at-again = c .before .before .before .before .before .before .before .before .before .before .before in
     let at-loop = at-again .before .before .before .before .before in
     let at-start = at-loop .before .before .before .before .before in
-    let w = at-start .pre in
-    let k = failed-lengths (at-loop .loop .inv (w .start) (w .receiver) (w .selector) (w .run)) in
-    let k₀ = failed-lengths (w .run) in
-    at-again .again .kept .1 .0 ∙ k .1 ∙ sym (k₀ .1)
+    let w = at-start .pre in let k = failed-lengths (at-loop .loop .inv (w .start) (w .receiver) (w .selector) (w .run)) in let k₀ = failed-lengths (w .run) in at-again .again .kept .1 .0 ∙ k .1 ∙ sym (k₀ .1)
 
 same-length-3 : tie.Need-same-length-3 Inv-loop μ-loop
 same-length-3 c =
     let at-again = c .before .before .before .before .before .before .before .before .before .before .before in
     let at-loop = at-again .before .before .before .before .before in
     let at-start = at-loop .before .before .before .before .before in
-    let w = at-start .pre in
-    let k = failed-lengths (at-loop .loop .inv (w .start) (w .receiver) (w .selector) (w .run)) in
-    let k₀ = failed-lengths (w .run) in
-    at-again .again .kept .1 .1 .0 ∙ k .2 ∙ sym (k₀ .2)
+    let w = at-start .pre in let k = failed-lengths (at-loop .loop .inv (w .start) (w .receiver) (w .selector) (w .run)) in let k₀ = failed-lengths (w .run) in at-again .again .kept .1 .1 .0 ∙ k .2 ∙ sym (k₀ .2)
 
 same-length-4 : tie.Need-same-length-4 Inv-loop μ-loop
 same-length-4 c =
     let at-again = c .before .before .before .before .before .before .before .before .before .before .before in
     let at-loop = at-again .before .before .before .before .before in
     let at-start = at-loop .before .before .before .before .before in
-    let w = at-start .pre in
-    let k = failed-lengths (at-loop .loop .inv (w .start) (w .receiver) (w .selector) (w .run)) in
-    let k₀ = failed-lengths (w .run) in
-    at-again .again .kept .1 .1 .1 .0 ∙ k .3 ∙ sym (k₀ .3)
+    let w = at-start .pre in let k = failed-lengths (at-loop .loop .inv (w .start) (w .receiver) (w .selector) (w .run)) in let k₀ = failed-lengths (w .run) in at-again .again .kept .1 .1 .1 .0 ∙ k .3 ∙ sym (k₀ .3)
 
 returns : tie.Need-returns Inv-loop μ-loop
 returns c =
-    let at-e = c .before in
-    let at-again = at-e .before .before .before .before .before .before .before .before .before .before in
+    let at-again = c .before .before .before .before .before .before .before .before .before .before .before in
     let at-loop = at-again .before .before .before .before .before in
-    λ start receiver selector f. again-over _ _ _ _ _ _ _ _ _ _ (at-again .again .result)
-    (at-again .again .ensures start receiver selector (at-loop .loop .inv start receiver selector f)) _ (at-e .e .given .1)
+    λ start receiver selector f. again-over _ _ _ _ _ _ _ _ _ _ (at-again .again .result) (at-again .again .ensures start receiver selector (at-loop .loop .inv start receiver selector f)) _ (c .before .e .given .1)
 
 enum-known-next : tie.Need-enum-known-next Inv-loop μ-loop
 enum-known-next c = search needs
 
 loop-less : tie.Need-loop-less Inv-loop μ-loop
 loop-less c =
-    let at-next = c .before in
-    let at-again = at-next .before .before .before .before .before .before .before .before .before .before in
+    let at-again = c .before .before .before .before .before .before .before .before .before .before .before in
     let at-loop = at-again .before .before .before .before .before in
     let at-start = at-loop .before .before .before .before .before in
-    let w = at-start .pre in
-    again-failed _ _ _ _ _ _ _ _ _ _ (at-again .again .result)
-    (at-again .again .ensures (w .start) (w .receiver) (w .selector) (at-loop .loop .inv (w .start) (w .receiver) (w .selector) (w .run))) _ _ _ _ _ _ (at-next .next .given .1) .1
+    let w = at-start .pre in again-failed _ _ _ _ _ _ _ _ _ _ (at-again .again .result) (at-again .again .ensures (w .start) (w .receiver) (w .selector) (at-loop .loop .inv (w .start) (w .receiver) (w .selector) (w .run))) _ _ _ _ _ _ _ (c .before .next .given .1) .1
 
 loop-again : tie.Need-loop-again Inv-loop μ-loop
 loop-again c =
-    let at-next = c .before in
-    let at-again = at-next .before .before .before .before .before .before .before .before .before .before in
+    let at-again = c .before .before .before .before .before .before .before .before .before .before .before in
     let at-loop = at-again .before .before .before .before .before in
-    λ start receiver selector f. again-failed _ _ _ _ _ _ _ _ _ _ (at-again .again .result)
-    (at-again .again .ensures start receiver selector (at-loop .loop .inv start receiver selector f)) _ _ _ _ _ _ (at-next .next .given .1) .0
+    λ start receiver selector f. again-failed _ _ _ _ _ _ _ _ _ _ (at-again .again .result) (at-again .again .ensures start receiver selector (at-loop .loop .inv start receiver selector f)) _ _ _ _ _ _ _ (c .before .next .given .1) .0
 
 pub resume-spec : {M : Type 1} → statement M
 resume-spec =

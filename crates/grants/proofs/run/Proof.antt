@@ -18,12 +18,7 @@ resume-requires c κs =
     let at-message = c .before .before .before .before .before in
     let at-stretch = at-message .before .before .before .before .before .before .before .before .before .before in
     let at-start = at-stretch .before .before .before .before .before .before .before .before .before in
-    let w = at-start .pre in
-    let receiver = w .receiver in
-    let selector = w .selector in
-    let checks = w .checks in
-    let f = stretched-failed _ _ _ _ _ _ _ _ _ (at-stretch .stretch .result) (at-stretch .stretch .ensures receiver selector checks) _ _ _ _ _ _ (at-message .message .given .1) in
-    record { start = _; receiver = receiver; selector = selector; run = f }
+    let w = at-start .pre in let receiver = w .receiver in let selector = w .selector in let checks = w .checks in let f = stretched-failed _ _ _ _ _ _ _ _ _ (at-stretch .stretch .result) (at-stretch .stretch .ensures receiver selector checks) _ _ _ _ _ _ _ (at-message .message .given .1) in record { start = _; receiver = receiver; selector = selector; run = f }
 
 same-length : tie.Need-same-length
 same-length c = search needs
@@ -39,9 +34,8 @@ same-length-4 c = search needs
 
 returns : tie.Need-returns
 returns c =
-    let at-e = c .before in
-    let at-stretch = at-e .before .before .before .before .before .before .before .before .before .before in
-    λ receiver selector checks. stretched-over _ _ _ _ _ _ _ _ _ (at-stretch .stretch .result) (at-stretch .stretch .ensures receiver selector checks) _ (at-e .e .given .1)
+    let at-stretch = c .before .before .before .before .before .before .before .before .before .before .before in
+    λ receiver selector checks. stretched-over _ _ _ _ _ _ _ _ _ (at-stretch .stretch .result) (at-stretch .stretch .ensures receiver selector checks) _ (c .before .e .given .1)
 
 same-length-5 : tie.Need-same-length-5
 same-length-5 c =
@@ -72,8 +66,7 @@ returns-2 c =
     let at-resume = c .before .before .before .before .before .before .before .before in
     let at-message = at-resume .before .before .before .before .before .before in
     let at-stretch = at-message .before .before .before .before .before .before .before .before .before .before in
-    λ receiver selector checks. at-resume .resume .ensures _ receiver selector
-    (stretched-failed _ _ _ _ _ _ _ _ _ (at-stretch .stretch .result) (at-stretch .stretch .ensures receiver selector checks) _ _ _ _ _ _ (at-message .message .given .1))
+    λ receiver selector checks. at-resume .resume .ensures _ receiver selector (stretched-failed _ _ _ _ _ _ _ _ _ (at-stretch .stretch .result) (at-stretch .stretch .ensures receiver selector checks) _ _ _ _ _ _ _ (at-message .message .given .1))
 
 pub run-spec : {M : Type 1} → statement M
 run-spec =

@@ -26,8 +26,8 @@ send-requires c κs =
 enum-known-objects : tie.Need-enum-known-objects
 enum-known-objects c = search needs
 
-sub-t39 : tie.Need-sub-t39
-sub-t39 c =
+sub-t41 : tie.Need-sub-t41
+sub-t41 c =
     let at-message = c .before .before .before .before .before .before .before .before .before .before .before .before .before .before .before .before .before .before .before .before in
     let at-step = at-message .before .before .before .before .before .before in
     let at-start = at-step .before .before .before .before .before .before .before .before in
@@ -41,34 +41,31 @@ enum-told c = search needs
 
 leave-requires : tie.Need-leave-requires
 leave-requires c κs =
-    let at-enum-told = c .before in
-    let at-send = at-enum-told .before .before .before .before .before .before .before .before .before .before in
+    let at-send = c .before .before .before .before .before .before .before .before .before .before .before in
     let at-message = at-send .before .before .before .before .before .before in
     let at-step = at-message .before .before .before .before .before .before in
     let at-start = at-step .before .before .before .before .before .before .before .before in
-    leaves-stopped (at-start .pre .0) (at-step .step .last .1 .0) (at-step .step .last .1 .1 .0) (at-step .step .result) (at-step .step .ensures) _ (at-message .message .given .1) (at-start .args .edition) (at-start .args .cache .now) (at-send .send .last .0) (at-send .send .last .1 .0) (at-send .send .last .1 .1 .0) (at-send .send .last .1 .1 .1 .0) (at-send .send .result) (at-send .send .ensures) (at-enum-told .enum-told .given .1)
+    leaves-stopped (at-start .pre .0) (at-step .step .last .1 .0) (at-step .step .last .1 .1 .0) (at-step .step .result) (at-step .step .ensures) _ (at-message .message .given .1) (at-start .args .edition) (at-start .args .cache .now) (at-send .send .last .0) (at-send .send .last .1 .0) (at-send .send .last .1 .1 .0) (at-send .send .last .1 .1 .1 .0) (at-send .send .result) (at-send .send .ensures) (c .before .enum-told .given .1)
 
 enum-told-2 : tie.Need-enum-told-2
 enum-told-2 c = search needs
 
 leave-requires-2 : tie.Need-leave-requires-2
 leave-requires-2 c κs =
-    let at-enum-told2 = c .before in
-    let at-send = at-enum-told2 .before .before .before .before .before .before .before .before .before .before in
+    let at-send = c .before .before .before .before .before .before .before .before .before .before .before in
     let at-message = at-send .before .before .before .before .before .before in
     let at-step = at-message .before .before .before .before .before .before in
     let at-start = at-step .before .before .before .before .before .before .before .before in
-    leaves-missed (at-start .pre .0) (at-step .step .last .1 .0) (at-step .step .last .1 .1 .0) (at-step .step .result) (at-step .step .ensures) _ (at-message .message .given .1) (at-start .args .edition) (at-start .args .cache .now) (at-send .send .last .0) (at-send .send .last .1 .0) (at-send .send .last .1 .1 .0) (at-send .send .last .1 .1 .1 .0) (at-send .send .result) (at-send .send .ensures) (at-enum-told2 .enum-told2 .given .1)
+    leaves-missed (at-start .pre .0) (at-step .step .last .1 .0) (at-step .step .last .1 .1 .0) (at-step .step .result) (at-step .step .ensures) _ (at-message .message .given .1) (at-start .args .edition) (at-start .args .cache .now) (at-send .send .last .0) (at-send .send .last .1 .0) (at-send .send .last .1 .1 .0) (at-send .send .last .1 .1 .1 .0) (at-send .send .result) (at-send .send .ensures) (c .before .enum-told2 .given .1)
 
 enum-known-w : tie.Need-enum-known-w
 enum-known-w c = search needs
 
 leave-requires-3 : tie.Need-leave-requires-3
 leave-requires-3 c κs =
-    let at-w = c .before .before in
-    let at-step = at-w .before .before .before .before .before .before in
+    let at-step = c .before .before .before .before .before .before .before .before in
     let at-start = at-step .before .before .before .before .before .before .before .before in
-    leaves-return (at-start .pre .0) (at-step .step .last .1 .0) (at-step .step .last .1 .1 .0) (at-step .step .result) (at-step .step .ensures) _ (at-w .w .given .1)
+    leaves-return (at-start .pre .0) (at-step .step .last .1 .0) (at-step .step .last .1 .1 .0) (at-step .step .result) (at-step .step .ensures) _ (c .before .before .w .given .1)
 
 same-length : tie.Need-same-length
 same-length c = search needs
@@ -89,22 +86,20 @@ returns c =
 
 return-to-requires : tie.Need-return-to-requires
 return-to-requires c κs =
-    let at-if1 = c .before .before .before in
-    let at-leave3 = at-if1 .before .before .before .before in
+    let at-leave3 = c .before .before .before .before .before .before .before in
     let at-w = at-leave3 .before .before .before in
     let at-step = at-w .before .before .before .before .before .before in
     let at-start = at-step .before .before .before .before .before .before .before .before in
-    (return-runs (at-start .pre .0) (at-step .step .last .1 .0) (at-step .step .last .1 .1 .0) (at-step .step .result) (at-step .step .ensures) _ (at-w .w .given .1) _ (at-leave3 .leave3 .ensures), (let h = at-if1 .if1 .left in omega arith))
+    (return-runs (at-start .pre .0) (at-step .step .last .1 .0) (at-step .step .last .1 .1 .0) (at-step .step .result) (at-step .step .ensures) _ (at-w .w .given .1) _ (at-leave3 .leave3 .ensures), (let h = c .before .before .before .if1 .left in omega arith))
 
 enum-known-k : tie.Need-enum-known-k
 enum-known-k c = search needs
 
 leave-requires-4 : tie.Need-leave-requires-4
 leave-requires-4 c κs =
-    let at-k = c .before .before in
-    let at-step = at-k .before .before .before .before .before .before in
+    let at-step = c .before .before .before .before .before .before .before .before in
     let at-start = at-step .before .before .before .before .before .before .before .before in
-    leaves-halt (at-start .pre .0) (at-step .step .last .1 .0) (at-step .step .last .1 .1 .0) (at-step .step .result) (at-step .step .ensures) _ (at-k .k .given .1)
+    leaves-halt (at-start .pre .0) (at-step .step .last .1 .0) (at-step .step .last .1 .1 .0) (at-step .step .result) (at-step .step .ensures) _ (c .before .before .k .given .1)
 
 same-length-4 : tie.Need-same-length-4
 same-length-4 c = search needs
@@ -117,10 +112,9 @@ same-length-6 c = search needs
 
 returns-2 : tie.Need-returns-2
 returns-2 c =
-    let at-position = c .before in
-    let at-step = at-position .before .before .before .before .before .before in
+    let at-step = c .before .before .before .before .before .before .before in
     let at-start = at-step .before .before .before .before .before .before .before .before in
-    went-on (at-start .pre .0) (at-step .step .last .1 .0) (at-step .step .last .1 .1 .0) (at-step .step .result) (at-step .step .ensures) _ _ _ (at-position .position .given .1) (at-start .args .edition)
+    went-on (at-start .pre .0) (at-step .step .last .1 .0) (at-step .step .last .1 .1 .0) (at-step .step .result) (at-step .step .ensures) _ _ _ (c .before .position .given .1) (at-start .args .edition)
 
 same-length-7 : tie.Need-same-length-7
 same-length-7 c = search needs
@@ -141,7 +135,7 @@ returns-3 c =
     let at-message = at-send .before .before .before .before .before .before in
     let at-step = at-message .before .before .before .before .before .before in
     let at-start = at-step .before .before .before .before .before .before .before .before in
-    answers (at-start .pre .0) (at-step .step .last .1 .0) (at-step .step .last .1 .1 .0) (at-step .step .result) (at-step .step .ensures) _ (at-message .message .given .1) (at-start .args .edition) (at-start .args .cache .now) (at-send .send .last .0) (at-send .send .last .1 .0) (at-send .send .last .1 .1 .0) (at-send .send .last .1 .1 .1 .0) (at-send .send .result) (at-send .send .ensures) _ _ (at-objects .objects .given .1)
+    answers (at-start .pre .0) (at-step .step .last .1 .0) (at-step .step .last .1 .1 .0) (at-step .step .result) (at-step .step .ensures) _ (at-message .message .given .1) (at-start .args .edition) (at-start .args .cache .now) (at-send .send .last .0) (at-send .send .last .1 .0) (at-send .send .last .1 .1 .0) (at-send .send .last .1 .1 .1 .0) (at-send .send .result) (at-send .send .ensures) _ _ _ (at-objects .objects .given .1)
 
 same-length-11 : tie.Need-same-length-11
 same-length-11 c = search needs
@@ -160,12 +154,11 @@ same-length-14 c = search needs
 
 returns-4 : tie.Need-returns-4
 returns-4 c =
-    let at-frame = c .before in
-    let at-send = at-frame .before .before .before .before .before .before .before .before .before .before in
+    let at-send = c .before .before .before .before .before .before .before .before .before .before .before in
     let at-message = at-send .before .before .before .before .before .before in
     let at-step = at-message .before .before .before .before .before .before in
     let at-start = at-step .before .before .before .before .before .before .before .before in
-    enters (at-start .pre .0) (at-step .step .last .1 .0) (at-step .step .last .1 .1 .0) (at-step .step .result) (at-step .step .ensures) _ (at-message .message .given .1) (at-start .args .edition) (at-start .args .cache .now) (at-send .send .last .0) (at-send .send .last .1 .0) (at-send .send .last .1 .1 .0) (at-send .send .last .1 .1 .1 .0) (at-send .send .result) (at-send .send .ensures) _ _ (at-frame .frame .given .1)
+    enters (at-start .pre .0) (at-step .step .last .1 .0) (at-step .step .last .1 .1 .0) (at-step .step .result) (at-step .step .ensures) _ (at-message .message .given .1) (at-start .args .edition) (at-start .args .cache .now) (at-send .send .last .0) (at-send .send .last .1 .0) (at-send .send .last .1 .1 .0) (at-send .send .last .1 .1 .1 .0) (at-send .send .result) (at-send .send .ensures) _ _ _ (c .before .frame .given .1)
 
 same-length-15 : tie.Need-same-length-15
 same-length-15 c = search needs
@@ -181,13 +174,12 @@ same-length-18 c = search needs
 
 returns-5 : tie.Need-returns-5
 returns-5 c =
-    let at-leave = c .before .before in
-    let at-enum-told = at-leave .before .before in
+    let at-enum-told = c .before .before .before .before in
     let at-send = at-enum-told .before .before .before .before .before .before .before .before .before .before in
     let at-message = at-send .before .before .before .before .before .before in
     let at-step = at-message .before .before .before .before .before .before in
     let at-start = at-step .before .before .before .before .before .before .before .before in
-    stops (at-start .pre .0) (at-step .step .last .1 .0) (at-step .step .last .1 .1 .0) (at-step .step .result) (at-step .step .ensures) _ (at-message .message .given .1) (at-start .args .edition) (at-start .args .cache .now) (at-send .send .last .0) (at-send .send .last .1 .0) (at-send .send .last .1 .1 .0) (at-send .send .last .1 .1 .1 .0) (at-send .send .result) (at-send .send .ensures) (at-enum-told .enum-told .given .1) _ (at-leave .leave .ensures)
+    stops (at-start .pre .0) (at-step .step .last .1 .0) (at-step .step .last .1 .1 .0) (at-step .step .result) (at-step .step .ensures) _ (at-message .message .given .1) (at-start .args .edition) (at-start .args .cache .now) (at-send .send .last .0) (at-send .send .last .1 .0) (at-send .send .last .1 .1 .0) (at-send .send .last .1 .1 .1 .0) (at-send .send .result) (at-send .send .ensures) (at-enum-told .enum-told .given .1) _ (c .before .before .leave .ensures)
 
 same-length-19 : tie.Need-same-length-19
 same-length-19 c = search needs
@@ -203,13 +195,12 @@ same-length-22 c = search needs
 
 returns-6 : tie.Need-returns-6
 returns-6 c =
-    let at-leave2 = c .before .before in
-    let at-enum-told2 = at-leave2 .before .before in
+    let at-enum-told2 = c .before .before .before .before in
     let at-send = at-enum-told2 .before .before .before .before .before .before .before .before .before .before in
     let at-message = at-send .before .before .before .before .before .before in
     let at-step = at-message .before .before .before .before .before .before in
     let at-start = at-step .before .before .before .before .before .before .before .before in
-    misses (at-start .pre .0) (at-step .step .last .1 .0) (at-step .step .last .1 .1 .0) (at-step .step .result) (at-step .step .ensures) _ (at-message .message .given .1) (at-start .args .edition) (at-start .args .cache .now) (at-send .send .last .0) (at-send .send .last .1 .0) (at-send .send .last .1 .1 .0) (at-send .send .last .1 .1 .1 .0) (at-send .send .result) (at-send .send .ensures) (at-enum-told2 .enum-told2 .given .1) _ (at-leave2 .leave2 .ensures)
+    misses (at-start .pre .0) (at-step .step .last .1 .0) (at-step .step .last .1 .1 .0) (at-step .step .result) (at-step .step .ensures) _ (at-message .message .given .1) (at-start .args .edition) (at-start .args .cache .now) (at-send .send .last .0) (at-send .send .last .1 .0) (at-send .send .last .1 .1 .0) (at-send .send .last .1 .1 .1 .0) (at-send .send .result) (at-send .send .ensures) (at-enum-told2 .enum-told2 .given .1) _ (c .before .before .leave2 .ensures)
 
 same-length-23 : tie.Need-same-length-23
 same-length-23 c = search needs
@@ -222,13 +213,12 @@ same-length-25 c = search needs
 
 returns-7 : tie.Need-returns-7
 returns-7 c =
-    let at-return-to = c .before .before in
-    let at-if1 = at-return-to .before .before .before .before in
+    let at-if1 = c .before .before .before .before .before .before in
     let at-leave3 = at-if1 .before .before .before .before in
     let at-w = at-leave3 .before .before .before in
     let at-step = at-w .before .before .before .before .before .before in
     let at-start = at-step .before .before .before .before .before .before .before .before in
-    returned-below (at-start .pre .0) (at-step .step .last .1 .0) (at-step .step .last .1 .1 .0) (at-step .step .result) (at-step .step .ensures) _ (at-w .w .given .1) _ (at-leave3 .leave3 .ensures) (let h = at-if1 .if1 .left in omega arith) _ (at-return-to .return-to .result) (at-return-to .return-to .ensures) _ (at-start .args .edition)
+    returned-below (at-start .pre .0) (at-step .step .last .1 .0) (at-step .step .last .1 .1 .0) (at-step .step .result) (at-step .step .ensures) _ (at-w .w .given .1) _ (at-leave3 .leave3 .ensures) (let h = at-if1 .if1 .left in omega arith) _ (c .before .before .return-to .result) (c .before .before .return-to .ensures) _ (at-start .args .edition)
 
 same-length-26 : tie.Need-same-length-26
 same-length-26 c = search needs
@@ -241,11 +231,10 @@ same-length-28 c = search needs
 
 returns-8 : tie.Need-returns-8
 returns-8 c =
-    let at-leave4 = c .before .before in
-    let at-k = at-leave4 .before .before .before in
+    let at-k = c .before .before .before .before .before in
     let at-step = at-k .before .before .before .before .before .before in
     let at-start = at-step .before .before .before .before .before .before .before .before in
-    halted (at-start .pre .0) (at-step .step .last .1 .0) (at-step .step .last .1 .1 .0) (at-step .step .result) (at-step .step .ensures) _ (at-k .k .given .1) _ _ (at-leave4 .leave4 .ensures) (at-start .args .edition)
+    halted (at-start .pre .0) (at-step .step .last .1 .0) (at-step .step .last .1 .1 .0) (at-step .step .result) (at-step .step .ensures) _ (at-k .k .given .1) _ _ (c .before .before .leave4 .ensures) (at-start .args .edition)
 
 pub advance-spec : {M : Type 1} → statement M
 advance-spec =
@@ -256,7 +245,7 @@ advance-spec =
     enum-known-message
     send-requires
     enum-known-objects
-    sub-t39
+    sub-t41
     enum-known-frame
     enum-told
     leave-requires

@@ -32,30 +32,27 @@ same-length c = search needs
 
 returns : tie.Need-returns
 returns c =
-    let at-make-called = c .before .before .before .before .before in
-    let at-start = at-make-called .before .before .before in
-    let args = at-start .args in
-    noted-done (args .reply) (args .answers .now) _ (args .at) _ (at-make-called .reply .given .1) (c .before .before .write-answer .ensures)
+    let at-reply = c .before .before .before .before .before in
+    let at-start = at-reply .before .before .before in
+    let args = at-start .args in noted-done (args .reply) (args .answers .now) _ (args .at) _ (at-reply .reply .given .1) (c .before .before .write-answer .ensures)
 
 same-length-2 : tie.Need-same-length-2
 same-length-2 c = search needs
 
 returns-2 : tie.Need-returns-2
 returns-2 c =
-    let at-make-called2 = c .before .before .before .before .before in
-    let at-start = at-make-called2 .before .before .before in
-    let args = at-start .args in
-    noted-refused (args .reply) (args .answers .now) _ (args .at) _ _ (at-make-called2 .reply2 .given .1) (c .before .before .write-answer2 .ensures)
+    let at-reply2 = c .before .before .before .before .before in
+    let at-start = at-reply2 .before .before .before in
+    let args = at-start .args in noted-refused (args .reply) (args .answers .now) _ (args .at) _ _ (at-reply2 .reply2 .given .1) (c .before .before .write-answer2 .ensures)
 
 same-length-3 : tie.Need-same-length-3
 same-length-3 c = search needs
 
 returns-3 : tie.Need-returns-3
 returns-3 c =
-    let at-make-called3 = c .before .before .before .before .before .before .before in
-    let at-start = at-make-called3 .before .before .before in
-    let args = at-start .args in
-    noted-ran (args .reply) (args .answers .now) _ (args .at) _ _ _ (at-make-called3 .reply3 .given .1) (c .before .before .write-answer3 .ensures)
+    let at-reply3 = c .before .before .before .before .before .before .before in
+    let at-start = at-reply3 .before .before .before in
+    let args = at-start .args in noted-ran (args .reply) (args .answers .now) _ (args .at) _ _ _ _ (at-reply3 .reply3 .given .1) (c .before .before .write-answer3 .ensures)
 
 pub write-reply-spec : {M : Type 1} → statement M
 write-reply-spec =

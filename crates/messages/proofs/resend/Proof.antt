@@ -3,7 +3,7 @@ use native.Mathlib.Omega.{arith}
 use borrow.Author.Tests.{not-true, not-false}
 use Rattle.plain.proofs.RunningLaws.{top-bounds, is-method}
 use Rattle.cache.proofs.Caching.{found-kept}
-use Rattle.messages.proofs.Resending.{sought-method, placed-at, low-next, seeks, unsent, made-room, holds-method, place-inside, left-small, answer-sent, guarded, unfit-sent, full-sent, enters-there, frame-sent}
+use Rattle.messages.proofs.Resending.{sought-method, read-fits, placed-at, low-next, seeks, unsent, made-room, holds-method, place-inside, left-small, answer-sent, guarded, unfit-sent, full-sent, enters-there, frame-sent}
 use borrow.Author.Needs.{needs}
 use Rattle.messages.proofs.resend.Statement.{statement}
 use Rattle.messages.proofs.resend.Tie as tie
@@ -30,9 +30,8 @@ same-length-3 c = search needs
 
 returns : tie.Need-returns
 returns c =
-    let at-sought = c .before .before in
-    let at-start = at-sought .before .before .before .before .before .before .before .before .before in
-    unsent (at-start .pre) (at-sought .sought .result) (c .enum-told .given .1) (at-sought .sought .ensures)
+    let at-start = c .before .before .before .before .before .before .before .before .before .before .before in
+    unsent (at-start .pre) (c .before .before .sought .result) (c .enum-told .given .1) (c .before .before .sought .ensures)
 
 receiver-of-requires : tie.Need-receiver-of-requires
 receiver-of-requires c κs =
@@ -48,24 +47,23 @@ mul-receiver c =
 
 slice-read-receiver : tie.Need-slice-read-receiver
 slice-read-receiver c =
-    let at-receiver-of = c .before in
-    let at-found = at-receiver-of .before .before .before .before .before in
+    let at-found = c .before .before .before .before .before .before in
     let at-sought = at-found .before .before in
     let at-start = at-sought .before .before .before .before .before .before .before .before .before in
-    let p = place-inside (at-start .pre) _ (sought-method (at-sought .sought .result) _ (at-found .found .given .1) (at-sought .sought .ensures)) (at-receiver-of .receiver-of .result) (at-receiver-of .receiver-of .ensures) in omega arith
+    let p = place-inside (at-start .pre) _ (sought-method (at-sought .sought .result) _ (at-found .found .given .1) (at-sought .sought .ensures)) (c .before .receiver-of .result) (c .before .receiver-of .ensures) in omega arith
 
-add-t36 : tie.Need-add-t36
-add-t36 c =
+add-t38 : tie.Need-add-t38
+add-t38 c =
     let at-start = c .before .before .before .before .before .before .before .before .before .before .before .before .before .before .before .before .before .before in
     let t = top-bounds (at-start .pre .sending .runs) in omega arith
 
-mul-t39 : tie.Need-mul-t39
-mul-t39 c =
+mul-t41 : tie.Need-mul-t41
+mul-t41 c =
     let at-start = c .before .before .before .before .before .before .before .before .before .before .before .before .before .before .before .before .before .before in
     let t = top-bounds (at-start .pre .sending .runs) in omega arith
 
-slice-read-t38 : tie.Need-slice-read-t38
-slice-read-t38 c =
+slice-read-t40 : tie.Need-slice-read-t40
+slice-read-t40 c =
     let at-start = c .before .before .before .before .before .before .before .before .before .before .before .before .before .before .before .before .before .before .before in
     let t = top-bounds (at-start .pre .sending .runs) in omega arith
 
@@ -110,24 +108,24 @@ fill-requires c κs =
     let at-found = c .before .before .before .before .before .before .before .before .before .before .before .before .before .before .before .before .before .before .before .before .before .before .before .before .before .before .before .before in
     let at-sought = at-found .before .before in
     let at-start = at-sought .before .before .before .before .before .before .before .before .before in
-    (at-start .pre .caches .long, found-kept (at-start .pre .caches) (omega arith) ((sought-method (at-sought .sought .result) _ (at-found .found .given .1) (at-sought .sought .ensures)) .finds))
+    let f = sought-method (at-sought .sought .result) _ (at-found .found .given .1) (at-sought .sought .ensures) in (at-start .pre .caches .long, found-kept (at-start .pre .caches) (omega arith) (f .finds) (f .reads), read-fits (at-start .pre) _ f)
 
-add-t57 : tie.Need-add-t57
-add-t57 c =
+add-t59 : tie.Need-add-t59
+add-t59 c =
     let at-found = c .before .before .before .before .before .before .before .before .before .before .before .before .before .before .before .before .before .before .before .before .before .before .before .before .before .before .before .before .before .before .before in
     let at-sought = at-found .before .before in
     let at-start = at-sought .before .before .before .before .before .before .before .before .before in
     let h = made-room (at-start .pre) _ (sought-method (at-sought .sought .result) _ (at-found .found .given .1) (at-sought .sought .ensures)) in omega arith
 
-add-t62 : tie.Need-add-t62
-add-t62 c =
+add-t64 : tie.Need-add-t64
+add-t64 c =
     let at-found = c .before .before .before .before .before .before .before .before .before .before .before .before .before .before .before .before .before .before .before .before .before .before .before .before .before .before .before .before .before .before .before in
     let at-sought = at-found .before .before in
     let at-start = at-sought .before .before .before .before .before .before .before .before .before in
     let h = made-room (at-start .pre) _ (sought-method (at-sought .sought .result) _ (at-found .found .given .1) (at-sought .sought .ensures)) in omega arith
 
-add-t63 : tie.Need-add-t63
-add-t63 c =
+add-t65 : tie.Need-add-t65
+add-t65 c =
     let at-found = c .before .before .before .before .before .before .before .before .before .before .before .before .before .before .before .before .before .before .before .before .before .before .before .before .before .before .before .before .before .before .before in
     let at-sought = at-found .before .before in
     let at-start = at-sought .before .before .before .before .before .before .before .before .before in
@@ -147,8 +145,7 @@ same-length-7 c = search needs
 
 returns-2 : tie.Need-returns-2
 returns-2 c =
-    let at-fill = c .before .before in
-    let at-answer = at-fill .before .before .before .before in
+    let at-answer = c .before .before .before .before .before .before in
     let at-make-message = at-answer .before .before .before .before .before .before in
     let at-if1 = at-make-message .before .before .before .before in
     let at-answers = at-if1 .before in
@@ -157,7 +154,7 @@ returns-2 c =
     let at-found = at-receiver-of .before .before .before .before .before in
     let at-sought = at-found .before .before in
     let at-start = at-sought .before .before .before .before .before .before .before .before .before in
-    λ receiver selector. answer-sent (at-start .pre) _ (sought-method (at-sought .sought .result) _ (at-found .found .given .1) (at-sought .sought .ensures)) (at-receiver-of .receiver-of .result) (at-receiver-of .receiver-of .ensures) _ _ (at-make-message .make-message .ensures) (sym (at-answers .answers .ensures) ∙ at-if1 .if1 .taken) _ _ (at-answer .answer .ensures) (at-fill .fill .ensures) _ receiver selector (at-end-of .end-of .ensures .0)
+    λ receiver selector. answer-sent (at-start .pre) _ (sought-method (at-sought .sought .result) _ (at-found .found .given .1) (at-sought .sought .ensures)) (at-receiver-of .receiver-of .result) (at-receiver-of .receiver-of .ensures) _ _ (at-make-message .make-message .ensures) (sym (at-answers .answers .ensures) ∙ at-if1 .if1 .taken) _ _ (at-answer .answer .ensures) (c .before .before .fill .ensures) _ receiver selector (at-end-of .end-of .ensures .0)
 
 runs-on-requires : tie.Need-runs-on-requires
 runs-on-requires c κs =
@@ -181,14 +178,13 @@ same-length-11 c = search needs
 
 returns-3 : tie.Need-returns-3
 returns-3 c =
-    let at-runs-on = c .before in
-    let at-if1 = at-runs-on .before .before .before in
+    let at-if1 = c .before .before .before .before in
     let at-answers = at-if1 .before in
     let at-receiver-of = at-answers .before .before .before .before .before .before .before .before .before in
     let at-found = at-receiver-of .before .before .before .before .before in
     let at-sought = at-found .before .before in
     let at-start = at-sought .before .before .before .before .before .before .before .before .before in
-    unfit-sent (at-start .pre) _ (sought-method (at-sought .sought .result) _ (at-found .found .given .1) (at-sought .sought .ensures)) (at-receiver-of .receiver-of .result) (at-receiver-of .receiver-of .ensures) (sym (at-answers .answers .ensures) ∙ at-if1 .if1 .left) (sym (at-runs-on .runs-on .ensures) ∙ not-true _ (c .if2 .taken))
+    unfit-sent (at-start .pre) _ (sought-method (at-sought .sought .result) _ (at-found .found .given .1) (at-sought .sought .ensures)) (at-receiver-of .receiver-of .result) (at-receiver-of .receiver-of .ensures) (sym (at-answers .answers .ensures) ∙ at-if1 .if1 .left) (sym (c .before .runs-on .ensures) ∙ not-true _ (c .if2 .taken))
 
 frame-at-requires : tie.Need-frame-at-requires
 frame-at-requires c κs =
@@ -258,24 +254,24 @@ fill-requires-2 c κs =
     let at-found = c .before .before .before .before .before .before .before .before .before .before .before .before .before .before .before .before .before .before .before .before .before .before .before .before .before .before .before .before .before .before .before .before .before .before .before .before .before .before in
     let at-sought = at-found .before .before in
     let at-start = at-sought .before .before .before .before .before .before .before .before .before in
-    (at-start .pre .caches .long, found-kept (at-start .pre .caches) (omega arith) ((sought-method (at-sought .sought .result) _ (at-found .found .given .1) (at-sought .sought .ensures)) .finds))
+    let f = sought-method (at-sought .sought .result) _ (at-found .found .given .1) (at-sought .sought .ensures) in (at-start .pre .caches .long, found-kept (at-start .pre .caches) (omega arith) (f .finds) (f .reads), read-fits (at-start .pre) _ f)
 
-add-t83 : tie.Need-add-t83
-add-t83 c =
+add-t85 : tie.Need-add-t85
+add-t85 c =
     let at-found = c .before .before .before .before .before .before .before .before .before .before .before .before .before .before .before .before .before .before .before .before .before .before .before .before .before .before .before .before .before .before .before .before .before .before .before .before .before .before .before .before .before in
     let at-sought = at-found .before .before in
     let at-start = at-sought .before .before .before .before .before .before .before .before .before in
     let h = made-room (at-start .pre) _ (sought-method (at-sought .sought .result) _ (at-found .found .given .1) (at-sought .sought .ensures)) in omega arith
 
-add-t86 : tie.Need-add-t86
-add-t86 c =
+add-t88 : tie.Need-add-t88
+add-t88 c =
     let at-found = c .before .before .before .before .before .before .before .before .before .before .before .before .before .before .before .before .before .before .before .before .before .before .before .before .before .before .before .before .before .before .before .before .before .before .before .before .before .before .before .before .before in
     let at-sought = at-found .before .before in
     let at-start = at-sought .before .before .before .before .before .before .before .before .before in
     let h = made-room (at-start .pre) _ (sought-method (at-sought .sought .result) _ (at-found .found .given .1) (at-sought .sought .ensures)) in omega arith
 
-add-t90 : tie.Need-add-t90
-add-t90 c =
+add-t92 : tie.Need-add-t92
+add-t92 c =
     let at-found = c .before .before .before .before .before .before .before .before .before .before .before .before .before .before .before .before .before .before .before .before .before .before .before .before .before .before .before .before .before .before .before .before .before .before .before .before .before .before .before .before .before in
     let at-sought = at-found .before .before in
     let at-start = at-sought .before .before .before .before .before .before .before .before .before in
@@ -298,8 +294,7 @@ same-length-15 c = search needs
 
 returns-4 : tie.Need-returns-4
 returns-4 c =
-    let at-fill2 = c .before .before in
-    let at-enter = at-fill2 .before .before .before .before in
+    let at-enter = c .before .before .before .before .before .before in
     let at-make-message2 = at-enter .before .before .before .before .before .before in
     let at-temporaries = at-make-message2 .before .before .before .before .before in
     let at-frame-at = at-temporaries .before .before in
@@ -312,7 +307,7 @@ returns-4 c =
     let at-found = at-receiver-of .before .before .before .before .before in
     let at-sought = at-found .before .before in
     let at-start = at-sought .before .before .before .before .before .before .before .before .before in
-    frame-sent (at-start .pre) _ (sought-method (at-sought .sought .result) _ (at-found .found .given .1) (at-sought .sought .ensures)) (at-receiver-of .receiver-of .result) (at-receiver-of .receiver-of .ensures) (sym (at-answers .answers .ensures) ∙ at-if1 .if1 .left) (sym (at-runs-on .runs-on .ensures) ∙ not-false _ (at-if2 .if2 .left)) _ (at-end-of .end-of .ensures .0) _ _ (placed-at (at-frame-at .frame-at .result) _ _ (at-temporaries .temporaries .given .1) (at-frame-at .frame-at .ensures)) _ _ _ _ (at-make-message2 .make-message2 .ensures) (at-enter .enter .ensures) (at-fill2 .fill2 .ensures)
+    frame-sent (at-start .pre) _ (sought-method (at-sought .sought .result) _ (at-found .found .given .1) (at-sought .sought .ensures)) (at-receiver-of .receiver-of .result) (at-receiver-of .receiver-of .ensures) (sym (at-answers .answers .ensures) ∙ at-if1 .if1 .left) (sym (at-runs-on .runs-on .ensures) ∙ not-false _ (at-if2 .if2 .left)) _ (at-end-of .end-of .ensures .0) _ _ (placed-at (at-frame-at .frame-at .result) _ _ (at-temporaries .temporaries .given .1) (at-frame-at .frame-at .ensures)) _ _ _ _ (at-make-message2 .make-message2 .ensures) (at-enter .enter .ensures) (c .before .before .fill2 .ensures)
 
 same-length-16 : tie.Need-same-length-16
 same-length-16 c = search needs
@@ -328,8 +323,7 @@ same-length-19 c = search needs
 
 returns-5 : tie.Need-returns-5
 returns-5 c =
-    let at-frame-at = c .before .before in
-    let at-if2 = at-frame-at .before .before .before in
+    let at-if2 = c .before .before .before .before .before in
     let at-runs-on = at-if2 .before in
     let at-if1 = at-runs-on .before .before .before in
     let at-answers = at-if1 .before in
@@ -338,7 +332,7 @@ returns-5 c =
     let at-found = at-receiver-of .before .before .before .before .before in
     let at-sought = at-found .before .before in
     let at-start = at-sought .before .before .before .before .before .before .before .before .before in
-    full-sent (at-start .pre) _ (sought-method (at-sought .sought .result) _ (at-found .found .given .1) (at-sought .sought .ensures)) (at-receiver-of .receiver-of .result) (at-receiver-of .receiver-of .ensures) (sym (at-answers .answers .ensures) ∙ at-if1 .if1 .left) (sym (at-runs-on .runs-on .ensures) ∙ not-false _ (at-if2 .if2 .left)) _ (at-end-of .end-of .ensures .0) (at-frame-at .frame-at .result) (c .enum-told2 .given .1) (at-frame-at .frame-at .ensures)
+    full-sent (at-start .pre) _ (sought-method (at-sought .sought .result) _ (at-found .found .given .1) (at-sought .sought .ensures)) (at-receiver-of .receiver-of .result) (at-receiver-of .receiver-of .ensures) (sym (at-answers .answers .ensures) ∙ at-if1 .if1 .left) (sym (at-runs-on .runs-on .ensures) ∙ not-false _ (at-if2 .if2 .left)) _ (at-end-of .end-of .ensures .0) (c .before .before .frame-at .result) (c .enum-told2 .given .1) (c .before .before .frame-at .ensures)
 
 pub resend-spec : {M : Type 1} → statement M
 resend-spec =
@@ -354,18 +348,18 @@ resend-spec =
     receiver-of-requires
     mul-receiver
     slice-read-receiver
-    add-t36
-    mul-t39
-    slice-read-t38
+    add-t38
+    mul-t41
+    slice-read-t40
     end-of-requires
     answers-requires
     add-make-message
     make-message-requires
     answer-requires
     fill-requires
-    add-t57
-    add-t62
-    add-t63
+    add-t59
+    add-t64
+    add-t65
     same-length-4
     same-length-5
     same-length-6
@@ -386,9 +380,9 @@ resend-spec =
     cast-enter
     enter-requires
     fill-requires-2
-    add-t83
-    add-t86
-    add-t90
+    add-t85
+    add-t88
+    add-t92
     enum-told-2
     same-length-12
     same-length-13

@@ -1,5 +1,5 @@
 use Prim.Native.Nat.{ℕ, _/_, _<_}
-use mathlib.Core.Path.{ap}
+use mathlib.Core.Path.{refl, ap}
 use native.Mathlib.Omega.{arith}
 use Rattle.objects.proofs.Bodies.{holds-entry}
 use Rattle.objects.proofs.Searches.{pairs-inside, none-found, none-read, place-fits, place-found, place-missed, place-read}
@@ -28,7 +28,7 @@ returns c =
     let s = at-start .args .s in
     let from = c .before .before .start .ensures in
     let count = ap (λ (x : ℕ). x / 2) (c .before .size .ensures) in
-    record { finds = none-found (at-start .pre) s from count (c .if1 .taken); reads = none-read (at-start .pre) s from count (c .if1 .taken) }
+    record { finds = none-found (at-start .pre) s from count (c .if1 .taken); walks = refl; reads = none-read (at-start .pre) s from count (c .if1 .taken) }
 
 first-place-requires : tie.Need-first-place-requires
 first-place-requires c κs =
@@ -73,7 +73,7 @@ returns-2 c =
     let from = at-size .before .start .ensures in
     let count = ap (λ (x : ℕ). x / 2) (at-size .size .ensures) in
     let place = at-first-place .first-place .ensures in
-    record { finds = place-found (at-start .pre) s from count place (c .before .if2 .taken); reads = place-read (at-start .pre) s from count place }
+    record { finds = place-found (at-start .pre) s from count place (c .before .if2 .taken); walks = refl; reads = place-read (at-start .pre) s from count place }
 
 returns-3 : tie.Need-returns-3
 returns-3 c =
@@ -84,7 +84,7 @@ returns-3 c =
     let from = at-size .before .start .ensures in
     let count = ap (λ (x : ℕ). x / 2) (at-size .size .ensures) in
     let place = at-first-place .first-place .ensures in
-    record { finds = place-missed (at-start .pre) s from count place (c .if2 .left); reads = place-read (at-start .pre) s from count place }
+    record { finds = place-missed (at-start .pre) s from count place (c .if2 .left); walks = refl; reads = place-read (at-start .pre) s from count place }
 
 pub find-in-spec : {M : Type 1} → statement M
 find-in-spec =

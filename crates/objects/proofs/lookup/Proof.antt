@@ -15,11 +15,14 @@ abbrev μ-loop : tie.MeasureT-loop
 loop-holds : tie.Need-loop-holds Inv-loop μ-loop
 loop-holds c = lookup-first (c .before .before .pre .1)
 
+sub-t17 : tie.Need-sub-t17 Inv-loop μ-loop
+sub-t17 c = let h = c .before .before .before .loop .inv .turns in omega arith
+
 returns : tie.Need-returns Inv-loop μ-loop
 returns c =
     let at-loop = c .before .before .before in
     let r = lookup-nil (at-loop .before .before .before .pre .0 .1) (at-loop .loop .inv) (c .if1 .taken) in
-    record { finds = r .0; reads = r .1 }
+    record { finds = r .0; walks = r .1; reads = r .2 }
 
 superclass-requires : tie.Need-superclass-requires Inv-loop μ-loop
 superclass-requires c κs =
@@ -52,6 +55,12 @@ add-pairs c =
 enum-known-found : tie.Need-enum-known-found Inv-loop μ-loop
 enum-known-found c = c .match .keys1
 
+sub-t19 : tie.Need-sub-t19 Inv-loop μ-loop
+sub-t19 c = let h = c .before .before .before .before .before .before .before .before .before .before .loop .inv .turns in omega arith
+
+add-t20 : tie.Need-add-t20 Inv-loop μ-loop
+add-t20 c = omega arith
+
 returns-2 : tie.Need-returns-2 Inv-loop μ-loop
 returns-2 c =
     let at-find-in = c .before .before .before .before in
@@ -62,7 +71,7 @@ returns-2 c =
     let right = at-loop .before .before .before .pre .0 .1 in
     let r = lookup-hit right (at-loop .loop .inv) (at-loop-test .loop-test .taken) (class-here right _ (at-loop .loop .inv .classes) (at-if1 .if1 .left))
     (at-dictionary .dictionary .ensures) (at-find-in .find-in .ensures .finds) (at-find-in .find-in .ensures .reads) _ (c .before .found .given .1) in
-    record { finds = r .0; reads = r .1 }
+    record { finds = r .0; walks = r .1; reads = r .2 }
 
 enum-told : tie.Need-enum-told Inv-loop μ-loop
 enum-told c = c .match .keys2
@@ -90,7 +99,7 @@ returns-3 : tie.Need-returns-3 Inv-loop μ-loop
 returns-3 c =
     let at-loop = c .before in
     let r = lookup-over (at-loop .before .before .before .pre .0 .1) (at-loop .loop .inv) (c .loop-test .left) in
-    record { finds = r .0; reads = r .1 }
+    record { finds = r .0; walks = r .1; reads = r .2 }
 
 pub lookup-spec : {M : Type 1} → statement M
 lookup-spec =
@@ -99,12 +108,15 @@ lookup-spec =
     Inv-loop
     μ-loop
     loop-holds
+    sub-t17
     returns
     superclass-requires
     dictionary-requires
     find-in-requires
     add-pairs
     enum-known-found
+    sub-t19
+    add-t20
     returns-2
     enum-told
     sub-left

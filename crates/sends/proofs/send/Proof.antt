@@ -1,7 +1,7 @@
 use mathlib.Core.Path.{refl, sym, _∙_}
 use native.Mathlib.Omega.{arith}
 use Rattle.cache.proofs.Caching.{found-kept}
-use Rattle.sends.proofs.Sending.{sent-needs, sent-ends, made-nothing, activable, made-answer, made-none, framing, made-unfit, made-full, enters-there, made-frame}
+use Rattle.sends.proofs.Sending.{read-fits, sent-needs, sent-ends, made-nothing, activable, made-answer, made-none, framing, made-unfit, made-full, enters-there, made-frame}
 use borrow.Author.Needs.{needs}
 use Rattle.sends.proofs.send.Statement.{statement}
 use Rattle.sends.proofs.send.Tie as tie
@@ -27,94 +27,69 @@ same-length-3 c = search needs
 returns : tie.Need-returns
 returns c =
     let at-start = c .before .before .before .before .before .before .before .before .before .before .before in
-    λ receiver selector. made-nothing (at-start .pre .0) (at-start .pre .1) _ (at-start .args .edition) receiver selector (sym (c .before .before .cached
-    .ensures) ∙ c .enum-told .given .1)
+    λ receiver selector. made-nothing (at-start .pre .0) (at-start .pre .1) _ (at-start .args .edition) receiver selector (sym (c .before .before .cached .ensures .finds) ∙ c .enum-told .given .1)
 
 sub-place : tie.Need-sub-place
 sub-place c =
     let at-start = c .before .before .before .before .before .before .before .before .before .before .before .before .before .before in
-    let k = sent-needs (at-start .pre .0) (at-start .pre .1) in
-    let e = sent-ends (at-start .pre .0) (at-start .pre .1) in
-    omega arith
+    let k = sent-needs (at-start .pre .0) (at-start .pre .1) in let e = sent-ends (at-start .pre .0) (at-start .pre .1) in omega arith
 
 sub-place-2 : tie.Need-sub-place-2
 sub-place-2 c =
     let at-start = c .before .before .before .before .before .before .before .before .before .before .before .before .before .before in
-    let k = sent-needs (at-start .pre .0) (at-start .pre .1) in
-    let e = sent-ends (at-start .pre .0) (at-start .pre .1) in
-    omega arith
+    let k = sent-needs (at-start .pre .0) (at-start .pre .1) in let e = sent-ends (at-start .pre .0) (at-start .pre .1) in omega arith
 
 add-receiver : tie.Need-add-receiver
 add-receiver c =
     let at-start = c .before .before .before .before .before .before .before .before .before .before .before .before .before .before .before in
-    let k = sent-needs (at-start .pre .0) (at-start .pre .1) in
-    let e = sent-ends (at-start .pre .0) (at-start .pre .1) in
-    omega arith
+    let k = sent-needs (at-start .pre .0) (at-start .pre .1) in let e = sent-ends (at-start .pre .0) (at-start .pre .1) in omega arith
 
 mul-receiver : tie.Need-mul-receiver
 mul-receiver c =
     let at-start = c .before .before .before .before .before .before .before .before .before .before .before .before .before .before .before in
-    let k = sent-needs (at-start .pre .0) (at-start .pre .1) in
-    let e = sent-ends (at-start .pre .0) (at-start .pre .1) in
-    omega arith
+    let k = sent-needs (at-start .pre .0) (at-start .pre .1) in let e = sent-ends (at-start .pre .0) (at-start .pre .1) in omega arith
 
 slice-read-receiver : tie.Need-slice-read-receiver
 slice-read-receiver c =
     let at-start = c .before .before .before .before .before .before .before .before .before .before .before .before .before .before .before .before in
-    let k = sent-needs (at-start .pre .0) (at-start .pre .1) in
-    let e = sent-ends (at-start .pre .0) (at-start .pre .1) in
-    omega arith
+    let k = sent-needs (at-start .pre .0) (at-start .pre .1) in let e = sent-ends (at-start .pre .0) (at-start .pre .1) in omega arith
 
 mul-receiver-2 : tie.Need-mul-receiver-2
 mul-receiver-2 c =
     let at-start = c .before .before .before .before .before .before .before .before .before .before .before .before .before .before .before .before in
-    let k = sent-needs (at-start .pre .0) (at-start .pre .1) in
-    let e = sent-ends (at-start .pre .0) (at-start .pre .1) in
-    omega arith
+    let k = sent-needs (at-start .pre .0) (at-start .pre .1) in let e = sent-ends (at-start .pre .0) (at-start .pre .1) in omega arith
 
 slice-read-receiver-2 : tie.Need-slice-read-receiver-2
 slice-read-receiver-2 c =
     let at-start = c .before .before .before .before .before .before .before .before .before .before .before .before .before .before .before .before .before in
-    let k = sent-needs (at-start .pre .0) (at-start .pre .1) in
-    let e = sent-ends (at-start .pre .0) (at-start .pre .1) in
-    omega arith
+    let k = sent-needs (at-start .pre .0) (at-start .pre .1) in let e = sent-ends (at-start .pre .0) (at-start .pre .1) in omega arith
 
 acted-requires : tie.Need-acted-requires
 acted-requires c κs =
     let at-found = c .before .before .before .before .before .before .before .before .before in
     let at-cached = at-found .before .before in
-    let at-start = at-cached .before .before .before .before .before .before .before .before .before in (
-      activable (at-start .pre .0) (at-start .pre .1) _ (sym (at-cached .cached .ensures) ∙ at-found .found .given .1),
-      (let k = sent-needs (at-start .pre .0)
-          (at-start .pre .1) in let e = sent-ends (at-start .pre .0) (at-start .pre .1) in omega arith),
-    )
+    let at-start = at-cached .before .before .before .before .before .before .before .before .before in
+    (activable (at-start .pre .0) (at-start .pre .1) _ (sym (at-cached .cached .ensures .finds) ∙ at-found .found .given .1), (let k = sent-needs (at-start .pre .0) (at-start .pre .1) in let e = sent-ends (at-start .pre .0) (at-start .pre .1) in omega arith))
 
 enum-known-done : tie.Need-enum-known-done
 enum-known-done c = search needs
 
 mul-stack : tie.Need-mul-stack
 mul-stack c =
-    let at-start = c .before .before .before .before .before .before .before .before .before .before .before .before .before .before .before .before .before
-    .before .before .before .before .before .before .before .before .before .before .before in
-    let k = sent-needs (at-start .pre .0) (at-start .pre .1) in
-    let e = sent-ends (at-start .pre .0) (at-start .pre .1) in
-    omega arith
+    let at-start = c .before .before .before .before .before .before .before .before .before .before .before .before .before .before .before .before .before .before .before .before .before .before .before .before .before .before .before .before in
+    let k = sent-needs (at-start .pre .0) (at-start .pre .1) in let e = sent-ends (at-start .pre .0) (at-start .pre .1) in omega arith
 
 slice-write-stack : tie.Need-slice-write-stack
 slice-write-stack c =
-    let at-start = c .before .before .before .before .before .before .before .before .before .before .before .before .before .before .before .before .before
-    .before .before .before .before .before .before .before .before .before .before .before in
-    let k = sent-needs (at-start .pre .0) (at-start .pre .1) in
-    let e = sent-ends (at-start .pre .0) (at-start .pre .1) in
-    omega arith
+    let at-start = c .before .before .before .before .before .before .before .before .before .before .before .before .before .before .before .before .before .before .before .before .before .before .before .before .before .before .before .before in
+    let k = sent-needs (at-start .pre .0) (at-start .pre .1) in let e = sent-ends (at-start .pre .0) (at-start .pre .1) in omega arith
 
 fill-requires : tie.Need-fill-requires
 fill-requires c κs =
-    let at-found = c .before .before .before .before .before .before .before .before .before .before .before .before .before .before .before .before .before
-    .before in
+    let at-found = c .before .before .before .before .before .before .before .before .before .before .before .before .before .before .before .before .before .before in
     let at-cached = at-found .before .before in
     let at-start = at-cached .before .before .before .before .before .before .before .before .before in
-    (at-start .pre .2 .long, found-kept (at-start .pre .2) (at-start .pre .1 .named) (sym (at-cached .cached .ensures) ∙ at-found .found .given .1))
+    (at-start .pre .2 .long, found-kept (at-start .pre .2) (at-start .pre .1 .named) (sym (at-cached .cached .ensures .finds) ∙ at-found .found .given .1) (at-cached .cached .ensures .reads), read-fits (at-start .pre .0) (at-start .pre .1) (at-cached .cached .ensures .reads))
 
 enum-told-2 : tie.Need-enum-told-2
 enum-told-2 c = search needs
@@ -128,49 +103,37 @@ new-frame-requires c κs =
     let at-found = at-acted .before .before .before .before .before .before .before .before .before .before in
     let at-cached = at-found .before .before in
     let at-start = at-cached .before .before .before .before .before .before .before .before .before in
-    framing (at-start .pre .0) (at-start .pre .1) _ (sym (at-cached .cached .ensures) ∙ at-found .found .given .1) (at-start .args .edition) (at-start .args
-    .cache .now) (at-acted .acted .last .0) (at-acted .acted .last .1 .0) (at-acted .acted .result) (at-acted .acted .ensures) (c .before .before .enum-told3
-    .given .1)
+    framing (at-start .pre .0) (at-start .pre .1) _ (sym (at-cached .cached .ensures .finds) ∙ at-found .found .given .1) (at-start .args .edition) (at-start .args .cache .now) (at-acted .acted .last .0) (at-acted .acted .last .1 .0) (at-acted .acted .result) (at-acted .acted .ensures) (c .before .before .enum-told3 .given .1)
 
 enum-known-fit : tie.Need-enum-known-fit
 enum-known-fit c = search needs
 
 sub-make-frame : tie.Need-sub-make-frame
 sub-make-frame c =
-    let at-start = c .before .before .before .before .before .before .before .before .before .before .before .before .before .before .before .before .before
-    .before .before .before .before .before .before .before .before .before .before .before .before .before .before .before .before .before .before in
-    let k = sent-needs (at-start .pre .0) (at-start .pre .1) in
-    let e = sent-ends (at-start .pre .0) (at-start .pre .1) in
-    omega arith
+    let at-start = c .before .before .before .before .before .before .before .before .before .before .before .before .before .before .before .before .before .before .before .before .before .before .before .before .before .before .before .before .before .before .before .before .before .before .before in
+    let k = sent-needs (at-start .pre .0) (at-start .pre .1) in let e = sent-ends (at-start .pre .0) (at-start .pre .1) in omega arith
 
 add-make-frame : tie.Need-add-make-frame
 add-make-frame c =
-    let at-start = c .before .before .before .before .before .before .before .before .before .before .before .before .before .before .before .before .before
-    .before .before .before .before .before .before .before .before .before .before .before .before .before .before .before .before .before .before in
-    let k = sent-needs (at-start .pre .0) (at-start .pre .1) in
-    let e = sent-ends (at-start .pre .0) (at-start .pre .1) in
-    omega arith
+    let at-start = c .before .before .before .before .before .before .before .before .before .before .before .before .before .before .before .before .before .before .before .before .before .before .before .before .before .before .before .before .before .before .before .before .before .before .before in
+    let k = sent-needs (at-start .pre .0) (at-start .pre .1) in let e = sent-ends (at-start .pre .0) (at-start .pre .1) in omega arith
 
 make-frame-requires : tie.Need-make-frame-requires
 make-frame-requires c κs =
-    let at-fit = c .before .before .before in
-    let at-new-frame = at-fit .before .before in
+    let at-new-frame = c .before .before .before .before .before in
     let at-enum-told3 = at-new-frame .before .before .before in
     let at-acted = at-enum-told3 .before .before .before .before .before .before in
     let at-found = at-acted .before .before .before .before .before .before .before .before .before .before in
     let at-cached = at-found .before .before in
     let at-start = at-cached .before .before .before .before .before .before .before .before .before in
-    enters-there (at-start .pre .0) (at-start .pre .1) _ (sym (at-cached .cached .ensures) ∙ at-found .found .given .1) (at-start .args .edition) (at-start
-    .args .cache .now) (at-acted .acted .last .0) (at-acted .acted .last .1 .0) (at-acted .acted .result) (at-acted .acted .ensures) (at-enum-told3 .enum-told3
-    .given .1) (at-new-frame .new-frame .result) (at-new-frame .new-frame .ensures) _ _ _ (at-fit .fit .given .1) (at-start .pre .3)
+    enters-there (at-start .pre .0) (at-start .pre .1) _ (sym (at-cached .cached .ensures .finds) ∙ at-found .found .given .1) (at-start .args .edition) (at-start .args .cache .now) (at-acted .acted .last .0) (at-acted .acted .last .1 .0) (at-acted .acted .result) (at-acted .acted .ensures) (at-enum-told3 .enum-told3 .given .1) (at-new-frame .new-frame .result) (at-new-frame .new-frame .ensures) _ _ _ (c .before .before .before .fit .given .1) (at-start .pre .3)
 
 fill-requires-2 : tie.Need-fill-requires-2
 fill-requires-2 c κs =
-    let at-found = c .before .before .before .before .before .before .before .before .before .before .before .before .before .before .before .before .before
-    .before .before .before .before .before .before .before .before .before .before .before in
+    let at-found = c .before .before .before .before .before .before .before .before .before .before .before .before .before .before .before .before .before .before .before .before .before .before .before .before .before .before .before .before in
     let at-cached = at-found .before .before in
     let at-start = at-cached .before .before .before .before .before .before .before .before .before in
-    (at-start .pre .2 .long, found-kept (at-start .pre .2) (at-start .pre .1 .named) (sym (at-cached .cached .ensures) ∙ at-found .found .given .1))
+    (at-start .pre .2 .long, found-kept (at-start .pre .2) (at-start .pre .1 .named) (sym (at-cached .cached .ensures .finds) ∙ at-found .found .given .1) (at-cached .cached .ensures .reads), read-fits (at-start .pre .0) (at-start .pre .1) (at-cached .cached .ensures .reads))
 
 enum-told-4 : tie.Need-enum-told-4
 enum-told-4 c = search needs
@@ -197,9 +160,7 @@ returns-2 c =
     let at-found = at-acted .before .before .before .before .before .before .before .before .before .before in
     let at-cached = at-found .before .before in
     let at-start = at-cached .before .before .before .before .before .before .before .before .before in
-    made-answer (at-start .pre .0) (at-start .pre .1) _ (sym (at-cached .cached .ensures) ∙ at-found .found .given .1) (at-start .args .edition) (at-start
-    .args .cache .now) (at-acted .acted .last .0) (at-acted .acted .last .1 .0) (at-acted .acted .result) (at-acted .acted .ensures) _ _ _ _ _ (at-done .done
-    .given .1) refl (c .before .before .fill .ensures)
+    made-answer (at-start .pre .0) (at-start .pre .1) _ (sym (at-cached .cached .ensures .finds) ∙ at-found .found .given .1) (at-start .args .edition) (at-start .args .cache .now) (at-acted .acted .last .0) (at-acted .acted .last .1 .0) (at-acted .acted .result) (at-acted .acted .ensures) _ _ _ _ _ (at-cached .cached .ensures .reads) (at-done .done .given .1) refl (c .before .before .fill .ensures)
 
 same-length-8 : tie.Need-same-length-8
 same-length-8 c = search needs
@@ -219,19 +180,16 @@ returns-3 c =
     let at-found = at-acted .before .before .before .before .before .before .before .before .before .before in
     let at-cached = at-found .before .before in
     let at-start = at-cached .before .before .before .before .before .before .before .before .before in
-    made-none (at-start .pre .0) (at-start .pre .1) _ (sym (at-cached .cached .ensures) ∙ at-found .found .given .1) (at-start .args .edition) (at-start .args
-    .cache .now) (at-acted .acted .last .0) (at-acted .acted .last .1 .0) (at-acted .acted .result) (at-acted .acted .ensures) (c .enum-told2 .given .1)
+    made-none (at-start .pre .0) (at-start .pre .1) _ (sym (at-cached .cached .ensures .finds) ∙ at-found .found .given .1) (at-start .args .edition) (at-start .args .cache .now) (at-acted .acted .last .0) (at-acted .acted .last .1 .0) (at-acted .acted .result) (at-acted .acted .ensures) (c .enum-told2 .given .1)
 
 same-length-12 : tie.Need-same-length-12
 same-length-12 c =
-    let at-acted = c .before .before .before .before .before .before .before .before .before .before .before .before .before .before .before .before .before
-    .before .before .before .before in
+    let at-acted = c .before .before .before .before .before .before .before .before .before .before .before .before .before .before .before .before .before .before .before .before .before in
     at-acted .acted .kept .0
 
 same-length-13 : tie.Need-same-length-13
 same-length-13 c =
-    let at-acted = c .before .before .before .before .before .before .before .before .before .before .before .before .before .before .before .before .before
-    .before .before .before .before in
+    let at-acted = c .before .before .before .before .before .before .before .before .before .before .before .before .before .before .before .before .before .before .before .before .before in
     at-acted .acted .kept .1 .0
 
 same-length-14 : tie.Need-same-length-14
@@ -250,10 +208,7 @@ returns-4 c =
     let at-found = at-acted .before .before .before .before .before .before .before .before .before .before in
     let at-cached = at-found .before .before in
     let at-start = at-cached .before .before .before .before .before .before .before .before .before in
-    made-frame (at-start .pre .0) (at-start .pre .1) _ (sym (at-cached .cached .ensures) ∙ at-found .found .given .1) (at-start .args .edition) (at-start .args
-    .cache .now) (at-acted .acted .last .0) (at-acted .acted .last .1 .0) (at-acted .acted .result) (at-acted .acted .ensures) (at-enum-told3 .enum-told3
-    .given .1) (at-new-frame .new-frame .result) (at-new-frame .new-frame .ensures) _ _ _ (at-fit .fit .given .1) _ _ (at-make-frame .make-frame .ensures) (c
-    .before .before .fill2 .ensures)
+    made-frame (at-start .pre .0) (at-start .pre .1) _ (sym (at-cached .cached .ensures .finds) ∙ at-found .found .given .1) (at-start .args .edition) (at-start .args .cache .now) (at-acted .acted .last .0) (at-acted .acted .last .1 .0) (at-acted .acted .result) (at-acted .acted .ensures) (at-enum-told3 .enum-told3 .given .1) (at-new-frame .new-frame .result) (at-new-frame .new-frame .ensures) _ _ _ (at-fit .fit .given .1) _ _ (at-make-frame .make-frame .ensures) (at-cached .cached .ensures .reads) (c .before .before .fill2 .ensures)
 
 same-length-16 : tie.Need-same-length-16
 same-length-16 c = search needs
@@ -274,9 +229,7 @@ returns-5 c =
     let at-found = at-acted .before .before .before .before .before .before .before .before .before .before in
     let at-cached = at-found .before .before in
     let at-start = at-cached .before .before .before .before .before .before .before .before .before in
-    made-full (at-start .pre .0) (at-start .pre .1) _ (sym (at-cached .cached .ensures) ∙ at-found .found .given .1) (at-start .args .edition) (at-start .args
-    .cache .now) (at-acted .acted .last .0) (at-acted .acted .last .1 .0) (at-acted .acted .result) (at-acted .acted .ensures) (at-enum-told3 .enum-told3
-    .given .1) (c .before .before .new-frame .result) (c .before .before .new-frame .ensures) (c .enum-told4 .given .1)
+    made-full (at-start .pre .0) (at-start .pre .1) _ (sym (at-cached .cached .ensures .finds) ∙ at-found .found .given .1) (at-start .args .edition) (at-start .args .cache .now) (at-acted .acted .last .0) (at-acted .acted .last .1 .0) (at-acted .acted .result) (at-acted .acted .ensures) (at-enum-told3 .enum-told3 .given .1) (c .before .before .new-frame .result) (c .before .before .new-frame .ensures) (c .enum-told4 .given .1)
 
 same-length-20 : tie.Need-same-length-20
 same-length-20 c = search needs
@@ -297,9 +250,7 @@ returns-6 c =
     let at-found = at-acted .before .before .before .before .before .before .before .before .before .before in
     let at-cached = at-found .before .before in
     let at-start = at-cached .before .before .before .before .before .before .before .before .before in
-    made-unfit (at-start .pre .0) (at-start .pre .1) _ (sym (at-cached .cached .ensures) ∙ at-found .found .given .1) (at-start .args .edition) (at-start .args
-    .cache .now) (at-acted .acted .last .0) (at-acted .acted .last .1 .0) (at-acted .acted .result) (at-acted .acted .ensures) (at-enum-told3 .enum-told3
-    .given .1) (c .before .before .new-frame .result) (c .before .before .new-frame .ensures) (c .enum-told5 .given .1)
+    made-unfit (at-start .pre .0) (at-start .pre .1) _ (sym (at-cached .cached .ensures .finds) ∙ at-found .found .given .1) (at-start .args .edition) (at-start .args .cache .now) (at-acted .acted .last .0) (at-acted .acted .last .1 .0) (at-acted .acted .result) (at-acted .acted .ensures) (at-enum-told3 .enum-told3 .given .1) (c .before .before .new-frame .result) (c .before .before .new-frame .ensures) (c .enum-told5 .given .1)
 
 pub send-spec : {M : Type 1} → statement M
 send-spec =

@@ -38,10 +38,7 @@ returns c =
     let at-run = c .before .before .before .before .before .before .before .before .before .before .before .before .before in
     let at-read-registers = at-run .before .before .before .before .before in
     let at-start = at-read-registers .before .before .before .before .before .before in
-    let args = at-start .args in
-    run-done (args .registers .now) (args .contents .now) (args .bodies .now) (args .stack .now) (args .cache .now) (at-read-registers .read-registers .result)
-    (at-read-registers .read-registers .ensures) (args .grant) _ _ _ _ _ (at-run .run .result) (at-run .run .ensures) (args .count .now) (args .reach .now) _ _ _
-    (c .before .before .before .r .given .1) (c .write-registers .ensures)
+    let args = at-start .args in run-done (args .registers .now) (args .contents .now) (args .bodies .now) (args .stack .now) (args .cache .now) (at-read-registers .read-registers .result) (at-read-registers .read-registers .ensures) (args .grant) _ _ _ _ _ (at-run .run .result) (at-run .run .ensures) (args .count .now) (args .reach .now) (args .dictionaries .now) _ _ _ _ (c .before .before .before .r .given .1) (c .write-registers .ensures)
 
 same-length-5 : tie.Need-same-length-5
 same-length-5 c = search needs
@@ -60,10 +57,7 @@ returns-2 c =
     let at-run = c .before .before .before .before .before .before .before .before .before .before .before .before .before in
     let at-read-registers = at-run .before .before .before .before .before in
     let at-start = at-read-registers .before .before .before .before .before .before in
-    let args = at-start .args in
-    run-refused (args .registers .now) (args .contents .now) (args .bodies .now) (args .stack .now) (args .cache .now) (at-read-registers .read-registers .result)
-    (at-read-registers .read-registers .ensures) (args .grant) _ _ _ _ _ (at-run .run .result) (at-run .run .ensures) (args .count .now) (args .reach .now) _ _
-    (c .before .before .before .k .given .1) (c .write-registers2 .ensures)
+    let args = at-start .args in run-refused (args .registers .now) (args .contents .now) (args .bodies .now) (args .stack .now) (args .cache .now) (at-read-registers .read-registers .result) (at-read-registers .read-registers .ensures) (args .grant) _ _ _ _ _ (at-run .run .result) (at-run .run .ensures) (args .count .now) (args .reach .now) (args .dictionaries .now) _ _ (c .before .before .before .k .given .1) (c .write-registers2 .ensures)
 
 pub sofaduck-run-spec : {M : Type 1} → statement M
 sofaduck-run-spec =

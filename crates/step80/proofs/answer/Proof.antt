@@ -254,7 +254,7 @@ returns-5 c =
     let write-run2 = c .before .before .write-run2 in
     printed (a .image .now) (a .out .now) _ (write-run2 .result) _ (of-run (a .image .now) (a .contents .now) (a .bodies .now) (a .stack .now) (a .cache .now)
     (p .0, p .1, p .2, p .3) (load .result) _ _ _ (load .ensures) _ (at-loaded .loaded .given .1) (begin .result) _ _ _ (begin .ensures) _
-    (at-begun .begun .given .1) (at-if1 .if1 .left) (run .result) _ _ _ _ (run .ensures) _ _ _ (at-registers .registers .given .1)) (write-run2 .ensures)
+    (at-begun .begun .given .1) (at-if1 .if1 .left) (run .result) _ _ _ _ (run .ensures) _ _ _ _ (at-registers .registers .given .1)) (write-run2 .ensures)
 
 pub answer-spec : {M : Type 1} → statement M
 answer-spec =

@@ -14,28 +14,17 @@ enum-known-receiver c = search needs
 
 mul-arguments : tie.Need-mul-arguments
 mul-arguments c =
-    let at-call-at = c .before .before .before in
-    let at-start = at-call-at .before .before .before .before .before .before in
-    let k = begin-inside (at-call-at .call-at .result) _ _ _ _ _ (at-call-at .call-at .ensures .1) (c .before .receiver .given .1) in
-    omega (arith, at-start .good)
+    let at-start = c .before .before .before .before .before .before .before .before .before in
+    let k = begin-inside (c .before .before .before .call-at .result) _ _ _ _ _ (c .before .before .before .call-at .ensures .1) (c .before .receiver .given .1) in omega (arith, at-start .good)
 
 sub-arguments : tie.Need-sub-arguments
-sub-arguments c =
-    let at-call-at = c .before .before .before in
-    let k = begin-inside (at-call-at .call-at .result) _ _ _ _ _ (at-call-at .call-at .ensures .1) (c .before .receiver .given .1) in
-    omega arith
+sub-arguments c = let k = begin-inside (c .before .before .before .call-at .result) _ _ _ _ _ (c .before .before .before .call-at .ensures .1) (c .before .receiver .given .1) in omega arith
 
 part-arguments-start : tie.Need-part-arguments-start
-part-arguments-start c =
-    let at-call-at = c .before .before .before in
-    let k = begin-inside (at-call-at .call-at .result) _ _ _ _ _ (at-call-at .call-at .ensures .1) (c .before .receiver .given .1) in
-    omega arith
+part-arguments-start c = let k = begin-inside (c .before .before .before .call-at .result) _ _ _ _ _ (c .before .before .before .call-at .ensures .1) (c .before .receiver .given .1) in omega arith
 
 part-arguments-end : tie.Need-part-arguments-end
-part-arguments-end c =
-    let at-call-at = c .before .before .before in
-    let k = begin-inside (at-call-at .call-at .result) _ _ _ _ _ (at-call-at .call-at .ensures .1) (c .before .receiver .given .1) in
-    omega arith
+part-arguments-end c = let k = begin-inside (c .before .before .before .call-at .result) _ _ _ _ _ (c .before .before .before .call-at .ensures .1) (c .before .receiver .given .1) in omega arith
 
 begin-checked-requires : tie.Need-begin-checked-requires
 begin-checked-requires c κs = search needs
@@ -88,10 +77,7 @@ returns c =
     let at-receiver = at-begin-checked .before .before .before .before .before .before .before in
     let at-call-at = at-receiver .before .before in
     let at-start = at-call-at .before .before .before .before .before .before in
-    let a = at-start .args in
-    begun-done _ _ _ _ _ (at-begin-checked .begin-checked .result) (at-begin-checked .begin-checked .ensures) _ (c .before .next .given .1) ∙ begin-called
-    (state (a .self) (a .contents .now) (a .bodies .now) (a .stack .now) (a .cache .now)) (a .calls .now) _ (at-call-at .call-at .result)
-    (at-call-at .call-at .ensures .0) _ _ _ _ (at-receiver .receiver .given .1)
+    let a = at-start .args in begun-done _ _ _ _ _ (at-begin-checked .begin-checked .result) (at-begin-checked .begin-checked .ensures) _ (c .before .next .given .1) ∙ begin-called (state (a .self) (a .contents .now) (a .bodies .now) (a .stack .now) (a .cache .now)) (a .calls .now) _ (at-call-at .call-at .result) (at-call-at .call-at .ensures .0) _ _ _ _ (at-receiver .receiver .given .1)
 
 same-length-5 : tie.Need-same-length-5
 same-length-5 c = search needs
@@ -111,10 +97,7 @@ returns-2 c =
     let at-receiver = at-begin-checked .before .before .before .before .before .before .before in
     let at-call-at = at-receiver .before .before in
     let at-start = at-call-at .before .before .before .before .before .before in
-    let a = at-start .args in
-    begun-refused _ _ _ _ _ (at-begin-checked .begin-checked .result) (at-begin-checked .begin-checked .ensures) _ _ (c .before .k .given .1) ∙ begin-called
-    (state (a .self) (a .contents .now) (a .bodies .now) (a .stack .now) (a .cache .now)) (a .calls .now) _ (at-call-at .call-at .result)
-    (at-call-at .call-at .ensures .0) _ _ _ _ (at-receiver .receiver .given .1)
+    let a = at-start .args in begun-refused _ _ _ _ _ (at-begin-checked .begin-checked .result) (at-begin-checked .begin-checked .ensures) _ _ (c .before .k .given .1) ∙ begin-called (state (a .self) (a .contents .now) (a .bodies .now) (a .stack .now) (a .cache .now)) (a .calls .now) _ (at-call-at .call-at .result) (at-call-at .call-at .ensures .0) _ _ _ _ (at-receiver .receiver .given .1)
 
 same-length-9 : tie.Need-same-length-9
 same-length-9 c = search needs
@@ -134,10 +117,7 @@ returns-3 c =
     let at-grant = at-run-checked .before .before .before .before .before .before in
     let at-call-at = at-grant .before .before in
     let at-start = at-call-at .before .before .before .before .before .before in
-    let a = at-start .args in
-    ran-done _ _ _ _ _ (at-run-checked .run-checked .result) (at-run-checked .run-checked .ensures) _ _ _ (c .before .next2 .given .1) ∙ run-called
-    (state (a .self) (a .contents .now) (a .bodies .now) (a .stack .now) (a .cache .now)) (a .calls .now) _ (at-call-at .call-at .result)
-    (at-call-at .call-at .ensures .0) _ (at-grant .grant .given .1)
+    let a = at-start .args in ran-done _ _ _ _ _ (at-run-checked .run-checked .result) (at-run-checked .run-checked .ensures) _ _ _ _ (c .before .next2 .given .1) ∙ run-called (state (a .self) (a .contents .now) (a .bodies .now) (a .stack .now) (a .cache .now)) (a .calls .now) _ (at-call-at .call-at .result) (at-call-at .call-at .ensures .0) _ (at-grant .grant .given .1)
 
 same-length-13 : tie.Need-same-length-13
 same-length-13 c = search needs
@@ -157,31 +137,22 @@ returns-4 c =
     let at-grant = at-run-checked .before .before .before .before .before .before in
     let at-call-at = at-grant .before .before in
     let at-start = at-call-at .before .before .before .before .before .before in
-    let a = at-start .args in
-    ran-refused _ _ _ _ _ (at-run-checked .run-checked .result) (at-run-checked .run-checked .ensures) _ _ (c .before .k2 .given .1) ∙ run-called
-    (state (a .self) (a .contents .now) (a .bodies .now) (a .stack .now) (a .cache .now)) (a .calls .now) _ (at-call-at .call-at .result)
-    (at-call-at .call-at .ensures .0) _ (at-grant .grant .given .1)
+    let a = at-start .args in ran-refused _ _ _ _ _ (at-run-checked .run-checked .result) (at-run-checked .run-checked .ensures) _ _ (c .before .k2 .given .1) ∙ run-called (state (a .self) (a .contents .now) (a .bodies .now) (a .stack .now) (a .cache .now)) (a .calls .now) _ (at-call-at .call-at .result) (at-call-at .call-at .ensures .0) _ (at-grant .grant .given .1)
 
 returns-5 : tie.Need-returns-5
 returns-5 c =
-    let at-call-at = c .before .before .before in
-    let at-start = at-call-at .before .before .before .before .before .before in
-    let a = at-start .args in
-    drops-checked (a .self) (a .contents .now) (a .bodies .now) (a .stack .now) (a .cache .now) (a .calls .now) _ (at-call-at .call-at .result)
-    (at-call-at .call-at .ensures .0) (at-start .pre .1) _ (c .with-phase .ensures) (c .before .enum-told .given .1)
+    let at-start = c .before .before .before .before .before .before .before .before .before in
+    let a = at-start .args in drops-checked (a .self) (a .contents .now) (a .bodies .now) (a .stack .now) (a .cache .now) (a .calls .now) _ (c .before .before .before .call-at .result) (c .before .before .before .call-at .ensures .0) (at-start .pre .1) _ (c .with-phase .ensures) (c .before .enum-told .given .1)
 
 same-length-17 : tie.Need-same-length-17
 same-length-17 c = search needs
 
 returns-6 : tie.Need-returns-6
 returns-6 c =
-    let at-fill = c .before .before in
-    let at-enum-told2 = at-fill .before .before in
+    let at-enum-told2 = c .before .before .before .before in
     let at-call-at = at-enum-told2 .before .before in
     let at-start = at-call-at .before .before .before .before .before .before in
-    let a = at-start .args in
-    forgets-checked (a .self) (a .contents .now) (a .bodies .now) (a .stack .now) (a .cache .now) (a .calls .now) _ (at-call-at .call-at .result)
-    (at-call-at .call-at .ensures .0) (at-start .pre .1) _ (at-fill .fill .ensures) (at-enum-told2 .enum-told2 .given .1)
+    let a = at-start .args in forgets-checked (a .self) (a .contents .now) (a .bodies .now) (a .stack .now) (a .cache .now) (a .calls .now) _ (at-call-at .call-at .result) (at-call-at .call-at .ensures .0) (at-start .pre .1) _ (c .before .before .fill .ensures) (at-enum-told2 .enum-told2 .given .1)
 
 pub call-checked-spec : {M : Type 1} → statement M
 call-checked-spec =

@@ -7,8 +7,7 @@ use Rattle.machine.proofs.Registers.run_checked.Tie as tie
 returns : tie.Need-returns
 returns c =
     let at-start = c .before .before .before .before .before .before in
-    let a = at-start .args in
-    runs-12 (a .self) (a .contents .now) (a .bodies .now) (a .stack .now) (a .cache .now) (a .grant) (at-start .pre) (c .if1 .taken)
+    let a = at-start .args in runs-12 (a .self) (a .contents .now) (a .bodies .now) (a .stack .now) (a .cache .now) (a .grant) (at-start .pre) (c .if1 .taken)
 
 cast-run : tie.Need-cast-run
 cast-run c = search needs
@@ -23,8 +22,7 @@ run-requires : tie.Need-run-requires
 run-requires c κs =
     let at-if1 = c .before .before .before .before .before .before .before in
     let at-start = at-if1 .before .before .before .before .before .before in
-    let a = at-start .args in
-    runs-goes (a .self) (a .contents .now) (a .bodies .now) (a .stack .now) (a .cache .now) (a .grant) (at-start .pre) (at-if1 .if1 .left)
+    let a = at-start .args in runs-goes (a .self) (a .contents .now) (a .bodies .now) (a .stack .now) (a .cache .now) (a .grant) (at-start .pre) (at-if1 .if1 .left)
 
 with-sizes-requires : tie.Need-with-sizes-requires
 with-sizes-requires c κs = search needs
@@ -37,9 +35,7 @@ cast-t22 c =
     let at-run = c .before .before .before .before .before .before .before .before .before .before .before in
     let at-if1 = at-run .before .before .before .before .before .before .before .before in
     let at-start = at-if1 .before .before .before .before .before .before in
-    let a = at-start .args in
-    let k = runs-small (a .self) (a .contents .now) (a .bodies .now) (a .stack .now) (a .cache .now) (a .grant) (at-start .pre) (at-if1 .if1 .left) _ _ _ _
-    (at-run .run .result) (at-run .run .ensures) in omega arith
+    let a = at-start .args in let k = runs-small (a .self) (a .contents .now) (a .bodies .now) (a .stack .now) (a .cache .now) (a .grant) (at-start .pre) (at-if1 .if1 .left) _ _ _ _ (at-run .run .result) (at-run .run .ensures) in omega arith
 
 same-length : tie.Need-same-length
 same-length c = search needs
@@ -55,13 +51,10 @@ same-length-4 c = search needs
 
 returns-2 : tie.Need-returns-2
 returns-2 c =
-    let at-with-sizes = c .before .before in
-    let at-run = at-with-sizes .before .before .before .before .before .before .before .before .before in
+    let at-run = c .before .before .before .before .before .before .before .before .before .before .before in
     let at-if1 = at-run .before .before .before .before .before .before .before .before in
     let at-start = at-if1 .before .before .before .before .before .before in
-    let a = at-start .args in
-    runs-done (a .self) (a .contents .now) (a .bodies .now) (a .stack .now) (a .cache .now) (a .grant) (at-start .pre) (at-if1 .if1 .left) _ _ _ _
-    (at-run .run .result) (at-run .run .ensures) _ _ (at-with-sizes .with-sizes .ensures) (c .before .with-phase .ensures)
+    let a = at-start .args in runs-done (a .self) (a .contents .now) (a .bodies .now) (a .stack .now) (a .cache .now) (a .grant) (at-start .pre) (at-if1 .if1 .left) _ _ _ _ (at-run .run .result) (at-run .run .ensures) _ _ (c .before .before .with-sizes .ensures) (c .before .with-phase .ensures)
 
 pub run-checked-spec : {M : Type 1} → statement M
 run-checked-spec =
