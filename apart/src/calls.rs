@@ -15,7 +15,12 @@ pub const TOP: usize = 5;
 pub const VALUE: usize = 6;
 pub const EDITION: usize = 7;
 
-pub const CACHE_WORDS: usize = 192;
+pub const CACHE_WORDS: usize = CACHE_ENTRIES * ENTRY_WORDS;
+
+// What can be wrong with an entry: the lookup, the number alone, and a number where the rest is empty.
+pub const OTHER_LOOKUP: &str = "neither empty nor what lookup finds";
+pub const OTHER_NUMBER: &str = "another number of dictionaries than lookup reads";
+pub const NUMBER_ALONE: &str = "a number of dictionaries in an entry that is empty otherwise";
 
 /// The whole state as it is lent.
 pub struct Lent<'a> {
@@ -31,6 +36,8 @@ pub struct Ran {
     pub count: u32,
     /// The largest end of the frames that stood when it started and after each bytecode made, at most 65,536.
     pub reach: u32,
+    /// Summed over the sends made that found by lookup.
+    pub dictionaries: u64,
 }
 
 pub fn load(image: &[u8], lent: &mut Lent) -> Result<(), Refusal> {
@@ -63,7 +70,7 @@ fn room(lent: &Lent, n: usize, b: usize) -> Result<(), Refusal> {
         return refuse(3, Buffer("bodies"), "too short");
     }
     if lent.cache.len() != CACHE_WORDS {
-        return refuse(3, Buffer("cache"), "not 192 words");
+        return refuse(3, Buffer("cache"), "not 256 words");
     }
     Ok(())
 }
@@ -94,12 +101,19 @@ fn judge_state(lent: &Lent) -> Result<(World, Vec<Frame>), Refusal> {
 }
 
 fn cache_right(objects: &Objects, cache: &[u16]) -> Result<(), Refusal> {
-    for (index, entry) in cache.chunks(3).enumerate() {
-        let (selector, class, method) = (entry[0], entry[1], entry[2]);
-        let empty = entry == [0, 0, 0];
-        let found = objects.has_kind(selector, BYTES) && objects.has_kind(class, CLASS) && objects.lookup(class, selector) == Some(method);
-        if !empty && !found {
-            return refuse(11, Cache(index), "neither empty nor what lookup finds");
+    for (index, entry) in cache.chunks(ENTRY_WORDS).enumerate() {
+        let (selector, class, method, dictionaries) = (entry[0], entry[1], entry[2], entry[3]);
+        if entry[..3] == [0, 0, 0] {
+            if dictionaries != 0 {
+                return refuse(11, Cache(index), NUMBER_ALONE);
+            }
+            continue;
+        }
+        let sought = objects.has_kind(selector, BYTES) && objects.has_kind(class, CLASS);
+        match objects.lookup(class, selector).filter(|found| sought && found.method == method) {
+            Some(found) if found.dictionaries == dictionaries as usize => {}
+            Some(_) => return refuse(11, Cache(index), OTHER_NUMBER),
+            None => return refuse(11, Cache(index), OTHER_LOOKUP),
         }
     }
     Ok(())
@@ -245,14 +259,14 @@ pub fn begin(lent: &mut Lent, receiver: u16, selector: u16, arguments: &[u16], c
         return refuse(8, Message, "an invalid word, or a selector that is no byte object");
     }
     let method = match objects.lookup(objects.class_of(receiver), selector) {
-        Some(method) => method,
+        Some(found) => found.method,
         None => return refuse(9, Message, "no method"),
     };
     if world.method(method).arguments != arguments.len() {
         return refuse(10, Message, "another count of arguments");
     }
     let room = Room { contents: lent.contents.len(), bodies: lent.bodies.len() };
-    let mut machine = Machine { world, frames: vec![], stack: lent.stack, cache: lent.cache, room, counts };
+    let mut machine = Machine { world, frames: vec![], stack: lent.stack, cache: lent.cache, room, dictionaries: 0, counts };
     let last = match machine.activate(method, receiver, arguments) {
         Ok(Activation::Answer(word)) => [FINISHED, 0, word],
         Ok(Activation::Frame) if !machine.fits(0, method) => return refuse(13, Buffer("stack"), "the first frame does not fit"),
@@ -277,15 +291,22 @@ pub fn run_watched<W: Watch>(lent: &mut Lent, n: u32, counts: &mut Counts, watch
         return refuse(12, Register(PHASE), "no handler is running");
     }
     let room = Room { contents: lent.contents.len(), bodies: lent.bodies.len() };
-    let mut machine = Machine { world, frames, stack: lent.stack, cache: lent.cache, room, counts };
-    let first = machine.largest_end();
+    let mut machine = Machine { world, frames, stack: lent.stack, cache: lent.cache, room, dictionaries: 0, counts };
+    let (ran, last) = steps(&mut machine, n, watch);
+    settle(&machine.world, lent.contents, lent.bodies, lent.registers, last);
+    Ok(ran)
+}
+
+/// At most so many steps; what run gives, and the phase, top and value that it leaves.
+pub fn steps<W: Watch>(machine: &mut Machine, n: u32, watch: &mut W) -> (Ran, [u16; 3]) {
+    let (first, before) = (machine.largest_end(), machine.counts.climbs.made);
     let mut reach = first;
     let mut count = 0;
     let mut end = (RUNNING, 0);
     while count < n && end.0 == RUNNING {
-        watch.before(&machine);
+        watch.before(machine);
         let made = machine.step();
-        watch.after(&machine, &made);
+        watch.after(machine, &made);
         match made {
             Ok(Made::Goes) => count += 1,
             Ok(Made::Finishes(value)) => {
@@ -297,9 +318,10 @@ pub fn run_watched<W: Watch>(lent: &mut Lent, n: u32, counts: &mut Counts, watch
         // A halt has left the frames as they were.
         reach = reach.max(machine.largest_end());
     }
-    let last = machine.largest_end();
+    let (last, dictionaries) = (machine.largest_end(), machine.dictionaries);
     machine.counts.reach(n, end.0, [first, reach, last]);
+    let lookups = machine.counts.climbs.made - before;
+    machine.counts.sum(end.0, count, lookups, dictionaries);
     let top = machine.frames.last().map_or(0, |frame| frame.base) as u16;
-    settle(&machine.world, lent.contents, lent.bodies, lent.registers, [end.0, top, end.1]);
-    Ok(Ran { count, reach: reach as u32 })
+    (Ran { count, reach: reach as u32, dictionaries }, [end.0, top, end.1])
 }

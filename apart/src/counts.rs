@@ -1,6 +1,7 @@
 //! What was executed, for the report on coverage.
 
 use crate::accesses::Accesses;
+use crate::climbs::Climbs;
 use crate::machine::{FINISHED, MOST_STACK, NO_STACK_ROOM};
 use crate::messages::Failures;
 use std::collections::BTreeMap;
@@ -27,6 +28,7 @@ pub struct Counts {
     pub answered: [u64; 256],
     pub failed: [u64; 256],
     pub accesses: Accesses,
+    pub climbs: Climbs,
     /// By the cause of a failed send and what came of it.
     pub failures: Failures,
     /// The message that was made last. It is for one image alone.
@@ -41,6 +43,7 @@ impl Default for Counts {
             answered: [0; 256],
             failed: [0; 256],
             accesses: Accesses::default(),
+            climbs: Climbs::default(),
             failures: Failures::default(),
             message: None,
             events: BTreeMap::new(),

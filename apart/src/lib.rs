@@ -3,6 +3,7 @@
 
 pub mod accesses;
 pub mod calls;
+pub mod climbs;
 pub mod code;
 pub mod counts;
 pub mod image;

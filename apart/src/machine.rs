@@ -34,6 +34,8 @@ pub struct Machine<'a> {
     pub stack: &'a mut [u16],
     pub cache: &'a mut [u16],
     pub room: Room,
+    /// Read by the lookups of sends that were made and found, a method that answers at once included; where object 6 was sent, by its lookup alone.
+    pub dictionaries: u64,
     pub counts: &'a mut Counts,
 }
 
@@ -83,9 +85,45 @@ impl Watch for Unwatched {
     fn after(&mut self, _: &Machine, _: &Result<Made, u16>) {}
 }
 
+impl<W: Watch> Watch for Option<W> {
+    fn before(&mut self, machine: &Machine) {
+        self.iter_mut().for_each(|watch| watch.before(machine));
+    }
+
+    fn after(&mut self, machine: &Machine, made: &Result<Made, u16>) {
+        self.iter_mut().for_each(|watch| watch.after(machine, made));
+    }
+}
+
+impl<W: Watch> Watch for &mut W {
+    fn before(&mut self, machine: &Machine) {
+        (**self).before(machine);
+    }
+
+    fn after(&mut self, machine: &Machine, made: &Result<Made, u16>) {
+        (**self).after(machine, made);
+    }
+}
+
+impl<V: Watch, W: Watch> Watch for (V, W) {
+    fn before(&mut self, machine: &Machine) {
+        self.0.before(machine);
+        self.1.before(machine);
+    }
+
+    fn after(&mut self, machine: &Machine, made: &Result<Made, u16>) {
+        self.0.after(machine, made);
+        self.1.after(machine, made);
+    }
+}
+
+/// Entries of the cache, and the words of one: selector, class where lookup starts, method, dictionaries. An empty one has zeros.
+pub const CACHE_ENTRIES: usize = 64;
+pub const ENTRY_WORDS: usize = 4;
+
 /// Where the cache has the entry of a selector and a class.
 pub fn cache_index(selector: u16, class: u16) -> usize {
-    3 * (((selector & class) / 2) % 64) as usize
+    ENTRY_WORDS * ((selector & class) as usize / 2 % CACHE_ENTRIES)
 }
 
 impl Machine<'_> {
@@ -317,8 +355,8 @@ impl Machine<'_> {
         let operands = &self.frames.last().unwrap().operands;
         let sending = Sending { selector, start, receiver, arguments: operands[operands.len() - arguments..].to_vec(), next };
         let failure = match found {
-            Some(method) => match self.activate(method, receiver, &sending.arguments) {
-                Ok(activation) => return self.activated(&sending, selector, method, activation, sending.arguments.clone()),
+            Some(found) => match self.activate(found.method, receiver, &sending.arguments) {
+                Ok(activation) => return self.activated(&sending, selector, found, activation, sending.arguments.clone()),
                 Err(failure) => failure,
             },
             None => Failure::NoMethod,
@@ -327,20 +365,19 @@ impl Machine<'_> {
     }
 
     /// What comes of a method that the lookup of a selector found, with these arguments, which need not be those on the operands.
-    fn activated(&mut self, sending: &Sending, selector: u16, method: u16, activation: Activation, arguments: Vec<u16>) -> Result<Made, u16> {
+    fn activated(&mut self, sending: &Sending, selector: u16, found: Found, activation: Activation, arguments: Vec<u16>) -> Result<Made, u16> {
+        let (base, answers) = (self.next_base(), matches!(activation, Activation::Answer(_)));
+        if !answers && !self.fits(base, found.method) {
+            return Err(NO_STACK_ROOM);
+        }
+        self.count_climb(sending, selector, found, answers);
+        self.dictionaries += found.dictionaries as u64;
+        self.fill(selector, sending.start, found);
         match activation {
-            Activation::Answer(word) => {
-                self.fill(selector, sending.start, method);
-                self.answer(sending.arguments.len(), word, sending.next)
-            }
+            Activation::Answer(word) => self.answer(sending.arguments.len(), word, sending.next),
             Activation::Frame => {
-                let base = self.next_base();
-                if !self.fits(base, method) {
-                    return Err(NO_STACK_ROOM);
-                }
-                self.fill(selector, sending.start, method);
                 self.take(sending.arguments.len(), sending.next);
-                self.enter(base, method, sending.receiver, arguments);
+                self.enter(base, found.method, sending.receiver, arguments);
                 Ok(Made::Goes)
             }
         }
@@ -361,24 +398,24 @@ impl Machine<'_> {
     }
 
     /// Makes the objects and sends them under object 6, whose lookup found this.
-    fn send_message(&mut self, sending: &Sending, found: Option<u16>) -> (End, Result<Made, u16>) {
+    fn send_message(&mut self, sending: &Sending, found: Option<Found>) -> (End, Result<Made, u16>) {
         if self.world.edition < WITH_MESSAGES {
             return (End::EarlierEdition, Err(NOT_UNDERSTOOD));
         }
-        let method = match found {
-            Some(method) => method,
+        let found = match found {
+            Some(found) => found,
             None => return (End::NotFound, Err(NOT_UNDERSTOOD)),
         };
         let message = match message(&mut self.world.objects, self.room, sending.selector, &sending.arguments) {
             Some(message) => message,
             None => return (End::NoRoom, Err(NOT_UNDERSTOOD)),
         };
-        let activation = match self.activate(method, sending.receiver, &[message]) {
+        let activation = match self.activate(found.method, sending.receiver, &[message]) {
             Ok(activation) => activation,
             Err(_) => return (End::Home, Err(NOT_UNDERSTOOD)),
         };
         let answers = matches!(activation, Activation::Answer(_));
-        let made = self.activated(sending, DOES_NOT_UNDERSTAND, method, activation, vec![message]);
+        let made = self.activated(sending, DOES_NOT_UNDERSTAND, found, activation, vec![message]);
         let end = match made {
             Ok(_) if answers => End::Answer,
             Ok(_) => End::Frame,
@@ -388,9 +425,9 @@ impl Machine<'_> {
     }
 
     /// Counts a lookup along a chain of as many classes as there can be, up to the last one.
-    fn count_far(&mut self, class: u16, found: Option<u16>, [finds, nothing]: [&'static str; 2]) {
+    fn count_far(&mut self, class: u16, found: Option<Found>, [finds, nothing]: [&'static str; 2]) {
         let last = self.world.objects.chain(class).nth(MOST_CHAIN - 1);
-        match found.map(|method| self.world.method(method).home) {
+        match found.map(|found| self.world.method(found.method).home) {
             Some(home) if last == Some(home) => self.counts.event(finds),
             None if last.is_some() => self.counts.event(nothing),
             _ => {}
@@ -456,10 +493,10 @@ impl Machine<'_> {
     }
 
     /// The entry of a lookup that found. Where it hits, the words are the same.
-    fn fill(&mut self, selector: u16, class: u16, method: u16) {
+    fn fill(&mut self, selector: u16, class: u16, found: Found) {
         self.counts.event(if self.cached(selector, class) { "cache hit" } else { "cache filled" });
         let at = cache_index(selector, class);
-        self.cache[at..at + 3].copy_from_slice(&[selector, class, method]);
+        self.cache[at..at + ENTRY_WORDS].copy_from_slice(&[selector, class, found.method, found.dictionaries as u16]);
     }
 
     /// A new frame on top.

@@ -56,6 +56,7 @@ pub const ENDS: [&str; 10] = [
     "the frame does not fit",
 ];
 const NOT_FOUND: usize = 1;
+const ANSWERS: usize = 6;
 const OTHER_HOME: usize = 8;
 
 /// Whether a send that fails in this way can end in that way. Object 6 is not found above the last class, and only super sends find another home.
@@ -64,6 +65,11 @@ pub fn possible(cause: usize, end: usize) -> bool {
         OBJECT_6 | ROOT => end == NOT_FOUND,
         _ => end != OTHER_HOME || cause >= SUPER,
     }
+}
+
+/// Whether object 6 can be sent in the stead of a send that fails in this way.
+pub fn sends_6(cause: usize) -> bool {
+    possible(cause, ANSWERS)
 }
 
 // The ends where something counts.
@@ -154,12 +160,14 @@ pub struct Facts {
     /// Whether object 6 would be sent if the edition had it.
     would_go: bool,
     shown: [bool; SHOWN.len()],
+    /// Of the lookup of object 6: whether it found further up than where it started, and whether the cache has it.
+    climb: [bool; 2],
 }
 
 fn cause(machine: &Machine, sending: &Sending, failure: Failure) -> usize {
     let frame = machine.frames.last().unwrap();
     let instruction = decode(&machine.world.method(frame.method).code, frame.position).unwrap().0;
-    let found = machine.world.objects.lookup(sending.start, sending.selector);
+    let found = machine.world.objects.lookup(sending.start, sending.selector).map(|found| found.method);
     match (instruction, failure) {
         (_, Failure::NoMethod) if sending.selector == DOES_NOT_UNDERSTAND => OBJECT_6,
         (_, Failure::NoMethod) if sending.start == NIL => ROOT,
@@ -174,7 +182,8 @@ fn cause(machine: &Machine, sending: &Sending, failure: Failure) -> usize {
     }
 }
 
-pub fn facts(machine: &Machine, sending: &Sending, failure: Failure, found: Option<u16>) -> Facts {
+pub fn facts(machine: &Machine, sending: &Sending, failure: Failure, looked_up: Option<Found>) -> Facts {
+    let found = looked_up.map(|found| found.method);
     let (world, objects) = (&machine.world, &machine.world.objects);
     let frame = machine.frames.last().unwrap();
     let (sender, count) = (world.method(frame.method), sending.arguments.len());
@@ -191,7 +200,8 @@ pub fn facts(machine: &Machine, sending: &Sending, failure: Failure, found: Opti
     let (stack, fits) = (left(machine.stack.len(), end), found.map_or(false, |found| machine.fits(machine.next_base(), found)));
     let under_6 = |wanted: &dyn Fn(&Method) -> bool| method.map_or(false, wanted);
     let primitive = |wanted: &dyn Fn(u16) -> bool| under_6(&|method| method.flag == 7 && wanted(method.primitive));
-    let from_class = objects.lookup(objects.class_of(sending.receiver), DOES_NOT_UNDERSTAND);
+    let under_6_from = |class: u16| objects.lookup(class, DOES_NOT_UNDERSTAND).map(|found| found.method);
+    let from_class = under_6_from(objects.class_of(sending.receiver));
     let cached = machine.cached(DOES_NOT_UNDERSTAND, sending.start);
     let empty = machine.cache[cache_index(DOES_NOT_UNDERSTAND, sending.start)] == 0;
     let in_chain = under_6(&|method| objects.in_chain(sending.receiver, method.home));
@@ -252,11 +262,12 @@ pub fn facts(machine: &Machine, sending: &Sending, failure: Failure, found: Opti
         is_integer(sending.receiver),
         objects.has_kind(sending.receiver, CLASS),
         sending.receiver == NIL,
-        objects.lookup(sender.home, DOES_NOT_UNDERSTAND) == Some(frame.method),
+        under_6_from(sender.home) == Some(frame.method),
     ];
     let takes_one = under_6(&|method| method.arguments == 1);
     let would_go = takes_one && (in_chain || primitive(&|number| number == 110)) && !lacking.contains(&true);
-    Facts { cause: cause(machine, sending, failure), lacking, would_go, shown }
+    let climb = [looked_up.map_or(false, |found| found.dictionaries > 1), cached];
+    Facts { cause: cause(machine, sending, failure), lacking, would_go, shown, climb }
 }
 
 impl Counts {
@@ -267,13 +278,17 @@ impl Counts {
             (End::NotFound, _) => Some(NOT_FOUND),
             (End::NoRoom, [room]) => Some(2 + room),
             (End::NoRoom, _) => None,
-            (End::Answer, _) => Some(6),
+            (End::Answer, _) => Some(ANSWERS),
             (End::Frame, _) => Some(7),
             (End::Home, _) => Some(OTHER_HOME),
             (End::NoStackRoom, _) => Some(9),
         };
         if let Some(row) = row {
             self.failures[facts.cause][row] += 1;
+        }
+        if MADE.contains(&end) {
+            let [climbs, cached] = facts.climb;
+            self.climbs.messages[facts.cause][climbs as usize][cached as usize] += 1;
         }
         for ((name, ends), shown) in SHOWN.iter().zip(facts.shown) {
             if shown && ends.contains(&end) {

@@ -87,6 +87,14 @@ impl Method {
     }
 }
 
+/// What a lookup found.
+#[derive(Clone, Copy, Debug, PartialEq)]
+pub struct Found {
+    pub method: u16,
+    /// How many the walk read: those of the class where it started, of the class that holds the method, and of all between. Two classes can have the same.
+    pub dictionaries: usize,
+}
+
 #[derive(Clone, Default)]
 pub struct Objects {
     /// Object 1 first.
@@ -153,8 +161,13 @@ impl Objects {
     }
 
     /// Lookup, from a class on.
-    pub fn lookup(&self, class: u16, selector: u16) -> Option<u16> {
-        self.chain(class).take(MOST_CHAIN).find_map(|word| self.own(&self.class(word)?, selector))
+    pub fn lookup(&self, class: u16, selector: u16) -> Option<Found> {
+        let mut dictionaries = 0;
+        self.chain(class).take(MOST_CHAIN).find_map(|word| {
+            dictionaries += 1;
+            let method = self.own(&self.class(word)?, selector)?;
+            Some(Found { method, dictionaries })
+        })
     }
 
     /// The selectors of one class's own dictionary, one for each pair.
@@ -178,6 +191,20 @@ impl Objects {
             }
         }
         read
+    }
+
+    /// How many dictionaries a lookup reads; where nothing is found, all of the chain.
+    pub fn dictionaries_read(&self, class: u16, selector: u16) -> usize {
+        match self.lookup(class, selector) {
+            Some(found) => found.dictionaries,
+            None => self.chain(class).take(MOST_CHAIN).count(),
+        }
+    }
+
+    /// Whether two of the first classes of a chain have the same dictionary, so that a lookup reads it twice.
+    pub fn reads_twice(&self, class: u16, dictionaries: usize) -> bool {
+        let read: Vec<u16> = self.chain(class).take(dictionaries).filter_map(|word| Some(self.class(word)?.dictionary)).collect();
+        (1..read.len()).any(|index| read[..index].contains(&read[index]))
     }
 
     /// All pairs along the chain of a class: no lookup from there reads more.

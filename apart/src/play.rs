@@ -36,7 +36,7 @@ pub fn first(list: &[u16]) -> Result<(Listed<'_>, &[u16]), &'static str> {
 }
 
 /// The words of an answer.
-pub const ANSWER: [&str; 5] = ["number", "phase", "count", "value", "reach"];
+pub const ANSWER: [&str; 7] = ["number", "phase", "count", "value", "reach", "dictionaries (high word)", "dictionaries (low word)"];
 pub const ANSWER_WORDS: usize = ANSWER.len();
 
 /// Makes the calls of a list, each as if it came by itself; gives how many.
@@ -62,13 +62,25 @@ pub fn play(lent: &mut Lent, list: &[u16], answers: &mut [u32], counts: &mut Cou
     Ok(made)
 }
 
+/// The answer of a run that was made, with the phase and value that it left.
+pub fn ran_answer(phase: u16, value: u16, ran: &Ran) -> [u32; ANSWER_WORDS] {
+    [0, phase as u32, ran.count, value as u32, ran.reach, (ran.dictionaries >> 32) as u32, ran.dictionaries as u32]
+}
+
+/// The answer of any other call: 0, or the refusal's number.
+pub fn other_answer(number: u32) -> [u32; ANSWER_WORDS] {
+    let mut answer = [0; ANSWER_WORDS];
+    answer[0] = number;
+    answer
+}
+
 /// One call of a list, and its answer.
 fn single(lent: &mut Lent, call: Listed, counts: &mut Counts) -> [u32; ANSWER_WORDS] {
     let answer = match call {
-        Listed::Begin { receiver, selector, arguments } => begin(lent, receiver, selector, arguments, counts).map(|()| [0; ANSWER_WORDS]),
-        Listed::Run(n) => run(lent, n, counts).map(|ran| [0, lent.registers[PHASE] as u32, ran.count, lent.registers[VALUE] as u32, ran.reach]),
-        Listed::Drop => drop(lent).map(|()| [0; ANSWER_WORDS]),
-        Listed::Forget => forget(lent).map(|()| [0; ANSWER_WORDS]),
+        Listed::Begin { receiver, selector, arguments } => begin(lent, receiver, selector, arguments, counts).map(|()| other_answer(0)),
+        Listed::Run(n) => run(lent, n, counts).map(|ran| ran_answer(lent.registers[PHASE], lent.registers[VALUE], &ran)),
+        Listed::Drop => drop(lent).map(|()| other_answer(0)),
+        Listed::Forget => forget(lent).map(|()| other_answer(0)),
     };
-    answer.unwrap_or_else(|refusal| [refusal.number, 0, 0, 0, 0])
+    answer.unwrap_or_else(|refusal| other_answer(refusal.number))
 }

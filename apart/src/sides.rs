@@ -1,9 +1,9 @@
 //! One call, made on the plain machine and on the proved library.
 
-use apart::calls::{self, Lent, Registers};
+use apart::calls::{self, Lent, Ran, Registers, PHASE, VALUE};
 use apart::counts::Counts;
 use apart::machine::{Unwatched, Watch};
-use apart::play::{self, Listed, ANSWER, ANSWER_WORDS};
+use apart::play::{self, other_answer, ran_answer, Listed, ANSWER, ANSWER_WORDS};
 use apart::refusal::Refusal;
 
 extern "C" {
@@ -46,6 +46,7 @@ extern "C" {
         n: u32,
         count: *mut u32,
         reach: *mut u32,
+        dictionaries: *mut u64,
     ) -> u32;
     fn sofaduck_drop(
         contents: *const u16,
@@ -242,12 +243,14 @@ impl Buffers {
 }
 
 pub const UNWRITTEN: u32 = 0xDEAD_BEEF;
+const UNWRITTEN_SUM: u64 = (UNWRITTEN as u64) << 32 | UNWRITTEN as u64;
 
 #[derive(Clone)]
 pub struct Outcome {
     pub number: u32,
     pub count: u32,
     pub reach: u32,
+    pub dictionaries: u64,
     pub length: u32,
     pub output: Vec<u8>,
     pub made: u32,
@@ -262,6 +265,7 @@ fn outcome(call: &Call) -> Outcome {
         number: 0,
         count: UNWRITTEN,
         reach: UNWRITTEN,
+        dictionaries: UNWRITTEN_SUM,
         length: UNWRITTEN,
         output: vec![0xA5; bytes],
         made: UNWRITTEN,
@@ -295,6 +299,7 @@ pub fn plain_watched<W: Watch>(call: &Call, buffers: &mut Buffers, counts: &mut 
         Call::Run(n) => calls::run_watched(&mut lent, *n, counts, watch).map(|ran| {
             outcome.count = ran.count;
             outcome.reach = ran.reach;
+            outcome.dictionaries = ran.dictionaries;
         }),
         Call::Drop => calls::drop(&mut lent),
         Call::Forget => calls::forget(&mut lent),
@@ -324,7 +329,10 @@ pub fn library(call: &Call, buffers: &mut Buffers) -> Outcome {
             Call::Begin { receiver, selector, arguments } => {
                 sofaduck_begin(contents, a, bodies, b, stack, c, cache, d, registers, *receiver, *selector, arguments.as_ptr(), arguments.len())
             }
-            Call::Run(n) => sofaduck_run(contents, a, bodies, b, stack, c, cache, d, registers, *n, &mut outcome.count, &mut outcome.reach),
+            Call::Run(n) => {
+                let (count, reach, dictionaries) = (&mut outcome.count, &mut outcome.reach, &mut outcome.dictionaries);
+                sofaduck_run(contents, a, bodies, b, stack, c, cache, d, registers, *n, count, reach, dictionaries)
+            }
             Call::Drop => sofaduck_drop(contents, a, bodies, b, stack, c, cache, d, registers),
             Call::Forget => sofaduck_forget(contents, a, bodies, b, stack, c, cache, d, registers),
             Call::Check => sofaduck_check(contents, a, bodies, b, stack, c, cache, d, registers),
@@ -353,9 +361,11 @@ pub fn library_singly(call: &Call, before: &Buffers) -> Option<(Outcome, Buffers
         outcome.made = 0;
         for (call, answer) in listed(words).0.iter().zip(outcome.answers[..room].chunks_exact_mut(ANSWER_WORDS)) {
             let single = library(call, &mut buffers);
-            let ran = matches!(call, Call::Run(_)) && single.number == 0;
-            let [.., phase, _, value, _] = buffers.registers.map(u32::from);
-            answer.copy_from_slice(&if ran { [0, phase, single.count, value, single.reach] } else { [single.number, 0, 0, 0, 0] });
+            let Outcome { number, count, reach, dictionaries, .. } = single;
+            answer.copy_from_slice(&match call {
+                Call::Run(_) if number == 0 => ran_answer(buffers.registers[PHASE], buffers.registers[VALUE], &Ran { count, reach, dictionaries }),
+                _ => other_answer(number),
+            });
             outcome.made += 1;
         }
     }
@@ -381,6 +391,9 @@ pub fn difference(plain: &Outcome, proved: &Outcome, ours: &Buffers, theirs: &Bu
     }
     if plain.reach != proved.reach {
         return Some(format!("reach: plain {}, library {}", plain.reach, proved.reach));
+    }
+    if plain.dictionaries != proved.dictionaries {
+        return Some(format!("dictionaries: plain {}, library {}", plain.dictionaries, proved.dictionaries));
     }
     if plain.length != proved.length || plain.output != proved.output {
         return Some(format!("output: plain length {}, library {}", plain.length, proved.length));

@@ -5,6 +5,7 @@ use crate::counts::Counts;
 use crate::machine::*;
 use crate::objects::*;
 use crate::play::*;
+use crate::primitives::Room;
 use crate::refusal::*;
 use crate::words::*;
 
@@ -57,23 +58,26 @@ fn of_edition(edition: u16, receiver: u16, objects: &[Entry]) -> Vec<u8> {
 
 /// Load, and then these calls, on a stack of so many words.
 fn loaded<T>(image: &[u8], length: usize, calls: impl FnOnce(&mut Lent, &mut Counts) -> Result<T, Refusal>) -> Result<T, Refusal> {
-    let (mut contents, mut bodies, mut stack, mut cache) = (vec![0; 8_188], vec![0; 24_000], vec![0; length], vec![0; 192]);
+    let (mut contents, mut bodies, mut stack, mut cache) = (vec![0; 8_188], vec![0; 24_000], vec![0; length], vec![0; CACHE_WORDS]);
     let mut registers = [0; 8];
     let mut lent = Lent { contents: &mut contents, bodies: &mut bodies, stack: &mut stack, cache: &mut cache, registers: &mut registers };
     load(image, &mut lent)?;
     calls(&mut lent, &mut Counts::default())
 }
 
-/// What a run leaves and gives: phase, count, value, reach.
-type Left = (u16, u32, u16, u32);
+/// What a run leaves and gives: phase, count, value, reach, dictionaries.
+type Left = (u16, u32, u16, u32, u64);
+
+fn left(lent: &Lent, ran: &Ran) -> Left {
+    (lent.registers[PHASE], ran.count, lent.registers[VALUE], ran.reach, ran.dictionaries)
+}
 
 /// Load, begin the start words, and these runs while they are not refused.
 fn ran(image: &[u8], length: usize, grants: &[u32]) -> Result<Vec<Left>, Refusal> {
     loaded(image, length, |lent, counts| {
         let [_, _, receiver, selector, ..] = *lent.registers;
         begin(lent, receiver, selector, &[], counts)?;
-        let runs = grants.iter().map(|n| run(lent, *n, counts).map(|ran| (lent.registers[PHASE], ran.count, lent.registers[VALUE], ran.reach)));
-        runs.collect()
+        grants.iter().map(|n| run(lent, *n, counts).map(|ran| left(lent, &ran))).collect()
     })
 }
 
@@ -88,12 +92,12 @@ const ADDING: [u16; 4] = [1, 8, 112 << 8 | 119, 176 << 8 | 124];
 #[test]
 fn adds() {
     assert_eq!(image(81, &ADDING, None).len(), 10 + 8 * 12 + 2 * 55);
-    assert_eq!(played(&image(81, &ADDING, None)), Ok((2, 4, 85, 18)));
+    assert_eq!(played(&image(81, &ADDING, None)), Ok((2, 4, 85, 18, 0)));
 }
 
 #[test]
 fn sum_out_of_range_is_sent() {
-    assert_eq!(played(&image(32_767, &ADDING, None)), Ok((3, 2, 0, 18)));
+    assert_eq!(played(&image(32_767, &ADDING, None)), Ok((3, 2, 0, 18, 0)));
 }
 
 #[test]
@@ -103,19 +107,19 @@ fn empty_input_is_refused() {
 
 #[test]
 fn jump_to_itself_is_sound() {
-    assert_eq!(played(&image(81, &[1, 8, 163 << 8 | 254], None)), Ok((1, 1_000, 0, 18)));
+    assert_eq!(played(&image(81, &[1, 8, 163 << 8 | 254], None)), Ok((1, 1_000, 0, 18, 0)));
 }
 
-/// Two bytecodes for each frame, but the last send halts. 56 frames of 18 words fit, 26 of 38.
+/// Two bytecodes for each frame, but the last send halts, and is not counted. 56 frames of 18 words fit, 26 of 38.
 #[test]
 fn frame_that_does_not_fit_never_stood() {
     let sends_itself = |header: u16| image(81, &[header, 8, 20, 112 << 8 | 208, 124 << 8], None);
-    assert_eq!(played(&sends_itself(3)), Ok((5, 111, 0, 1_008)));
-    assert_eq!(played(&sends_itself(131)), Ok((5, 51, 0, 988)));
+    assert_eq!(played(&sends_itself(3)), Ok((5, 111, 0, 1_008, 55)));
+    assert_eq!(played(&sends_itself(131)), Ok((5, 51, 0, 988, 25)));
     for length in [1_008, 1_025] {
-        assert_eq!(ran(&sends_itself(3), length, &[1_000]), Ok(vec![(5, 111, 0, 1_008)]));
+        assert_eq!(ran(&sends_itself(3), length, &[1_000]), Ok(vec![(5, 111, 0, 1_008, 55)]));
     }
-    assert_eq!(ran(&sends_itself(3), 1_026, &[1_000]), Ok(vec![(5, 113, 0, 1_026)]));
+    assert_eq!(ran(&sends_itself(3), 1_026, &[1_000]), Ok(vec![(5, 113, 0, 1_026, 56)]));
     assert_eq!(ran(&sends_itself(131), 18, &[0]).unwrap_err().number, 13);
 }
 
@@ -126,25 +130,26 @@ fn down(header: u16) -> Vec<u8> {
 
 #[test]
 fn frames_that_returned_count() {
-    assert_eq!(played(&down(3)), Ok((2, 23, 1, 54)));
-    assert_eq!(played(&down(131)), Ok((2, 23, 1, 114)));
+    assert_eq!(played(&down(3)), Ok((2, 23, 1, 54, 2)));
+    assert_eq!(played(&down(131)), Ok((2, 23, 1, 114, 2)));
     // One bytecode less, and only the first frame stands.
-    assert_eq!(ran(&down(3), 1_024, &[22]), Ok(vec![(1, 22, 0, 54)]));
+    assert_eq!(ran(&down(3), 1_024, &[22]), Ok(vec![(1, 22, 0, 54, 2)]));
 }
 
 /// Two frames that stand one after the other need the room of the larger: a small method sends twice to nil, whose method is large.
 #[test]
 fn frames_at_the_same_place_count_once() {
     let twice = image(81, &[3, 8, 20, 115 << 8 | 208, 135 << 8 | 115, 208 << 8 | 124], Some(&[129, 14, 120 << 8]));
-    assert_eq!(played(&twice), Ok((2, 8, 2, 56)));
+    assert_eq!(played(&twice), Ok((2, 8, 2, 56, 2)));
 }
 
-/// Each run counts the frames that it finds, and no run those of the runs before it.
+/// Each run counts the frames that it finds and the sends that it makes, and no run those of the runs before it.
 #[test]
 fn largest_reach_of_the_parts_is_that_of_the_whole() {
-    let parts = [(0, 0, 18), (7, 7, 18), (1, 1, 36), (12, 12, 54), (0, 0, 54), (1, 1, 54), (0, 0, 36), (1, 1, 36), (0, 0, 18)];
-    let mut expected: Vec<Left> = parts.iter().map(|(_, count, reach)| (1, *count, 0, *reach)).collect();
-    expected.push((2, 1, 1, 18));
+    let parts =
+        [(0, 0, 18, 0), (7, 7, 18, 0), (1, 1, 36, 1), (12, 12, 54, 1), (0, 0, 54, 0), (1, 1, 54, 0), (0, 0, 36, 0), (1, 1, 36, 0), (0, 0, 18, 0)];
+    let mut expected: Vec<Left> = parts.iter().map(|(_, count, reach, dictionaries)| (1, *count, 0, *reach, *dictionaries)).collect();
+    expected.push((2, 1, 1, 18, 0));
     let grants: Vec<u32> = parts.iter().map(|part| part.0).chain([100]).collect();
     assert_eq!(ran(&down(3), 1_024, &grants), Ok(expected));
 }
@@ -155,14 +160,16 @@ fn reach_has_more_than_16_bits() {
     let large = [131, 8, 20, 112 << 8 | 117, 182 << 8 | 154, 115 << 8 | 208, 124 << 8 | 112, 118 << 8 | 177, 208 << 8 | 124];
     let image = image(15, &large, Some(&[3, 14, 20, 112 << 8 | 208, 124 << 8]));
     let count = 7 * 8 + 6 + 3_623 * 2 + 1;
+    // All but the first frame were sent.
+    let sent = 7 + 3_624;
     for length in [MOST_STACK, MOST_STACK + 100] {
-        assert_eq!(ran(&image, length, &[10_000]), Ok(vec![(5, count, 0, 65_536)]));
-        assert_eq!(ran(&image, length, &[count, 0, 1]), Ok(vec![(1, count, 0, 65_536), (1, 0, 0, 65_536), (5, 0, 0, 65_536)]));
+        assert_eq!(ran(&image, length, &[10_000]), Ok(vec![(5, count, 0, 65_536, sent)]));
+        assert_eq!(ran(&image, length, &[count, 0, 1]), Ok(vec![(1, count, 0, 65_536, sent), (1, 0, 0, 65_536, 0), (5, 0, 0, 65_536, 0)]));
     }
-    assert_eq!(ran(&image, MOST_STACK - 1, &[10_000]), Ok(vec![(5, count - 2, 0, 65_518)]));
+    assert_eq!(ran(&image, MOST_STACK - 1, &[10_000]), Ok(vec![(5, count - 2, 0, 65_518, sent - 1)]));
     let mut answers = [7; 2 * ANSWER_WORDS];
     assert_eq!(loaded(&image, MOST_STACK, |lent, counts| play(lent, &[0, 15, 20, 0, 1, 1, 0], &mut answers, counts)), Ok(2));
-    assert_eq!(answers[ANSWER_WORDS..], [0, 5, count, 0, 65_536]);
+    assert_eq!(answers[ANSWER_WORDS..], [0, 5, count, 0, 65_536, 0, sent as u32]);
 }
 
 #[test]
@@ -267,6 +274,28 @@ fn pairs_of_one_dictionary() {
 }
 
 #[test]
+fn dictionaries_along_a_chain() {
+    let four = classes(&[&[20, 24, 30], &[], &[18, 22], &[22, 30, 40]]);
+    let found = |class: u16, selector: u16| four.lookup(class, selector).map(|found| (found.method, found.dictionaries));
+    assert_eq!([20, 24, 30].map(|selector| found(4, selector)), [Some((100, 1)); 3]);
+    assert_eq!([18, 22, 40].map(|selector| found(4, selector)), [Some((100, 3)), Some((100, 3)), Some((100, 4))]);
+    // From each class on, and from what is no class.
+    assert_eq!([4, 6, 8, 10, NIL, 0, 5].map(|class| found(class, 30)), [1, 3, 2, 1, 0, 0, 0].map(|read| (read > 0).then_some((100, read))));
+    // Not found: all that there are.
+    assert_eq!([4, 6, 8, 10, NIL, 0, 5].map(|class| four.dictionaries_read(class, 42)), [4, 3, 2, 1, 0, 0, 0]);
+    assert_eq!([20, 22, 40].map(|selector| four.dictionaries_read(4, selector)), [1, 3, 4]);
+    let mut selectors = [&[20][..]; MOST_CHAIN];
+    selectors[MOST_CHAIN - 1] = &[20, 30];
+    let longest = classes(&selectors);
+    assert_eq!([20, 30, 40].map(|word| longest.dictionaries_read(4, word)), [1, 24, 24]);
+    assert_eq!(longest.lookup(4, 30), Some(Found { method: 100, dictionaries: 24 }));
+    // Two classes with one dictionary.
+    let mut shared = four.clone();
+    shared.list[1].body[1] = shared.list[2].body[1];
+    assert_eq!([20, 22, 40].map(|selector| shared.dictionaries_read(4, selector)), [4, 3, 4]);
+}
+
+#[test]
 fn pairs_along_a_chain() {
     let four = classes(&[&[20, 24, 30], &[], &[18, 22], &[22, 30, 40]]);
     // Found in the first class, where those above do not count, also under a selector that they have.
@@ -283,18 +312,170 @@ fn pairs_along_a_chain() {
     assert_eq!(longest.pairs_along(4), 48);
 }
 
+/// Object 18 is sent object 10; it has a field, and its class 19 is the lowest of a chain, with so many above it. Class 19 has the handler, method 14; the last
+/// class has method 15 under object 13; those between share the empty dictionary 8. Both methods get their home here, as word 1.
+fn climbing(above: usize, handler: &[u16], method: &[u16]) -> Vec<Entry> {
+    let (lowest, last) = (38, pointer(19 + above));
+    let code = |words: &[u16], home: u16| {
+        let words = [&[words[0], home], &words[2..]].concat();
+        (12, METHOD, 2 * words.len() as u16, words)
+    };
+    let mut objects = objects(&ADDING, None);
+    let own: &[u16] = if above == 0 { &[20, 28, 26, 30] } else { &[20, 28] };
+    objects.extend([
+        (24, BYTES, 1, vec![98 << 8]),
+        code(handler, lowest),
+        code(method, last),
+        (12, LIST, own.len() as u16, own.to_vec()),
+        (12, LIST, 2, vec![26, 30]),
+        (lowest, FIELDS, 1, vec![word(77).unwrap()]),
+    ]);
+    for index in 0..=above {
+        let (superclass, dictionary) = if index == above { (NIL, 34) } else { (pointer(20 + index), 16) };
+        objects.push((12, CLASS, 4, vec![superclass, if index == 0 { 32 } else { dictionary }, word(1).unwrap(), 1]));
+    }
+    objects
+}
+
+/// Method 15 in each of its kinds: a frame, flags 5 and 6, class, which answers, and size, which fails; with what the handler leaves.
+fn kinds() -> [(Vec<u16>, (u32, u16)); 5] {
+    let primitive = |number: u16| vec![7 << 13 | 5, 0, number << 1 | 1, NIL, 120 << 8];
+    [
+        (vec![1, 0, 120 << 8], (4, 36)),
+        (vec![5 << 13 | 1, 0], (3, 36)),
+        (vec![6 << 13 | 1, 0], (3, 155)),
+        (primitive(111), (3, 38)),
+        (primitive(62), (4, 36)),
+    ]
+}
+
+/// Sends object 13 to self: by 208, 131, 132, and by a special send, whose selector it has to be.
+const SENDS: [[u16; 5]; 4] =
+    [[3, 0, 26, 112 << 8 | 208, 124 << 8], [3, 0, 26, 112 << 8 | 131, 124], [3, 0, 26, 112 << 8 | 132, 0], [3, 0, 26, 112 << 8 | 207, 124 << 8]];
+
+/// The methods of class 19 itself are one dictionary away, and so on up to 24.
+#[test]
+fn dictionaries_of_a_send() {
+    for (above, dictionaries) in [(0, 1), (1, 2), (2, 3), (22, 23), (23, 24)] {
+        for ((method, (count, value)), sends) in kinds().iter().flat_map(|kind| SENDS.map(|sends| (kind, sends))) {
+            // 132 has two bytes, so its return is in a word more.
+            let sends = if sends[4] == 0 { [&sends[..], &[124 << 8]].concat() } else { sends.to_vec() };
+            let mut objects = climbing(above, &sends, method);
+            objects[4].3[31] = 26;
+            let reach = if *count == 4 { 36 } else { 18 };
+            assert_eq!(played(&written(36, &objects)), Ok((2, *count, *value, reach, dictionaries)));
+        }
+    }
+}
+
+/// Super sends start above class 19.
+#[test]
+fn dictionaries_of_a_super_send() {
+    for (above, dictionaries) in [(1, 1), (2, 2), (22, 22), (23, 23)] {
+        for ((method, (count, value)), code) in
+            kinds().iter().flat_map(|kind| [[112 << 8 | 133, 124, 0], [112 << 8 | 134, 0, 124 << 8]].map(|code| (kind, code)))
+        {
+            let reach = if *count == 4 { 36 } else { 18 };
+            let handler = [&[3, 0, 26][..], &code].concat();
+            assert_eq!(played(&written(36, &climbing(above, &handler, method))), Ok((2, *count, *value, reach, dictionaries)));
+        }
+    }
+}
+
+/// self + self, which is sent since self is no integer.
+#[test]
+fn dictionaries_of_arithmetic_that_fails() {
+    for above in [0, 5, 23] {
+        let mut objects = climbing(above, &[1, 0, 112 << 8 | 112, 176 << 8 | 124], &[1 << 13 | 1 << 8 | 1, 0, 120 << 8]);
+        objects[4].3[0] = 26;
+        assert_eq!(played(&written(36, &objects)), Ok((2, 5, 36, 36, 1 + above as u64)));
+    }
+}
+
+/// A send that is made, and then one that halts: for want of stack, and since nobody implements nil.
+#[test]
+fn halted_send_has_no_dictionaries() {
+    let handler = |second: u16| [5, 0, 26, second, 112 << 8 | 208, 209 << 8 | 124];
+    let answers_self = [5 << 13 | 1, 0];
+    for (second, phase) in [(20, 5), (NIL, 3)] {
+        assert_eq!(ran(&written(36, &climbing(6, &handler(second), &answers_self)), 18, &[9]), Ok(vec![(phase, 2, 0, 18, 7)]));
+        // The same in parts: push self, the send, and nothing.
+        let parts = ran(&written(36, &climbing(6, &handler(second), &answers_self)), 18, &[1, 1, 1]);
+        assert_eq!(parts, Ok(vec![(1, 1, 0, 18, 0), (1, 1, 0, 18, 7), (phase, 0, 0, 18, 0)]));
+    }
+}
+
+/// The entry of words 26 and 38, whose common bit is 2, is entry 1. A second run hits it and reads as many; check holds its number to lookup.
+#[test]
+fn dictionaries_in_the_cache() {
+    let image = written(36, &climbing(2, &SENDS[0], &kinds()[0].0));
+    let (mut words, mut sums) = (vec![], vec![]);
+    let checked = loaded(&image, 1_024, |lent, counts| {
+        for _ in 0..2 {
+            begin(lent, 36, 20, &[], counts)?;
+            assert!(lent.cache[..4] == [0; 4] && lent.cache[8..].iter().all(|word| *word == 0));
+            sums.push(run(lent, 9, counts)?.dictionaries);
+        }
+        words = lent.cache[4..8].to_vec();
+        let numbers = [0, 1, 2, 3, 4, 24, 259, 65_535].map(|number| {
+            lent.cache[7] = number;
+            check(lent).map_or_else(|refusal| refusal.number, |()| 0)
+        });
+        assert_eq!(numbers, [11, 11, 11, 0, 11, 11, 11, 11]);
+        let alone = [1, 3, 65_535].map(|number| {
+            lent.cache[4..8].copy_from_slice(&[0, 0, 0, number]);
+            check(lent).map_or_else(|refusal| refusal.number, |()| 0)
+        });
+        assert_eq!(alone, [11; 3]);
+        lent.cache[7] = 0;
+        check(lent)
+    });
+    assert_eq!((checked, words, sums), (Ok(()), vec![26, 38, 30, 3], vec![3, 3]));
+}
+
+/// Neither the length that the cache had when entries were of three words, nor those beside the right one.
+#[test]
+fn cache_has_256_words() {
+    assert_eq!(CACHE_WORDS, 256);
+    for (length, number) in [(0, 3), (192, 3), (255, 3), (256, 0), (257, 3)] {
+        let (mut contents, mut bodies, mut cache, mut registers) = (vec![0; 48], vec![0; 55], vec![0; length], [0; 8]);
+        let mut lent = Lent { contents: &mut contents, bodies: &mut bodies, stack: &mut [], cache: &mut cache, registers: &mut registers };
+        let loaded = load(&image(81, &ADDING, None), &mut lent);
+        assert_eq!(loaded.map_or_else(|refusal| refusal.number, |()| 0), number);
+    }
+}
+
+/// The sum has two words in an answer, the high one first; it goes on past 32 bits, and begin adds nothing.
+#[test]
+fn sum_of_more_than_32_bits() {
+    let ran = Ran { count: 3, reach: 18, dictionaries: 5 << 32 | 7 };
+    assert_eq!(ran_answer(FINISHED, 85, &ran), [0, 2, 3, 85, 18, 5, 7]);
+    let image = written(36, &climbing(23, &SENDS[0], &kinds()[1].0));
+    let sum = loaded(&image, 1_024, |lent, counts| {
+        begin(lent, 36, 20, &[], counts)?;
+        let (world, frames) = opened(lent)?;
+        let room = Room { contents: lent.contents.len(), bodies: lent.bodies.len() };
+        let dictionaries = u32::MAX as u64;
+        let mut machine = Machine { world, frames, stack: lent.stack, cache: lent.cache, room, dictionaries, counts };
+        let (ran, left) = steps(&mut machine, 2, &mut Unwatched);
+        assert_eq!(left, [RUNNING, 0, 0]);
+        Ok(ran.dictionaries)
+    });
+    assert_eq!(sum, Ok((1 << 32) + 23));
+}
+
 /// 40 + 2 in two runs, with refused calls around them; the last begin lacks a word.
 #[test]
 fn list_is_played() {
     let calls: [(&[u16], [u32; ANSWER_WORDS]); 8] = [
-        (&[1, 0, 9], [12, 0, 0, 0, 0]),
-        (&[0, 81, 20, 0], [0, 0, 0, 0, 0]),
-        (&[1, 0, 3], [0, 1, 3, 0, 18]),
-        (&[0, 81, 20, 0], [12, 0, 0, 0, 0]),
-        (&[1, 1, 0], [0, 2, 1, 85, 18]),
-        (&[3], [0, 0, 0, 0, 0]),
-        (&[0, 81, 20, 1, 5], [10, 0, 0, 0, 0]),
-        (&[2], [0, 0, 0, 0, 0]),
+        (&[1, 0, 9], [12, 0, 0, 0, 0, 0, 0]),
+        (&[0, 81, 20, 0], [0, 0, 0, 0, 0, 0, 0]),
+        (&[1, 0, 3], [0, 1, 3, 0, 18, 0, 0]),
+        (&[0, 81, 20, 0], [12, 0, 0, 0, 0, 0, 0]),
+        (&[1, 1, 0], [0, 2, 1, 85, 18, 0, 0]),
+        (&[3], [0, 0, 0, 0, 0, 0, 0]),
+        (&[0, 81, 20, 1, 5], [10, 0, 0, 0, 0, 0, 0]),
+        (&[2], [0, 0, 0, 0, 0, 0, 0]),
     ];
     let list = [&calls.map(|(words, _)| words).concat()[..], &[0, 81, 20]].concat();
     let expected = calls.map(|(_, answer)| answer).concat();
@@ -311,14 +492,14 @@ fn list_is_played() {
     }
 }
 
-/// The handler `down` in parts: the reach of each run stands with it alone.
+/// The handler `down` in parts: reach and dictionaries of each run stand with it alone.
 #[test]
 fn reach_is_listed() {
     let list = [0, 5, 20, 0, 1, 0, 16, 1, 0, 6, 1, 0, 0, 2, 1, 0, 1];
     let mut answers = [7; 6 * ANSWER_WORDS];
     assert_eq!(loaded(&down(131), 1_024, |lent, counts| play(lent, &list, &mut answers, counts)), Ok(6));
-    let expected = [[0, 0, 0, 0, 0], [0, 1, 16, 0, 114], [0, 1, 6, 0, 114], [0, 1, 0, 0, 38], [0, 0, 0, 0, 0], [12, 0, 0, 0, 0]];
-    assert_eq!(answers[..], expected.concat());
+    let runs = [[0, 1, 16, 0, 114, 0, 2], [0, 1, 6, 0, 114, 0, 0], [0, 1, 0, 0, 38, 0, 0]];
+    assert_eq!(answers[..], [[0; ANSWER_WORDS], runs[0], runs[1], runs[2], [0; ANSWER_WORDS], [12, 0, 0, 0, 0, 0, 0]].concat());
 }
 
 #[test]
@@ -394,8 +575,8 @@ fn messaged(edition: u16, objects: &[Entry], lengths: [usize; 3]) -> Messaged {
     begin(&mut lent, 41, 20, &[], &mut counts).unwrap();
     let ran = run(&mut lent, 1_000, &mut counts).unwrap();
     check(&lent).unwrap();
-    let left = (lent.registers[PHASE], ran.count, lent.registers[VALUE], ran.reach);
-    let cache = cache.chunks(3).filter(|entry| entry[0] != 0).flatten().copied().collect();
+    let left = left(&lent, &ran);
+    let cache = cache.chunks(ENTRY_WORDS).filter(|entry| entry[0] != 0).flatten().copied().collect();
     Messaged { left, registers, contents: contents[4 * n..].to_vec(), bodies: bodies[b..].to_vec(), cache }
 }
 
@@ -406,15 +587,15 @@ fn failed_send_makes_array_and_message() {
     let objects = messages(&SENDS_NIL, &ANSWERS, None);
     assert_eq!((objects.len(), objects.iter().map(|object| object.3.len()).sum()), (N, B));
     let made = messaged(2, &objects, LONG);
-    // push self, 1 and 2, the send, push the message, both returns.
-    assert_eq!(made.left, (2, 7, 36, 36));
+    // push self, 1 and 2, the send, push the message, both returns. Of the lookups that of object 6 alone counts.
+    assert_eq!(made.left, (2, 7, 36, 36, 1));
     assert_eq!(made.registers, [18, 75, 41, 20, 2, 0, 36, 2]);
     assert_eq!(made.contents[..8], [16, 0, 71, 2, 14, 0, 73, 2]);
     assert_eq!(made.bodies[..4], [3, 5, NIL, 34]);
-    assert_eq!(made.cache, [12, 8, 32]);
+    assert_eq!(made.cache, [12, 8, 32, 1]);
     // The same objects in edition 1.
     let earlier = messaged(1, &objects, LONG);
-    assert_eq!((earlier.left, earlier.registers), ((3, 3, 0, 18), [16, 71, 41, 20, 3, 0, 0, 1]));
+    assert_eq!((earlier.left, earlier.registers), ((3, 3, 0, 18, 0), [16, 71, 41, 20, 3, 0, 0, 1]));
     assert_eq!(earlier.cache, []);
 }
 
@@ -423,13 +604,13 @@ fn failed_send_makes_array_and_message() {
 fn objects_find_room_or_not() {
     let objects = messages(&SENDS_NIL, &ANSWERS, None);
     let [contents, bodies] = [4 * (N + 2), B + 4];
-    assert_eq!(messaged(2, &objects, [contents, bodies, 36]).left, (2, 7, 36, 36));
+    assert_eq!(messaged(2, &objects, [contents, bodies, 36]).left, (2, 7, 36, 36, 1));
     for (lengths, left) in [
-        ([contents - 1, bodies, 36], (3, 3, 0, 18)),
-        ([contents, bodies - 1, 36], (3, 3, 0, 18)),
-        ([contents, bodies, 35], (5, 3, 0, 18)),
+        ([contents - 1, bodies, 36], (3, 3, 0, 18, 0)),
+        ([contents, bodies - 1, 36], (3, 3, 0, 18, 0)),
+        ([contents, bodies, 35], (5, 3, 0, 18, 0)),
         // Room for the objects is asked for before the frame.
-        ([contents, bodies - 1, 35], (3, 3, 0, 18)),
+        ([contents, bodies - 1, 35], (3, 3, 0, 18, 0)),
     ] {
         let halted = messaged(2, &objects, lengths);
         assert_eq!((halted.left, halted.registers[0], halted.registers[1], &halted.cache[..]), (left, 16, 71, &[][..]));
@@ -455,10 +636,10 @@ fn most_objects_and_body_words() {
 #[test]
 fn primitives_under_object_6() {
     let made = messaged(2, &messages(&SENDS_NIL, &primitive(110), None), LONG);
-    assert_eq!((made.left, made.registers[0], made.registers[1]), ((2, 5, FALSE, 18), 18, 71 + 2 + 4));
-    assert_eq!(made.cache, [12, 8, 32]);
+    assert_eq!((made.left, made.registers[0], made.registers[1]), ((2, 5, FALSE, 18, 1), 18, 71 + 2 + 4));
+    assert_eq!(made.cache, [12, 8, 32, 1]);
     for number in [0, 1, 7, 17, 60, 61, 62, 70, 71, 111, 255] {
-        assert_eq!(messaged(2, &messages(&SENDS_NIL, &primitive(number), None), LONG).left, (2, 7, 36, 36));
+        assert_eq!(messaged(2, &messages(&SENDS_NIL, &primitive(number), None), LONG).left, (2, 7, 36, 36, 1));
     }
 }
 
@@ -469,10 +650,20 @@ fn object_6_is_sought_where_the_failed_lookup_started() {
     let above = [1 << 13 | 3 << 8 | 129, 18, 17 << 8 | 124];
     // The second temporary is nil. Of the five bytecodes two are in a large frame.
     let made = messaged(2, &messages(&sends_super, &ANSWERS, Some(&above)), LONG);
-    assert_eq!((made.left, made.cache), ((2, 5, NIL, 18 + 38), vec![12, 18, 36]));
+    assert_eq!((made.left, made.cache), ((2, 5, NIL, 18 + 38, 1), vec![12, 18, 36, 1]));
     assert_eq!((&made.contents[..8], &made.bodies[..2]), (&[16, 0, 75, 0, 14, 0, 75, 2][..], &[NIL, 38][..]));
     // Not found there.
-    assert_eq!(messaged(2, &messages(&sends_super, &ANSWERS, None), LONG).left, (3, 1, 0, 18));
+    assert_eq!(messaged(2, &messages(&sends_super, &ANSWERS, None), LONG).left, (3, 1, 0, 18, 0));
+}
+
+/// Integers have no method under object 6 of their own: two dictionaries are read for it, as were before for the selector that nobody implements.
+#[test]
+fn object_6_further_up() {
+    let above = [1 << 13 | 1 << 8 | 1, 18, 16 << 8 | 124];
+    let mut objects = messages(&SENDS_NIL, &ANSWERS, Some(&above));
+    objects[12] = (22, LIST, 2, vec![20, 30]);
+    let made = messaged(2, &objects, LONG);
+    assert_eq!((made.left.4, made.cache), (2, vec![12, 8, 36, 2]));
 }
 
 fn edition_2(objects: &[Entry]) -> u32 {

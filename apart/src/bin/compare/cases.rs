@@ -1,5 +1,6 @@
 //! Cases: random lists of calls, made on both machines and compared after each.
 
+use crate::climbs::{self, Climbing};
 use crate::damage::*;
 use crate::draft::*;
 use crate::elements;
@@ -10,7 +11,7 @@ use crate::messages;
 use crate::random::Random;
 use crate::report::Report;
 use crate::sides::*;
-use apart::calls::{EDITION, PHASE, TOP};
+use apart::calls::{CACHE_WORDS, EDITION, PHASE, TOP};
 use apart::machine::{MOST_STACK, RUNNING};
 use apart::objects::*;
 use apart::play::ANSWER_WORDS;
@@ -94,7 +95,7 @@ fn buffers(random: &mut Random, image: &[u8]) -> Buffers {
     let bodies = b + random.pick(&[0, 0, 1, 2, 5, 30, 400, 2000, 2000]);
     let stack = random.pick(&[0, 17, 18, 37, 38, 56, 74, 100, 150, 200, 300, 300, 300, 300, 600, 600, 600, 600, 1024, 1024, 1024, 1024, 1024, 1024]);
     let stack = if random.below(400) == 0 { random.from(65_530, 65_560) } else { stack };
-    let lengths = [contents, bodies, stack, 192];
+    let lengths = [contents, bodies, stack, CACHE_WORDS];
     let words = lengths.map(|length| (0..length + GUARD).map(|_| random.word()).collect());
     let mut registers = [0; 8];
     registers.fill_with(|| random.word());
@@ -106,14 +107,17 @@ const WIDE: usize = 94;
 const ELEMENTS: usize = 90;
 /// Of one whose sends fail.
 const MESSAGES: usize = 76;
+/// Of one whose sends climb.
+const CLIMBS: usize = 72;
 
 /// One case; what differs, with the pair that shows it.
 pub fn case(random: &mut Random, report: &mut Report) -> Result<(), (Buffers, Vec<Call>, String)> {
     let kind = random.below(100);
     let fails = (MESSAGES..ELEMENTS).contains(&kind);
+    let climbs = (CLIMBS..MESSAGES).contains(&kind);
     let mut draft = match kind {
         0..=9 => noisy(random),
-        _ if fails => {
+        _ if fails || climbs => {
             let edition = random.pick(&[1, 2, 2, 2, 2, 2]);
             generate::of_edition(random, edition, true)
         }
@@ -132,12 +136,13 @@ pub fn case(random: &mut Random, report: &mut Report) -> Result<(), (Buffers, Ve
         _ if fails && random.percent(20) => fill(random, &mut draft),
         _ => {}
     }
+    let climbing = climbs.then(|| climbs::add(random, &mut draft));
     let tall = kind == 95 && random.percent(40) || fails && random.percent(3);
     let deep = kind == 95 && !tall && random.percent(50) && recurse(random, &mut draft);
     let image = draft.image();
     let mut buffers = buffers(random, &image);
     // Damage can make an image longer, and handlers make objects.
-    if (10..40).contains(&kind) && random.percent(80) || fails {
+    if (10..40).contains(&kind) && random.percent(80) || fails || climbs {
         let more = random.pick(&[600, 600, 600, 8_000]);
         for buffer in 0..2 {
             buffers.lengths[buffer] += more;
@@ -155,6 +160,7 @@ pub fn case(random: &mut Random, report: &mut Report) -> Result<(), (Buffers, Ve
     let mut pair = Pair::new(buffers, report);
     let compared = match kind {
         _ if fails => messages_case(random, &mut pair, image),
+        _ if climbing.is_some() => climbs_case(random, &mut pair, image, &climbing.unwrap()),
         _ if tall => tall_case(random, &mut pair, image),
         _ if deep => deep_case(random, &mut pair, &draft),
         0..=9 => noisy_case(random, &mut pair, image),
@@ -365,17 +371,23 @@ fn accesses(random: &mut Random, pair: &mut Pair, class: Option<u16>, most: usiz
     Ok(())
 }
 
+/// Drops a handler that is not done, so that another can be begun, in some cases on an empty cache.
+fn settle(random: &mut Random, pair: &mut Pair) -> Compared<()> {
+    if pair.ours.registers[PHASE] == RUNNING {
+        pair.make(Call::Drop)?;
+    }
+    if random.percent(30) {
+        pair.make(Call::Forget)?;
+    }
+    Ok(())
+}
+
 /// Handlers whose sends fail, on buffers that just have room for what is made, or just not.
 fn messages_case(random: &mut Random, pair: &mut Pair, image: Vec<u8>) -> Compared<()> {
     pair.make(Call::Load(image))?;
     let most = pair.ours.lengths;
     for _ in 0..random.from(5, 12) {
-        if pair.ours.registers[PHASE] == RUNNING {
-            pair.make(Call::Drop)?;
-        }
-        if random.percent(30) {
-            pair.make(Call::Forget)?;
-        }
+        settle(random, pair)?;
         let world = match pair.world() {
             Some(world) => world,
             None => return Ok(()),
@@ -426,6 +438,59 @@ fn messages_case(random: &mut Random, pair: &mut Pair, image: Vec<u8>) -> Compar
     }
     pair.make(Call::Check)?;
     Ok(())
+}
+
+/// Handlers whose sends climb, on a cache with what the others left, and on stacks that lack the room for some of their frames.
+fn climbs_case(random: &mut Random, pair: &mut Pair, image: Vec<u8>, climbing: &Climbing) -> Compared<()> {
+    pair.make(Call::Load(image))?;
+    let most = pair.ours.lengths;
+    for _ in 0..random.from(5, 10) {
+        settle(random, pair)?;
+        if random.percent(20) {
+            let mut lengths = most;
+            lengths[2] = most[2].min(random.pick(&[18, 35, 36, 54]));
+            pair.make(Call::Lengths(lengths))?;
+        }
+        let begin = climbing.begin(random);
+        if random.percent(20) {
+            let calls: Vec<Call> = (0..random.from(1, 4)).flat_map(|_| [climbing.begin(random), run(random), run(random), Call::Drop]).collect();
+            pair.make(play(random, &calls))?;
+        } else if pair.make(begin)?.number == 0 {
+            for _ in 0..random.from(1, 3) {
+                let call = run(random);
+                pair.make(call)?;
+            }
+        }
+        pair.make(Call::Lengths(most))?;
+        match random.below(6) {
+            0 | 1 => written_cache(random, pair)?,
+            2 => look_up(random, pair)?,
+            3 => shortened(random, pair)?,
+            _ => {}
+        }
+    }
+    pair.make(Call::Check)?;
+    Ok(())
+}
+
+/// An entry of the cache written from outside, check, a call or two, and the old words again.
+fn written_cache(random: &mut Random, pair: &mut Pair) -> Compared<()> {
+    let found = pair.world().and_then(|world| climbs::written(random, &world.objects, &pair.ours.words[3][..CACHE_WORDS]));
+    let (at, words, event) = match found {
+        Some(found) if pair.ours.lengths[3] == CACHE_WORDS => found,
+        _ => return Ok(()),
+    };
+    let was_right = pair.make(Call::Check)?.number == 0;
+    let old = pair.ours.words[3][at..][..words.len()].to_vec();
+    pair.make(Call::Write { buffer: 3, index: at, words: words.to_vec() })?;
+    let number = pair.make(Call::Check)?.number;
+    if let (true, Some(event), 0 | 11) = (was_right, event, number) {
+        if (number == 0) == (event == 0) {
+            pair.report.counts.event(climbs::WRITTEN[event]);
+        }
+    }
+    pair.make(Call::Write { buffer: 3, index: at, words: old })?;
+    spoiled_words(random, pair, 3, at, words.to_vec())
 }
 
 /// A begin of the object that was made last.
@@ -771,7 +836,7 @@ fn short_lengths(random: &mut Random, pair: &Pair) -> [usize; 4] {
         0 => lengths[0] = (4 * n).saturating_sub(random.from(1, 3)).min(lengths[0]),
         1 => lengths[1] = b.saturating_sub(1).min(lengths[1]),
         2 => lengths[2] = random.below(lengths[2].min(200) + 1),
-        3 => lengths[3] = random.pick(&[0, 191, 193]),
+        3 => lengths[3] = random.pick(&[[0, 0, 0], climbs::OTHER_CACHES, climbs::OTHER_CACHES, climbs::OTHER_CACHES].concat()),
         _ => lengths = lengths.map(|length| random.below(length + 1)),
     }
     lengths
@@ -819,6 +884,7 @@ fn spoiled(random: &mut Random, pair: &mut Pair) -> Compared<()> {
         0 | 1 => return spoiled_fields(random, pair),
         2 => return spoiled_messages(random, pair),
         3 => return other_edition(random, pair),
+        4 | 5 => return written_cache(random, pair),
         _ => {}
     }
     if random.percent(40) {

@@ -1,6 +1,6 @@
 //! What those rely on who size stacks by reach, on the library alone. Several runs that go on from each other and are granted as much together as one
-//! run come to the same words and registers, their counts to its count, and their largest reach is its reach. On a stack of reach words a run comes to
-//! the same; a word less is too short.
+//! run come to the same words and registers, their counts and sums of dictionaries to its count and sum, and their largest reach is its reach. On a stack
+//! of reach words a run comes to the same; a word less is too short.
 
 use crate::random::Random;
 use crate::sides::*;
@@ -9,11 +9,12 @@ use apart::counts::Counts;
 use apart::machine::{NO_STACK_ROOM, RUNNING};
 
 /// What a run in parts can show.
-pub const CUTS: [&str; 4] = [
+pub const CUTS: [&str; 5] = [
     "a run cut: the first part has the largest reach, the last one less",
     "a run cut: the last part has the largest reach, the first one less",
     "a run cut: a part between has the largest reach",
     "a run cut: the handler was done before the last part",
+    "a run cut: several parts have a sum of dictionaries that is not 0",
 ];
 
 /// How a stack can be a word too short.
@@ -46,16 +47,18 @@ pub fn library_cut(call: &Call, before: &Buffers, counts: &mut Counts) -> Option
             0 => {
                 together.count = together.count.wrapping_add(part.count);
                 together.reach = together.reach.max(part.reach);
+                together.dictionaries = together.dictionaries.wrapping_add(part.dictionaries);
             }
             12 if is_done => {}
             number => together.number = number,
         }
     }
     if together.number == 0 {
-        let made: Vec<u32> = ran.iter().filter(|part| part.number == 0).map(|part| part.reach).collect();
-        let (first, last, largest) = (made[0], made[made.len() - 1], together.reach);
-        counts
-            .events_met(CUTS, [last < first && first == largest, first < last && last == largest, first.max(last) < largest, made.len() < ran.len()]);
+        let made: Vec<&Outcome> = ran.iter().filter(|part| part.number == 0).collect();
+        let (first, last, largest) = (made[0].reach, made[made.len() - 1].reach, together.reach);
+        let climb = made.iter().filter(|part| part.dictionaries != 0).count();
+        let orders = [last < first && first == largest, first < last && last == largest, first.max(last) < largest];
+        counts.events_met(CUTS, [orders[0], orders[1], orders[2], made.len() < ran.len(), climb > 1]);
     }
     Some((together, buffers))
 }

@@ -1,4 +1,4 @@
-//! Lookups, which give what is found and how many pairs were read, on the plain machine and by the library's function for this.
+//! Lookups, which give what is found and how many pairs and dictionaries were read, on the plain machine and by the library's function for this.
 
 use crate::draft::*;
 use crate::random::Random;
@@ -23,11 +23,12 @@ extern "C" {
         class: u16,
         method: *mut u16,
         pairs: *mut usize,
+        dictionaries: *mut usize,
     ) -> bool;
 }
 
 /// What lookups can meet: in a dictionary that is read, on the way, in the end, and words that are no selectors.
-pub const LOOKUPS: [&str; 23] = [
+pub const LOOKUPS: [&str; 29] = [
     "lookup: below all of a dictionary",
     "lookup: the first of several in a dictionary",
     "lookup: between two of a dictionary",
@@ -51,29 +52,42 @@ pub const LOOKUPS: [&str; 23] = [
     "lookup: refused, a buffer is too short",
     "lookup: refused, the state is not right",
     "lookup: refused, the state is right but the word names no class",
+    "lookup: found in the second class",
+    "lookup: found in the 3rd to 23rd class",
+    "lookup: found, and a dictionary was read twice",
+    "lookup: nothing found in one class",
+    "lookup: nothing found in 2 to 23 classes",
+    "lookup: nothing found, and a dictionary was read twice",
 ];
 
-/// What a lookup gives: the method's word or 0, and the pairs.
+/// What a lookup gives: the method's word or 0, the pairs and the dictionaries.
 #[derive(PartialEq)]
 struct Given {
     accepted: bool,
     method: u16,
     pairs: usize,
+    dictionaries: usize,
 }
 
 /// What is there before, and stays where it is refused.
-const NOTHING: Given = Given { accepted: false, method: 0xBEEF, pairs: UNWRITTEN as usize };
+const NOTHING: Given = Given { accepted: false, method: 0xBEEF, pairs: UNWRITTEN as usize, dictionaries: UNWRITTEN as usize };
 
 impl Given {
     fn text(&self) -> String {
-        format!("{}, method {}, pairs {}", if self.accepted { "accepted" } else { "refused" }, self.method, self.pairs)
+        let Given { accepted, method, pairs, dictionaries } = *self;
+        format!("{}, method {method}, pairs {pairs}, dictionaries {dictionaries}", if accepted { "accepted" } else { "refused" })
     }
 }
 
 fn plain(objects: Option<&Objects>, sought: Sought) -> Given {
     let Sought { selector, class } = sought;
     match objects.filter(|objects| objects.has_kind(class, CLASS)) {
-        Some(objects) => Given { accepted: true, method: objects.lookup(class, selector).unwrap_or(0), pairs: objects.pairs_read(class, selector) },
+        Some(objects) => Given {
+            accepted: true,
+            method: objects.lookup(class, selector).map_or(0, |found| found.method),
+            pairs: objects.pairs_read(class, selector),
+            dictionaries: objects.dictionaries_read(class, selector),
+        },
         None => NOTHING,
     }
 }
@@ -85,8 +99,8 @@ fn library(buffers: &Buffers, sought: Sought) -> Given {
     let mut given = NOTHING;
     // Every pointer has at least as many elements behind it as its length says, and what is written lies elsewhere.
     given.accepted = unsafe {
-        let (method, pairs) = (&mut given.method, &mut given.pairs);
-        bench_lookup(contents, a, bodies, b, stack, c, cache, d, &buffers.registers, sought.selector, sought.class, method, pairs)
+        let (registers, method, pairs, dictionaries) = (&buffers.registers, &mut given.method, &mut given.pairs, &mut given.dictionaries);
+        bench_lookup(contents, a, bodies, b, stack, c, cache, d, registers, sought.selector, sought.class, method, pairs, dictionaries)
     };
     given
 }
@@ -148,6 +162,13 @@ fn met(objects: Result<&Objects, u32>, sought: Sought) -> [bool; LOOKUPS.len()] 
     let pairs = objects.pairs_read(class, selector);
     met[18] = pairs > 255 && found.is_some();
     met[19] = pairs > 1_000;
+    let twice = objects.reads_twice(class, read.len());
+    met[23] = found == Some(1);
+    met[24] = found.map_or(false, |index| (2..MOST_CHAIN - 1).contains(&index));
+    met[25] = found.is_some() && twice;
+    met[26] = found.is_none() && read.len() == 1;
+    met[27] = found.is_none() && (2..MOST_CHAIN).contains(&read.len());
+    met[28] = found.is_none() && twice;
     met
 }
 

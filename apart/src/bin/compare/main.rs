@@ -2,6 +2,7 @@
 
 mod cases;
 mod chains;
+mod climbs;
 mod damage;
 mod draft;
 mod elements;
@@ -32,10 +33,10 @@ const HELP: &str = "usage: compare [SEED [SECONDS]]
 
 Makes the same calls on the machine written apart and on the proved library, and compares what each gives: answers, registers, every word of
 contents, bodies, stack and cache, the bytes that save writes, and the answers of play. What play comes to has also to be what the library's
-single calls come to. A run in parts has to come to the same, with the largest reach of the parts, and so has a run on a stack of reach words;
-on a word less it must not. In between lookups are made on both: what is found, and how many pairs of the dictionaries are read. Without SECONDS
-it makes a fixed number of cases and asks that all of the machine was covered; with SECONDS it goes on for so long. A difference is printed with
-the calls that show it, its image is written to target/apart/difference.image, and the status is 1.
+single calls come to. A run in parts has to come to the same, with the largest reach of the parts and their sums of dictionaries added up, and so
+has a run on a stack of reach words; on a word less it must not. In between lookups are made on both: what is found, and how many dictionaries and
+pairs of these are read. Without SECONDS it makes a fixed number of cases and asks that all of the machine was covered; with SECONDS it goes on
+for so long. A difference is printed with the calls that show it, its image is written to target/apart/difference.image, and the status is 1.
 --case makes one case again.";
 
 enum Extent {
@@ -73,6 +74,12 @@ fn arguments() -> (u64, Extent) {
 fn main() {
     let (seed, extent) = arguments();
     let begun = Instant::now();
+    if let Extent::Fixed = extent {
+        if let Some(what) = climbs::beyond_32_bits() {
+            println!("{what}");
+            exit(1);
+        }
+    }
     let mut report = Report::default();
     let mut case = if let Extent::One(case) = extent { case } else { 0 };
     let goes_on = |case: u64| match extent {

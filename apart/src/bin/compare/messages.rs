@@ -172,8 +172,12 @@ pub fn add(random: &mut Random, draft: &mut Draft) {
     let low = class(draft, middle, 3);
     let other = class(draft, top, 1);
     let root = class(draft, NIL, 0);
+    // == answers also where a frame would need another home.
+    if random.percent(8) {
+        understand(draft, middle, DOES_NOT_UNDERSTAND, vec![header(7, 1, 2), middle, 1 << 9 | 110 << 1 | 1, NIL], &[120]);
+    }
     // Which have a method under object 6.
-    for (class, chance) in [(top, 65), (middle, 20), (low, 35), (other, 40), (root, 50), (MESSAGE_CLASS, 60), (ARRAY_CLASS, 60), (INTEGER_CLASS, 60)]
+    for (class, chance) in [(top, 80), (middle, 20), (low, 35), (other, 40), (root, 50), (MESSAGE_CLASS, 60), (ARRAY_CLASS, 60), (INTEGER_CLASS, 60)]
     {
         if random.percent(chance) {
             put_under_6(random, draft, &added, class);
@@ -379,7 +383,7 @@ pub fn lengths(random: &mut Random, [n, b, end]: [usize; 3], count: usize, most:
     let frame = end + random.pick(&[18, 18, 38]);
     let contents = if random.percent(40) { contents - random.pick(&[0, 0, 0, 1, 1, 4, 8]) } else { most[0] };
     let bodies = if random.percent(40) { bodies - random.pick(&[0, 0, 0, 1, 1, 2]) } else { most[1] };
-    let stack = if random.percent(30) { frame - random.pick(&[0, 0, 1, 1, 18]) } else { most[2] };
+    let stack = if random.percent(40) { frame - random.pick(&[0, 0, 1, 1, 18]) } else { most[2] };
     [contents.min(most[0]), bodies.min(most[1]), stack.min(most[2]), most[3]]
 }
 

@@ -1,15 +1,19 @@
 //! What was covered.
 
 use crate::chains::{self, CHAINS};
+use crate::climbs::{OTHER_CACHES, WRITTEN};
 use crate::elements::MOVED;
 use crate::laws::{CUTS, SHORT};
 use crate::lookups::LOOKUPS;
 use crate::messages::{self, IMAGES, REASONS, STATES};
 use crate::sides::*;
 use apart::accesses::{self, NAMES, NO_BYTES, OTHERS, RECEIVERS, SHOWN, THEN};
+use apart::calls::{NUMBER_ALONE, OTHER_LOOKUP, OTHER_NUMBER};
+use apart::climbs::{self, CACHED, CAME, FOUND_6, NUMBERS, ON_THE_WAY, SENT, SUMS};
 use apart::counts::{Counts, REACHES, SENDS, SUPER_SENDS};
 use apart::messages as failures;
 use apart::play::{ANSWER_WORDS, ENDS};
+use apart::refusal::Place;
 use apart::rules::{CIRCLE, TOO_LONG};
 use std::collections::BTreeMap;
 use std::ops::Range;
@@ -27,6 +31,8 @@ pub struct Report {
     /// The same of the calls that play made. There a begin's answer has no phase.
     listed_answers: Tally,
     listed_phases: Tally,
+    /// By call and those of the lengths of a cache for which it was refused.
+    caches: Tally,
 }
 
 /// How often each number came, by call.
@@ -107,6 +113,9 @@ impl Report {
         count(&mut self.answers, index, outcome.number);
         if let Some(refusal) = outcome.refusal {
             *self.reasons.entry((refusal.number, refusal.why)).or_insert(0) += 1;
+            if refusal.place == Place::Buffer("cache") && OTHER_CACHES.contains(&after.lengths[3]) {
+                count(&mut self.caches, index, after.lengths[3] as u32);
+            }
         }
         if let Call::Load(image) = call {
             self.counts.accesses.put = None;
@@ -154,7 +163,11 @@ impl Report {
         {
             missing.extend(unmet(tally, call, phases).map(|phase| format!("phase {phase} after {}{place}", CALLS[call])));
         }
-        let of_states = REASONS.iter().map(|(_, why)| (11, *why));
+        let others = OTHER_CACHES.map(|length| length as u32);
+        for (call, name) in CALLS.iter().enumerate() {
+            missing.extend(unmet(&self.caches, call, &others).map(|length| format!("{name} with a cache of {length} words")));
+        }
+        let of_states = REASONS.iter().map(|(_, why)| *why).chain([OTHER_LOOKUP, OTHER_NUMBER, NUMBER_ALONE]).map(|why| (11, why));
         for reason in [(14, TOO_LONG), (14, CIRCLE), (11, TOO_LONG), (11, CIRCLE)].into_iter().chain(REASONS).chain(of_states) {
             if !self.reasons.contains_key(&reason) {
                 missing.push(format!("refusal {} by {}", reason.0, reason.1));
@@ -162,13 +175,14 @@ impl Report {
         }
         let events = ENDS.iter().chain(&REACHES).chain(&CUTS).chain(&SHORT).chain(&CHAINS).chain(&LOOKUPS).chain(&SENDS).chain(&SUPER_SENDS);
         let events = events.chain(&THEN).chain(&NO_BYTES).chain(&MOVED).chain(&IMAGES).chain(&STATES).chain(&failures::THEN);
-        let events = events.chain(failures::SHOWN.iter().map(|(name, _)| name));
+        let events = events.chain(failures::SHOWN.iter().map(|(name, _)| name)).chain(&SUMS).chain(&ON_THE_WAY).chain(&WRITTEN);
         missing.extend(events.filter(|event| !self.counts.events.contains_key(*event)).map(|event| event.to_string()));
         for (cause, end) in (0..failures::CAUSES.len()).flat_map(|cause| (0..failures::ENDS.len()).map(move |end| (cause, end))) {
             if failures::possible(cause, end) && self.counts.failures[cause][end] == 0 {
                 missing.push(format!("{}: {}", failures::CAUSES[cause], failures::ENDS[end]));
             }
         }
+        missing.extend(self.climbs().into_iter().filter(|(_, count)| *count == 0).map(|(what, _)| what));
         for (primitive, name) in NAMES.iter().enumerate() {
             let found = &self.counts.accesses;
             for (receiver, shown) in (0..RECEIVERS.len()).flat_map(|receiver| (0..SHOWN.len()).map(move |shown| (receiver, shown))) {
@@ -217,6 +231,12 @@ impl Report {
         }
         self.print_accesses();
         self.print_failures();
+        println!("dictionaries read by sends that found:");
+        for (what, count) in self.climbs() {
+            println!("  {what}: {count}");
+        }
+        println!("caches of other lengths, refused:");
+        print_tally(&self.caches, 0..CALLS.len());
         println!("events:");
         for (name, count) in &self.counts.events {
             println!("  {name}: {count}");
@@ -225,6 +245,27 @@ impl Report {
         for ((number, why), count) in &self.reasons {
             println!("  {number:2} {why}: {count}");
         }
+    }
+
+    /// What lookups of sends can meet, with how often they did.
+    fn climbs(&self) -> Vec<(String, u64)> {
+        let found = &self.counts.climbs;
+        let mut all = vec![];
+        for (sent, came) in (0..SENT.len()).flat_map(|sent| (0..CAME.len()).map(move |came| (sent, came))) {
+            for (number, cached) in (0..NUMBERS.len()).flat_map(|number| (0..CACHED.len()).map(move |cached| (number, cached))) {
+                if climbs::possible(sent, came, number) {
+                    let what = format!("{}, {}, {}, dictionaries {}", SENT[sent], CAME[came], CACHED[cached], NUMBERS[number]);
+                    all.push((what, found.lookups[sent][came][number][cached]));
+                }
+            }
+        }
+        for cause in (0..failures::CAUSES.len()).filter(|cause| failures::sends_6(*cause)) {
+            for (first, cached) in (0..FOUND_6.len()).flat_map(|first| (0..CACHED.len()).map(move |cached| (first, cached))) {
+                let what = format!("{}: {}, {}", failures::CAUSES[cause], FOUND_6[first], CACHED[cached]);
+                all.push((what, found.messages[cause][first][cached]));
+            }
+        }
+        all
     }
 
     fn print_failures(&self) {

@@ -12,7 +12,7 @@ usage: explain FILE...      (- is standard input)
 For each image: its classes, methods, other objects and start words; or, where load refuses it, the number, the rule, the first place that breaks it and
 what was found there, then up to ten other places that break rules of this number. Selectors with equal bytes get a warning, since lookup compares objects;
 words that look byte-swapped a hint. Code is in the words of examples/assemble, with jump targets as positions and the depth of the operands at each reached position.
-The line of a chain ends with the number of pairs in all its dictionaries: no lookup from the class reads more.
+The line of a chain ends with the number of its classes, each of which has a dictionary, and of the pairs in all of these: no lookup from the class reads more.
 An object whose elements come behind named fields is shown with both, the elements counted as at: counts them.
 From edition 2 on object 6 is the selector that is sent with a message where a send fails; a line has the classes with a method under it.
 Nothing in an image has a name but selectors, so a class is known by its object number.

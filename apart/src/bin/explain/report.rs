@@ -227,7 +227,7 @@ fn right(header: &Header, image: &Image, world: &World) -> String {
     let mut out = format!("right: edition {}, objects {}, body words {}\n", header.edition, header.n, header.b);
     out += &format!("start: {} is sent {}\n", image.name(header.receiver), image.name(header.selector));
     let found = world.objects.lookup(world.objects.class_of(header.receiver), header.selector);
-    out += &match found.map(|word| (word, world.method(word).arguments)) {
+    out += &match found.map(|found| (found.method, world.method(found.method).arguments)) {
         None => "begin without arguments: refused 9, no method is found\n".to_string(),
         Some((word, 0)) => format!("begin without arguments: {}\n", image.name(word)),
         Some((word, count)) => format!("begin without arguments: refused 10, {} takes {count}\n", image.name(word)),

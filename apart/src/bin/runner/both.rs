@@ -1,5 +1,6 @@
 //! The calls, each on both machines, and a line for each.
 
+use crate::climbs::Climbs;
 use crate::halts::*;
 use crate::names::Names;
 use crate::options::{Message, Options};
@@ -52,6 +53,7 @@ pub struct Both<'a> {
     plain: Buffers,
     proved: Buffers,
     counts: Counts,
+    climbs: Climbs,
     names: Names,
     refused: bool,
     halted: bool,
@@ -66,7 +68,17 @@ impl<'a> Both<'a> {
         let lengths = [contents, bodies, stack, CACHE_WORDS];
         let buffers = Buffers { words: lengths.map(|length| vec![0; length + GUARD]), lengths, registers: [0; 8] };
         let names = Names::new(0, &Objects::default(), "");
-        Both { options, out, plain: buffers.clone(), proved: buffers, counts: Counts::default(), names, refused: false, halted: false }
+        Both {
+            options,
+            out,
+            plain: buffers.clone(),
+            proved: buffers,
+            counts: Counts::default(),
+            climbs: Climbs::default(),
+            names,
+            refused: false,
+            halted: false,
+        }
     }
 
     /// Everything that the options ask for; the status.
@@ -78,6 +90,9 @@ impl<'a> Both<'a> {
         let shown: Vec<u16> = self.options.show.iter().map(|text| self.names.value(text).map_err(End::Wrong)).collect::<Result<_, _>>()?;
         for message in messages {
             self.handler(message)?;
+        }
+        if let Some(most) = self.options.climbs {
+            self.out.text(&self.climbs.shown(&self.names, most));
         }
         for (word, text) in shown.iter().zip(&self.options.show) {
             let is_object = word % 2 == 0 && *word != 0;
@@ -107,13 +122,12 @@ impl<'a> Both<'a> {
         begun.map_err(End::Wrong)
     }
 
-    /// A call on both machines. The line has what the library gave.
-    fn call(&mut self, call: &Call, traced: Option<u64>, line: impl FnOnce(&Both, &Outcome, Option<Refusal>) -> String) -> Result<Outcome, End> {
+    /// A call on both machines. The line has what the library gave. A run has the number of bytecodes that were made before it.
+    fn call(&mut self, call: &Call, made: u64, line: impl FnOnce(&Both, &Outcome, Option<Refusal>) -> String) -> Result<Outcome, End> {
         let proved = library(call, &mut self.proved);
-        let plain = match traced {
-            Some(made) => plain_watched(call, &mut self.plain, &mut self.counts, &mut Trace::new(self.out, &mut self.names, made)),
-            None => plain(call, &mut self.plain, &mut self.counts),
-        };
+        let trace = if self.options.trace { Some(Trace::new(self.out, &mut self.names, made)) } else { None };
+        let climbs = if self.options.climbs.is_some() { Some(&mut self.climbs) } else { None };
+        let plain = plain_watched(call, &mut self.plain, &mut self.counts, &mut (trace, climbs));
         if let Ok((world, _)) = self.opened() {
             self.names.refresh(&world.objects);
         }
@@ -145,7 +159,7 @@ impl<'a> Both<'a> {
     }
 
     fn load(&mut self, image: Vec<u8>, names: &str) -> Result<bool, End> {
-        let loaded = self.call(&Call::Load(image), None, |both, outcome, refusal| match outcome.number {
+        let loaded = self.call(&Call::Load(image), 0, |both, outcome, refusal| match outcome.number {
             0 => {
                 let registers = &both.proved.registers;
                 format!("load: edition {}, objects {}, body words {}", registers[EDITION], registers[0], registers[1])
@@ -161,20 +175,19 @@ impl<'a> Both<'a> {
     /// One message from begin to its last run.
     fn handler(&mut self, begun: Begun) -> Result<(), End> {
         if self.phase() == RUNNING {
-            self.call(&Call::Drop, None, |both, _, _| format!("drop: {}, the handler was not done", both.phase_words("")))?;
+            self.call(&Call::Drop, 0, |both, _, _| format!("drop: {}, the handler was not done", both.phase_words("")))?;
         }
         // A refused begin leaves the frames of a handler that halted before.
         if !self.begin(begun)? {
             return Ok(());
         }
-        let (mut runs, mut made, mut reach) = (0, 0, 0);
+        let (mut runs, mut made, mut reach, mut dictionaries) = (0, 0, 0, 0);
         for _ in 0..self.options.runs {
             if self.phase() != RUNNING {
                 break;
             }
-            let traced = if self.options.trace { Some(made) } else { None };
-            let ran = self.call(&Call::Run(self.options.grant), traced, |both, outcome, refusal| {
-                let between = format!(", count {}, reach {}", outcome.count, outcome.reach);
+            let ran = self.call(&Call::Run(self.options.grant), made, |both, outcome, refusal| {
+                let between = format!(", count {}, reach {}, dictionaries {}", outcome.count, outcome.reach, outcome.dictionaries);
                 let what = if outcome.number == 0 { both.phase_words(&between) } else { refused(outcome.number, refusal) };
                 format!("run {}: {what}", both.options.grant)
             })?;
@@ -184,9 +197,10 @@ impl<'a> Both<'a> {
             runs += 1;
             made += ran.count as u64;
             reach = reach.max(ran.reach);
+            dictionaries += ran.dictionaries;
         }
         if runs > 1 {
-            self.out.line(&format!("all {runs} runs: count {made}, reach {reach}"));
+            self.out.line(&format!("all {runs} runs: count {made}, reach {reach}, dictionaries {dictionaries}"));
         }
         let halted = self.phase() > FINISHED;
         if halted || self.phase() == RUNNING && self.options.frames.is_some() {
@@ -200,7 +214,7 @@ impl<'a> Both<'a> {
     fn begin(&mut self, Begun(receiver, selector, arguments): Begun) -> Result<bool, End> {
         let opened = self.opened().ok();
         let call = Call::Begin { receiver, selector, arguments: arguments.clone() };
-        let began = self.call(&call, None, |both, outcome, refusal| {
+        let began = self.call(&call, 0, |both, outcome, refusal| {
             let with = if arguments.is_empty() { String::new() } else { format!(" with {}", both.names.list(&arguments)) };
             let sent = format!("begin: {} is sent {}{with}", both.names.name(receiver), both.names.name(selector));
             let what = match (outcome.number, &opened) {
@@ -210,8 +224,7 @@ impl<'a> Both<'a> {
             };
             format!("{sent}: {what}")
         })?;
-        let found =
-            opened.as_ref().and_then(|(world, _)| world.objects.lookup(world.objects.class_of(receiver), selector).map(|found| (world, found)));
+        let found = opened.as_ref().and_then(|(world, _)| Some((world, world.objects.lookup(world.objects.class_of(receiver), selector)?.method)));
         if let (true, 0, Some((world, found))) = (self.options.trace, began.number, found) {
             let (class, method) = (world.objects.class_of(receiver), world.method(found));
             let (start, pairs) = (self.names.name(class), world.objects.pairs_read(class, selector));
@@ -227,7 +240,7 @@ impl<'a> Both<'a> {
 
     fn begin_refused(&self, number: u32, world: &World, receiver: u16, selector: u16, count: usize) -> String {
         let class = world.objects.class_of(receiver);
-        let found = world.objects.lookup(class, selector);
+        let found = world.objects.lookup(class, selector).map(|found| found.method);
         let why = match (number, found) {
             (9, None) => format!("no method under {} from {} upwards", self.names.name(selector), self.names.name(class)),
             (10, Some(found)) => format!("{} takes {} arguments, not {count}", self.names.name(found), world.method(found).arguments),
@@ -256,7 +269,7 @@ impl<'a> Both<'a> {
             None => return Ok(()),
         };
         let name = file.to_string_lossy();
-        let saved = self.call(&Call::Save(MOST_BYTES), None, |_, outcome, refusal| match outcome.number {
+        let saved = self.call(&Call::Save(MOST_BYTES), 0, |_, outcome, refusal| match outcome.number {
             0 => format!("save: {} bytes in {name}", outcome.length),
             number => format!("save: {}", refused(number, refusal)),
         })?;

@@ -22,7 +22,7 @@ pub fn cause(names: &Names, world: &World, frames: &[Frame], phase: u16, [conten
             if !lookup.arguments.is_empty() {
                 out += &format!("  arguments: {}\n", names.list(&lookup.arguments));
             }
-            let pairs = lookup.pairs.map_or(String::new(), |pairs| format!("; pairs read: {pairs}"));
+            let pairs = lookup.read.map_or(String::new(), |read| format!("; pairs read: {}", read.pairs));
             out += &format!("  lookup: {}{pairs}\n", found(names, world, &lookup));
             if let Some(message) = &lookup.message {
                 out += &format!("  object 6: {}\n", message_halted(names, world, &lookup, message));
@@ -30,7 +30,7 @@ pub fn cause(names: &Names, world: &World, frames: &[Frame], phase: u16, [conten
             let framed = lookup.message.as_ref().map_or(lookup.found, |message| message.found);
             if let (NO_STACK_ROOM, Some(found)) = (phase, framed) {
                 let base = frame.base + 6 + world.method(frame.method).room();
-                let needed = 6 + world.method(found).room();
+                let needed = 6 + world.method(found.method).room();
                 let of_use = if stack > MOST_STACK { format!(", of which {MOST_STACK} are of use") } else { String::new() };
                 out += &format!("  frame: {needed} words at {base}, so {} in all; the stack has {stack}{of_use}\n", base + needed);
             }
@@ -54,23 +54,23 @@ fn with_class(names: &Names, world: &World, word: u16) -> String {
 fn message_halted(names: &Names, world: &World, lookup: &Lookup, message: &MessageLookup) -> String {
     let sent = format!("{} in its stead, from {} upwards,", names.name(DOES_NOT_UNDERSTAND), names.name(lookup.start));
     let found = match message.found {
-        Some(found) => found,
+        Some(found) => found.method,
         None if lookup.start == NIL => return format!("{} in its stead finds no method either", names.name(DOES_NOT_UNDERSTAND)),
-        None => return format!("{sent} finds no method either; pairs read: {}", message.pairs),
+        None => return format!("{sent} finds no method either; pairs read: {}", message.read.pairs),
     };
     let but = match &message.lack {
         Some(lack) => format!("; array and message find no room: {lack}"),
         None if message.fits_receiver => String::new(),
         None => format!("; its home, {}, is not in the receiver's class chain", names.name(world.method(found).home)),
     };
-    format!("{sent} finds {}{but}; pairs read: {}", names.name(found), message.pairs)
+    format!("{sent} finds {}{but}; pairs read: {}", names.name(found), message.read.pairs)
 }
 
 fn found(names: &Names, world: &World, lookup: &Lookup) -> String {
     let send = if lookup.is_super { "a super send" } else { "a send" };
     let start = names.name(lookup.start);
     let found = match lookup.found {
-        Some(found) => found,
+        Some(found) => found.method,
         None if lookup.selector == NIL => return format!("{send} of nil, which is no selector and finds nothing"),
         None if lookup.start == NIL => return format!("{send} from a home without a superclass finds no method"),
         None => return format!("{send}, from {start} upwards, finds no method"),

@@ -1,6 +1,7 @@
 //! Runs an image on the proved library and on the plain machine, and shows what came of it.
 
 mod both;
+mod climbs;
 mod halts;
 mod names;
 mod options;

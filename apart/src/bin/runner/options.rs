@@ -5,6 +5,8 @@ use std::ffi::{OsStr, OsString};
 /// Longer buffers are of no use, and could not be had.
 const MOST_WORDS: u32 = 1_000_000;
 const MOST_RUNS: u32 = 10_000;
+/// Sends that climb, where it is not said how many are listed.
+const CLIMBS: usize = 10;
 
 pub enum Message {
     Start(Vec<String>),
@@ -19,6 +21,8 @@ pub struct Options {
     /// Of contents, bodies and stack.
     pub lengths: [usize; 3],
     pub trace: bool,
+    /// How many of the sends that climb are listed; none where it was not asked.
+    pub climbs: Option<usize>,
     /// None where it was not said.
     pub frames: Option<usize>,
     pub show: Vec<String>,
@@ -44,6 +48,7 @@ pub fn options(given: Vec<OsString>) -> Result<Options, String> {
         runs: 1,
         lengths: [8_188, 24_000, 1_024],
         trace: false,
+        climbs: None,
         frames: None,
         show: vec![],
         names: None,
@@ -70,6 +75,15 @@ pub fn options(given: Vec<OsString>) -> Result<Options, String> {
         }
         if option == "--trace" {
             options.trace = true;
+            continue;
+        }
+        if option == "--climbs" {
+            let value = given.next_if(|word| !begins_option(word)).map(|word| word.to_string_lossy().into_owned());
+            options.climbs = Some(match value.as_deref() {
+                None => CLIMBS,
+                Some("all") => usize::MAX,
+                Some(text) => number(option, text, u32::MAX).map_err(|what| format!("{what}, or all; the image comes before it"))? as usize,
+            });
             continue;
         }
         const WITH_VALUE: [&str; 9] = ["--grant", "--runs", "--stack", "--contents", "--bodies", "--frames", "--show", "--names", "--save"];

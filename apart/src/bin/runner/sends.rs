@@ -4,7 +4,7 @@ use crate::names::Names;
 use apart::code::*;
 use apart::listing::instruction_words;
 use apart::machine::{Failure, Frame};
-use apart::objects::{Method, Objects, BYTES, FIELDS, MOST_BODY_WORDS, MOST_OBJECTS, WITH_MESSAGES};
+use apart::objects::{Found, Method, Objects, BYTES, FIELDS, MOST_BODY_WORDS, MOST_OBJECTS, WITH_MESSAGES};
 use apart::primitives::*;
 use apart::rules::World;
 use apart::words::*;
@@ -17,19 +17,42 @@ pub struct Lookup {
     /// The class where it starts; nil above the last class.
     pub start: u16,
     pub is_super: bool,
-    pub found: Option<u16>,
-    /// Pairs that the walk reads, where it is made. None for nil, which is no selector.
-    pub pairs: Option<usize>,
+    pub found: Option<Found>,
+    /// What the walk reads, where it is made. None for nil, which is no selector.
+    pub read: Option<Read>,
     /// Why it fails, where it does.
     pub failure: Option<Failure>,
     /// The lookup of object 6 where it fails, in an edition that makes messages.
     pub message: Option<MessageLookup>,
 }
 
+impl Lookup {
+    /// Of a send that was made, the lookup that counts: its selector, and what was found. In a failed send's stead it is that of object 6.
+    pub fn counted(&self) -> Option<(u16, Found)> {
+        match &self.message {
+            Some(message) => message.found.map(|found| (DOES_NOT_UNDERSTAND, found)),
+            None => self.found.map(|found| (self.selector, found)),
+        }
+    }
+}
+
+/// What the walk of a lookup reads.
+#[derive(Clone, Copy)]
+pub struct Read {
+    pub pairs: usize,
+    pub dictionaries: usize,
+}
+
+impl Read {
+    fn of(objects: &Objects, class: u16, selector: u16) -> Read {
+        Read { pairs: objects.pairs_read(class, selector), dictionaries: objects.dictionaries_read(class, selector) }
+    }
+}
+
 /// What a failed send asks for in its stead.
 pub struct MessageLookup {
-    pub found: Option<u16>,
-    pub pairs: usize,
+    pub found: Option<Found>,
+    pub read: Read,
     /// Whether the method found is one for the receiver.
     pub fits_receiver: bool,
     /// Why array and message find no room.
@@ -75,13 +98,13 @@ pub fn asked(world: &World, frame: &Frame, room: Room) -> Asked {
     let above = world.objects.class(method.home).map_or(NIL, |home| home.superclass);
     let start = if is_super { above } else { world.objects.class_of(receiver) };
     let found = world.objects.lookup(start, selector);
-    let pairs = (selector != NIL).then(|| world.objects.pairs_read(start, selector));
+    let read = (selector != NIL).then(|| Read::of(&world.objects, start, selector));
     let failure = match found {
-        Some(found) => unfit(world, found, receiver, &arguments, room),
+        Some(found) => unfit(world, found.method, receiver, &arguments, room),
         None => Some(Failure::NoMethod),
     };
     let message = failure.filter(|_| world.edition >= WITH_MESSAGES).map(|_| message_lookup(world, start, receiver, arguments.len(), room));
-    Asked::Lookup(Lookup { selector, receiver, arguments, start, is_super, found, pairs, failure, message })
+    Asked::Lookup(Lookup { selector, receiver, arguments, start, is_super, found, read, failure, message })
 }
 
 /// Why a method that was found is none for a receiver.
@@ -118,8 +141,9 @@ fn message_lookup(world: &World, start: u16, receiver: u16, count: usize, room: 
     let lack = lacking(objects, room, 2, words).iter().zip(lacks).find(|(lacks, _)| **lacks).map(|(_, text)| text);
     // Of the primitives only == can answer with a message.
     let answers = |found: u16| world.method(found).flag == 7 && world.method(found).primitive == 110;
-    let fits_receiver = found.map_or(false, |found| answers(found) || objects.in_chain(receiver, world.method(found).home));
-    MessageLookup { found, pairs: objects.pairs_read(start, DOES_NOT_UNDERSTAND), fits_receiver, lack }
+    let fits = |method: u16| answers(method) || objects.in_chain(receiver, world.method(method).home);
+    let fits_receiver = found.map_or(false, |found| fits(found.method));
+    MessageLookup { found, read: Read::of(objects, start, DOES_NOT_UNDERSTAND), fits_receiver, lack }
 }
 
 /// Why a method that was found is none for the receiver, in words.

@@ -45,11 +45,11 @@ fn writes(machine: &Machine) -> u64 {
     machine.counts.answered[61] + machine.world.objects.list.len() as u64
 }
 
-/// Whether a lookup is in the cache, or else how many pairs it reads.
-fn cached_words(cached: bool, pairs: Option<usize>) -> String {
-    match pairs {
-        _ if cached => "in the cache".to_string(),
-        Some(pairs) => format!("not in the cache, pairs read: {pairs}"),
+/// Whether a lookup is in the cache, or else how many pairs it reads; and the dictionaries, which are the same in both cases.
+fn cached_words(cached: bool, read: Option<Read>) -> String {
+    match read {
+        Some(Read { dictionaries, .. }) if cached => format!("in the cache, dictionaries: {dictionaries}"),
+        Some(Read { pairs, dictionaries }) => format!("not in the cache, pairs read: {pairs}, dictionaries: {dictionaries}"),
         None => "not in the cache".to_string(),
     }
 }
@@ -68,12 +68,13 @@ impl<'a> Trace<'a> {
 
     fn looked_up(&self, machine: &Machine, lookup: &Lookup, after: After) -> String {
         let start = if lookup.start == NIL { "above the last class".to_string() } else { format!("from {}", self.names.name(lookup.start)) };
-        let cached = cached_words(self.before.cached, lookup.pairs);
-        let what = match lookup.found {
+        let cached = cached_words(self.before.cached, lookup.read);
+        let found = lookup.found.map(|found| found.method);
+        let what = match found {
             Some(found) => format!("lookup {start}, {cached}, finds {}", self.names.name(found)),
             None => format!("lookup {start}, {cached}, finds nothing"),
         };
-        match (&lookup.message, lookup.found) {
+        match (&lookup.message, found) {
             (Some(message), found) => {
                 let unfit = found.and_then(|found| unfit_words(self.names, machine.world.method(found), lookup.failure));
                 let what = unfit.map_or(what.clone(), |unfit| format!("{what}, but {unfit}"));
@@ -86,10 +87,10 @@ impl<'a> Trace<'a> {
 
     /// Object 6, sent in a failed send's stead.
     fn message_sent(&self, machine: &Machine, lookup: &Lookup, message: &MessageLookup, after: After) -> String {
-        let cached = cached_words(self.before.message_cached, Some(message.pairs));
+        let cached = cached_words(self.before.message_cached, Some(message.read));
         let what = format!("{} in its stead, {cached}, finds", self.names.name(DOES_NOT_UNDERSTAND));
         let found = match message.found {
-            Some(found) => found,
+            Some(found) => found.method,
             None => return format!("{what} nothing"),
         };
         let what = format!("{what} {}", self.names.name(found));
