@@ -1,4 +1,6 @@
 // A run of a granted count of bytecodes: stretches of the loop, and between them the messages of sends that failed.
+ghost use mathlib.Core.Path.{_≡_};
+ghost use Prim.Native.Nat.{max};
 ghost use Rattle.runs.specs.Ends.{Goes};
 ghost use Rattle.grants.specs.Grants.{Fails, AgainTo, ResumesTo, RunsOn};
 use frames::Message;
@@ -6,6 +8,15 @@ use messages::Resent;
 use model::StackPosition;
 use runs::Ended;
 use runs::Stretched;
+
+fn higher(reach: usize, end: usize) -> usize
+    ensures { λ r. ⌜ r ≡ max reach end ⌝ }
+{
+    if reach < end {
+        return end;
+    }
+    reach
+}
 
 // The message of a send that failed, and the bytecodes behind it up to the next one, of a run that has made all but `left` of its grant.
 fn again(
@@ -47,7 +58,7 @@ fn again(
         } => {
             let rest = left - 1;
             let so_far = dictionaries + read as u64;
-            let high = runs::higher(reach, end);
+            let high = higher(reach, end);
             match runs::stretch(
                 contents,
                 bodies,
@@ -66,7 +77,7 @@ fn again(
                     top: e.top,
                     value: e.value,
                     count: grant - rest + e.count,
-                    reach: runs::higher(high, e.reach),
+                    reach: higher(high, e.reach),
                     dictionaries: so_far + e.dictionaries,
                 }),
                 Stretched::Failed {
@@ -83,7 +94,7 @@ fn again(
                     b: longer,
                     top: at,
                     left: still,
-                    reach: runs::higher(high, highest),
+                    reach: higher(high, highest),
                     dictionaries: so_far + more,
                 },
             }

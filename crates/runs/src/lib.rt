@@ -54,16 +54,7 @@ fn frame_end(
     frames::end_of(contents, bodies, n, b, top, method)
 }
 
-pub fn higher(reach: usize, end: usize) -> usize
-    ensures { λ r. ⌜ r ≡ max reach end ⌝ }
-{
-    if reach < end {
-        return end;
-    }
-    reach
-}
-
-// What the tally of a run holds: reach so far, and so many times the dictionaries read so far. In one number, since a loop that carries one more takes longer at every bytecode.
+// Reach and dictionaries so far are one number, the tally: so much for each dictionary, and reach. A loop that carries one number more takes longer at every bytecode.
 const TALLY: usize = 131072;
 
 // The tally where a frame ends there.
