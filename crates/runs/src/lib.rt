@@ -54,7 +54,7 @@ fn frame_end(
     frames::end_of(contents, bodies, n, b, top, method)
 }
 
-// Reach and dictionaries so far are one number, the tally: so much for each dictionary, and reach. A loop that carries one number more takes longer at every bytecode.
+// Reach and dictionaries so far are one number, the tally: so much for each dictionary, and reach. A loop that carries one number more takes more machine instructions at every bytecode.
 const TALLY: usize = 131072;
 
 // The tally where a frame ends there.
