@@ -1,6 +1,5 @@
 // The depth walk as one writes it in C: a table entry for each byte, along the line, only branch targets kept for later.
-// Entries are packed as those of crates/bytecode: group 2 bits, length 3, need 2, leaves 2, bound 2, index 5. The table is that of all editions:
-// 125 and 137, the bytes of blocks, are in none that load takes, and are refused here.
+// Entries are packed as those of crates/bytecode: group 2 bits, length 3, need 2, leaves 2, bound 2, index 5.
 #include "walk.h"
 #include <string.h>
 
@@ -38,7 +37,7 @@ static bool walked(const uint16_t *entries, const uint16_t *words, unsigned fiel
             }
             size_t next = at + (e >> 11 & 7), target = 0;
             bool fork = false;
-            if (group > 2 || b == 125 || b == 137 || size < next) return false;
+            if (group > 2 || size < next) return false;
             if (b < 131) {
                 const unsigned x = byte_at(words, at + 1), place = x >> 6;
                 if (counts[place == 3 ? 3 : place + 1] <= (x & 63) || (b > 128 && place == 2)) return false;

@@ -52,7 +52,7 @@ enum {
     SOFADUCK_FRAME = 18,         /* words of stack for a frame: 6, and 12 for temporaries and operands ... */
     SOFADUCK_LARGE_FRAME = 38,   /* ... or 32, for a method whose header says large */
     SOFADUCK_STACK = 65536,      /* words of stack that can be of use; run tells how many were needed */
-    SOFADUCK_CALL_STACK = 212992 /* bytes of C stack, more than a call takes */
+    SOFADUCK_CALL_STACK = 163840 /* bytes of C stack, more than a call takes */
 };
 
 /* Registers: what a state is, beside its buffers. Only the calls write them. */

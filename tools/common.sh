@@ -100,15 +100,6 @@ proved() {
   if [ "$new" -gt 0 ]; then echo "proved: $2, in $((SECONDS - began)) seconds" >&2; fi
 }
 
-# IMAGE: whether it is of an edition that apart/ has, and the library not yet.
-of_later_edition() {
-  local edition library last
-  edition=$((16#0$(head -c 2 "$1" | od -An -tx1 | tr -d ' ')))
-  library=$(sed -nE 's/^pub const LIBRARY_EDITIONS: u16 = ([0-9]+);/\1/p' apart/src/objects.rs)
-  last=$(sed -nE 's/^pub const LAST_EDITION: u16 = ([0-9]+);/\1/p' apart/src/objects.rs)
-  [ "$edition" -gt "$library" ] && [ "$edition" -le "$last" ]
-}
-
 # PROGRAM...: programs of apart/ are built, in target/apart/release. `compare` and `runner` are linked with the proved library, which has to be there,
 # and `compare` with that of `benchmark` too.
 built() {

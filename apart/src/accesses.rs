@@ -55,7 +55,7 @@ pub fn possible(primitive: usize, receiver: usize, shown: usize) -> bool {
 }
 
 /// Receivers without elements.
-pub const OTHERS: [&str; 7] = ["form 0 without fields", "form 0 with fields", "a class", "a list", "a method", "a block", "an integer"];
+pub const OTHERS: [&str; 6] = ["form 0 without fields", "form 0 with fields", "a class", "a list", "a method", "an integer"];
 
 /// What can follow an at:put: into an object with named fields.
 pub const THEN: [&str; 6] = [
@@ -156,7 +156,7 @@ impl Counts {
 
 fn without_elements(receiver: Option<(&Object, Class)>) -> usize {
     match receiver.map(|(object, class)| (object.kind, class.fields)) {
-        None => 6,
+        None => 5,
         Some((FIELDS, 0)) => 0,
         Some((FIELDS, _)) => 1,
         Some((kind, _)) => kind as usize,

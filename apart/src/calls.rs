@@ -1,6 +1,5 @@
 //! The calls, on lent buffers.
 
-use crate::code::{Reached, Sort};
 use crate::counts::Counts;
 use crate::machine::*;
 use crate::objects::*;
@@ -22,15 +21,6 @@ pub const CACHE_WORDS: usize = CACHE_ENTRIES * ENTRY_WORDS;
 pub const OTHER_LOOKUP: &str = "neither empty nor what lookup finds";
 pub const OTHER_NUMBER: &str = "another number of dictionaries than lookup reads";
 pub const NUMBER_ALONE: &str = "a number of dictionaries in an entry that is empty otherwise";
-
-// What can be wrong with the marks of frames.
-pub const NO_SUCH_MARK: &str = "a mark that no block has";
-pub const BLOCK_OF_OTHER_METHOD: &str = "a block with this mark has another method";
-pub const FRAME_OF_OTHER_METHOD: &str = "another method than the home's";
-pub const FRAME_OF_OTHER_RECEIVER: &str = "another receiver than the home's";
-pub const HOME_IN_BLOCK_CODE: &str = "the lowest frame with this mark is in block code";
-pub const BLOCK_IN_METHOD_CODE: &str = "a frame above the lowest with this mark is in method code";
-pub const NO_MARK_IN_BLOCK_CODE: &str = "a frame in block code without a mark";
 
 /// The whole state as it is lent.
 pub struct Lent<'a> {
@@ -102,7 +92,7 @@ fn judge_state(lent: &Lent) -> Result<(World, Vec<Frame>), Refusal> {
     let world = judge(edition, &lent.contents[..4 * n], &lent.bodies[..b])?;
     start_words(&world.objects, receiver, selector)?;
     cache_right(&world.objects, lent.cache)?;
-    registers_right(&world, lent.registers)?;
+    registers_right(&world.objects, lent.registers)?;
     let frames = match lent.registers[PHASE] {
         IDLE | FINISHED => vec![],
         _ => frames(&world, lent)?,
@@ -129,13 +119,12 @@ fn cache_right(objects: &Objects, cache: &[u16]) -> Result<(), Refusal> {
     Ok(())
 }
 
-fn registers_right(world: &World, registers: &Registers) -> Result<(), Refusal> {
+fn registers_right(objects: &Objects, registers: &Registers) -> Result<(), Refusal> {
     let (phase, top, value) = (registers[PHASE], registers[TOP], registers[VALUE]);
-    let (last, above) = if world.edition >= WITH_BLOCKS { (NO_HOME, "a phase above 7") } else { (NO_STACK_ROOM, "a phase above 5") };
-    if phase > last {
-        return refuse(11, Register(PHASE), above);
+    if phase > NO_STACK_ROOM {
+        return refuse(11, Register(PHASE), "a phase above 5");
     }
-    let value_right = if phase == FINISHED { world.objects.valid(value) } else { value == 0 };
+    let value_right = if phase == FINISHED { objects.valid(value) } else { value == 0 };
     if !value_right {
         return refuse(11, Register(VALUE), "a value that this phase cannot have");
     }
@@ -147,24 +136,21 @@ fn registers_right(world: &World, registers: &Registers) -> Result<(), Refusal> 
 
 /// The frames of a state, bottom first.
 fn frames(world: &World, lent: &Lent) -> Result<Vec<Frame>, Refusal> {
-    let (mut frames, mut sorts): (Vec<Frame>, Vec<Sort>) = (vec![], vec![]);
+    let mut frames: Vec<Frame> = vec![];
     let mut base = lent.registers[TOP] as usize;
     loop {
-        let (frame, end, sender, sort) = frame(world, lent.stack, base, frames.is_empty())?;
+        let (frame, end, sender) = frame(world, lent.stack, base, frames.is_empty())?;
         if let Some(above) = frames.last() {
             if end != above.base {
                 return refuse(11, FrameWord(base, 0), "the next frame does not start where this one ends");
             }
         }
         frames.push(frame);
-        sorts.push(sort);
         if base == 0 {
             if sender != 0 {
                 return refuse(11, FrameWord(0, 0), "the bottom frame has a sender");
             }
             frames.reverse();
-            sorts.reverse();
-            marks(&world.objects, &frames, &sorts)?;
             return Ok(frames);
         }
         if sender >= base {
@@ -174,39 +160,8 @@ fn frames(world: &World, lent: &Lent) -> Result<Vec<Frame>, Refusal> {
     }
 }
 
-/// The marks of frames, with the sort of code that each is in.
-fn marks(objects: &Objects, frames: &[Frame], sorts: &[Sort]) -> Result<(), Refusal> {
-    for (frame, sort) in frames.iter().zip(sorts) {
-        let wrong = |word: usize, why: &'static str| refuse(11, FrameWord(frame.base, word), why);
-        let home = match home_of(frames, frame.mark) {
-            Some(home) => &frames[home],
-            None if *sort == Sort::Block => return wrong(4, NO_MARK_IN_BLOCK_CODE),
-            None => continue,
-        };
-        let mut blocks = objects.blocks().map(|(_, block)| block).filter(|block| block.mark == frame.mark).peekable();
-        if blocks.peek().is_none() {
-            return wrong(4, NO_SUCH_MARK);
-        }
-        if frame.method != home.method {
-            return wrong(3, FRAME_OF_OTHER_METHOD);
-        }
-        if blocks.any(|block| block.method != frame.method) {
-            return wrong(4, BLOCK_OF_OTHER_METHOD);
-        }
-        if frame.receiver != home.receiver {
-            return wrong(5, FRAME_OF_OTHER_RECEIVER);
-        }
-        match (frame.base == home.base, sort) {
-            (true, Sort::Block) => return wrong(4, HOME_IN_BLOCK_CODE),
-            (false, Sort::Method) => return wrong(4, BLOCK_IN_METHOD_CODE),
-            _ => {}
-        }
-    }
-    Ok(())
-}
-
-/// One frame, its end, its sender, and the sort of code it is in.
-fn frame(world: &World, stack: &[u16], base: usize, is_top: bool) -> Result<(Frame, usize, usize, Sort), Refusal> {
+/// One frame, its end and its sender.
+fn frame(world: &World, stack: &[u16], base: usize, is_top: bool) -> Result<(Frame, usize, usize), Refusal> {
     let at = |word: usize| stack.get(base + word).copied();
     let receiver = match at(5) {
         Some(receiver) => receiver,
@@ -221,25 +176,28 @@ fn frame(world: &World, stack: &[u16], base: usize, is_top: bool) -> Result<(Fra
     if end > stack.len() || end > MOST_STACK {
         return refuse(11, FrameWord(base, 3), "a frame that does not fit");
     }
+    if stack[base + 4] != 0 {
+        return refuse(11, FrameWord(base, 4), "not zero");
+    }
     if !world.objects.valid(receiver) || !world.objects.in_chain(receiver, method.home) {
         return refuse(11, FrameWord(base, 5), "the method's home is not in the receiver's chain");
     }
     let reached = method.table.as_ref().and_then(|table| table.get(position).copied().flatten());
-    let Reached { depth: table_depth, sort } = match reached {
-        Some(reached) => reached,
+    let table_depth = match reached {
+        Some(table_depth) => table_depth,
         None => return refuse(11, FrameWord(base, 1), "a position that is not reached"),
     };
     let expected = if is_top { depth } else { depth + 1 };
     if expected != table_depth {
         return refuse(11, FrameWord(base, 2), "another depth than the table's");
     }
-    let temporaries = base + 6..base + 6 + if sort == Sort::Method { method.temporaries } else { 0 };
+    let temporaries = base + 6..base + 6 + method.temporaries;
     let operands = temporaries.end..temporaries.end + depth;
     if let Some(word) = (temporaries.start..operands.end).find(|index| !world.objects.valid(stack[*index])) {
         return refuse(11, FrameWord(base, word - base), "an invalid word");
     }
-    let (temporaries, operands) = (stack[temporaries].to_vec(), stack[operands].to_vec());
-    Ok((Frame { base, method: method_word, mark: stack[base + 4], receiver, position, temporaries, operands }, end, sender, sort))
+    let frame = Frame { base, method: method_word, receiver, position, temporaries: stack[temporaries].to_vec(), operands: stack[operands].to_vec() };
+    Ok((frame, end, sender))
 }
 
 /// The objects and frames of a state that keeps the rules.

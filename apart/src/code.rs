@@ -37,21 +37,10 @@ pub enum Instruction {
         arguments: usize,
         literal: usize,
     },
-    /// Pushes a block, whose code comes next, and jumps.
-    PushBlock {
-        arguments: usize,
-        distance: i32,
-    },
-    /// To the sender of value.
-    ReturnFromBlock,
 }
 
 pub const IDENTITY: usize = 198 - 176;
 pub const CLASS_OF: usize = 199 - 176;
-/// value and value:, which a block answers to.
-pub const BLOCK_VALUES: [usize; 2] = [201 - 176, 202 - 176];
-/// The bytes of a push of a block.
-pub const PUSH_BLOCK_BYTES: usize = 5;
 
 /// Arguments of the special sends.
 pub fn special_arguments(special: usize) -> usize {
@@ -96,26 +85,9 @@ fn extended(byte: u8) -> Place {
     }
 }
 
-/// The distance of a jump of two bytes.
-fn long_jump(first: u8, second: u8) -> i32 {
-    ((first % 8) as i32 - 4) * 256 + second as i32
-}
-
-/// The push of a block at a position, where its five bytes stand whole.
-fn push_block(code: &[u8], position: usize) -> Option<(Instruction, usize)> {
-    let next = position + PUSH_BLOCK_BYTES;
-    match *code.get(position..next)? {
-        [137, count @ (117 | 118), 200, first @ 160..=167, second] => {
-            Some((Instruction::PushBlock { arguments: (count - 117) as usize, distance: long_jump(first, second) }, next))
-        }
-        _ => None,
-    }
-}
-
 /// The instruction at a position and the position after it; none where it is outside, not whole or unused.
-pub fn decode(method: &Method, position: usize) -> Option<(Instruction, usize)> {
+pub fn decode(code: &[u8], position: usize) -> Option<(Instruction, usize)> {
     use Instruction::*;
-    let code = &method.code;
     let byte = *code.get(position)?;
     let second = code.get(position + 1).copied();
     let third = code.get(position + 2).copied();
@@ -146,15 +118,13 @@ pub fn decode(method: &Method, position: usize) -> Option<(Instruction, usize)> 
         136 => short(Duplicate),
         144..=151 => short(Jump(low(3) as i32 + 1)),
         152..=159 => short(JumpOn(FALSE, low(3) as i32 + 1)),
-        160..=167 => long(Jump(long_jump(byte, second?))),
+        160..=167 => long(Jump((low(3) as i32 - 4) * 256 + second? as i32)),
         168..=171 => long(JumpOn(TRUE, low(2) as i32 * 256 + second? as i32)),
         172..=175 => long(JumpOn(FALSE, low(2) as i32 * 256 + second? as i32)),
         176..=207 => short(Special((byte - 176) as usize)),
         208..=223 => short(Send { arguments: 0, literal: low(4) }),
         224..=239 => short(Send { arguments: 1, literal: low(4) }),
         240..=255 => short(Send { arguments: 2, literal: low(4) }),
-        125 if method.blocks => short(ReturnFromBlock),
-        137 if method.blocks => push_block(code, position),
         125..=127 | 137..=143 => None,
     }
 }
@@ -219,115 +189,78 @@ fn instruction_fine(around: &Surroundings, method: &Method, instruction: Instruc
 /// Operands that an instruction needs, and what it leaves in their stead.
 pub fn need_and_left(instruction: Instruction) -> (usize, usize) {
     match instruction {
-        Instruction::Push(_) | Instruction::PushSelf | Instruction::PushWord(_) | Instruction::PushBlock { .. } => (0, 1),
+        Instruction::Push(_) | Instruction::PushSelf | Instruction::PushWord(_) => (0, 1),
         Instruction::Store(_) => (1, 1),
         Instruction::PopInto(_) | Instruction::Pop | Instruction::JumpOn(..) => (1, 0),
         Instruction::ReturnSelf | Instruction::ReturnWord(_) | Instruction::Jump(_) => (0, 0),
-        Instruction::ReturnTop | Instruction::ReturnFromBlock => (1, 0),
+        Instruction::ReturnTop => (1, 0),
         Instruction::Duplicate => (1, 2),
         Instruction::Special(special) => (special_arguments(special) + 1, 1),
         Instruction::Send { arguments, .. } | Instruction::SuperSend { arguments, .. } => (arguments + 1, 1),
     }
 }
 
-/// Where an instruction leads. The start of a block is none of these.
+/// Where an instruction leads.
 pub fn successors(instruction: Instruction, next: usize) -> Vec<i64> {
     let next = next as i64;
     match instruction {
-        Instruction::ReturnSelf | Instruction::ReturnWord(_) | Instruction::ReturnTop | Instruction::ReturnFromBlock => vec![],
-        Instruction::Jump(distance) | Instruction::PushBlock { distance, .. } => vec![next + distance as i64],
+        Instruction::ReturnSelf | Instruction::ReturnWord(_) | Instruction::ReturnTop => vec![],
+        Instruction::Jump(distance) => vec![next + distance as i64],
         Instruction::JumpOn(_, distance) => vec![next, next + distance as i64],
         _ => vec![next],
     }
 }
 
 /// Why a byte of the code cannot be decoded. What the unused ones are in Smalltalk-80 is said where they are used there.
-fn undecoded(method: &Method, byte: u8) -> &'static str {
+fn undecoded(byte: u8) -> &'static str {
     match byte {
-        137 if method.blocks => NO_PUSH_OF_BLOCK,
-        125 => "an unused bytecode: Smalltalk-80's return from a block, and there are no blocks before edition 3",
-        137 => "an unused bytecode: Smalltalk-80's push of the active context, for blocks, and there are no blocks before edition 3",
+        125 => "an unused bytecode: Smalltalk-80's return from a block, and there are no blocks",
+        137 => "an unused bytecode: Smalltalk-80's push of the active context, for blocks, and there are no blocks",
         126 | 127 | 138..=143 => "an unused bytecode",
         _ => "an instruction that is not whole: the code ends before its last byte",
     }
 }
 
-// The faults of code with blocks.
-pub const NO_PUSH_OF_BLOCK: &str = "137 without the rest of a push of a block: 117 or 118, then 200, then a jump of 160 to 167 with its byte";
-pub const TWO_SORTS: &str = "reached as method code and as block code";
-pub const NOT_IN_BLOCK: &str = "a return from a block in method code";
-pub const BLOCK_TOO_DEEP: &str = "more operands than the frame of a block has";
-
-/// Whose code a position is.
-#[derive(Clone, Copy, Debug, PartialEq)]
-pub enum Sort {
-    Method,
-    Block,
-}
-
-/// How a position is reached: the depth, and as which sort of code.
-#[derive(Clone, Copy, Debug, PartialEq)]
-pub struct Reached {
-    pub depth: usize,
-    pub sort: Sort,
-}
-
-/// Where code begins: at position 0, and behind each push of a block, with its arguments.
-pub const FIRST: Reached = Reached { depth: 0, sort: Sort::Method };
-
-pub fn block_start(arguments: usize) -> Reached {
-    Reached { depth: arguments, sort: Sort::Block }
-}
-
-/// How each position is reached; none where it is not.
-pub type Table = Vec<Option<Reached>>;
-
 /// Positions where no table can exist, and why. The first is the one that counts.
 pub type CodeFaults = Vec<(usize, &'static str)>;
 
-/// The depth table of a method. After a fault the walk goes on where the depth is known.
-pub fn depth_table(around: &Surroundings, method: &Method) -> Result<Table, CodeFaults> {
-    let mut table: Table = vec![None; method.code.len()];
+/// The depth at each reached position. After a fault the walk goes on where the depth is known.
+pub fn depth_table(around: &Surroundings, method: &Method) -> Result<Vec<Option<usize>>, CodeFaults> {
+    let mut table = vec![None; method.code.len()];
     let mut faults = vec![];
     // With each position, what is wrong if it is past the end.
-    let mut pending = vec![(0usize, FIRST, "a method without code")];
-    while let Some((position, reached, past_end)) = pending.pop() {
-        if let Some(before) = table.get(position).copied().flatten() {
-            if before.sort != reached.sort {
-                faults.push((position, TWO_SORTS));
-            } else if before.depth != reached.depth {
+    let mut pending = vec![(0usize, 0usize, "a method without code")];
+    while let Some((position, depth, past_end)) = pending.pop() {
+        if position < table.len() && table[position].is_some() {
+            if table[position] != Some(depth) {
                 faults.push((position, "reached with two depths"));
             }
             continue;
         }
-        let (instruction, next) = match decode(method, position) {
+        let (instruction, next) = match decode(&method.code, position) {
             Some(found) => found,
             None => {
-                faults.push((position, method.code.get(position).map_or(past_end, |byte| undecoded(method, *byte))));
+                faults.push((position, method.code.get(position).map_or(past_end, |byte| undecoded(*byte))));
                 continue;
             }
         };
-        table[position] = Some(reached);
+        table[position] = Some(depth);
         if let Err(why) = instruction_fine(around, method, instruction) {
             faults.push((position, why));
         }
-        let depth = match depth_after(method, instruction, reached) {
-            Ok(depth) => depth,
+        let after = match depth_after(method, instruction, depth) {
+            Ok(after) => after,
             Err(why) => {
                 faults.push((position, why));
                 continue;
             }
         };
-        if let Instruction::PushBlock { arguments, .. } = instruction {
-            pending.push((next, block_start(arguments), "a block without code"));
-        }
         for successor in successors(instruction, next) {
             if successor < 0 {
                 faults.push((position, "a jump before the code"));
                 continue;
             }
             let falls = successor == next as i64;
-            let after = Reached { depth, sort: reached.sort };
             pending.push((successor as usize, after, if falls { "code that falls off the end" } else { "a jump past the end of the code" }));
         }
     }
@@ -338,14 +271,9 @@ pub fn depth_table(around: &Surroundings, method: &Method) -> Result<Table, Code
     }
 }
 
-/// The depth after an instruction, if it is right where it is reached so.
-fn depth_after(method: &Method, instruction: Instruction, Reached { depth, sort }: Reached) -> Result<usize, &'static str> {
-    match sort {
-        Sort::Method => ask(method.temporaries + depth <= method.room(), "more temporaries and operands than the frame has")?,
-        // The temporaries are in the home frame.
-        Sort::Block => ask(depth <= method.room(), BLOCK_TOO_DEEP)?,
-    }
-    ask(sort == Sort::Block || instruction != Instruction::ReturnFromBlock, NOT_IN_BLOCK)?;
+/// The depth after an instruction, if it is right at this depth.
+fn depth_after(method: &Method, instruction: Instruction, depth: usize) -> Result<usize, &'static str> {
+    ask(method.temporaries + depth <= method.room(), "more temporaries and operands than the frame has")?;
     let (need, left) = need_and_left(instruction);
     ask(depth >= need, "fewer operands than needed")?;
     Ok(depth - need + left)

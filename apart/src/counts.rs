@@ -1,7 +1,6 @@
 //! What was executed, for the report on coverage.
 
 use crate::accesses::Accesses;
-use crate::blocks::Blocks;
 use crate::climbs::Climbs;
 use crate::machine::{FINISHED, MOST_STACK, NO_STACK_ROOM};
 use crate::messages::Failures;
@@ -29,7 +28,6 @@ pub struct Counts {
     pub answered: [u64; 256],
     pub failed: [u64; 256],
     pub accesses: Accesses,
-    pub blocks: Blocks,
     pub climbs: Climbs,
     /// By the cause of a failed send and what came of it.
     pub failures: Failures,
@@ -45,7 +43,6 @@ impl Default for Counts {
             answered: [0; 256],
             failed: [0; 256],
             accesses: Accesses::default(),
-            blocks: Blocks::default(),
             climbs: Climbs::default(),
             failures: Failures::default(),
             message: None,

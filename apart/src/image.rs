@@ -4,8 +4,8 @@ use crate::objects::*;
 use crate::words::*;
 use std::collections::HashMap;
 
-const KINDS: [&str; 6] = ["fields", "bytes", "class", "list", "method", "block"];
-pub const FORMS: [&str; 5] = ["fields", "indexed", "bytes", "code", "blocks"];
+pub const KINDS: [&str; 5] = ["fields", "bytes", "class", "list", "method"];
+pub const FORMS: [&str; 4] = ["fields", "indexed", "bytes", "code"];
 /// No right image has as many pairs in its dictionaries.
 const MOST_PAIRS: usize = MOST_BODY_WORDS / 2;
 
@@ -125,9 +125,7 @@ impl Image {
             (5, Some(_)) => "list 5 (special selectors)".to_string(),
             (_, None) => format!("object {number}, which is not there"),
             (7 | 8, Some([_, CLASS, ..])) if self.edition >= WITH_MESSAGES => format!("class {number} (of {})", ["messages", "arrays"][number - 7]),
-            (9, Some([_, CLASS, ..])) if self.edition >= WITH_BLOCKS => "class 9 (of blocks)".to_string(),
             (_, Some([_, CLASS, ..])) => format!("class {number}"),
-            (_, Some([_, BLOCK, ..])) if self.edition >= WITH_BLOCKS => self.block_name(number),
             (_, Some([_, METHOD, ..])) => format!("method {number} ({})", self.method_name(number)),
             (_, Some([_, LIST, ..])) => match self.owners.get(&number) {
                 Some(class) => format!("list {number} (dictionary of class {class})"),
@@ -140,20 +138,6 @@ impl Image {
                 None => format!("object {number}"),
             },
         }
-    }
-
-    /// A block by its method and where its code starts.
-    fn block_name(&self, number: usize) -> String {
-        match (self.word(number, 3).and_then(object_number), self.word(number, 1)) {
-            (Some(method), Some(start)) if self.of_kind(method, METHOD) => format!("block {number} ({} at {start})", self.method_name(method)),
-            _ => format!("block {number}"),
-        }
-    }
-
-    /// The four words of a block.
-    fn block_shown(&self, number: usize) -> Option<String> {
-        let [mark, start, count, method] = [0, 1, 2, 3].map(|index| self.word(number, index));
-        Some(format!("mark {}, start {}, count {}, of {}", self.name(mark?), start?, count?, self.name(method?)))
     }
 
     /// What a word stands for.
@@ -183,7 +167,6 @@ impl Image {
             LIST if number == 5 => format!("selector of bytecode {}", 176 + index),
             LIST if self.owners.contains_key(&number) => format!("{} of pair {}", ["selector", "method"][index % 2], index / 2),
             METHOD if index < 2 => ["header", "home"][index].to_string(),
-            BLOCK if index < 4 => ["mark", "start", "count", "method"][index].to_string(),
             METHOD if self.method(number).map_or(false, |method| index - 2 < method.literals.len()) => format!("literal {}", index - 2),
             METHOD | BYTES => format!("bytes {} and {}", 2 * index, 2 * index + 1),
             FIELDS => match self.fields_before_elements(number) {
@@ -200,27 +183,16 @@ impl Image {
             Some(entry) => entry,
             None => return self.object_name(number),
         };
-        let kind_name = self.kind_name(kind).unwrap_or("none");
+        let kind_name = KINDS.get(kind as usize).unwrap_or(&"none");
         let body = match (kind, self.fields_before_elements(number)) {
             (BYTES | METHOD, _) => shortened(self.bytes(number).iter().map(u8::to_string), " "),
-            (BLOCK, _) if self.edition >= WITH_BLOCKS && self.length(number) == BLOCK_WORDS => self.block_shown(number).unwrap_or_default(),
             (_, Some(fields)) if 0 < fields && fields <= self.length(number) => self.fields_and_elements(number, fields),
             _ => self.names_from(number, 0, self.length(number)),
         };
-        let name = match kind {
-            FIELDS if number > 5 => format!("object {number}"),
-            BLOCK if self.edition >= WITH_BLOCKS => format!("block {number}"),
-            BLOCK.. => format!("object {number}"),
-            _ => self.object_name(number),
-        };
+        let name = if kind == FIELDS && number > 5 || kind > METHOD { format!("object {number}") } else { self.object_name(number) };
         let role = if number == 6 && kind == BYTES && self.edition >= WITH_MESSAGES { ", sent with a message where a send fails" } else { "" };
         let colon = if body.is_empty() { "" } else { ": " };
         format!("{name}{role}: class {}, kind {kind} ({kind_name}), start {start}, size {size}{colon}{body}", self.class_shown(class))
-    }
-
-    /// What a kind is called, where the edition has it.
-    pub fn kind_name(&self, kind: u16) -> Option<&'static str> {
-        KINDS.get(kind as usize).copied().filter(|_| kind < BLOCK || self.edition >= WITH_BLOCKS)
     }
 
     /// F of the class, where the object has form 1.
@@ -304,7 +276,6 @@ impl Image {
         };
         let code = self.bytes(number).into_iter().skip(4 + 2 * count).collect();
         let (temporaries, large, home) = ((header >> 8 & 31) as usize, header >> 7 & 1 == 1, self.word(number, 1)?);
-        let blocks = has_blocks(self.edition, flag);
-        Some(Method { flag, temporaries, large, home, literals, arguments, primitive, code, blocks, table: None })
+        Some(Method { flag, temporaries, large, home, literals, arguments, primitive, code, table: None })
     }
 }

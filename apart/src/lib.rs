@@ -2,7 +2,6 @@
 //! state anew. `compare` makes the same calls on it and on the proved library; the refusals say where, for a reader of an image.
 
 pub mod accesses;
-pub mod blocks;
 pub mod calls;
 pub mod climbs;
 pub mod code;
@@ -19,28 +18,3 @@ pub mod rules;
 pub mod words;
 #[cfg(test)]
 mod worked;
-
-// The random images of `compare`, for what can be tested without the library.
-#[cfg(test)]
-extern crate self as apart;
-#[cfg(test)]
-#[allow(dead_code)]
-#[path = "bin/compare/blocks.rs"]
-mod block_images;
-#[cfg(test)]
-#[path = "bin/compare/draft.rs"]
-mod draft;
-#[cfg(test)]
-#[allow(dead_code)]
-#[path = "bin/compare/frames.rs"]
-mod frames;
-#[cfg(test)]
-#[allow(dead_code)]
-#[path = "bin/compare/generate.rs"]
-mod generate;
-#[cfg(test)]
-mod invariant;
-#[cfg(test)]
-#[allow(dead_code)]
-#[path = "bin/compare/random.rs"]
-mod random;

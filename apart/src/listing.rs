@@ -6,109 +6,75 @@ use crate::objects::*;
 use crate::words::*;
 use std::collections::BTreeMap;
 
-/// How a position is reached: in at most two ways, and from where.
+/// How a position is reached: with which depths, at most two, and from where.
 #[derive(Default)]
-pub struct Walked {
-    pub ways: Vec<Reached>,
+pub struct Reached {
+    pub depths: Vec<usize>,
     pub from: Vec<usize>,
-    /// The blocks that the code is in, one within the other.
-    pub level: usize,
 }
 
-impl Walked {
-    /// The depths, each once.
-    pub fn depths(&self) -> Vec<usize> {
-        let mut depths: Vec<usize> = self.ways.iter().map(|way| way.depth).collect();
-        depths.dedup();
-        depths
-    }
-
-    pub fn has_two_sorts(&self) -> bool {
-        self.ways.windows(2).any(|ways| ways[0].sort != ways[1].sort)
-    }
-}
-
-/// All positions that are reached, those outside the code too. A third way to a position is not followed, so this ends.
-pub fn walk(method: &Method) -> BTreeMap<i64, Walked> {
-    let mut reached: BTreeMap<i64, Walked> = BTreeMap::new();
-    let mut pending = vec![(0i64, FIRST, 0, None)];
-    while let Some((position, way, level, from)) = pending.pop() {
+/// All positions that are reached, those outside the code too. A third depth of a position is not followed, so this ends.
+pub fn walk(code: &[u8]) -> BTreeMap<i64, Reached> {
+    let mut reached: BTreeMap<i64, Reached> = BTreeMap::new();
+    let mut pending = vec![(0i64, 0usize, None)];
+    while let Some((position, depth, from)) = pending.pop() {
         let here = reached.entry(position).or_default();
         if let Some(from) = from.filter(|from| !here.from.contains(from) && here.from.len() < 8) {
             here.from.push(from);
         }
-        if here.ways.contains(&way) || here.ways.len() == 2 {
+        if here.depths.contains(&depth) || here.depths.len() == 2 {
             continue;
         }
-        if here.ways.is_empty() {
-            here.level = level;
-        }
-        here.ways.push(way);
-        let (instruction, next) = match usize::try_from(position).ok().and_then(|position| decode(method, position)) {
+        here.depths.push(depth);
+        let (instruction, next) = match usize::try_from(position).ok().and_then(|position| decode(code, position)) {
             Some(found) => found,
             None => continue,
         };
         let (need, left) = need_and_left(instruction);
-        if way.depth >= need {
-            let after = Reached { depth: way.depth - need + left, sort: way.sort };
-            let from = Some(position as usize);
-            if let Instruction::PushBlock { arguments, .. } = instruction {
-                pending.push((next as i64, block_start(arguments), level + 1, from));
-            }
-            pending.extend(successors(instruction, next).into_iter().map(|successor| (successor, after, level, from)));
+        if depth >= need {
+            let after = depth - need + left;
+            pending.extend(successors(instruction, next).into_iter().map(|successor| (successor, after, Some(position as usize))));
         }
     }
     reached
 }
 
-/// The bytes of a line, and how far the code of a block is indented.
-const BYTES_OF_LINE: usize = 11;
-const BYTES_OF_BLOCK: usize = 19;
-const INDENT: usize = 4;
-
-/// The lines of a method's code with their positions. Its depths are those of the depth table where there is one. The code of a block is indented.
+/// The lines of a method's code with their positions. Its depths are those of the depth table where there is one.
 pub fn listing(image: &Image, method: &Method) -> Vec<(usize, String)> {
     let code = &method.code;
-    let reached = walk(method);
-    let walked = |position: usize| match (&method.table, method.flag) {
-        (Some(table), _) if table[position].is_none() => None,
-        (None, 5 | 6) => None,
-        _ => reached.get(&(position as i64)),
+    let reached = walk(code);
+    let depths = |position: usize| match (&method.table, method.flag) {
+        (Some(table), _) => table[position].into_iter().collect(),
+        (None, 5 | 6) => vec![],
+        (None, _) => reached.get(&(position as i64)).map_or(vec![], |here| here.depths.clone()),
     };
-    let pushes_block = |position: usize| matches!(decode(method, position), Some((Instruction::PushBlock { .. }, _)));
-    let width = if (0..code.len()).any(|position| walked(position).is_some() && pushes_block(position)) { BYTES_OF_BLOCK } else { BYTES_OF_LINE };
     let (mut lines, mut covered) = (vec![], 0);
     for position in 0..code.len() {
-        let here = walked(position);
-        if here.is_none() && position < covered {
+        let found: Vec<String> = depths(position).iter().map(usize::to_string).collect();
+        if found.is_empty() && position < covered {
             continue;
         }
         // What is not reached gives way to what is.
-        let whole = |next: &usize| here.is_some() || (position + 1..*next).all(|inner| walked(inner).is_none());
-        let (end, text) = match decode(method, position).filter(|(_, next)| whole(next)) {
+        let whole = |next: &usize| !found.is_empty() || (position + 1..*next).all(|inner| depths(inner).is_empty());
+        let (end, text) = match decode(code, position).filter(|(_, next)| whole(next)) {
             Some((instruction, next)) => (next, format!("{}{}", form(code[position], instruction), words(image, method, instruction, next))),
-            None => (position + 1, format!("bytes {}    ; {}", code[position], no_instruction(method, position))),
+            None => (position + 1, format!("bytes {}    ; {}", code[position], no_instruction(code, position))),
         };
         let bytes: Vec<String> = code[position..end].iter().map(u8::to_string).collect();
-        let depths: Vec<String> = here.map_or(vec![], Walked::depths).iter().map(usize::to_string).collect();
-        let depth = if here.is_none() { "unreached".to_string() } else { format!("depth {}", depths.join(" and ")) };
-        let (indent, both) = here.map_or((0, ""), |here| (INDENT * here.level, if here.has_two_sorts() { BOTH } else { "" }));
+        let depth = if found.is_empty() { "unreached".to_string() } else { format!("depth {}", found.join(" and ")) };
         let inside = if position < covered { "    ; inside the instruction before" } else { "" };
-        lines.push((position, format!("{position:>5}  {depth:<9}  {:<width$}  {:indent$}{text}{both}{inside}", bytes.join(" "), "")));
+        lines.push((position, format!("{position:>5}  {depth:<9}  {:<11}  {text}{inside}", bytes.join(" "))));
         covered = covered.max(end);
     }
     lines
 }
 
-const BOTH: &str = "    ; as method code and as block code";
-
-fn no_instruction(method: &Method, position: usize) -> &'static str {
-    match method.code[position] {
-        137 if method.blocks => "not whole: a push of a block has five bytes",
+fn no_instruction(code: &[u8], position: usize) -> &'static str {
+    match code[position] {
         125 => "unused: a return from a block",
         126 | 127 | 138..=143 => "unused",
         137 => "unused: a push of the active context",
-        _ if decode(method, position).is_some() => "its operand bytes are instructions",
+        _ if decode(code, position).is_some() => "its operand bytes are instructions",
         _ => "not whole",
     }
 }
@@ -158,8 +124,6 @@ fn words(image: &Image, method: &Method, instruction: Instruction, next: usize) 
         Special(k) => format!("special {k}    ; {}", special(image, k)),
         Send { arguments, literal: k } => format!("send {arguments} {k}    ; {}", literal(k)),
         SuperSend { arguments, literal: k } => format!("super send {arguments} {k}    ; {}", literal(k)),
-        PushBlock { arguments, distance } => format!("block {arguments} {}    ; it starts at {next}", target(distance)),
-        ReturnFromBlock => "block return".to_string(),
     }
 }
 
@@ -168,7 +132,6 @@ fn special(image: &Image, special: usize) -> String {
     match (special, special_primitive(special)) {
         (IDENTITY, _) => "==, without a send".to_string(),
         (CLASS_OF, _) => "class, without a send".to_string(),
-        _ if image.edition >= WITH_BLOCKS && BLOCK_VALUES.contains(&special) => format!("the value of a block, else {selector}"),
         (_, 0) => selector,
         (_, primitive) => format!("primitive {primitive} on integers, else {selector}"),
     }
@@ -186,6 +149,6 @@ pub fn sent(image: &Image, method: &Method, instruction: Instruction) -> Option<
 
 /// One instruction in words, without what surrounds it in a listing.
 pub fn instruction_words(image: &Image, method: &Method, position: usize) -> Option<String> {
-    let (instruction, next) = decode(method, position)?;
+    let (instruction, next) = decode(&method.code, position)?;
     Some(format!("{}{}", form(method.code[position], instruction), words(image, method, instruction, next)))
 }

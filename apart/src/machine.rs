@@ -15,10 +15,6 @@ pub const FINISHED: u16 = 2;
 pub const NOT_UNDERSTOOD: u16 = 3;
 pub const NO_BOOLEAN: u16 = 4;
 pub const NO_STACK_ROOM: u16 = 5;
-/// No room for a block, or no mark.
-pub const NO_BLOCK_ROOM: u16 = 6;
-/// The home of a block does not stand.
-pub const NO_HOME: u16 = 7;
 
 /// No frame ends beyond.
 pub const MOST_STACK: usize = 65_536;
@@ -26,11 +22,8 @@ pub const MOST_STACK: usize = 65_536;
 pub struct Frame {
     pub base: usize,
     pub method: u16,
-    /// That of its blocks, as a word; 0 where it has none.
-    pub mark: u16,
     pub receiver: u16,
     pub position: usize,
-    /// None in the frame of a block: those of its home are used.
     pub temporaries: Vec<u16>,
     pub operands: Vec<u16>,
 }
@@ -133,23 +126,9 @@ pub fn cache_index(selector: u16, class: u16) -> usize {
     ENTRY_WORDS * ((selector & class) as usize / 2 % CACHE_ENTRIES)
 }
 
-/// The index of the lowest frame with a mark.
-pub fn home_of(frames: &[Frame], mark: u16) -> Option<usize> {
-    if mark == 0 {
-        return None;
-    }
-    frames.iter().position(|frame| frame.mark == mark)
-}
-
 impl Machine<'_> {
     fn top(&mut self) -> &mut Frame {
         self.frames.last_mut().unwrap()
-    }
-
-    /// The index of the top frame's home: itself, where it runs method code.
-    pub fn home(&self) -> usize {
-        let last = self.frames.len() - 1;
-        home_of(&self.frames, self.frames[last].mark).unwrap_or(last)
     }
 
     fn end_of(&self, frame: &Frame) -> usize {
@@ -175,7 +154,7 @@ impl Machine<'_> {
     fn show(&mut self, index: usize) {
         let frame = &self.frames[index];
         let sender = if index == 0 { 0 } else { self.frames[index - 1].base };
-        let six = [sender as u16, frame.position as u16, frame.operands.len() as u16, frame.method, frame.mark, frame.receiver];
+        let six = [sender as u16, frame.position as u16, frame.operands.len() as u16, frame.method, 0, frame.receiver];
         let words = six.iter().chain(&frame.temporaries).chain(&frame.operands);
         for (place, word) in self.stack[frame.base..].iter_mut().zip(words) {
             *place = *word;
@@ -185,24 +164,17 @@ impl Machine<'_> {
     /// One bytecode. A halt gives its phase and changes nothing.
     pub fn step(&mut self) -> Result<Made, u16> {
         let frame = self.frames.last().unwrap();
-        let method = self.world.method(frame.method);
-        let byte = method.code[frame.position];
-        let (instruction, next) = decode(method, frame.position).expect("a reached position");
+        let code = &self.world.method(frame.method).code;
+        let byte = code[frame.position];
+        let (instruction, next) = decode(code, frame.position).expect("a reached position");
         let before = self.frames.len();
-        let facts = self.block_facts(instruction, next);
-        let made = self.execute(instruction, next);
-        if let Some(facts) = facts {
-            self.count_block(facts, &made);
-        }
-        let made = made?;
+        let made = self.execute(instruction, next)?;
         self.counts.bytecodes[byte as usize] += 1;
         if let Made::Goes = made {
             // A send writes its caller too, whose operands are fewer and whose position is past the send.
             if self.frames.len() > before {
                 self.show(before - 1);
             }
-            // A block writes temporaries of its home.
-            self.show(self.home());
             self.show(self.frames.len() - 1);
         }
         Ok(made)
@@ -243,13 +215,6 @@ impl Machine<'_> {
                 let word = self.pop();
                 return Ok(self.give_back(word));
             }
-            Instruction::ReturnFromBlock => {
-                let word = self.pop();
-                self.frames.pop();
-                self.push(word);
-                return Ok(Made::Goes);
-            }
-            Instruction::PushBlock { arguments, distance } => return self.push_block(arguments, next, distance),
             Instruction::Jump(distance) => {
                 self.top().position = (next as i64 + distance as i64) as usize;
                 return Ok(Made::Goes);
@@ -300,10 +265,7 @@ impl Machine<'_> {
                 self.counts.field(receiver, PUSHED);
                 self.world.objects.get(receiver).unwrap().body[index]
             }
-            Place::Temporary(index) => {
-                let home = self.home();
-                self.frames[home].temporaries[index]
-            }
+            Place::Temporary(index) => self.top().temporaries[index],
             Place::Literal(index) => self.literal(index),
             Place::Variable(index) => {
                 let variable = self.literal(index);
@@ -319,10 +281,7 @@ impl Machine<'_> {
                 self.counts.field(receiver, STORED);
                 self.world.objects.get_mut(receiver).unwrap().body[index] = word;
             }
-            Place::Temporary(index) => {
-                let home = self.home();
-                self.frames[home].temporaries[index] = word;
-            }
+            Place::Temporary(index) => self.top().temporaries[index] = word,
             Place::Literal(_) => unreachable!("no table has a store to a literal"),
             Place::Variable(index) => {
                 let variable = self.literal(index);
@@ -331,9 +290,8 @@ impl Machine<'_> {
         }
     }
 
-    /// From the home, with all frames above it.
     fn give_back(&mut self, word: u16) -> Made {
-        self.frames.truncate(self.home());
+        self.frames.pop();
         if self.frames.is_empty() {
             return Made::Finishes(word);
         }
@@ -370,43 +328,8 @@ impl Machine<'_> {
                 return self.answer(arguments, word, next);
             }
         }
-        if let Some(block) = self.valued(special, receiver) {
-            return self.value(block, next);
-        }
         let selector = self.world.objects.get(SPECIALS).unwrap().body[special];
         self.send(selector, self.world.objects.class_of(receiver), arguments, next)
-    }
-
-    /// The receiver of value or value: where it is a block of that count.
-    fn valued(&self, special: usize, receiver: u16) -> Option<Block> {
-        let count = BLOCK_VALUES.iter().position(|value| *value == special)?;
-        self.world.objects.block(receiver).filter(|block| block.count == count)
-    }
-
-    /// A frame for a block, with its argument as the first operand.
-    fn value(&mut self, block: Block, next: usize) -> Result<Made, u16> {
-        let home = home_of(&self.frames, block.mark).ok_or(NO_HOME)?;
-        let base = self.next_base();
-        if !self.fits(base, block.method) {
-            return Err(NO_STACK_ROOM);
-        }
-        let Block { mark, start, count, method } = block;
-        let operands = self.take(count, next);
-        let receiver = self.frames[home].receiver;
-        self.frames.push(Frame { base, method, mark, receiver, position: start, temporaries: vec![], operands });
-        Ok(Made::Goes)
-    }
-
-    /// A new block, with the mark of its frame. A frame without one gets the next.
-    fn push_block(&mut self, arguments: usize, start: usize, distance: i32) -> Result<Made, u16> {
-        let Frame { method, mark, .. } = *self.top();
-        let mark = if mark == 0 { self.world.objects.next_mark() } else { Some(mark) }.ok_or(NO_BLOCK_ROOM)?;
-        let block = block(&mut self.world.objects, self.room, [mark, start as u16, arguments as u16, method]).ok_or(NO_BLOCK_ROOM)?;
-        let frame = self.top();
-        frame.mark = mark;
-        frame.operands.push(block);
-        frame.position = (start as i64 + distance as i64) as usize;
-        Ok(Made::Goes)
     }
 
     /// Takes receiver and arguments away and puts an answer in their stead.
@@ -541,7 +464,7 @@ impl Machine<'_> {
             return;
         }
         // A send has not moved its frame's position yet.
-        let sent = self.frames.last().and_then(|frame| decode(self.world.method(frame.method), frame.position));
+        let sent = self.frames.last().and_then(|frame| decode(&self.world.method(frame.method).code, frame.position));
         let by = match sent {
             None => By::Begin,
             Some((Instruction::Special(_), _)) => By::Special,
@@ -580,7 +503,7 @@ impl Machine<'_> {
     pub fn enter(&mut self, base: usize, method: u16, receiver: u16, arguments: Vec<u16>) {
         let mut temporaries = arguments;
         temporaries.resize(self.world.method(method).temporaries, NIL);
-        self.frames.push(Frame { base, method, mark: 0, receiver, position: 0, temporaries, operands: vec![] });
+        self.frames.push(Frame { base, method, receiver, position: 0, temporaries, operands: vec![] });
         self.show(self.frames.len() - 1);
     }
 }

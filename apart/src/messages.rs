@@ -166,7 +166,7 @@ pub struct Facts {
 
 fn cause(machine: &Machine, sending: &Sending, failure: Failure) -> usize {
     let frame = machine.frames.last().unwrap();
-    let instruction = decode(machine.world.method(frame.method), frame.position).unwrap().0;
+    let instruction = decode(&machine.world.method(frame.method).code, frame.position).unwrap().0;
     let found = machine.world.objects.lookup(sending.start, sending.selector).map(|found| found.method);
     match (instruction, failure) {
         (_, Failure::NoMethod) if sending.selector == DOES_NOT_UNDERSTAND => OBJECT_6,

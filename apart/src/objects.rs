@@ -1,6 +1,5 @@
 //! Objects as structs, each with its own body.
 
-use crate::code::Table;
 use crate::words::*;
 
 pub const FIELDS: u16 = 0;
@@ -8,24 +7,15 @@ pub const BYTES: u16 = 1;
 pub const CLASS: u16 = 2;
 pub const LIST: u16 = 3;
 pub const METHOD: u16 = 4;
-pub const BLOCK: u16 = 5;
 
-pub const LAST_EDITION: u16 = 3;
-/// The last edition that the library has. What meets a later one that the plain machine has is made on the plain machine in its stead.
-pub const LIBRARY_EDITIONS: u16 = 2;
+pub const LAST_EDITION: u16 = 2;
 /// From this edition on a send that fails makes a message and sends object 6.
 pub const WITH_MESSAGES: u16 = 2;
-/// From this edition on there are blocks.
-pub const WITH_BLOCKS: u16 = 3;
 
 pub const MOST_OBJECTS: usize = 2_047;
 pub const MOST_BODY_WORDS: usize = 24_000;
 /// Classes in a chain, the first one counted.
 pub const MOST_CHAIN: usize = 24;
-/// Words of a block.
-pub const BLOCK_WORDS: usize = 4;
-/// The largest integer, and so the last mark.
-pub const MOST_MARK: i64 = 16_383;
 
 #[derive(Clone)]
 pub struct Object {
@@ -74,7 +64,6 @@ pub struct Class {
 }
 
 /// A method taken apart, with its depth table where its code has one.
-#[derive(Clone)]
 pub struct Method {
     pub flag: u16,
     pub temporaries: usize,
@@ -84,23 +73,7 @@ pub struct Method {
     pub arguments: usize,
     pub primitive: u16,
     pub code: Vec<u8>,
-    /// Whether its code has the instructions of blocks: in editions that have them, where the code can run.
-    pub blocks: bool,
-    pub table: Option<Table>,
-}
-
-/// Whether the code of a method with this flag has the instructions of blocks.
-pub fn has_blocks(edition: u16, flag: u16) -> bool {
-    edition >= WITH_BLOCKS && flag != 5 && flag != 6
-}
-
-/// The four words of a block. The mark is the word of an integer, start and count are plain numbers.
-#[derive(Clone, Copy, Debug, PartialEq)]
-pub struct Block {
-    pub mark: u16,
-    pub start: usize,
-    pub count: usize,
-    pub method: u16,
+    pub table: Option<Vec<Option<usize>>>,
 }
 
 impl Method {
@@ -173,28 +146,6 @@ impl Objects {
             fields: if is_integer(object.body[2]) { integer(object.body[2]).max(0) as usize } else { 0 },
             form: integer(object.body[3]),
         })
-    }
-
-    /// The block that a word names.
-    pub fn block(&self, word: u16) -> Option<Block> {
-        let object = self.get(word).filter(|object| object.kind == BLOCK)?;
-        let [mark, start, count, method]: [u16; 4] = object.body[..].try_into().ok()?;
-        Some(Block { mark, start: start as usize, count: count as usize, method })
-    }
-
-    /// All blocks with their numbers.
-    pub fn blocks(&self) -> impl Iterator<Item = (usize, Block)> + '_ {
-        (1..=self.list.len()).filter_map(move |number| Some((number, self.block(pointer(number))?)))
-    }
-
-    /// The largest mark of a block; 0 where there is no block.
-    pub fn largest_mark(&self) -> i64 {
-        self.blocks().map(|(_, block)| integer(block.mark) as i64).max().unwrap_or(0)
-    }
-
-    /// The mark, as a word, of a frame that makes its first block; none where the last one was given.
-    pub fn next_mark(&self) -> Option<u16> {
-        word(self.largest_mark() + 1)
     }
 
     /// The method under a selector in one class's own dictionary.

@@ -198,14 +198,6 @@ pub fn lacking(objects: &Objects, room: Room, more: usize, words: usize) -> [boo
     [n > MOST_OBJECTS, b > MOST_BODY_WORDS, room.contents < 4 * n, room.bodies < b]
 }
 
-/// A block of these words, behind the others.
-pub fn block(objects: &mut Objects, room: Room, words: [u16; BLOCK_WORDS]) -> Option<u16> {
-    if lacking(objects, room, 1, BLOCK_WORDS).contains(&true) {
-        return None;
-    }
-    Some(put_last(objects, BLOCK_CLASS, BLOCK, BLOCK_WORDS, words.to_vec()))
-}
-
 /// The words of a message, its selector and the array of its arguments.
 pub const MESSAGE_WORDS: usize = 2;
 

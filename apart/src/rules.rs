@@ -1,7 +1,7 @@
 //! The rules of an image, number by number, in load's order: 1, 2, 3, 4, 5, 14, 6, 7, 8. An image that breaks several is refused by the first of these. Each
 //! number gives all its faults, but not those that merely follow from others.
 
-use crate::code::*;
+use crate::code::{depth_table, Surroundings};
 use crate::objects::*;
 use crate::refusal::Place::*;
 use crate::refusal::*;
@@ -16,7 +16,7 @@ pub const TOO_LONG: &str = "a chain of more than 24 classes";
 pub const CIRCLE: &str = "a chain of more than 24 classes: a circle";
 
 // Those of edition 2, and of editions that there are not.
-pub const NO_EDITION: &str = "another edition than 1 to 3";
+pub const NO_EDITION: &str = "another edition than 1 and 2";
 pub const TOO_FEW: &str = "objects not from 8 to 2047, in edition 2";
 pub const NO_SELECTOR: &str = "object 6, the selector doesNotUnderstand:, is no byte object";
 pub const NO_MESSAGES: &str = "object 7, the class of messages, is no class";
@@ -26,19 +26,6 @@ pub const NO_ARRAYS: &str = "object 8, the class of arrays, is no class";
 pub const ARRAY_FORM: &str = "the class of arrays has another form than 1";
 pub const ARRAY_FIELDS: &str = "the class of arrays has fields";
 pub const NOT_ONE_ARGUMENT: &str = "a method under object 6 that does not take one argument";
-
-// Those of edition 3.
-pub const TOO_FEW_FOR_BLOCKS: &str = "objects not from 9 to 2047, in edition 3";
-pub const NO_SUCH_KIND: &str = "a kind above 5";
-pub const BLOCK_SIZE: &str = "a block without 4 words";
-pub const NO_SUCH_FORM: &str = "a form not from 0 to 4";
-pub const FIELDS_WITH_BLOCKS: &str = "fields in a class of form 2, 3 or 4";
-pub const NO_BLOCKS: &str = "object 9, the class of blocks, is no class";
-pub const BLOCK_FORM: &str = "the class of blocks has another form than 4";
-pub const NO_MARK: &str = "a block's mark that is no integer from 1";
-pub const NO_METHOD_OF_BLOCK: &str = "a block's method that is none";
-pub const NO_SUCH_BLOCK: &str = "a block whose start is not behind a reached push of a block of its method";
-pub const OTHER_COUNT: &str = "a block with another count than the one that is made there";
 
 /// The words of a header.
 pub struct Header {
@@ -80,11 +67,7 @@ pub fn header(image: &[u8]) -> Result<Header, Refusal> {
 pub fn ranges(edition: u16, n: usize, b: usize) -> Result<(), Faults> {
     let mut faults = Faults::new(2);
     let known = faults.ask((1..=LAST_EDITION).contains(&edition), HeaderWord(0), NO_EDITION);
-    let (least, why) = match edition {
-        WITH_BLOCKS.. if known => (9, TOO_FEW_FOR_BLOCKS),
-        WITH_MESSAGES.. if known => (8, TOO_FEW),
-        _ => (5, "objects not from 5 to 2047"),
-    };
+    let (least, why) = if known && edition >= WITH_MESSAGES { (8, TOO_FEW) } else { (5, "objects not from 5 to 2047") };
     faults.ask((least..=MOST_OBJECTS).contains(&n), HeaderWord(1), why);
     faults.ask(b <= MOST_BODY_WORDS, HeaderWord(2), "more than 24000 words of bodies");
     faults.none(())
@@ -98,7 +81,7 @@ pub const TESTS: [(u32, Test); 3] = [(5, words_valid), (14, chains), (6, classes
 
 /// Rules 4, 5, 14, 6 and 7 on 4N words of contents and B words of bodies.
 pub fn judge(edition: u16, contents: &[u16], bodies: &[u16]) -> Result<World, Faults> {
-    let objects = layout(edition, contents, bodies)?;
+    let objects = layout(contents, bodies)?;
     for (number, test) in TESTS {
         let mut faults = Faults::new(number);
         test(edition, &objects, &mut faults);
@@ -117,8 +100,7 @@ pub fn start_words(objects: &Objects, receiver: u16, selector: u16) -> Result<()
 }
 
 /// Rule 4: where bodies lie. It gives the objects.
-pub fn layout(edition: u16, contents: &[u16], bodies: &[u16]) -> Result<Objects, Faults> {
-    let (last_kind, above) = if edition >= WITH_BLOCKS { (BLOCK, NO_SUCH_KIND) } else { (METHOD, "a kind above 4") };
+pub fn layout(contents: &[u16], bodies: &[u16]) -> Result<Objects, Faults> {
     let mut faults = Faults::new(4);
     let mut objects = Objects::default();
     // A body starts at the end of the one before. After a fault it may start wherever one wrong word would explain it, or anywhere.
@@ -127,11 +109,10 @@ pub fn layout(edition: u16, contents: &[u16], bodies: &[u16]) -> Result<Objects,
     for (index, entry) in contents.chunks(4).enumerate() {
         let number = index + 1;
         let (class, kind, start, size) = (entry[0], entry[1], entry[2] as usize, entry[3]);
-        let kind_right = faults.ask(kind <= last_kind, Entry(number, 1), above);
+        let kind_right = faults.ask(kind <= METHOD, Entry(number, 1), "a kind above 4");
         let start_right = start == end || anywhere || other_ends.contains(&start);
         faults.ask(start_right, Entry(number, 2), "a start that is not the end of the body before");
-        let of_four = kind == CLASS || kind == BLOCK && kind_right;
-        let size_right = faults.ask(!of_four || size == 4, Entry(number, 3), if kind == CLASS { "a class without 4 words" } else { BLOCK_SIZE });
+        let size_right = faults.ask(kind != CLASS || size == 4, Entry(number, 3), "a class without 4 words");
         let words = body_words(kind, size);
         let inside = start + words <= bodies.len();
         if kind_right && start_right && !inside && !past_end {
@@ -176,7 +157,7 @@ fn numbered_classes(objects: &Objects) -> impl Iterator<Item = (usize, &Object)>
 fn words_valid(_: u16, objects: &Objects, faults: &mut Faults) {
     for (number, object) in numbered(objects) {
         faults.ask(objects.valid(object.class), Entry(number, 0), "an invalid word");
-        if ![FIELDS, CLASS, LIST].contains(&object.kind) {
+        if object.kind == BYTES || object.kind == METHOD {
             continue;
         }
         for (index, word) in object.body.iter().enumerate() {
@@ -208,23 +189,11 @@ fn chains(_: u16, objects: &Objects, faults: &mut Faults) {
 
 /// Rule 6.
 fn classes_and_entries(edition: u16, objects: &Objects, faults: &mut Faults) {
-    classes(edition, objects, faults);
-    entries(edition, objects, faults);
+    classes(objects, faults);
+    entries(objects, faults);
     first_objects(objects, faults);
     if edition >= WITH_MESSAGES {
         objects_for_messages(objects, faults);
-    }
-    if edition >= WITH_BLOCKS {
-        class_of_blocks(objects, faults);
-    }
-}
-
-/// The last of an edition's forms.
-fn last_form(edition: u16) -> i32 {
-    if edition >= WITH_BLOCKS {
-        4
-    } else {
-        3
     }
 }
 
@@ -233,13 +202,13 @@ fn integer_up_to(word: u16, most: i32) -> bool {
 }
 
 /// Class bodies and dictionaries.
-fn classes(edition: u16, objects: &Objects, faults: &mut Faults) {
+fn classes(objects: &Objects, faults: &mut Faults) {
     for (number, object) in numbered_classes(objects) {
-        class_body(edition, objects, number, &object.body, faults);
+        class_body(objects, number, &object.body, faults);
     }
     let mut judged = vec![false; objects.list.len() + 1];
     for (number, object) in numbered_classes(objects) {
-        fields_of_superclass(edition, objects, number, faults);
+        fields_of_superclass(objects, number, faults);
         // Classes may share a dictionary.
         let list = (object.body[1] / 2) as usize;
         if objects.has_kind(object.body[1], LIST) && !judged[list] {
@@ -249,28 +218,24 @@ fn classes(edition: u16, objects: &Objects, faults: &mut Faults) {
     }
 }
 
-fn class_body(edition: u16, objects: &Objects, number: usize, body: &[u16], faults: &mut Faults) {
-    let (no_form, with_fields) = match edition {
-        WITH_BLOCKS.. => (NO_SUCH_FORM, FIELDS_WITH_BLOCKS),
-        _ => ("a form not from 0 to 3", "fields in a class of form 2 or 3"),
-    };
+fn class_body(objects: &Objects, number: usize, body: &[u16], faults: &mut Faults) {
     faults.ask(body[0] == NIL || objects.has_kind(body[0], CLASS), Body(number, 0), "a superclass that is neither nil nor a class");
     faults.ask(objects.has_kind(body[1], LIST), Body(number, 1), "a dictionary that is no list");
     let fields_right = faults.ask(integer_up_to(body[2], 255), Body(number, 2), "fields not from 0 to 255");
-    let form_right = faults.ask(integer_up_to(body[3], last_form(edition)), Body(number, 3), no_form);
+    let form_right = faults.ask(integer_up_to(body[3], 3), Body(number, 3), "a form not from 0 to 3");
     if fields_right && form_right {
-        faults.ask(integer(body[3]) < 2 || integer(body[2]) == 0, Body(number, 2), with_fields);
+        faults.ask(integer(body[3]) < 2 || integer(body[2]) == 0, Body(number, 2), "fields in a class of form 2 or 3");
     }
 }
 
 /// Whether F and form of a class can be judged by.
-fn numbers_right(edition: u16, objects: &Objects, class: u16) -> bool {
-    objects.get(class).map_or(false, |object| integer_up_to(object.body[2], 255) && integer_up_to(object.body[3], last_form(edition)))
+fn numbers_right(objects: &Objects, class: u16) -> bool {
+    objects.get(class).map_or(false, |object| integer_up_to(object.body[2], 255) && integer_up_to(object.body[3], 3))
 }
 
-fn fields_of_superclass(edition: u16, objects: &Objects, number: usize, faults: &mut Faults) {
+fn fields_of_superclass(objects: &Objects, number: usize, faults: &mut Faults) {
     let class = objects.class(pointer(number)).unwrap();
-    if let Some(above) = objects.class(class.superclass).filter(|_| numbers_right(edition, objects, class.superclass)) {
+    if let Some(above) = objects.class(class.superclass).filter(|_| numbers_right(objects, class.superclass)) {
         faults.ask(class.fields >= above.fields, Body(number, 2), "fewer fields than the superclass");
     }
 }
@@ -292,7 +257,7 @@ fn dictionary(objects: &Objects, list: usize, faults: &mut Faults) {
 }
 
 /// Each object has a class, and fits its form.
-fn entries(edition: u16, objects: &Objects, faults: &mut Faults) {
+fn entries(objects: &Objects, faults: &mut Faults) {
     for (number, object) in numbered(objects) {
         let class = match objects.class(object.class) {
             Some(class) => class,
@@ -305,10 +270,9 @@ fn entries(edition: u16, objects: &Objects, faults: &mut Faults) {
         let fits = match object.kind {
             FIELDS => (class.form == 0 && size == class.fields) || (class.form == 1 && size >= class.fields),
             BYTES => class.form == 2,
-            BLOCK => class.form == 4,
             _ => class.form == 3,
         };
-        faults.ask(fits || !numbers_right(edition, objects, object.class), Entry(number, 3), DOES_NOT_FIT);
+        faults.ask(fits || !numbers_right(objects, object.class), Entry(number, 3), DOES_NOT_FIT);
     }
 }
 
@@ -345,22 +309,12 @@ fn objects_for_messages(objects: &Objects, faults: &mut Faults) {
     }
 }
 
-/// Object 9 where there are blocks.
-fn class_of_blocks(objects: &Objects, faults: &mut Faults) {
-    match objects.class(BLOCK_CLASS) {
-        None => faults.add(Entry(9, 1), NO_BLOCKS),
-        Some(class) => {
-            faults.ask(class.form == 4, Body(9, 3), BLOCK_FORM);
-        }
-    }
-}
-
 /// Rule 7. It gives the methods, with a depth table for each that has one.
 fn methods(edition: u16, objects: &Objects) -> Result<Vec<Option<Method>>, Faults> {
     let mut faults = Faults::new(7);
     let mut methods: Vec<Option<Method>> = vec![];
     for (number, object) in numbered(objects) {
-        methods.push(if object.kind == METHOD { method(edition, objects, number, object, &mut faults) } else { None });
+        methods.push(if object.kind == METHOD { method(objects, number, object, &mut faults) } else { None });
     }
     let counts = counts_under_selectors(edition, objects, &mut methods, &mut faults);
     for (index, slot) in methods.iter_mut().enumerate() {
@@ -376,42 +330,11 @@ fn methods(edition: u16, objects: &Objects) -> Result<Vec<Option<Method>>, Fault
             Err(found) => found.iter().for_each(|(position, why)| faults.add(Code(index + 1, *position), why)),
         }
     }
-    for (number, found) in objects.blocks() {
-        block(objects, &methods, number, found, &mut faults);
-    }
     faults.none(methods)
 }
 
-/// The words of a block. Where its method has a fault of its own, start and count are not judged.
-fn block(objects: &Objects, methods: &[Option<Method>], number: usize, block: Block, faults: &mut Faults) {
-    faults.ask(is_integer(block.mark) && integer(block.mark) >= 1, Body(number, 0), NO_MARK);
-    if !faults.ask(objects.has_kind(block.method, METHOD), Body(number, 3), NO_METHOD_OF_BLOCK) {
-        return;
-    }
-    let method = match &methods[(block.method / 2) as usize - 1] {
-        Some(method) if method.table.is_some() || !method.blocks => method,
-        _ => return,
-    };
-    match count_at(method, block.start) {
-        None => faults.add(Body(number, 1), NO_SUCH_BLOCK),
-        Some(count) => {
-            faults.ask(block.count == count, Body(number, 2), OTHER_COUNT);
-        }
-    }
-}
-
-/// The count of the block that starts there, where a reached instruction makes one.
-fn count_at(method: &Method, start: usize) -> Option<usize> {
-    let position = start.checked_sub(PUSH_BLOCK_BYTES)?;
-    method.table.as_ref()?.get(position).copied().flatten()?;
-    match decode(method, position)? {
-        (Instruction::PushBlock { arguments, .. }, _) => Some(arguments),
-        _ => None,
-    }
-}
-
 /// One method's own words; none where they are not right.
-fn method(edition: u16, objects: &Objects, number: usize, object: &Object, faults: &mut Faults) -> Option<Method> {
+fn method(objects: &Objects, number: usize, object: &Object, faults: &mut Faults) -> Option<Method> {
     let size = object.size as usize;
     let before = faults.list.len();
     if !faults.ask(size >= 2, Entry(number, 3), "a method without a header")
@@ -442,8 +365,7 @@ fn method(edition: u16, objects: &Objects, number: usize, object: &Object, fault
         return None;
     }
     let code = (4 + 2 * literal_count..size).map(|index| object.byte(index)).collect();
-    let (temporaries, large, blocks) = (temporaries as usize, large == 1, has_blocks(edition, flag));
-    Some(Method { flag, temporaries, large, home, literals, arguments, primitive, code, blocks, table: None })
+    Some(Method { flag, temporaries: temporaries as usize, large: large == 1, home, literals, arguments, primitive, code, table: None })
 }
 
 /// The count of arguments and the primitive; 0 stands for none.

@@ -1,9 +1,8 @@
 //! One call, made on the plain machine and on the proved library.
 
-use apart::calls::{self, Lent, Ran, Registers, EDITION, PHASE, VALUE};
+use apart::calls::{self, Lent, Ran, Registers, PHASE, VALUE};
 use apart::counts::Counts;
 use apart::machine::{Unwatched, Watch};
-use apart::objects::{LAST_EDITION, LIBRARY_EDITIONS};
 use apart::play::{self, other_answer, ran_answer, Listed, ANSWER, ANSWER_WORDS};
 use apart::refusal::Refusal;
 
@@ -316,23 +315,7 @@ pub fn plain_watched<W: Watch>(call: &Call, buffers: &mut Buffers, counts: &mut 
     outcome
 }
 
-/// Whether the library lacks an edition that the plain machine has.
-pub fn is_later(edition: u16) -> bool {
-    LIBRARY_EDITIONS < edition && edition <= LAST_EDITION
-}
-
-/// The edition that a call meets: the image's, or the state's.
-fn edition_met(call: &Call, buffers: &Buffers) -> u16 {
-    match call {
-        Call::Load(image) => image.get(..2).map_or(0, |pair| u16::from_be_bytes([pair[0], pair[1]])),
-        _ => buffers.registers[EDITION],
-    }
-}
-
 pub fn library(call: &Call, buffers: &mut Buffers) -> Outcome {
-    if is_later(edition_met(call, buffers)) {
-        return plain(call, buffers, &mut Counts::default());
-    }
     let mut outcome = outcome(call);
     changed(call, buffers);
     let [a, b, c, d] = buffers.lengths;

@@ -10,8 +10,6 @@ pub const SPECIALS: u16 = 10;
 pub const DOES_NOT_UNDERSTAND: u16 = 12;
 pub const MESSAGE_CLASS: u16 = 14;
 pub const ARRAY_CLASS: u16 = 16;
-/// In editions that have blocks, the class of new ones.
-pub const BLOCK_CLASS: u16 = 18;
 
 pub fn is_integer(word: u16) -> bool {
     word % 2 == 1

@@ -1,18 +1,18 @@
 -- Which instruction a byte begins and how long it is, where the byte's range is known. Callers do not open the definitions.
-use Prim.Native.Nat.{ℕ, ◌+◌, ◌-◌, ◌*◌, ◌/◌, ◌%◌, ◌<◌, ◌≤◌}
+use Prim.Native.Nat.{ℕ, ◌+◌, ◌*◌, ◌/◌, ◌%◌, ◌<◌, ◌≤◌}
 use mathlib.Core.Path.{◌≡◌, refl, ◌∙◌, ap}
-use mathlib.Core.Bool.{Bool, true, false, ◌&&◌, ◌||◌}
+use mathlib.Core.Bool.{true, false}
 use native.Mathlib.Omega.{arith}
 use native.Mathlib.Decide.{ℕ_discrete, dec_lt}
-use lib.Dec.{ltb, leb, eqb}
-use borrow.Author.Tests.{ltb-true, ltb-false, eqb-true, lt-ltb, le-ltb, le-leb, lt-leb, eq-eqb, ne_eqb}
+use lib.Dec.{ltb, eqb}
+use borrow.Author.Tests.{ltb-true, ltb-false, eqb-true}
 use Rattle.bytecode.specs.Test.{if◌then◌else◌}
-use Rattle.bytecode.specs.Code.{place_of, short_of, constant_of, block_of, extended_of, jump_of, send_of, instruction_of, length_of}
+use Rattle.bytecode.specs.Code.{place_of, short_of, constant_of, extended_of, jump_of, send_of, instruction_of, length_of}
 use Rattle.bytecode.specs.declared.Place.TheVariants.{Field, Temporary, Literal, LiteralVariable}
-use Rattle.bytecode.specs.declared.Instruction.TheVariants.{Push, Store, PopStore, Jump, JumpOn, Send, SuperSend, PushBlock, BlockReturn, Unused}
-use Rattle.bytecode.proofs.Choice.{ranges, if_yes, if_no, if_alike}
+use Rattle.bytecode.specs.declared.Instruction.TheVariants.{Push, Store, PopStore, Jump, JumpOn, Send, SuperSend, Unused}
+use Rattle.bytecode.proofs.Choice.{ranges, if_alike}
 
-pub constant_unused : (b : ℕ) → 126 ≤ b → constant_of b ≡ Unused
+pub constant_unused : (b : ℕ) → 125 ≤ b → constant_of b ≡ Unused
 unfolding constant_of
 constant_unused b h =
     let h₁ : (b ≡ 112 → ⊥) = λ e. omega arith in
@@ -20,14 +20,9 @@ constant_unused b h =
     let h₃ : (b ≡ 120 → ⊥) = λ e. omega arith in
     let h₄ : 124 ≤ b = omega arith in
     let h₅ : (b ≡ 124 → ⊥) = λ e. omega arith in
-    let h₆ : (b ≡ 125 → ⊥) = λ e. omega arith in
     search ranges
 
-pub block_return : (b : ℕ) (following : ℕ → ℕ) → b ≡ 125 → instruction_of b following ≡ BlockReturn
-unfolding instruction_of constant_of if◌then◌else◌
-block_return b following e = rw e
-
-pub extended_unused : (b : ℕ) (following : ℕ → ℕ) → 138 ≤ b → extended_of b following ≡ Unused
+pub extended_unused : (b : ℕ) (following : ℕ → ℕ) → 137 ≤ b → extended_of b following ≡ Unused
 unfolding extended_of
 extended_unused b following h =
     let h₁ : (b ≡ 128 → ⊥) = λ e. omega arith in
@@ -39,61 +34,9 @@ extended_unused b following h =
     let h₇ : (b ≡ 134 → ⊥) = λ e. omega arith in
     let h₈ : (b ≡ 135 → ⊥) = λ e. omega arith in
     let h₉ : (b ≡ 136 → ⊥) = λ e. omega arith in
-    let h₁₀ : (b ≡ 137 → ⊥) = λ e. omega arith in
     search ranges
 
-pub is_block : (b : ℕ) (following : ℕ → ℕ) → b ≡ 137 → instruction_of b following ≡ block_of following
-unfolding instruction_of extended_of if◌then◌else◌
-is_block b following e = rw e
-
--- The four bytes behind 137, which have the form of a pushed block or not
-and_no : (a : Bool) → a && false ≡ false
-and_no true = refl
-and_no false = refl
-
-or_yes : (a : Bool) → a || true ≡ true
-or_yes true = refl
-or_yes false = refl
-
-module _ (following : ℕ → ℕ) where
-  abbrev pushes : Bool
-  pushes = eqb (following 1) 117 || eqb (following 1) 118
-
-  abbrev jumps : Bool
-  jumps = leb 160 (following 3) && ltb (following 3) 168
-
-  pub block_other_push : (following 1 ≡ 117 → ⊥) → (following 1 ≡ 118 → ⊥) → block_of following ≡ Unused
-  unfolding block_of if◌then◌else◌
-  block_other_push h k = rw (ne_eqb (following 1) 117 h, ne_eqb (following 1) 118 k)
-
-  pub block_other_send : (following 2 ≡ 200 → ⊥) → block_of following ≡ Unused
-  unfolding block_of
-  block_other_send h = if_no _ _ (rw (ne_eqb (following 2) 200 h) (and_no pushes))
-
-  block_other_jump : jumps ≡ false → block_of following ≡ Unused
-  unfolding block_of
-  block_other_jump h = if_no _ _ (ap (λ t. pushes && (eqb (following 2) 200 && t)) h ∙ ap (λ t. pushes && t) (and_no (eqb (following 2) 200)) ∙ and_no pushes)
-
-  pub block_low_jump : following 3 < 160 → block_of following ≡ Unused
-  block_low_jump h = block_other_jump (rw (lt-leb 160 (following 3) h))
-
-  pub block_high_jump : 168 ≤ following 3 → block_of following ≡ Unused
-  block_high_jump h = block_other_jump (rw (le-ltb (following 3) 168 h) (and_no (leb 160 (following 3))))
-
-  does_push : 117 ≤ following 1 → following 1 ≤ 118 → pushes ≡ true
-  does_push l h = by (ℕ_discrete (following 1) 117)
-    where
-      by : Dec (following 1 ≡ 117) → pushes ≡ true
-      by (yes e) = rw (eq-eqb (following 1) 117 e)
-      by (no d) = rw (eq-eqb (following 1) 118 (omega arith)) (or_yes (eqb (following 1) 117))
-
-  pub block_pushed : 117 ≤ following 1 → following 1 ≤ 118 → following 2 ≡ 200 → 160 ≤ following 3 → following 3 < 168
-      → block_of following ≡ PushBlock (following 1 - 117) (following 3 % 8 * 256 + following 4) 1024
-  unfolding block_of
-  block_pushed l h s j k =
-      if_yes _ _ (λ i. does_push l h i && (eq-eqb (following 2) 200 s i && (le-leb 160 (following 3) j i && lt-ltb (following 3) 168 k i)))
-
--- The length of 128 to 137
+-- The length of 128 to 134
 length_132 : length_of 132 ≡ 3
 unfolding length_of if◌then◌else◌
 length_132 = refl
@@ -105,18 +48,6 @@ length_133 = refl
 length_134 : length_of 134 ≡ 3
 unfolding length_of if◌then◌else◌
 length_134 = refl
-
-length_135 : length_of 135 ≡ 1
-unfolding length_of if◌then◌else◌
-length_135 = refl
-
-length_136 : length_of 136 ≡ 1
-unfolding length_of if◌then◌else◌
-length_136 = refl
-
-length_137 : length_of 137 ≡ 5
-unfolding length_of if◌then◌else◌
-length_137 = refl
 
 module _ (b : ℕ) where
   pub length_extended : 128 ≤ b → b < 134 → (b ≡ 132 → ⊥) → length_of b ≡ 2
@@ -142,15 +73,12 @@ module _ (b : ℕ) where
       by (no k) (yes e) = omega (arith, length_extended l (omega arith) (λ q. omega arith))
       by (no k) (no e) = omega (arith, length_double (omega arith) h e)
 
-  pub length_block : b ≡ 137 → length_of b ≡ 5
-  length_block e = ap length_of e ∙ length_137
-
 -- The length of bytes that are none of these
 pub length_low : (b : ℕ) → b < 128 → length_of b ≡ 1
 unfolding length_of
 length_low b h = search ranges
 
-module _ (b : ℕ) (h : 138 ≤ b) where
+module _ (b : ℕ) (h : 135 ≤ b) where
   past_128 : 128 ≤ b
   past_128 = omega arith
 
@@ -166,28 +94,17 @@ module _ (b : ℕ) (h : 138 ≤ b) where
   not_134 : b ≡ 134 → ⊥
   not_134 e = omega arith
 
-  not_137 : b ≡ 137 → ⊥
-  not_137 e = omega arith
-
   pub length_middle : b < 160 → length_of b ≡ 1
   unfolding length_of
-  length_middle l = search (ranges, past_128, past_132, not_132, not_133, not_134, not_137)
+  length_middle l = search (ranges, past_128, past_132, not_132, not_133, not_134)
 
   pub length_jump : 160 ≤ b → b < 176 → length_of b ≡ 2
   unfolding length_of
-  length_jump k l = search (ranges, past_128, past_132, not_132, not_133, not_134, not_137)
+  length_jump k l = search (ranges, past_128, past_132, not_132, not_133, not_134)
 
   pub length_send : 176 ≤ b → length_of b ≡ 1
   unfolding length_of
-  length_send k = let l : 160 ≤ b = omega arith in search (ranges, past_128, past_132, not_132, not_133, not_134, not_137)
-
-pub length_plain : (b : ℕ) → 135 ≤ b → b < 160 → (b ≡ 137 → ⊥) → length_of b ≡ 1
-length_plain b l h n = by (ℕ_discrete b 135) (ℕ_discrete b 136)
-  where
-    by : Dec (b ≡ 135) → Dec (b ≡ 136) → length_of b ≡ 1
-    by (yes e) k = ap length_of e ∙ length_135
-    by (no d) (yes e) = ap length_of e ∙ length_136
-    by (no d) (no k) = length_middle b (omega arith) h
+  length_send k = let l : 160 ≤ b = omega arith in search (ranges, past_128, past_132, not_132, not_133, not_134)
 
 -- The instruction of a byte in each range
 module _ (b : ℕ) (following : ℕ → ℕ) where
@@ -257,10 +174,6 @@ module _ (b : ℕ) (f g : ℕ → ℕ) (alike : (k : ℕ) → 1 ≤ k → k < le
   there : (c k : ℕ) → eqb b c ≡ true → 1 ≤ k → k < length_of c → f k ≡ g k
   there c k e l h = alike k l (rw (eqb-true b c e) h)
 
-  same_block : f 1 ≡ g 1 → f 2 ≡ g 2 → f 3 ≡ g 3 → f 4 ≡ g 4 → block_of f ≡ block_of g
-  unfolding block_of
-  same_block e₁ e₂ e₃ e₄ = λ i. if (eqb (e₁ i) 117 || eqb (e₁ i) 118) && (eqb (e₂ i) 200 && (leb 160 (e₃ i) && ltb (e₃ i) 168)) then PushBlock (e₁ i - 117) (e₃ i % 8 * 256 + e₄ i) 1024 else Unused
-
   same_extended : extended_of b f ≡ extended_of b g
   unfolding extended_of length_of if◌then◌else◌
   same_extended =
@@ -271,10 +184,7 @@ module _ (b : ℕ) (f g : ℕ → ℕ) (alike : (k : ℕ) → 1 ≤ k → k < le
       (λ e. if_alike (eqb b 132) (λ e i. Send (there 132 2 e (omega arith) (omega arith) i) (there 132 1 e (omega arith) (omega arith) i))
       (λ e. if_alike (eqb b 133) (λ e. ap (λ x. SuperSend (x % 32) (x / 32)) (there 133 1 e (omega arith) (omega arith)))
       (λ e. if_alike (eqb b 134) (λ e i. SuperSend (there 134 2 e (omega arith) (omega arith) i) (there 134 1 e (omega arith) (omega arith) i))
-      (λ e. if_alike (eqb b 135) (λ e. refl)
-      (λ e. if_alike (eqb b 136) (λ e. refl)
-      (λ e. if_alike (eqb b 137) (λ e. same_block (there 137 1 e (omega arith) (omega arith)) (there 137 2 e (omega arith) (omega arith)) (there 137 3 e (omega arith) (omega arith)) (there 137 4 e (omega arith) (omega arith)))
-      (λ e. refl))))))))))
+      (λ e. refl)))))))
 
   same_jump : 144 ≤ b → b < 176 → jump_of b (f 1) ≡ jump_of b (g 1)
   unfolding jump_of

@@ -8,27 +8,26 @@ use Rattle.bytecode.specs.Code.{byte_at, bytes_after, instruction_of, length_of,
 use Rattle.bytecode.specs.declared.Instruction.TheVariants.{Unused}
 use Rattle.bytecode.proofs.Choice.{ranges, if_gt, if_same, if_either}
 
-abbrev OneToFive : ℕ → Type 0
-OneToFive n = (1 ≤ n) × (n ≤ 5)
+abbrev OneToThree : ℕ → Type 0
+OneToThree n = (1 ≤ n) × (n ≤ 3)
 
-pub length_range : (b : ℕ) → (1 ≤ length_of b) × (length_of b ≤ 5)
+pub length_range : (b : ℕ) → (1 ≤ length_of b) × (length_of b ≤ 3)
 unfolding length_of
 length_range b =
-    if_either OneToFive (ltb b 128) _ _ (omega arith)
-    (if_either OneToFive (ltb b 132) _ _ (omega arith)
-    (if_either OneToFive (eqb b 132) _ _ (omega arith)
-    (if_either OneToFive (eqb b 133) _ _ (omega arith)
-    (if_either OneToFive (eqb b 134) _ _ (omega arith)
-    (if_either OneToFive (eqb b 137) _ _ (omega arith)
-    (if_either OneToFive (ltb b 160) _ _ (omega arith)
-    (if_either OneToFive (ltb b 176) _ _ (omega arith) (omega arith))))))))
+    if_either OneToThree (ltb b 128) _ _ (omega arith)
+    (if_either OneToThree (ltb b 132) _ _ (omega arith)
+    (if_either OneToThree (eqb b 132) _ _ (omega arith)
+    (if_either OneToThree (eqb b 133) _ _ (omega arith)
+    (if_either OneToThree (eqb b 134) _ _ (omega arith)
+    (if_either OneToThree (ltb b 160) _ _ (omega arith)
+    (if_either OneToThree (ltb b 176) _ _ (omega arith) (omega arith)))))))
 
 module _ (words : List ℕ) (p : ℕ) where
   pub next_is : next_at words p ≡ p + length_of (byte_at words p)
   unfolding next_at
   next_is = refl
 
-  pub next_range : (p < next_at words p) × (next_at words p ≤ p + 5)
+  pub next_range : (p < next_at words p) × (next_at words p ≤ p + 3)
   next_range = omega (arith, next_is, length_range (byte_at words p))
 
 module _ (words : List ℕ) (size p : ℕ) where

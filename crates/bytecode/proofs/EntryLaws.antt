@@ -12,12 +12,12 @@ use Rattle.bytecode.specs.Code.{place_of, short_of, constant_of, extended_of, ju
 use Rattle.bytecode.specs.Effect.{special_count, need, leaves, usable, successors}
 use Rattle.bytecode.specs.Table.{group, alone, group_of, extra_of}
 use Rattle.bytecode.specs.declared.Instruction.{Instruction}
-use Rattle.bytecode.specs.declared.Instruction.TheVariants.{Push, Store, PopStore, PushSelf, PushConstant, ReturnSelf, ReturnConstant, ReturnTop, Pop, Duplicate, Jump, JumpOn, Send, SuperSend, SpecialSend, PushBlock, BlockReturn, Unused}
+use Rattle.bytecode.specs.declared.Instruction.TheVariants.{Push, Store, PopStore, PushSelf, PushConstant, ReturnSelf, ReturnConstant, ReturnTop, Pop, Duplicate, Jump, JumpOn, Send, SuperSend, SpecialSend, Unused}
 use Rattle.bytecode.proofs.TestLaws.{and_left, and_right, or_cases, below_at}
 use Rattle.bytecode.proofs.Choice.{if_ne, if_eq}
 use Rattle.bytecode.proofs.CodeLaws.{same_bytes}
 
--- Need and what is left do not depend on the further bytes, but for the sends 131 to 134, and 137.
+-- Need and what is left do not depend on the further bytes, but for the sends 131 to 134.
 counted : ℕ → Bool
 counted b = ltb 130 b && ltb b 135
 
@@ -33,7 +33,7 @@ module _ (f : ℕ → ℕ) where
 
   effect_test : ℕ → Bool
   effect_test b =
-      (counted b || eqb b 137)
+      counted b
       || (eqb (need (instruction_of b f)) (need (alone b) + extra_of b (f 1))
       && eqb (leaves (instruction_of b f)) (leaves (alone b)))
 
@@ -49,24 +49,20 @@ module _ (f : ℕ → ℕ) where
   counted_effects (suc (suc (suc zero))) h = (refl, refl)
   counted_effects (suc (suc (suc (suc k)))) h = absurd (omega arith)
 
-  pub effects : (b : ℕ) → b < 256 → (b ≡ 137 → ⊥) → (need (instruction_of b f) ≡ need (alone b) + extra_of b (f 1)) × (leaves (instruction_of b f) ≡ leaves (alone b))
+  pub effects : (b : ℕ) → b < 256 → (need (instruction_of b f) ≡ need (alone b) + extra_of b (f 1)) × (leaves (instruction_of b f) ≡ leaves (alone b))
   unfolding counted effect_test Effect
-  effects b h other =
+  effects b h =
       let n = need (instruction_of b f) in
       let m = need (alone b) + extra_of b (f 1) in
       let k = leaves (instruction_of b f) in
       let l = leaves (alone b) in
       ⊎_elim
       (λ t.
-      ⊎_elim
-      (λ t.
       let p : 130 < b = ltb→lt 130 b (and_left (ltb 130 b) (ltb b 135) t) in
       let q : b < 135 = ltb→lt b 135 (and_right (ltb 130 b) (ltb b 135) t) in
       subst Effect (omega arith) (counted_effects (b - 131) (omega arith)))
-      (λ t. absurd (other (eqb→eq b 137 t)))
-      (or_cases (counted b) (eqb b 137) t))
       (λ t. (eqb→eq n m (and_left (eqb n m) (eqb k l) t), eqb→eq k l (and_right (eqb n m) (eqb k l) t)))
-      (or_cases (counted b || eqb b 137) (eqb n m && eqb k l) (effects_tested b h))
+      (or_cases (counted b) (eqb n m && eqb k l) (effects_tested b h))
 
 pub one_byte : (b : ℕ) (f : ℕ → ℕ) → length_of b ≡ 1 → instruction_of b f ≡ alone b
 one_byte b f e = same_bytes b f (λ k. 0) (λ k l h. absurd (omega arith))
@@ -95,8 +91,6 @@ group_says next (JumpOn x a) = tt
 group_says next (Send l n) = (refl, refl)
 group_says next (SuperSend l n) = (refl, refl)
 group_says next (SpecialSend k) = (refl, refl)
-group_says next (PushBlock n a b) = tt
-group_says next BlockReturn = tt
 group_says next Unused = refl
 
 module _ (next : ℕ) (i : Instruction) where

@@ -41,16 +41,16 @@ lies {b} {n} {k} e t =
     record { from = rw e l; below = rw e h }
 
 -- the last arm of a `match` on the bytes below 255
-pub lies_last : {b : ℕ} → 255 ≤ b → b < 256 → OfKind b 71
+pub lies_last : {b : ℕ} → 255 ≤ b → b < 256 → OfKind b 69
 unfolding first
 lies_last l h = record { from = omega arith; below = omega arith }
 
--- the last arm of a `match` on the kinds below 71
-pub last_kind_lem : {b κ : ℕ} → OfKind b κ → 71 ≤ κ → b < 256 → κ ≡ 71
+-- the last arm of a `match` on the kinds below 69
+pub last_kind_lem : {b κ : ℕ} → OfKind b κ → 69 ≤ κ → b < 256 → κ ≡ 69
 unfolding first
-last_kind_lem {b} {κ} of h small = by (dec_lt κ 72)
+last_kind_lem {b} {κ} of h small = by (dec_lt κ 70)
   where
-    by : Dec (κ < 72) → κ ≡ 71
+    by : Dec (κ < 70) → κ ≡ 69
     by (yes l) = omega arith
     by (no l) =
         let past : first κ ≡ 256 = get_or-eq_default firsts 256 {n = κ} (omega arith) in
@@ -115,13 +115,13 @@ module _ (words : List ℕ) (p : ℕ) {b κ k : ℕ} {r : Decoded} (here : b ≡
   pub is_pop_temporary : T (inside k 104 112) → Builds (PopStore (Temporary (b % 8))) p 1 r → IsAt words p r
   is_pop_temporary t = let h = between 104 112 of key t in is 1 (pop_temporary b _ h.0 h.1) (length_low b (omega arith))
 
-  pub is_unused_low : T (inside k 126 128) → Builds Unused p 1 r → IsAt words p r
+  pub is_unused_low : T (inside k 125 128) → Builds Unused p 1 r → IsAt words p r
   is_unused_low t =
-      let h = between 126 128 of key t in is 1 (is_constant b _ (omega arith) h.1 ∙ constant_unused b h.0) (length_low b h.1)
+      let h = between 125 128 of key t in is 1 (is_constant b _ (omega arith) h.1 ∙ constant_unused b h.0) (length_low b h.1)
 
-  pub is_unused_high : T (inside k 138 144) → Builds Unused p 1 r → IsAt words p r
+  pub is_unused_high : T (inside k 137 144) → Builds Unused p 1 r → IsAt words p r
   is_unused_high t =
-      let h = between 138 144 of key t in
+      let h = between 137 144 of key t in
       is 1 (is_extended b _ (omega arith) h.1 ∙ extended_unused b _ h.0) (length_middle b (omega arith) (omega arith))
 
   pub is_near : T (inside k 144 152) → Builds (Jump (b % 8 + 1) 0) p 1 r → IsAt words p r

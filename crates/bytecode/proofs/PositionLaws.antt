@@ -4,11 +4,10 @@ use mathlib.Core.Path.{◌≡◌, sym, ◌∙◌, ap}
 use mathlib.Core.Bool.{true}
 use mathlib.Core.List.{List, [], ◌∷◌}
 use native.Mathlib.Omega.{arith}
-use Rattle.bytecode.specs.Code.{byte_at, bytes_after, block_of, instruction_of, length_of, next_at, decode_at}
+use Rattle.bytecode.specs.Code.{byte_at, bytes_after, instruction_of, length_of, next_at, decode_at}
 use Rattle.bytecode.specs.Effect.{need, leaves, usable, successors}
 use Rattle.bytecode.specs.Table.{bound, index, group, alone, extra_of, group_part, length_part, need_part, leaves_part, bound_part, index_part, Entry}
 use Rattle.bytecode.specs.declared.Instruction.TheVariants.{Unused}
-use Rattle.bytecode.proofs.CodeLaws.{length_block, is_block}
 use Rattle.bytecode.proofs.DecodeLaws.{next_here, cut, decoded}
 use Rattle.bytecode.proofs.EntryLaws.{effects, one_byte, goes_on, returning, unused, group_of_lem}
 
@@ -74,18 +73,13 @@ module _ (words : List ℕ) (size p b e : ℕ) (inside : p < size) (here : b ≡
   pub short_at : size < p + length_part e → decode_at words size p ≡ Unused
   short_at h = sym (cut words p here size (omega (arith, right.length)))
 
-  pub whole_at : b < 256 → (b ≡ 137 → ⊥) → p + length_part e ≤ size → WholeAt words size p b e
-  whole_at small other h =
+  pub whole_at : b < 256 → p + length_part e ≤ size → WholeAt words size p b e
+  whole_at small h =
       let d = sym (decoded words p here size (omega (arith, right.length))) in
-      let f = effects (bytes_after words p) b small other in
+      let f = effects (bytes_after words p) b small in
       record {
         after = next_here words p here ∙ ap (λ k. p + k) (sym right.length);
         decoded = d;
         needs = ap need d ∙ f.0 ∙ ap (λ k. k + extra_of b (byte_at words (p + 1))) (sym right.needs);
         leave = ap leaves d ∙ f.1 ∙ sym right.leave;
       }
-
-  -- the five bytes from 137
-  pub block_at : b ≡ 137 → p + length_part e ≤ size → (next_at words p ≡ p + 5) × (decode_at words size p ≡ block_of (bytes_after words p))
-  block_at q h =
-      (next_here words p here ∙ ap (λ k. p + k) (length_block b q), sym (decoded words p here size (omega (arith, right.length))) ∙ is_block b (bytes_after words p) q)

@@ -1,11 +1,11 @@
 -- The instruction at a position of the code (01, "Code", first two paragraphs).
-use Rattle.std.specs.Prelude.{ℕ, ◌+◌, ◌-◌, ◌*◌, ◌/◌, ◌%◌, true, false, ◌&&◌, ◌||◌, List, get_or, ltb, leb, eqb}
+use Rattle.std.specs.Prelude.{ℕ, ◌+◌, ◌-◌, ◌*◌, ◌/◌, ◌%◌, true, false, List, get_or, ltb, leb, eqb}
 use Rattle.bytecode.specs.Test.{if◌then◌else◌}
 use Rattle.bytecode.specs.Constant.{constant_word}
 use Rattle.bytecode.specs.declared.Place.{Place}
 use Rattle.bytecode.specs.declared.Place.TheVariants.{Field, Temporary, Literal, LiteralVariable}
 use Rattle.bytecode.specs.declared.Instruction.{Instruction}
-use Rattle.bytecode.specs.declared.Instruction.TheVariants.{Push, Store, PopStore, PushSelf, PushConstant, ReturnSelf, ReturnConstant, ReturnTop, Pop, Duplicate, Jump, JumpOn, Send, SuperSend, SpecialSend, PushBlock, BlockReturn, Unused}
+use Rattle.bytecode.specs.declared.Instruction.TheVariants.{Push, Store, PopStore, PushSelf, PushConstant, ReturnSelf, ReturnConstant, ReturnTop, Pop, Duplicate, Jump, JumpOn, Send, SuperSend, SpecialSend, Unused}
 
 -- Byte i of a list of words, high byte first; 0 past the end
 unfoldable pub byte_at : List ℕ → ℕ → ℕ
@@ -29,7 +29,7 @@ short_of b =
     if ltb b 104 then PopStore (Field (b % 8)) else
     PopStore (Temporary (b % 8))
 
--- 112 to 127: self and the constants pushed and returned, and the top returned; 125 returns it from a block (02, M-106)
+-- 112 to 127: self and the constants pushed and returned, and the top returned
 unfoldable pub constant_of : ℕ → Instruction
 constant_of b =
     if eqb b 112 then PushSelf else
@@ -37,20 +37,11 @@ constant_of b =
     if eqb b 120 then ReturnSelf else
     if ltb b 124 then ReturnConstant (constant_word (b % 4)) else
     if eqb b 124 then ReturnTop else
-    if eqb b 125 then BlockReturn else
     Unused
 
 -- The bytes behind position p, counted from 1
 abbrev pub bytes_after : List ℕ → ℕ → ℕ → ℕ
 bytes_after words p = λ k. byte_at words (p + k)
-
--- 02, M-106: 137 with the bytes of a push of 0 or 1, of special send 200 and of a jump by two bytes behind it is one instruction, which pushes a block of so many
--- arguments and jumps. Whether the edition has blocks is asked with the other rules of an instruction.
-unfoldable pub block_of : (ℕ → ℕ) → Instruction
-block_of following =
-    if (eqb (following 1) 117 || eqb (following 1) 118) && (eqb (following 2) 200 && (leb 160 (following 3) && ltb (following 3) 168))
-    then PushBlock (following 1 - 117) (following 3 % 8 * 256 + following 4) 1024
-    else Unused
 
 -- 128 to 143: those with further bytes, pop and duplicate. 132 and 134 have the arguments in the first byte, the literal in the second.
 unfoldable pub extended_of : ℕ → (ℕ → ℕ) → Instruction
@@ -64,7 +55,6 @@ extended_of b following =
     if eqb b 134 then SuperSend (following 2) (following 1) else
     if eqb b 135 then Pop else
     if eqb b 136 then Duplicate else
-    if eqb b 137 then block_of following else
     Unused
 
 -- 144 to 175: jumps
@@ -97,7 +87,6 @@ length_of b =
     if eqb b 132 then 3 else
     if eqb b 133 then 2 else
     if eqb b 134 then 3 else
-    if eqb b 137 then 5 else
     if ltb b 160 then 1 else
     if ltb b 176 then 2 else
     1

@@ -2,7 +2,7 @@
 use Rattle.std.specs.Prelude.{ℕ, ◌+◌, ◌-◌, Bool, true, false, List, [], ◌∷◌, get_or, ltb, leb}
 use Rattle.bytecode.specs.Test.{if◌then◌else◌}
 use Rattle.bytecode.specs.declared.Instruction.{Instruction}
-use Rattle.bytecode.specs.declared.Instruction.TheVariants.{Push, Store, PopStore, PushSelf, PushConstant, ReturnSelf, ReturnConstant, ReturnTop, Pop, Duplicate, Jump, JumpOn, Send, SuperSend, SpecialSend, PushBlock, BlockReturn, Unused}
+use Rattle.bytecode.specs.declared.Instruction.TheVariants.{Push, Store, PopStore, PushSelf, PushConstant, ReturnSelf, ReturnConstant, ReturnTop, Pop, Duplicate, Jump, JumpOn, Send, SuperSend, SpecialSend, Unused}
 
 -- The argument count of special send k, bytecode 176 + k (01, "Code", last paragraph)
 unfoldable pub special_count : ℕ → ℕ
@@ -27,8 +27,6 @@ need (JumpOn x a) = 1
 need (Send l n) = 1 + n
 need (SuperSend l n) = 1 + n
 need (SpecialSend k) = 1 + special_count k
-need (PushBlock n a b) = 0
-need BlockReturn = 1
 need Unused = 0
 
 -- The operands that stand in their place afterwards. The change that 01 speaks of is these less the need.
@@ -48,8 +46,6 @@ leaves (JumpOn x a) = 0
 leaves (Send l n) = 1
 leaves (SuperSend l n) = 1
 leaves (SpecialSend k) = 1
-leaves (PushBlock n a b) = 1
-leaves BlockReturn = 0
 leaves Unused = 0
 
 -- The depth after an instruction that finds its operands at depth d
@@ -73,11 +69,9 @@ usable next (JumpOn x a) = true
 usable next (Send l n) = true
 usable next (SuperSend l n) = true
 usable next (SpecialSend k) = true
-usable next (PushBlock n a b) = leb b (next + a)
-usable next BlockReturn = true
 usable next Unused = false
 
--- The positions that may follow: both ways of a jump on a boolean, the code of a pushed block and where its jump goes, none after a return or a jump before position 0
+-- The positions that may follow: both ways of a jump on a boolean, none after a return or a jump before position 0
 unfoldable pub successors : ℕ → Instruction → List ℕ
 successors next (Push p) = next ∷ []
 successors next (Store p) = next ∷ []
@@ -94,6 +88,4 @@ successors next (JumpOn x a) = next ∷ (next + a) ∷ []
 successors next (Send l n) = next ∷ []
 successors next (SuperSend l n) = next ∷ []
 successors next (SpecialSend k) = next ∷ []
-successors next (PushBlock n a b) = next ∷ (if leb b (next + a) then (next + a - b) ∷ [] else [])
-successors next BlockReturn = []
 successors next Unused = []

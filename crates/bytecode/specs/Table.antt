@@ -6,7 +6,7 @@ use Rattle.bytecode.specs.Effect.{need, leaves}
 use Rattle.bytecode.specs.declared.Place.{Place}
 use Rattle.bytecode.specs.declared.Place.TheVariants.{Field, Temporary, Literal, LiteralVariable}
 use Rattle.bytecode.specs.declared.Instruction.{Instruction}
-use Rattle.bytecode.specs.declared.Instruction.TheVariants.{Push, Store, PopStore, PushSelf, PushConstant, ReturnSelf, ReturnConstant, ReturnTop, Pop, Duplicate, Jump, JumpOn, Send, SuperSend, SpecialSend, PushBlock, BlockReturn, Unused}
+use Rattle.bytecode.specs.declared.Instruction.TheVariants.{Push, Store, PopStore, PushSelf, PushConstant, ReturnSelf, ReturnConstant, ReturnTop, Pop, Duplicate, Jump, JumpOn, Send, SuperSend, SpecialSend, Unused}
 
 -- The count that a place's index has to be below: 1 fields, 2 temporaries, 3 literals
 unfoldable pub place_bound : Place → ℕ
@@ -38,8 +38,6 @@ bound (JumpOn x a) = 0
 bound (Send l n) = 3
 bound (SuperSend l n) = 3
 bound (SpecialSend k) = 0
-bound (PushBlock n a b) = 0
-bound BlockReturn = 0
 bound Unused = 0
 
 unfoldable pub index : Instruction → ℕ
@@ -58,11 +56,9 @@ index (JumpOn x a) = 0
 index (Send l n) = l
 index (SuperSend l n) = l
 index (SpecialSend k) = 0
-index (PushBlock n a b) = 0
-index BlockReturn = 0
 index Unused = 0
 
--- 0: goes on to the next instruction. 1: a return from the method. 2: a jump, or of blocks. 3: unused.
+-- 0: goes on to the next instruction. 1: a return. 2: a jump. 3: unused.
 unfoldable pub group : Instruction → ℕ
 group (Push p) = 0
 group (Store p) = 0
@@ -79,8 +75,6 @@ group (JumpOn x a) = 2
 group (Send l n) = 0
 group (SuperSend l n) = 0
 group (SpecialSend k) = 0
-group (PushBlock n a b) = 2
-group BlockReturn = 2
 group Unused = 3
 
 -- The instruction of a byte, with all further bytes taken as 0

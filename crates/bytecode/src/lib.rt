@@ -1,6 +1,6 @@
 // The instructions of a method's code. specs/Code.antt says which bytes mean which, specs/Effect.antt what each needs and leaves.
 ghost use Rattle.std.specs.Prelude.{◌≡◌, ℕ, ◌+◌, ◌*◌, ◌/◌, ◌<◌, ◌≤◌, length};
-ghost use Rattle.bytecode.specs.Code.{byte_at, bytes_after, place_of, short_of, constant_of, jump_of, send_of, block_of, extended_of, instruction_of, next_at, decode_at};
+ghost use Rattle.bytecode.specs.Code.{byte_at, bytes_after, place_of, short_of, constant_of, jump_of, send_of, extended_of, instruction_of, next_at, decode_at};
 ghost use Rattle.bytecode.specs.Table.{group_part, length_part, need_part, leaves_part, bound_part, index_part, extra_of, Entry, IsTable};
 
 mod entries;
@@ -17,7 +17,7 @@ pub enum Place {
 }
 
 // A constant is held as its word. A jump goes to the next instruction's position, plus `ahead`, minus `back`. A jump on a boolean
-// counts ahead only. A special send is bytecode 176 plus its number. A pushed block's code is at the next instruction's position, and control goes on as by a jump.
+// counts ahead only. A special send is bytecode 176 plus its number.
 #[derive(Drop)]
 pub enum Instruction {
     Push(Place),
@@ -30,29 +30,11 @@ pub enum Instruction {
     ReturnTop,
     Pop,
     Duplicate,
-    Jump {
-        ahead: u16,
-        back: u16,
-    },
-    JumpOn {
-        condition: bool,
-        ahead: u16,
-    },
-    Send {
-        literal: u8,
-        arguments: u8,
-    },
-    SuperSend {
-        literal: u8,
-        arguments: u8,
-    },
+    Jump { ahead: u16, back: u16 },
+    JumpOn { condition: bool, ahead: u16 },
+    Send { literal: u8, arguments: u8 },
+    SuperSend { literal: u8, arguments: u8 },
     SpecialSend(u8),
-    PushBlock {
-        arguments: u8,
-        ahead: u16,
-        back: u16,
-    },
-    BlockReturn,
     Unused,
 }
 
@@ -152,7 +134,7 @@ pub fn byte(words: &[u16], at: usize) -> u8
 
 // The byte `k` further on; 0 where no word stands, so that the sum is made only where it fits.
 fn byte_after(words: &[u16], at: usize, k: usize) -> u8
-    requires { k ≤ 4 }
+    requires { k ≤ 2 }
     ensures { result ≡ byte_at words.now (at + k) }
 {
     if words.len() <= at / 2 {
@@ -192,7 +174,6 @@ fn constant(b: u8) -> Instruction
         122 => Instruction::ReturnConstant(4),
         123 => Instruction::ReturnConstant(2),
         124 => Instruction::ReturnTop,
-        125 => Instruction::BlockReturn,
         _ => Instruction::Unused,
     }
 }
@@ -288,49 +269,9 @@ fn extended_at(words: &[u16], size: usize, at: usize, b: u8) -> Instruction
     double_extended(b, x, byte_after(words, at, 2))
 }
 
-// The four bytes behind 137: a block pushed where they have its form.
-pub fn push_block(x: u8, y: u8, z: u8, w: u8) -> Instruction
-    ensures { (following : ℕ → ℕ) → x ≡ following 1 → y ≡ following 2 → z ≡ following 3 → w ≡ following 4 → result ≡ block_of following }
-{
-    if x < 117 {
-        return Instruction::Unused;
-    }
-    if 118 < x {
-        return Instruction::Unused;
-    }
-    if y != 200 {
-        return Instruction::Unused;
-    }
-    if z < 160 {
-        return Instruction::Unused;
-    }
-    if 168 <= z {
-        return Instruction::Unused;
-    }
-    Instruction::PushBlock {
-        arguments: x - 117,
-        ahead: (z % 8) as u16 * 256 + w as u16,
-        back: 1024,
-    }
-}
-
-// 137 at a position of code of `size` bytes.
-pub fn push_block_at(words: &[u16], size: usize, at: usize) -> Instruction
-    requires { (at < size) × (byte_at words.now at ≡ 137) }
-    ensures { result ≡ decode_at words.now size at }
-{
-    if size - at < 5 {
-        return Instruction::Unused;
-    }
-    let x = byte_after(words, at, 1);
-    let y = byte_after(words, at, 2);
-    let z = byte_after(words, at, 3);
-    push_block(x, y, z, byte_after(words, at, 4))
-}
-
-// 135 to 143 but for 137.
+// 135 to 143.
 fn pop_or_duplicate(b: u8) -> Instruction
-    requires { (135 ≤ b) × (b ≡ 137 → ⊥) }
+    requires { 135 ≤ b }
     ensures { (following : ℕ → ℕ) → result ≡ extended_of b following }
 {
     match b {
@@ -414,9 +355,6 @@ pub fn decode(words: &[u16], size: usize, at: usize) -> Instruction
     if b < 135 {
         return extended_at(words, size, at, b);
     }
-    if b == 137 {
-        return push_block_at(words, size, at);
-    }
     if b < 144 {
         return pop_or_duplicate(b);
     }
@@ -486,15 +424,14 @@ pub fn instruction_at(words: &[u16], at: usize) -> Decoded
         16 => ends(Instruction::ReturnConstant(4), at + 1),
         17 => ends(Instruction::ReturnConstant(2), at + 1),
         18 => ends(Instruction::ReturnTop, at + 1),
-        19 => ends(Instruction::BlockReturn, at + 1),
-        20 => ends(Instruction::Unused, at + 1),
-        21 => ends(Instruction::Push(place_of(fetch(words, at + 1))), at + 2),
-        22 => ends(Instruction::Store(place_of(fetch(words, at + 1))), at + 2),
-        23 => ends(
+        19 => ends(Instruction::Unused, at + 1),
+        20 => ends(Instruction::Push(place_of(fetch(words, at + 1))), at + 2),
+        21 => ends(Instruction::Store(place_of(fetch(words, at + 1))), at + 2),
+        22 => ends(
             Instruction::PopStore(place_of(fetch(words, at + 1))),
             at + 2,
         ),
-        24 => {
+        23 => {
             let x = fetch(words, at + 1);
             ends(
                 Instruction::Send {
@@ -502,21 +439,21 @@ pub fn instruction_at(words: &[u16], at: usize) -> Decoded
                     arguments: x / 32,
                 },
                 at + 2,
+            )
+        },
+        24 => {
+            let x = fetch(words, at + 1);
+            let y = fetch(words, at + 2);
+            ends(
+                Instruction::Send {
+                    literal: y,
+                    arguments: x,
+                },
+                at + 3,
             )
         },
         25 => {
             let x = fetch(words, at + 1);
-            let y = fetch(words, at + 2);
-            ends(
-                Instruction::Send {
-                    literal: y,
-                    arguments: x,
-                },
-                at + 3,
-            )
-        },
-        26 => {
-            let x = fetch(words, at + 1);
             ends(
                 Instruction::SuperSend {
                     literal: x % 32,
@@ -525,7 +462,7 @@ pub fn instruction_at(words: &[u16], at: usize) -> Decoded
                 at + 2,
             )
         },
-        27 => {
+        26 => {
             let x = fetch(words, at + 1);
             let y = fetch(words, at + 2);
             ends(
@@ -536,90 +473,84 @@ pub fn instruction_at(words: &[u16], at: usize) -> Decoded
                 at + 3,
             )
         },
-        28 => ends(Instruction::Pop, at + 1),
-        29 => ends(Instruction::Duplicate, at + 1),
-        30 => {
-            let x = fetch(words, at + 1);
-            let y = fetch(words, at + 2);
-            let z = fetch(words, at + 3);
-            ends(push_block(x, y, z, fetch(words, at + 4)), at + 5)
-        },
-        31 => ends(Instruction::Unused, at + 1),
-        32 => ends(
+        27 => ends(Instruction::Pop, at + 1),
+        28 => ends(Instruction::Duplicate, at + 1),
+        29 => ends(Instruction::Unused, at + 1),
+        30 => ends(
             Instruction::Jump {
                 ahead: (b % 8) as u16 + 1,
                 back: 0,
             },
             at + 1,
         ),
-        33 => ends(
+        31 => ends(
             Instruction::JumpOn {
                 condition: false,
                 ahead: (b % 8) as u16 + 1,
             },
             at + 1,
         ),
-        34 => ends(
+        32 => ends(
             Instruction::Jump {
                 ahead: (b % 8) as u16 * 256 + fetch(words, at + 1) as u16,
                 back: 1024,
             },
             at + 2,
         ),
-        35 => ends(
+        33 => ends(
             Instruction::JumpOn {
                 condition: true,
                 ahead: (b % 4) as u16 * 256 + fetch(words, at + 1) as u16,
             },
             at + 2,
         ),
-        36 => ends(
+        34 => ends(
             Instruction::JumpOn {
                 condition: false,
                 ahead: (b % 4) as u16 * 256 + fetch(words, at + 1) as u16,
             },
             at + 2,
         ),
-        37 => ends(Instruction::SpecialSend(0), at + 1),
-        38 => ends(Instruction::SpecialSend(1), at + 1),
-        39 => ends(Instruction::SpecialSend(2), at + 1),
-        40 => ends(Instruction::SpecialSend(3), at + 1),
-        41 => ends(Instruction::SpecialSend(4), at + 1),
-        42 => ends(Instruction::SpecialSend(5), at + 1),
-        43 => ends(Instruction::SpecialSend(6), at + 1),
-        44 => ends(Instruction::SpecialSend(7), at + 1),
-        45 => ends(Instruction::SpecialSend(8), at + 1),
-        46 => ends(Instruction::SpecialSend(9), at + 1),
-        47 => ends(Instruction::SpecialSend(10), at + 1),
-        48 => ends(Instruction::SpecialSend(11), at + 1),
-        49 => ends(Instruction::SpecialSend(12), at + 1),
-        50 => ends(Instruction::SpecialSend(13), at + 1),
-        51 => ends(Instruction::SpecialSend(14), at + 1),
-        52 => ends(Instruction::SpecialSend(15), at + 1),
-        53 => ends(Instruction::SpecialSend(16), at + 1),
-        54 => ends(Instruction::SpecialSend(17), at + 1),
-        55 => ends(Instruction::SpecialSend(18), at + 1),
-        56 => ends(Instruction::SpecialSend(19), at + 1),
-        57 => ends(Instruction::SpecialSend(20), at + 1),
-        58 => ends(Instruction::SpecialSend(21), at + 1),
-        59 => ends(Instruction::SpecialSend(22), at + 1),
-        60 => ends(Instruction::SpecialSend(23), at + 1),
-        61 => ends(Instruction::SpecialSend(24), at + 1),
-        62 => ends(Instruction::SpecialSend(25), at + 1),
-        63 => ends(Instruction::SpecialSend(26), at + 1),
-        64 => ends(Instruction::SpecialSend(27), at + 1),
-        65 => ends(Instruction::SpecialSend(28), at + 1),
-        66 => ends(Instruction::SpecialSend(29), at + 1),
-        67 => ends(Instruction::SpecialSend(30), at + 1),
-        68 => ends(Instruction::SpecialSend(31), at + 1),
-        69 => ends(
+        35 => ends(Instruction::SpecialSend(0), at + 1),
+        36 => ends(Instruction::SpecialSend(1), at + 1),
+        37 => ends(Instruction::SpecialSend(2), at + 1),
+        38 => ends(Instruction::SpecialSend(3), at + 1),
+        39 => ends(Instruction::SpecialSend(4), at + 1),
+        40 => ends(Instruction::SpecialSend(5), at + 1),
+        41 => ends(Instruction::SpecialSend(6), at + 1),
+        42 => ends(Instruction::SpecialSend(7), at + 1),
+        43 => ends(Instruction::SpecialSend(8), at + 1),
+        44 => ends(Instruction::SpecialSend(9), at + 1),
+        45 => ends(Instruction::SpecialSend(10), at + 1),
+        46 => ends(Instruction::SpecialSend(11), at + 1),
+        47 => ends(Instruction::SpecialSend(12), at + 1),
+        48 => ends(Instruction::SpecialSend(13), at + 1),
+        49 => ends(Instruction::SpecialSend(14), at + 1),
+        50 => ends(Instruction::SpecialSend(15), at + 1),
+        51 => ends(Instruction::SpecialSend(16), at + 1),
+        52 => ends(Instruction::SpecialSend(17), at + 1),
+        53 => ends(Instruction::SpecialSend(18), at + 1),
+        54 => ends(Instruction::SpecialSend(19), at + 1),
+        55 => ends(Instruction::SpecialSend(20), at + 1),
+        56 => ends(Instruction::SpecialSend(21), at + 1),
+        57 => ends(Instruction::SpecialSend(22), at + 1),
+        58 => ends(Instruction::SpecialSend(23), at + 1),
+        59 => ends(Instruction::SpecialSend(24), at + 1),
+        60 => ends(Instruction::SpecialSend(25), at + 1),
+        61 => ends(Instruction::SpecialSend(26), at + 1),
+        62 => ends(Instruction::SpecialSend(27), at + 1),
+        63 => ends(Instruction::SpecialSend(28), at + 1),
+        64 => ends(Instruction::SpecialSend(29), at + 1),
+        65 => ends(Instruction::SpecialSend(30), at + 1),
+        66 => ends(Instruction::SpecialSend(31), at + 1),
+        67 => ends(
             Instruction::Send {
                 literal: b % 16,
                 arguments: 0,
             },
             at + 1,
         ),
-        70 => ends(
+        68 => ends(
             Instruction::Send {
                 literal: b % 16,
                 arguments: 1,

@@ -8,31 +8,32 @@ use native.Mathlib.Decide.{dec_lt}
 use borrow.Author.Tests.{eq-eqb, ne_eqb, not-true, not-false}
 use lib.Dec.{T, eqb, leb→le, eqb→eq}
 use lib.ListN.{length, get_or}
-use Rattle.bytecode.specs.Test.{every}
+use Rattle.bytecode.specs.Test.{every, all_of}
 use Rattle.bytecode.specs.Constant.{nil_word}
-use Rattle.bytecode.proofs.TestLaws.{true→T, and_left, and_right, and_both, rule, every_at, at_every}
+use Rattle.bytecode.proofs.TestLaws.{true→T, and_left, and_right, and_both, rule, every_at, at_every, never}
 use Rattle.bytecode.proofs.Choice.{if_yes, if_no}
 use Rattle.model.specs.Limits.{class_kind, method_kind}
 use Rattle.model.specs.Word.{is_valid, pointer, object_number}
 use Rattle.model.specs.Objects.{Objects, objects_at, class_of, is_kind, is_nil_or, part}
 use Rattle.model.specs.Method.{header, home, temporary_count, code_words, code_size, frame_words}
-use Rattle.model.specs.Depth.{note_at, code_depth, operands_in, temporaries_in, rulesAt, fineAt}
+use Rattle.model.specs.Depth.{note_at, rulesAt, fineAt}
 use Rattle.model.specs.Lookup.{in_chain}
 use Rattle.model.specs.Rules.{Right, method_table, allowed}
 use Rattle.model.specs.Notes.{MethodNoted}
-use Rattle.model.proofs.Parts.{or_right, length_part, part_at}
+use Rattle.model.proofs.Parts.{same_test, or_right, length_part, part_at}
 use Rattle.model.proofs.ChainLaws.{named}
 use Rattle.model.proofs.DepthLaws.{spot, fine_inside}
-use Rattle.model.proofs.BlockLaws.{temporaries_in_lem}
 use Rattle.model.proofs.Facts.{inside, method_words, method_facts}
 use Rattle.model.proofs.SendFacts.{class_kind_lem}
+use Rattle.readers.proofs.Loops.{failed}
+use Rattle.readers.specs.Header.{temporaries_of}
 use Rattle.objects.specs.Lent.{Holds, CodeAt}
 use Rattle.objects.specs.declared.Code.{Code}
-use Rattle.plain.specs.State.{Frame, no_mark, is_block_of}
-use Rattle.plain.specs.Flat.{frame_at, frame_mark, frame_method, frame_position, frame_depth, frame_receiver, own_temporaries}
-use Rattle.plain.proofs.FrameLaws.{own_count, MarkRight, FrameRight, table_depth, note_is}
-use Rattle.plain.proofs.LaidLaws.{own_temporaries_lem}
-use Rattle.checks.specs.Frame.{stands_at_of, note_here, in_block, note_for, six_words_fine, own_by, words_fine, Noted, Stands}
+use Rattle.plain.specs.State.{Frame, no_mark}
+use Rattle.plain.specs.Flat.{frame_at, frame_method, frame_position, frame_depth, frame_receiver}
+use Rattle.plain.specs.Check.{note_of, frame_rules}
+use Rattle.plain.proofs.FrameLaws.{FrameRight, frame_right, right_frame, table_depth, note_is}
+use Rattle.checks.specs.Frame.{stands_at_of, six_words_fine, Noted, Stands}
 use Rattle.checks.proofs.Standing.{standing}
 
 -- the six words and the method of a frame that stands
@@ -59,16 +60,11 @@ module _ (e : ℕ) (o : Objects) (m p : ℕ) where
       (unfold fineAt in (spot e o m p d n).kept)
 
   -- with temporaries and operands in the frame
-  pub noted_within : (block : Bool) (d : ℕ) → note_at (method_table e o m) p ≡ suc (code_depth block d) → own_count block (temporary_count o m) + d ≤ frame_words o m
+  pub noted_within : (d : ℕ) → note_at (method_table e o m) p ≡ suc d → temporary_count o m + d ≤ frame_words o m
   unfolding rulesAt
-  noted_within block d n =
-      go block
-      (leb→le (temporaries_in (temporary_count o m) (code_depth block d) + operands_in (code_depth block d)) (frame_words o m)
-      (rule (rulesAt (code_words o m) (code_size o m) (temporary_count o m) (frame_words o m) (allowed e o m) p (code_depth block d)) (spot e o m p (code_depth block d) n).kept 3))
-    where
-      go : (b : Bool) → temporaries_in (temporary_count o m) (code_depth b d) + operands_in (code_depth b d) ≤ frame_words o m → own_count b (temporary_count o m) + d ≤ frame_words o m
-      go true h = omega (arith, temporaries_in_lem true (temporary_count o m) d)
-      go false h = omega (arith, temporaries_in_lem false (temporary_count o m) d)
+  noted_within d n =
+      leb→le (temporary_count o m + d) (frame_words o m)
+      (rule (rulesAt (code_words o m) (code_size o m) (temporary_count o m) (frame_words o m) (allowed e o m) p d) (spot e o m p d n).kept 3)
 
   pub none_outside : code_size o m ≤ p → 0 ≡ note_at (method_table e o m) p
   none_outside h = go (note_at (method_table e o m) p) refl
@@ -110,233 +106,193 @@ module _ {e n b : ℕ} {contents bodies notes : List ℕ} (i : Noted e n b conte
         whole q = omega arith
 
 module _ (e : ℕ) (o : Objects) (stack : List ℕ) (base : ℕ) (is_top : Bool) where
+  abbrev frame : Frame
+  frame = frame_at o stack base
+
   -- the tests of the header, one after another
-  module _ (x : Bool) (v : x ≡ is_valid o.n (frame_receiver stack base)) where
-    pub receiver_no : not x ≡ true → false ≡ six_words_fine e o is_top stack base
-    unfolding six_words_fine
-    receiver_no q = simp (sym v ∙ not-true x q)
+  pub mark_no : (get_or stack (base + 4) 0 ≡ 0 → ⊥) → false ≡ six_words_fine e o is_top frame
+  unfolding six_words_fine frame_at
+  mark_no h = simp (ne_eqb (get_or stack (base + 4) 0) 0 h)
+
+  module _ (unmarked : get_or stack (base + 4) 0 ≡ 0) (x : Bool) (v : x ≡ is_valid o.n (frame_receiver stack base)) where
+    pub receiver_no : not x ≡ true → false ≡ six_words_fine e o is_top frame
+    unfolding six_words_fine frame_at
+    receiver_no q = simp (eq-eqb (get_or stack (base + 4) 0) 0 unmarked, sym v ∙ not-true x q)
 
     module _ (q : not x ≡ false) (h c : ℕ) (p : h ≡ home o (frame_method stack base)) (r : c ≡ class_of o (frame_receiver stack base)) (y : Bool) (s : y ≡ in_chain o h c) where
       chain_is : in_chain o (home o (frame_method stack base)) (class_of o (frame_receiver stack base)) ≡ y
       chain_is = sym (s ∙ ap₂ (in_chain o) p r)
 
-      pub chain_no : not y ≡ true → false ≡ six_words_fine e o is_top stack base
-      unfolding six_words_fine
-      chain_no t = simp (sym v ∙ not-false x q, chain_is ∙ not-true y t)
+      pub chain_no : not y ≡ true → false ≡ six_words_fine e o is_top frame
+      unfolding six_words_fine frame_at
+      chain_no t = simp (eq-eqb (get_or stack (base + 4) 0) 0 unmarked, sym v ∙ not-false x q, chain_is ∙ not-true y t)
 
-      pub header_note : not y ≡ false → (z d w : ℕ) (k : Bool) → z ≡ note_here e o stack base → k ≡ in_block e o stack base → d ≡ frame_depth stack base → w ≡ note_for is_top k d
-          → eqb z w ≡ six_words_fine e o is_top stack base
-      unfolding six_words_fine
-      header_note t z d w k g f m i =
-          ap₂ eqb g (i ∙ ap₂ (note_for is_top) f m) ∙ simp (sym v ∙ not-false x q, chain_is ∙ not-false y t)
+      pub header_note : not y ≡ false → (z w : ℕ) → z ≡ note_at (method_table e o (frame_method stack base)) (frame_position stack base) → w ≡ note_of is_top frame
+          → eqb z w ≡ six_words_fine e o is_top frame
+      unfolding six_words_fine frame_at
+      header_note t z w g f =
+          ap₂ eqb g f ∙ simp (eq-eqb (get_or stack (base + 4) 0) 0 unmarked, sym v ∙ not-false x q, chain_is ∙ not-false y t)
 
-  -- what the words of a frame say, of a block or not
-  pub record WordsRight (block : Bool) : Type 0 where
-    pub receiver : T (is_valid o.n (frame_receiver stack base))
-    pub chain : T (in_chain o (home o (frame_method stack base)) (class_of o (frame_receiver stack base)))
-    pub note : note_here e o stack base ≡ suc (code_depth block (table_depth is_top (frame_depth stack base)))
-    pub valid : T (every (is_valid o.n) (part stack (base + 6) (own_count block (temporary_count o (frame_method stack base)) + frame_depth stack base)))
-
-  note_for_lem : (is_top block : Bool) (d : ℕ) → note_for is_top block d ≡ suc (code_depth block (table_depth is_top d))
-  unfolding note_for
-  note_for_lem true block d = if_yes _ _ refl
-  note_for_lem false block d = if_no _ _ refl
-
-  own_by_lem : (m : ℕ) (block : Bool) → own_by o m block ≡ own_count block (temporary_count o m)
-  unfolding own_by
-  own_by_lem m true = if_yes _ _ refl
-  own_by_lem m false = if_no _ _ refl
-
-  pub within : (block : Bool) → note_here e o stack base ≡ suc (code_depth block (table_depth is_top (frame_depth stack base)))
-      → own_count block (temporary_count o (frame_method stack base)) + frame_depth stack base ≤ frame_words o (frame_method stack base)
-  within block n = go is_top (noted_within e o (frame_method stack base) (frame_position stack base) block (table_depth is_top (frame_depth stack base)) n)
+  pub note_top : is_top ≡ true → frame_depth stack base + 1 ≡ note_of is_top frame
+  unfolding note_of frame_at
+  note_top q = one (frame_depth stack base) ∙ sym (if_yes _ _ q)
     where
-      go : (x : Bool) → own_count block (temporary_count o (frame_method stack base)) + table_depth x (frame_depth stack base) ≤ frame_words o (frame_method stack base)
-          → own_count block (temporary_count o (frame_method stack base)) + frame_depth stack base ≤ frame_words o (frame_method stack base)
-      go true l = l
-      go false l = omega arith
+      one : (d : ℕ) → d + 1 ≡ suc d
+      one d = omega arith
 
-  -- the header alone
-  pub six_within : T (six_words_fine e o is_top stack base) → own_count (in_block e o stack base) (temporary_count o (frame_method stack base)) + frame_depth stack base ≤ frame_words o (frame_method stack base)
+  pub note_below : is_top ≡ false → frame_depth stack base + 2 ≡ note_of is_top frame
+  unfolding note_of frame_at
+  note_below q = two (frame_depth stack base) ∙ sym (if_no _ _ q)
+    where
+      two : (d : ℕ) → d + 2 ≡ suc (suc d)
+      two d = omega arith
+
+  record HeaderRight : Type 0 where
+    unmarked : frame.mark ≡ no_mark
+    receiver : T (is_valid o.n frame.receiver)
+    chain : T (in_chain o (home o frame.method) (class_of o frame.receiver))
+    note : note_at (method_table e o frame.method) frame.position ≡ note_of is_top frame
+
+  header_right : T (six_words_fine e o is_top frame) → HeaderRight
   unfolding six_words_fine
-  six_within t =
-      let v = is_valid o.n (frame_receiver stack base) in
-      let c = in_chain o (home o (frame_method stack base)) (class_of o (frame_receiver stack base)) in
-      let d = eqb (note_here e o stack base) (note_for is_top (in_block e o stack base) (frame_depth stack base)) in
-      within (in_block e o stack base) (eqb→eq (note_here e o stack base) _ (and_right c d (and_right v (c && d) t)) ∙ note_for_lem is_top (in_block e o stack base) (frame_depth stack base))
-
-  pub words_right : T (words_fine e o is_top stack base) → WordsRight (in_block e o stack base)
-  unfolding words_fine six_words_fine
-  words_right t =
-      let v = is_valid o.n (frame_receiver stack base) in
-      let c = in_chain o (home o (frame_method stack base)) (class_of o (frame_receiver stack base)) in
-      let d = eqb (note_here e o stack base) (note_for is_top (in_block e o stack base) (frame_depth stack base)) in
-      let h = v && (c && d) in
-      let w = every (is_valid o.n) (part stack (base + 6) (own_by o (frame_method stack base) (in_block e o stack base) + frame_depth stack base)) in
-      let u = and_left h w t in
+  header_right t =
+      let a = eqb frame.mark no_mark in
+      let b = is_valid o.n frame.receiver in
+      let c = in_chain o (home o frame.method) (class_of o frame.receiver) in
+      let d = eqb (note_at (method_table e o frame.method) frame.position) (note_of is_top frame) in
+      let u = and_right a (b && (c && d)) t in
+      let v = and_right b (c && d) u in
       record {
-        receiver = and_left v (c && d) u;
-        chain = and_left c d (and_right v (c && d) u);
-        note = eqb→eq (note_here e o stack base) _ (and_right c d (and_right v (c && d) u)) ∙ note_for_lem is_top (in_block e o stack base) (frame_depth stack base);
-        valid = subst (λ (k : ℕ). T (every (is_valid o.n) (part stack (base + 6) (k + frame_depth stack base)))) (own_by_lem (frame_method stack base) (in_block e o stack base)) (and_right h w t);
+        unmarked = eqb→eq frame.mark no_mark (and_left a (b && (c && d)) t);
+        receiver = and_left b (c && d) u;
+        chain = and_left c d v;
+        note = eqb→eq (note_at (method_table e o frame.method) frame.position) (note_of is_top frame) (and_right c d v);
       }
 
-  pub right_words : WordsRight (in_block e o stack base) → T (words_fine e o is_top stack base)
-  unfolding words_fine six_words_fine
-  right_words r =
-      let v = is_valid o.n (frame_receiver stack base) in
-      let c = in_chain o (home o (frame_method stack base)) (class_of o (frame_receiver stack base)) in
-      let d = eqb (note_here e o stack base) (note_for is_top (in_block e o stack base) (frame_depth stack base)) in
-      and_both (v && (c && d)) (every (is_valid o.n) (part stack (base + 6) (own_by o (frame_method stack base) (in_block e o stack base) + frame_depth stack base)))
-      (and_both v (c && d) r.receiver (and_both c d r.chain
-      (true→T (eq-eqb (note_here e o stack base) _ (r.note ∙ sym (note_for_lem is_top (in_block e o stack base) (frame_depth stack base)))))))
-      (subst (λ (k : ℕ). T (every (is_valid o.n) (part stack (base + 6) (k + frame_depth stack base)))) (sym (own_by_lem (frame_method stack base) (in_block e o stack base))) r.valid)
+  right_header : FrameRight e o is_top frame → T (six_words_fine e o is_top frame)
+  unfolding six_words_fine
+  right_header r =
+      let c = in_chain o (home o frame.method) (class_of o frame.receiver) in
+      let d = eqb (note_at (method_table e o frame.method) frame.position) (note_of is_top frame) in
+      and_both (eqb frame.mark no_mark) (is_valid o.n frame.receiver && (c && d)) (true→T (eq-eqb frame.mark no_mark r.unmarked))
+      (and_both (is_valid o.n frame.receiver) (c && d) r.receiver
+      (and_both c d r.chain (true→T (eq-eqb (note_at (method_table e o frame.method) frame.position) (note_of is_top frame) r.note))))
 
-  -- the words from the first temporary to the last operand, by their number
-  module _ (s : T (stands_at_of o stack base)) (x : Bool) (p : x ≡ six_words_fine e o is_top stack base) (q : not x ≡ false) (m own d : ℕ) (k : Bool)
-      (f : m ≡ frame_method stack base) (i : k ≡ in_block e o stack base) (g : own ≡ own_by o m k) (j : d ≡ frame_depth stack base)
-    where
-      own_is : own ≡ own_by o (frame_method stack base) (in_block e o stack base)
-      own_is = g ∙ ap₂ (own_by o) f i
+  pub rules_no : (x : Bool) → x ≡ six_words_fine e o is_top frame → not x ≡ true → false ≡ all_of (frame_rules e o is_top frame)
+  rules_no x p q =
+      sym (never (all_of (frame_rules e o is_top frame)) (λ t. failed (sym p ∙ not-true x q) (right_header (frame_right e o is_top frame t))))
 
-      pub words_end : base + 6 + (own + d) ≤ length stack
-      words_end =
-          let w = six_within (true→T (sym p ∙ not-false x q)) in
-          let z = own_is ∙ own_by_lem (frame_method stack base) (in_block e o stack base) in
-          let n = (standing o stack base s).inside in
-          omega arith
+  module _ (s : T (stands_at_of o stack base)) (x : Bool) (p : x ≡ six_words_fine e o is_top frame) (q : not x ≡ false) where
+    h : T (six_words_fine e o is_top frame)
+    h = true→T (sym p ∙ not-false x q)
 
-      pub rules_here : (y : Bool) → y ≡ every (is_valid o.n) (part stack (base + 6) (base + 6 + (own + d) - (base + 6))) → y ≡ words_fine e o is_top stack base
-      unfolding words_fine
-      rules_here y r =
-          r ∙ ap (λ (l : ℕ). every (is_valid o.n) (part stack (base + 6) l)) (less (base + 6) (own + d)) ∙ ap₂ (λ (a c : ℕ). every (is_valid o.n) (part stack (base + 6) (a + c))) own_is j
-          ∙ sym (ap (λ (a : Bool). a && every (is_valid o.n) (part stack (base + 6) (own_by o (frame_method stack base) (in_block e o stack base) + frame_depth stack base))) (sym p ∙ not-false x q))
+    within : temporary_count o (frame_method stack base) + frame_depth stack base ≤ frame_words o (frame_method stack base)
+    unfolding frame_at
+    within = go is_top (noted_within e o (frame_method stack base) (frame_position stack base) (table_depth is_top (frame_depth stack base)) ((header_right h).note ∙ note_is is_top frame))
+      where
+        go : (x : Bool) → temporary_count o (frame_method stack base) + table_depth x (frame_depth stack base) ≤ frame_words o (frame_method stack base)
+            → temporary_count o (frame_method stack base) + frame_depth stack base ≤ frame_words o (frame_method stack base)
+        go true l = l
+        go false l = omega arith
+
+    -- temporaries and operands stand in the stack
+    words_inside : base + 6 + (temporary_count o (frame_method stack base) + frame_depth stack base) ≤ length stack
+    words_inside = let w = within in let i = (standing o stack base s).inside in omega arith
+
+    abbrev words : List ℕ
+    words = part stack (base + 6) (temporary_count o (frame_method stack base) + frame_depth stack base)
+
+    temporaries_long : length frame.temporaries ≡ temporary_count o (frame_method stack base)
+    unfolding frame_at
+    temporaries_long = let w = words_inside in length_part stack (base + 6) (temporary_count o (frame_method stack base)) (omega arith)
+
+    operands_long : length frame.operands ≡ frame_depth stack base
+    unfolding frame_at
+    operands_long = let w = words_inside in length_part stack (base + 6 + temporary_count o (frame_method stack base)) (frame_depth stack base) (omega arith)
+
+    temporary_at : (i : ℕ) → i < temporary_count o (frame_method stack base) → get_or frame.temporaries i 0 ≡ get_or stack (base + 6 + i) 0
+    unfolding frame_at
+    temporary_at i l = part_at stack (base + 6) (temporary_count o (frame_method stack base)) i l
+
+    operand_at : (i : ℕ) → i < frame_depth stack base → get_or frame.operands i 0 ≡ get_or stack (base + 6 + (temporary_count o (frame_method stack base) + i)) 0
+    unfolding frame_at
+    operand_at i l =
+        part_at stack (base + 6 + temporary_count o (frame_method stack base)) (frame_depth stack base) i l
+        ∙ ap (λ (k : ℕ). get_or stack k 0) (sum (base + 6) (temporary_count o (frame_method stack base)) i)
+      where
+        sum : (a c i : ℕ) → a + c + i ≡ a + (c + i)
+        sum a c i = omega arith
+
+    words_long : length words ≡ temporary_count o (frame_method stack base) + frame_depth stack base
+    words_long = length_part stack (base + 6) (temporary_count o (frame_method stack base) + frame_depth stack base) words_inside
+
+    word_at : (i : ℕ) → i < temporary_count o (frame_method stack base) + frame_depth stack base → get_or words i 0 ≡ get_or stack (base + 6 + i) 0
+    word_at i l = part_at stack (base + 6) (temporary_count o (frame_method stack base) + frame_depth stack base) i l
+
+    valid_temporaries_lem : T (every (is_valid o.n) words) → T (every (is_valid o.n) frame.temporaries)
+    valid_temporaries_lem t =
+        let q = words_long in
+        let z = temporaries_long in
+        at_every (is_valid o.n) frame.temporaries
+        (λ i l. subst (λ (x : ℕ). T (is_valid o.n x)) (word_at i (omega arith) ∙ sym (temporary_at i (omega arith))) (every_at (is_valid o.n) words t i (omega arith)))
+
+    valid_operands_lem : T (every (is_valid o.n) words) → T (every (is_valid o.n) frame.operands)
+    valid_operands_lem t =
+        let q = words_long in
+        let z = operands_long in
+        at_every (is_valid o.n) frame.operands
+        (λ i l. subst (λ (x : ℕ). T (is_valid o.n x)) (word_at (temporary_count o (frame_method stack base) + i) (omega arith)
+        ∙ sym (operand_at i (omega arith))) (every_at (is_valid o.n) words t (temporary_count o (frame_method stack base) + i) (omega arith)))
+
+    valid_words : FrameRight e o is_top frame → T (every (is_valid o.n) words)
+    valid_words r =
+        let q = words_long in
+        at_every (is_valid o.n) words (λ i l. subst (λ (x : ℕ). T (is_valid o.n x)) (sym (word_at i (omega arith))) (go i (omega arith) (dec_lt i (temporary_count o (frame_method stack base)))))
+      where
+        back : (i : ℕ) → temporary_count o (frame_method stack base) ≤ i → temporary_count o (frame_method stack base) + (i - temporary_count o (frame_method stack base)) ≡ i
+        back i l = omega arith
+
+        go : (i : ℕ) → i < temporary_count o (frame_method stack base) + frame_depth stack base → Dec (i < temporary_count o (frame_method stack base)) → T (is_valid o.n (get_or stack (base + 6 + i) 0))
+        go i l (yes g) =
+            let z = temporaries_long in
+            subst (λ (x : ℕ). T (is_valid o.n x)) (temporary_at i g) (every_at (is_valid o.n) frame.temporaries r.valid_temporaries i (omega arith))
+        go i l (no g) =
+            let z = operands_long in
+            let j = i - temporary_count o (frame_method stack base) in
+            subst (λ (x : ℕ). T (is_valid o.n x)) (operand_at j (omega arith) ∙ ap (λ (k : ℕ). get_or stack (base + 6 + k) 0) (back i (omega arith)))
+            (every_at (is_valid o.n) frame.operands r.valid_operands j (omega arith))
+
+    all_right : T (every (is_valid o.n) words) → FrameRight e o is_top frame
+    unfolding frame_at
+    all_right t =
+        let r = header_right h in
+        record {
+          is_method = (standing o stack base s).kinds;
+          unmarked = r.unmarked;
+          receiver = r.receiver;
+          chain = r.chain;
+          note = r.note;
+          temporaries = temporaries_long;
+          depth = operands_long;
+          valid_temporaries = valid_temporaries_lem t;
+          valid_operands = valid_operands_lem t;
+        }
+
+    rules_all : every (is_valid o.n) words ≡ all_of (frame_rules e o is_top frame)
+    rules_all =
+        same_test (every (is_valid o.n) words) (all_of (frame_rules e o is_top frame)) (λ t. right_frame e o is_top frame (all_right t)) (λ t. valid_words (frame_right e o is_top frame t))
+
+    -- the words from the first temporary to the last operand, by the count that the header gives
+    module _ (g count : ℕ) (d : g ≡ header o (frame_method stack base)) (f : count ≡ temporaries_of g) where
+      count_is : count ≡ temporary_count o (frame_method stack base)
+      count_is = f ∙ ap temporaries_of d
+
+      pub words_end : base + 6 + (count + frame_depth stack base) ≤ length stack
+      words_end = let i = words_inside in let k = count_is in omega arith
+
+      pub rules_here : (y : Bool) → y ≡ every (is_valid o.n) (part stack (base + 6) (base + 6 + (count + frame_depth stack base) - (base + 6)))
+          → y ≡ all_of (frame_rules e o is_top frame)
+      rules_here y r = r ∙ ap (λ (k : ℕ). every (is_valid o.n) (part stack (base + 6) k)) same ∙ rules_all
         where
-          less : (a c : ℕ) → a + c - a ≡ c
-          less a c = omega arith
-
-  pub rules_no : (x : Bool) → x ≡ six_words_fine e o is_top stack base → not x ≡ true → false ≡ words_fine e o is_top stack base
-  unfolding words_fine
-  rules_no x p q = sym (ap (λ (a : Bool). a && every (is_valid o.n) (part stack (base + 6) (own_by o (frame_method stack base) (in_block e o stack base) + frame_depth stack base))) (sym p ∙ not-true x q))
-
--- two parts and both as one
-module _ (v : ℕ → Bool) (s : List ℕ) (a c d : ℕ) (l : a + (c + d) ≤ length s) where
-  long : length (part s a (c + d)) ≡ c + d
-  long = length_part s a (c + d) l
-
-  first_long : length (part s a c) ≡ c
-  first_long = length_part s a c (omega arith)
-
-  second_long : length (part s (a + c) d) ≡ d
-  second_long = length_part s (a + c) d (omega arith)
-
-  shift : (i : ℕ) → a + c + i ≡ a + (c + i)
-  shift i = omega arith
-
-  pub first_part : T (every v (part s a (c + d))) → T (every v (part s a c))
-  first_part t =
-      let q = long in
-      let z = first_long in
-      at_every v (part s a c) (λ i h. subst (λ (x : ℕ). T (v x)) (part_at s a (c + d) i (omega arith) ∙ sym (part_at s a c i (omega arith))) (every_at v (part s a (c + d)) t i (omega arith)))
-
-  pub second_part : T (every v (part s a (c + d))) → T (every v (part s (a + c) d))
-  second_part t =
-      let q = long in
-      let z = second_long in
-      at_every v (part s (a + c) d)
-      (λ i h. subst (λ (x : ℕ). T (v x)) (part_at s a (c + d) (c + i) (omega arith) ∙ ap (λ (k : ℕ). get_or s k 0) (sym (shift i)) ∙ sym (part_at s (a + c) d i (omega arith)))
-      (every_at v (part s a (c + d)) t (c + i) (omega arith)))
-
-  pub both_parts : T (every v (part s a c)) → T (every v (part s (a + c) d)) → T (every v (part s a (c + d)))
-  both_parts t u = let q = long in at_every v (part s a (c + d)) (λ i h. subst (λ (x : ℕ). T (v x)) (sym (part_at s a (c + d) i (omega arith))) (go i (omega arith) (dec_lt i c)))
-    where
-      back : (i : ℕ) → c ≤ i → a + c + (i - c) ≡ a + i
-      back i h = omega arith
-
-      go : (i : ℕ) → i < c + d → Dec (i < c) → T (v (get_or s (a + i) 0))
-      go i h (yes g) = let z = first_long in subst (λ (x : ℕ). T (v x)) (part_at s a c i g) (every_at v (part s a c) t i (omega arith))
-      go i h (no g) =
-          let z = second_long in
-          subst (λ (x : ℕ). T (v x)) (part_at s (a + c) d (i - c) (omega arith) ∙ ap (λ (k : ℕ). get_or s k 0) (back i (omega arith))) (every_at v (part s (a + c) d) u (i - c) (omega arith))
-
--- A frame is right where its words and its mark are.
-module _ (e : ℕ) (o : Objects) (stack : List ℕ) (base : ℕ) (is_top : Bool) (s : T (stands_at_of o stack base)) (below : List Frame) where
-  abbrev block : Bool
-  block = is_block_of (frame_mark stack base) below
-
-  abbrev own : ℕ
-  own = own_temporaries o (frame_mark stack base) (frame_method stack base) below
-
-  own_here : own ≡ own_count block (temporary_count o (frame_method stack base))
-  own_here = own_temporaries_lem o (frame_mark stack base) (frame_method stack base) below
-
-  enough : note_here e o stack base ≡ suc (code_depth block (table_depth is_top (frame_depth stack base))) → base + 6 + (own + frame_depth stack base) ≤ length stack
-  enough n =
-      let w = within e o stack base is_top block n in
-      let z = own_here in
-      let i = (standing o stack base s).inside in
-      omega arith
-
-  pub words_frame : MarkRight o (frame_mark stack base) (frame_method stack base) → WordsRight e o stack base is_top block → FrameRight e o is_top block (frame_at o stack base below)
-  unfolding frame_at
-  words_frame m r =
-      let l = enough r.note in
-      let v : T (every (is_valid o.n) (part stack (base + 6) (own + frame_depth stack base)))
-      = subst (λ (k : ℕ). T (every (is_valid o.n) (part stack (base + 6) (k + frame_depth stack base)))) (sym own_here) r.valid in
-      record {
-        is_method = (standing o stack base s).kinds;
-        marks = m;
-        receiver = r.receiver;
-        chain = r.chain;
-        note = r.note ∙ sym (note_is is_top block (frame_at o stack base below));
-        temporaries = length_part stack (base + 6) own (omega arith) ∙ own_here;
-        depth = length_part stack (base + 6 + own) (frame_depth stack base) (omega arith);
-        valid_temporaries = first_part (is_valid o.n) stack (base + 6) own (frame_depth stack base) l v;
-        valid_operands = second_part (is_valid o.n) stack (base + 6) own (frame_depth stack base) l v;
-      }
-
-  pub frame_words_lem : FrameRight e o is_top block (frame_at o stack base below) → WordsRight e o stack base is_top block
-  unfolding frame_at
-  frame_words_lem f =
-      let n = f.note ∙ note_is is_top block (frame_at o stack base below) in
-      record {
-        receiver = f.receiver;
-        chain = f.chain;
-        note = n;
-        valid = subst (λ (k : ℕ). T (every (is_valid o.n) (part stack (base + 6) (k + frame_depth stack base)))) own_here
-            (both_parts (is_valid o.n) stack (base + 6) own (frame_depth stack base) (enough n) f.valid_temporaries f.valid_operands);
-      }
-
--- the note of a frame by its depth, as the code computes it
-module _ {is_top block : Bool} (d : ℕ) where
-  pub top_block : is_top ≡ true → block ≡ true → 2 * d + 2 ≡ note_for is_top block d
-  unfolding note_for
-  top_block p q = number d ∙ sym (ap₂ (λ (a c : Bool). note_for a c d) p q ∙ if_yes _ _ refl)
-    where
-      number : (d : ℕ) → 2 * d + 2 ≡ suc (2 * d + 1)
-      number d = omega arith
-
-  pub top_method : is_top ≡ true → block ≡ false → 2 * d + 1 ≡ note_for is_top block d
-  unfolding note_for
-  top_method p q = number d ∙ sym (ap₂ (λ (a c : Bool). note_for a c d) p q ∙ if_yes _ _ refl)
-    where
-      number : (d : ℕ) → 2 * d + 1 ≡ suc (2 * d)
-      number d = omega arith
-
-  pub below_block : is_top ≡ false → block ≡ true → 2 * d + 4 ≡ note_for is_top block d
-  unfolding note_for
-  below_block p q = number d ∙ sym (ap₂ (λ (a c : Bool). note_for a c d) p q ∙ if_no _ _ refl)
-    where
-      number : (d : ℕ) → 2 * d + 4 ≡ suc (2 * suc d + 1)
-      number d = omega arith
-
-  pub below_method : is_top ≡ false → block ≡ false → 2 * d + 3 ≡ note_for is_top block d
-  unfolding note_for
-  below_method p q = number d ∙ sym (ap₂ (λ (a c : Bool). note_for a c d) p q ∙ if_no _ _ refl)
-    where
-      number : (d : ℕ) → 2 * d + 3 ≡ suc (2 * suc d)
-      number d = omega arith
-
-pub block_read : (e : ℕ) (o : Objects) (stack : List ℕ) (base z : ℕ) → (frame_mark stack base ≡ 0 → ⊥) → z ≡ note_here e o stack base → eqb (z % 2) 0 ≡ in_block e o stack base
-unfolding in_block
-block_read e o stack base z m n = ap (λ (x : ℕ). eqb (x % 2) 0) n ∙ sym (ap (λ (a : Bool). not a && eqb (note_here e o stack base % 2) 0) (ne_eqb (frame_mark stack base) no_mark m))
+          same : base + 6 + (count + frame_depth stack base) - (base + 6) ≡ temporary_count o (frame_method stack base) + frame_depth stack base
+          same = let k = count_is in omega arith

@@ -1,181 +1,162 @@
--- From a frame to its sender: the frames of a right stack, and what the first walk over them says.
-use Prim.Native.Nat.{ℕ, zero, suc, ◌%◌, ◌<◌}
-use mathlib.Core.Path.{◌≡◌, refl, sym, ap, ap₂, ◌∙◌, subst}
-use mathlib.Core.Logic.{◌≢◌}
+-- From a frame to its sender: what the frames from here on say.
+use Prim.Native.Nat.{ℕ, zero, suc, ◌+◌, ◌-◌, ◌≤◌, ◌<◌}
+use mathlib.Core.Path.{◌≡◌, refl, sym, ap, ◌∙◌, subst}
 use mathlib.Core.Bool.{Bool, true, false, not, ◌&&◌}
-use mathlib.Core.List.{List}
+use mathlib.Core.List.{List, [], ◌∷◌}
 use native.Mathlib.Omega.{arith}
-use borrow.Author.Tests.{eq-eqb, ne_eqb, not-true, not-false}
-use lib.Dec.{T, eqb}
-use lib.ListN.{length}
-use Rattle.bytecode.proofs.TestLaws.{true→T, never}
-use Rattle.model.specs.Objects.{Objects, objects_at}
-use Rattle.model.specs.Depth.{code_depth}
-use Rattle.readers.proofs.Loops.{failed}
-use Rattle.plain.specs.State.{Frame, no_mark, from_home, is_empty, is_block_of}
-use Rattle.plain.specs.Flat.{frame_at, frame_mark, frame_method, frame_sender, frames_from}
-use Rattle.plain.specs.Check.{frames_fine}
-use Rattle.plain.specs.Running.{top_frame, rest_frames}
-use Rattle.plain.proofs.FrameLaws.{FrameRight, frames_right, right_frames, FramesRight, head_right, head_fits}
-use Rattle.plain.proofs.RunningLaws.{stands_at}
-use Rattle.plain.proofs.HomeWords.{RightAt, below_stands}
-use Rattle.checks.specs.Frame.{stands_at_of, frame_end, note_here, in_block, words_fine}
-use Rattle.checks.specs.Marks.{Down, last, more, Passed, start, next, Walked, Walks, Placed}
-use Rattle.checks.proofs.Standing.{positive, standing, stands, end_stands, end_is, frame_least}
-use Rattle.checks.proofs.Headers.{WordsRight, right_words, frame_words_lem}
+use borrow.Author.Tests.{eq-eqb, not-true, not-false}
+use lib.Dec.{T, eqb, eqb→eq}
+use lib.ListN.{length, get_or}
+use Rattle.bytecode.specs.Test.{all_of}
+use Rattle.bytecode.proofs.TestLaws.{T→true, and_left, and_right, never}
+use Rattle.model.specs.Limits.{method_kind}
+use Rattle.model.specs.Objects.{Objects, is_kind}
+use Rattle.model.specs.Method.{frame_size}
+use Rattle.readers.proofs.Loops.{failed, pass}
+use Rattle.plain.specs.State.{Frame, fits_stack}
+use Rattle.plain.specs.Flat.{frame_at, frame_method, frame_sender, frames_from, unless_bottom}
+use Rattle.plain.specs.Check.{frame_rules, frames_fine}
+use Rattle.plain.proofs.FrameLaws.{frame_right, fits}
+use Rattle.checks.specs.Frame.{stands_at_of, frame_end}
+use Rattle.checks.proofs.Standing.{positive, stands, end_stands, end_is, frame_least}
 
--- ---- all frames from one down
-pub first_of : {stack : List ℕ} {P : Bool → ℕ → Type 0} {is_top : Bool} {base : ℕ} → Down stack P is_top base → P is_top base
-first_of (last z x) = x
-first_of (more h x d) = x
+-- the first frame keeps its rules and fits
+first : (edition : ℕ) (o : Objects) (stack : ℕ) (is_top : Bool) (base : ℕ) (f : Frame) (fs : List Frame) → T (frames_fine edition o stack is_top base (f ∷ fs))
+    → T (all_of (frame_rules edition o is_top f)) × T (fits_stack stack base (frame_size o f.method))
+unfolding frames_fine
+first edition o stack is_top base f [] t =
+    let a = all_of (frame_rules edition o is_top f) in
+    let b = fits_stack stack base (frame_size o f.method) in
+    let c = eqb base 0 && eqb f.sender 0 in
+    (and_left a (b && c) t, and_left b c (and_right a (b && c) t))
+first edition o stack is_top base f (g ∷ rest) t =
+    let a = all_of (frame_rules edition o is_top f) in
+    let b = fits_stack stack base (frame_size o f.method) in
+    let c = eqb base (f.sender + frame_size o g.method) && frames_fine edition o stack false f.sender (g ∷ rest) in
+    (and_left a (b && c) t, and_left b c (and_right a (b && c) t))
 
-pub under : {stack : List ℕ} {P : Bool → ℕ → Type 0} {is_top : Bool} {base : ℕ} → Down stack P is_top base → 0 < base → Down stack P false (frame_sender stack base)
-under (last z x) h = absurd (omega arith)
-under (more h x d) k = d
+module _ (edition : ℕ) (o : Objects) (stack : List ℕ) where
+  -- the frames from one on, at most so many below it
+  abbrev pub fineFrom : Bool → ℕ → ℕ → Bool
+  fineFrom is_top left base = frames_fine edition o (length stack) is_top base (frames_from (suc left) o stack base)
 
-pub finish : {stack : List ℕ} {P : Bool → ℕ → Type 0} {top : ℕ} {is_top : Bool} {base : ℕ} → Passed stack P top is_top base → Down stack P is_top base → Down stack P true top
-finish start d = d
-finish (next p h x) d = finish p (more h x d)
-
-pub reach : {stack : List ℕ} {P Q : Bool → ℕ → Type 0} {top : ℕ} {is_top : Bool} {base : ℕ} → Passed stack Q top is_top base → Down stack P true top → Down stack P is_top base
-reach start d = d
-reach (next p h x) d = under (reach p d) h
-
-pub each : {stack : List ℕ} {P Q : Bool → ℕ → Type 0} → ((is_top : Bool) (base : ℕ) → P is_top base → Q is_top base) → {is_top : Bool} {base : ℕ} → Down stack P is_top base → Down stack Q is_top base
-each f (last z x) = last z (f _ _ x)
-each f (more h x d) = more h (f _ _ x) (each f d)
-
-pub placed : (e : ℕ) (o : Objects) (stack : List ℕ) (is_top : Bool) (base : ℕ) → Walked e o stack is_top base → Placed stack is_top base
-placed e o stack is_top base w =
-    let s = standing o stack base w.stands in
-    record {
-      inside = s.header;
-      low = s.low;
-      lower = λ h. let z = w.ends h in let l = frame_least o (frame_method stack (frame_sender stack base)) in omega arith;
-    }
-
--- ---- a frame's note says which code it is in
-pub note_block : (e : ℕ) (o : Objects) (stack : List ℕ) (base : ℕ) (block : Bool) (d : ℕ) → (block ≡ true → frame_mark stack base ≢ no_mark) → note_here e o stack base ≡ suc (code_depth block d)
-    → in_block e o stack base ≡ block
-unfolding in_block
-note_block e o stack base true d m n =
-    let q : note_here e o stack base % 2 ≡ 0 = omega arith in
-    ap₂ (λ (a c : Bool). not a && c) (ne_eqb (frame_mark stack base) no_mark (m refl)) (eq-eqb (note_here e o stack base % 2) 0 q)
-note_block e o stack base false d m n =
-    let q : note_here e o stack base % 2 ≢ 0 = λ z. absurd (omega arith) in
-    ap (λ (c : Bool). not (eqb (frame_mark stack base) no_mark) && c) (ne_eqb (note_here e o stack base % 2) 0 q) ∙ none (not (eqb (frame_mark stack base) no_mark))
-  where
-    none : (a : Bool) → (a && false) ≡ false
-    none true = refl
-    none false = refl
-
-pub block_marked : (mark : ℕ) (below : List Frame) → is_block_of mark below ≡ true → mark ≢ no_mark
-block_marked mark below q z = failed (ap (λ (a : Bool). not a && not (is_empty (from_home mark below))) (eq-eqb mark no_mark z)) (true→T q)
-
-pub unmarked_plain : (e : ℕ) (o : Objects) (stack : List ℕ) (base : ℕ) → frame_mark stack base ≡ no_mark → in_block e o stack base ≡ false
-unfolding in_block
-unmarked_plain e o stack base z = ap (λ (a : Bool). not a && eqb (note_here e o stack base % 2) 0) (eq-eqb (frame_mark stack base) no_mark z)
-
--- ---- the frames of a right stack
-module _ (n b : ℕ) (contents bodies stack : List ℕ) (e : ℕ) where
-  abbrev o : Objects
-  o = objects_at n b contents bodies
-
-  -- what check asks of them
-  abbrev pub fineFrom : ℕ → Bool
-  fineFrom top = frames_fine e o (length stack) true top (frames_from (suc top) o stack top)
-
-  pub fine_right : (top : ℕ) → T (fineFrom top) → RightAt n b top contents bodies stack e true
-  fine_right top t =
-      subst (FramesRight e o (length stack) true top) (stands_at n b top contents bodies stack) (frames_right e o (length stack) true top (frames_from (suc top) o stack top) t)
-
-  pub right_fine : (top : ℕ) → RightAt n b top contents bodies stack e true → T (fineFrom top)
-  right_fine top r =
-      right_frames e o (length stack) true top (frames_from (suc top) o stack top)
-      (subst (FramesRight e o (length stack) true top) (sym (stands_at n b top contents bodies stack)) r)
-
-  pub right_on : {Q : Bool → ℕ → Type 0} {top : ℕ} {is_top : Bool} {base : ℕ} → RightAt n b top contents bodies stack e true → Passed stack Q top is_top base → RightAt n b base contents bodies stack e is_top
-  right_on r start = r
-  right_on r (next {is_top} {base} p h x) = (below_stands n b contents bodies stack e is_top base (right_on r p) h).rights
-
-  module _ (is_top : Bool) (base : ℕ) (r : RightAt n b base contents bodies stack e is_top) where
-    abbrev frame : Frame
-    frame = top_frame n b base contents bodies stack
-
-    abbrev rest : List Frame
-    rest = rest_frames n b base contents bodies stack
-
-    pub frame_here : FrameRight e o is_top (is_block_of (frame_mark stack base) rest) frame
-    unfolding frame_at
-    frame_here = head_right e o (length stack) is_top base frame rest r
-
-    pub right_stands : T (stands_at_of o stack base)
-    unfolding frame_at
-    right_stands = stands o stack base frame_here.is_method (head_fits e o (length stack) is_top base frame rest r)
-
-    words_here : WordsRight e o stack base is_top (is_block_of (frame_mark stack base) rest)
-    words_here = frame_words_lem e o stack base is_top right_stands rest frame_here
-
-    pub block_here : in_block e o stack base ≡ is_block_of (frame_mark stack base) rest
-    block_here = note_block e o stack base (is_block_of (frame_mark stack base) rest) _ (block_marked (frame_mark stack base) rest) words_here.note
-
-    pub right_here : T (words_fine e o is_top stack base)
-    right_here = right_words e o stack base is_top (subst (WordsRight e o stack base is_top) (sym block_here) words_here)
-
-  pub right_bottom : (is_top : Bool) (base : ℕ) → RightAt n b base contents bodies stack e is_top → base ≡ 0 → frame_sender stack base ≡ 0
+  standing_by : (is_top : Bool) (base : ℕ) → T (all_of (frame_rules edition o is_top (frame_at o stack base)))
+      → T (fits_stack (length stack) base (frame_size o (frame_at o stack base).method)) → T (stands_at_of o stack base)
   unfolding frame_at
-  right_bottom is_top zero r z = r.3
-  right_bottom is_top (suc base) r z = absurd (omega arith)
+  standing_by is_top base r f =
+      stands o stack base (frame_right edition o is_top (frame_at o stack base) r).is_method (fits (length stack) base (frame_size o (frame_method stack base)) f)
 
-  -- ---- the first walk: before a turn
-  pub record Going (top base : ℕ) (is_top marked : Bool) : Type 0 where
-    pub passed : Passed stack (Walked e o stack) top is_top base
-    pub plain : marked ≡ false → Passed stack (λ is_top base. frame_mark stack base ≡ no_mark) top is_top base
+  from_first : (is_top : Bool) (left base : ℕ) → T (fineFrom is_top left base) → T (all_of (frame_rules edition o is_top (frame_at o stack base))) × T (stands_at_of o stack base)
+  unfolding frames_from
+  from_first is_top left base t =
+      let k = first edition o (length stack) is_top base (frame_at o stack base) (unless_bottom base (frames_from left o stack (frame_sender stack base))) t in
+      (k.0, standing_by is_top base k.0 k.1)
+
+  pub from_unstood : (is_top : Bool) (left base : ℕ) → stands_at_of o stack base ≡ false → false ≡ fineFrom is_top left base
+  from_unstood is_top left base e = sym (never (fineFrom is_top left base) (λ t. failed e (from_first is_top left base t).1))
+
+  pub from_wrong : (is_top : Bool) (left base : ℕ) → all_of (frame_rules edition o is_top (frame_at o stack base)) ≡ false → false ≡ fineFrom is_top left base
+  from_wrong is_top left base e = sym (never (fineFrom is_top left base) (λ t. failed e (from_first is_top left base t).0))
+
+  fits_there : (base : ℕ) → T (stands_at_of o stack base) → fits_stack (length stack) base (frame_size o (frame_method stack base)) ≡ true
+  unfolding stands_at_of
+  fits_there base t =
+      let f = fits_stack (length stack) base (frame_size o (frame_method stack base)) in T→true f (and_right (is_kind o method_kind (frame_method stack base)) f t)
+
+  -- the frame at 0
+  bottom_is : (is_top : Bool) (left : ℕ) → fineFrom is_top left 0
+      ≡ (all_of (frame_rules edition o is_top (frame_at o stack 0)) && (fits_stack (length stack) 0 (frame_size o (frame_method stack 0)) && eqb (frame_sender stack 0) 0))
+  unfolding frames_fine frames_from frame_at
+  bottom_is is_top left = refl
+
+  pub from_bottom : (is_top : Bool) (left base : ℕ) → base ≡ 0 → T (stands_at_of o stack base) → all_of (frame_rules edition o is_top (frame_at o stack base)) ≡ true
+      → eqb (get_or stack base 0) 0 ≡ fineFrom is_top left base
+  from_bottom is_top left base z s r = subst (λ (x : ℕ). T (stands_at_of o stack x) → all_of (frame_rules edition o is_top (frame_at o stack x)) ≡ true → eqb (get_or stack x 0) 0 ≡ fineFrom is_top left x)
+      (sym z) go s r
+    where
+      go : T (stands_at_of o stack 0) → all_of (frame_rules edition o is_top (frame_at o stack 0)) ≡ true → eqb (get_or stack 0 0) 0 ≡ fineFrom is_top left 0
+      go s r =
+          sym (bottom_is is_top left ∙ pass (all_of (frame_rules edition o is_top (frame_at o stack 0))) (fits_stack (length stack) 0 (frame_size o (frame_method stack 0)) && eqb (frame_sender stack 0) 0) r
+          ∙ pass (fits_stack (length stack) 0 (frame_size o (frame_method stack 0))) (eqb (frame_sender stack 0) 0) (fits_there 0 s))
+
+  -- a frame above 0
+  above_is : (is_top : Bool) (left base : ℕ) → fineFrom is_top (suc left) (suc base)
+      ≡ (all_of (frame_rules edition o is_top (frame_at o stack (suc base))) && (fits_stack (length stack) (suc base) (frame_size o (frame_method stack (suc base)))
+      && (eqb (suc base) (frame_sender stack (suc base) + frame_size o (frame_method stack (frame_sender stack (suc base)))) && fineFrom false left (frame_sender stack (suc base)))))
+  unfolding frames_fine frames_from frame_at
+  above_is is_top left base = refl
+
+  above : (is_top : Bool) (left base : ℕ) → 0 < base → base ≤ left → T (stands_at_of o stack base) → all_of (frame_rules edition o is_top (frame_at o stack base)) ≡ true
+      → fineFrom is_top left base ≡ (eqb base (frame_sender stack base + frame_size o (frame_method stack (frame_sender stack base))) && fineFrom false (left - 1) (frame_sender stack base))
+  above is_top zero base h l s r = absurd (omega arith)
+  above is_top (suc left) zero h l s r = absurd (omega arith)
+  above is_top (suc left) (suc base) h l s r =
+      let x = eqb (suc base) (frame_sender stack (suc base) + frame_size o (frame_method stack (frame_sender stack (suc base)))) && fineFrom false left (frame_sender stack (suc base)) in
+      above_is is_top left base
+      ∙ pass (all_of (frame_rules edition o is_top (frame_at o stack (suc base)))) (fits_stack (length stack) (suc base) (frame_size o (frame_method stack (suc base))) && x) r
+      ∙ pass (fits_stack (length stack) (suc base) (frame_size o (frame_method stack (suc base)))) x (fits_there (suc base) s)
+      ∙ ap (λ (k : ℕ). eqb (suc base) (frame_sender stack (suc base) + frame_size o (frame_method stack (frame_sender stack (suc base)))) && fineFrom false k (frame_sender stack (suc base))) (less left)
+    where
+      less : (left : ℕ) → left ≡ suc left - 1
+      less left = omega arith
+
+  -- before a turn: what holds from here holds from the top
+  pub record Going (top base : ℕ) (is_top : Bool) : Type 0 where
+    pub left : ℕ
+    pub enough : base ≤ left
     pub stands : T (stands_at_of o stack base)
+    pub rest : fineFrom is_top left base ≡ fineFrom true top top
 
-  pub not_standing : (top : ℕ) → stands_at_of o stack top ≡ false → false ≡ fineFrom top
-  not_standing top q = sym (never (fineFrom top) (λ t. failed q (right_stands true top (fine_right top t))))
+  pub going_first : (top e : ℕ) → e ≡ frame_end o stack top → (e ≡ 0 → ⊥) → Going top top true
+  going_first top e p q = record { left = top; enough = omega arith; stands = end_stands o stack top e p (positive e q); rest = refl }
 
-  pub going_first : (top end : ℕ) → end ≡ frame_end o stack top → (end ≡ 0 → ⊥) → Going top top true false
-  going_first top end p q = record { passed = start; plain = λ z. start; stands = end_stands o stack top end p (positive end q) }
+  module _ {top base : ℕ} {is_top : Bool} (g : Going top base is_top) where
+    pub going_wrong : (x : Bool) → x ≡ all_of (frame_rules edition o is_top (frame_at o stack base)) → not x ≡ true → false ≡ fineFrom true top top
+    going_wrong x f q = from_wrong is_top g.left base (sym f ∙ not-true x q) ∙ g.rest
 
-  module _ {top base : ℕ} {is_top marked : Bool} (g : Going top base is_top marked) (x : Bool) (f : x ≡ words_fine e o is_top stack base) where
-    pub going_wrong : not x ≡ true → false ≡ fineFrom top
-    going_wrong q = sym (never (fineFrom top) (λ t. failed (sym f ∙ not-true x q) (right_here is_top base (right_on (fine_right top t) g.passed))))
+    pub going_bottom : (x : Bool) → x ≡ all_of (frame_rules edition o is_top (frame_at o stack base)) → not x ≡ false → base ≡ 0 → eqb (get_or stack base 0) 0 ≡ fineFrom true top top
+    going_bottom x f q z = from_bottom is_top g.left base z g.stands (sym f ∙ not-false x q) ∙ g.rest
 
-    module _ (q : not x ≡ false) where
-      pub going_bottom : base ≡ 0 → (frame_sender stack base ≡ 0 → ⊥) → false ≡ fineFrom top
-      going_bottom z s = sym (never (fineFrom top) (λ t. s (right_bottom is_top base (right_on (fine_right top t) g.passed) z)))
+    module _ (x : Bool) (f : x ≡ all_of (frame_rules edition o is_top (frame_at o stack base))) (n : not x ≡ false) (z : base ≡ 0 → ⊥) (e : ℕ)
+        (p : e ≡ frame_end o stack (get_or stack base 0))
+      where
+        h : 0 < base
+        h = positive base z
 
-      -- the frame at 0 is the last
-      pub going_end : base ≡ 0 → frame_sender stack base ≡ 0 → Walks e o stack top
-      going_end z s = finish g.passed (last z (record { stands = g.stands; words = true→T (sym f ∙ not-false x q); ends = λ h. absurd (omega arith); bottom = λ h. s }))
+        r : all_of (frame_rules edition o is_top (frame_at o stack base)) ≡ true
+        r = sym f ∙ not-false x n
 
-      module _ (above : base ≡ 0 → ⊥) (end : ℕ) (p : end ≡ frame_end o stack (frame_sender stack base)) where
-        pub going_apart : (end ≡ base → ⊥) → false ≡ fineFrom top
+        abbrev sender : ℕ
+        sender = get_or stack base 0
+
+        -- no frame below ends where this one begins
+        pub going_apart : (e ≡ base → ⊥) → false ≡ fineFrom true top top
         going_apart d =
-            sym (never (fineFrom top) (λ t.
-            let w = below_stands n b contents bodies stack e is_top base (right_on (fine_right top t) g.passed) (positive base above) in
-            d (end_is o stack (frame_sender stack base) end p (right_stands false (frame_sender stack base) w.rights) ∙ sym w.ends)))
+            sym (above is_top g.left base h g.enough g.stands r ∙ never (eqb base (sender + frame_size o (frame_method stack sender)) && fineFrom false (g.left - 1) sender) go) ∙ g.rest
+          where
+            go : T (eqb base (sender + frame_size o (frame_method stack sender)) && fineFrom false (g.left - 1) sender) → ⊥
+            go t =
+                let a = and_left (eqb base (sender + frame_size o (frame_method stack sender))) (fineFrom false (g.left - 1) sender) t in
+                let s = (from_first false (g.left - 1) sender (and_right (eqb base (sender + frame_size o (frame_method stack sender))) (fineFrom false (g.left - 1) sender) t)).1 in
+                d (end_is o stack sender e p s ∙ sym (eqb→eq base (sender + frame_size o (frame_method stack sender)) a))
 
-        here : end ≡ base → Walked e o stack is_top base
-        here d =
-            let h = positive base above in
+        below_ends : e ≡ base → base ≡ sender + frame_size o (frame_method stack sender)
+        below_ends q = sym q ∙ end_is o stack sender e p (end_stands o stack sender e p (omega arith))
+
+        pub going_lower : e ≡ base → sender < base
+        going_lower q = let z = below_ends q in let w = frame_least o (frame_method stack sender) in omega arith
+
+        pub going_down : e ≡ base → Going top sender false
+        going_down q =
+            let z = going_lower q in
+            let l = g.enough in
             record {
-              stands = g.stands;
-              words = true→T (sym f ∙ not-false x q);
-              ends = λ k. sym d ∙ end_is o stack (frame_sender stack base) end p (end_stands o stack (frame_sender stack base) end p (omega arith));
-              bottom = λ z. absurd (above z);
-            }
-
-        pub going_lower : end ≡ base → frame_sender stack base < base
-        going_lower d = (placed e o stack is_top base (here d)).lower (positive base above)
-
-        pub going_down : (again : Bool) → (again ≡ false → (marked ≡ false) × (frame_mark stack base ≡ 0)) → end ≡ base → Going top (frame_sender stack base) false again
-        going_down again m d =
-            let h = positive base above in
-            record {
-              passed = next g.passed h (here d);
-              plain = λ z. next (g.plain (m z).0) h (m z).1;
-              stands = end_stands o stack (frame_sender stack base) end p (omega arith);
+              left = g.left - 1;
+              enough = omega arith;
+              stands = end_stands o stack sender e p (omega arith);
+              rest =
+                  sym (above is_top g.left base h g.enough g.stands r
+                  ∙ pass (eqb base (sender + frame_size o (frame_method stack sender))) (fineFrom false (g.left - 1) sender)
+                  (eq-eqb base (sender + frame_size o (frame_method stack sender)) (below_ends q)))
+                  ∙ g.rest;
             }

@@ -15,33 +15,31 @@ use Rattle.model.specs.Limits.{class_kind, method_kind}
 use Rattle.model.specs.Objects.{Objects, objects_at, is_kind, start, size, body_words, body_end, fields_word, field_count, sized_in_bytes, part}
 use Rattle.model.specs.Method.{home, temporary_count, literal_count, code_words, code_size, frame_words}
 use Rattle.model.specs.Depth.{depthTable, note_at}
-use Rattle.model.specs.Rules.{uses_blocks, method_table}
+use Rattle.model.specs.Rules.{method_table}
 use Rattle.model.specs.Notes.{notes_from}
 use Rattle.model.proofs.ChainLaws.{named}
 use Rattle.model.proofs.Facts.{in_bytes}
 use Rattle.model.proofs.Parts.{length_part, part_same}
-use Rattle.flow.specs.Index.{one_if}
 use Rattle.flow.specs.Walk.{Walked, notes_of}
 use Rattle.flow.proofs.RuleLaws.{table_split}
 use Rattle.rules.proofs.RuleFacts.{class_at}
 use Rattle.methods.specs.Passes.{shape_rules}
-use Rattle.code.specs.Asked.{Shaped, CodeLent, Blank, BlankFrom, rule_of, MethodWalked}
+use Rattle.code.specs.Asked.{Asked, CodeLent, Blank, BlankFrom, rule_of, MethodWalked}
 
 -- the table by what is read of the method
-pub table_here : {o : Objects} {m : ℕ} {words : List ℕ} {size fields temporaries literals blocks limit w : ℕ} (edition : ℕ) → CodeLent o m words size
+pub table_here : {o : Objects} {m : ℕ} {words : List ℕ} {size fields temporaries literals limit w : ℕ} (edition : ℕ) → CodeLent o m words size
     → fields ≡ field_count o w → w ≡ home o m → temporaries ≡ temporary_count o m → literals ≡ literal_count o m → limit ≡ frame_words o m
-    → blocks ≡ one_if (uses_blocks edition o m) → depthTable words size temporaries limit (rule_of o m fields temporaries literals blocks) ≡ method_table edition o m
-table_here {o} {m} {fields = fields} {temporaries} {literals} {blocks} {limit} edition c f h t l r u =
-    ap₂ (λ (w : List ℕ) (s : ℕ). depthTable w s temporaries limit (rule_of o m fields temporaries literals blocks)) c.is_words c.is_size
-    ∙ ap₂ (λ (t l : ℕ). depthTable (code_words o m) (code_size o m) t l (rule_of o m fields t literals blocks)) t r
-    ∙ ap₂ (λ (f l : ℕ). depthTable (code_words o m) (code_size o m) (temporary_count o m) (frame_words o m) (rule_of o m f (temporary_count o m) l blocks)) (f ∙ ap (field_count o) h) l
-    ∙ ap (λ (x : ℕ). depthTable (code_words o m) (code_size o m) (temporary_count o m) (frame_words o m) (rule_of o m (field_count o (home o m)) (temporary_count o m) (literal_count o m) x)) u
+    → depthTable words size temporaries limit (rule_of o m fields temporaries literals) ≡ method_table edition o m
+table_here {o} {m} {fields = fields} {temporaries} {literals} {limit} edition c f h t l r =
+    ap₂ (λ (w : List ℕ) (s : ℕ). depthTable w s temporaries limit (rule_of o m fields temporaries literals)) c.is_words c.is_size
+    ∙ ap₂ (λ (t l : ℕ). depthTable (code_words o m) (code_size o m) t l (rule_of o m fields t literals)) t r
+    ∙ ap₂ (λ (f l : ℕ). depthTable (code_words o m) (code_size o m) (temporary_count o m) (frame_words o m) (rule_of o m f (temporary_count o m) l)) (f ∙ ap (field_count o) h) l
     ∙ sym (table_split o m edition)
 
 pub walked_as : {found found' : Option (List ℕ)} {size : ℕ} {notes : List ℕ} {r : Bool} → found ≡ found' → Walked found size notes r → Walked found' size notes r
 walked_as {size = size} {notes} {r} e w = subst (λ (x : Option (List ℕ)). Walked x size notes r) e w
 
-module _ {contents bodies : List ℕ} {n b m : ℕ} (a : Shaped n b contents bodies m) where
+module _ {table contents bodies counts : List ℕ} {n b m : ℕ} (a : Asked table n b contents bodies counts m) where
   abbrev here : Objects
   here = objects_at n b contents bodies
 
@@ -61,14 +59,6 @@ module _ {contents bodies : List ℕ} {n b m : ℕ} (a : Shaped n b contents bod
 
   pub body_inside : start here (m / 2) + body_words here (m / 2) ≤ b
   body_inside = let k = named here method_kind m a.is_method in a.ready.laid.inside (m / 2) k.least k.most
-
--- the bytes of a method's code, by its size and literals
-pub size_is : (o : Objects) (m : ℕ) {l z : ℕ} → l ≡ literal_count o m → z ≡ size o (m / 2) → z - 2 * (2 + l) ≡ code_size o m
-unfolding code_size
-size_is o m e f = omega arith
-
-pub lent_size : {o : Objects} {m : ℕ} {words : List ℕ} {l z : ℕ} → CodeLent o m words l → z ≡ code_size o m → (z ≤ 2 * length words) × (z ≤ 65535)
-lent_size a e = let q = a.is_size in let c = a.covered in let s = a.small in (omega arith, omega arith)
 
 -- a list without notes
 pub blank_list : (t : List ℕ) → Blank t → t ≡ replicate (length t) 0
@@ -97,7 +87,7 @@ note_of none size p h = get_or-replicate size p 0 0 h
 note_of (some t) size p h = refl
 
 -- the method's code and notes, from what is read of its entry and header
-module _ {contents bodies : List ℕ} {n b m : ℕ} (a : Shaped n b contents bodies m) {l st e z : ℕ} (notes : List ℕ)
+module _ {table contents bodies counts : List ℕ} {n b m : ℕ} (a : Asked table n b contents bodies counts m) {l st e z : ℕ} (notes : List ℕ)
     (ql : l ≡ literal_count (objects_at n b contents bodies) m)
     (qs : st ≡ start (objects_at n b contents bodies) (m / 2))
     (qe : e ≡ body_end (objects_at n b contents bodies) (m / 2))

@@ -2,4 +2,3 @@ pub mod LinkFine
 pub mod TurnLaws
 pub mod CodePlace
 pub mod PassLaws
-pub mod BlockPlace

@@ -25,7 +25,7 @@ use Rattle.readers.specs.Places.{Entry, Inside}
 use Rattle.readers.proofs.InsideLaws.{entry_here, method_inside, selectors_inside}
 use Rattle.rules.proofs.RuleFacts.{known_at}
 use Rattle.methods.proofs.ShapeLaws.{literals_held}
-use Rattle.code.specs.Asked.{Shaped, Asked}
+use Rattle.code.specs.Asked.{Asked}
 
 -- a special send needs its receiver and its arguments
 pub special_need : (k e : ℕ) → k < 32 → TableEntry (176 + k) e → need_part e ≡ 1 + special_count k
@@ -67,12 +67,8 @@ module _ (o : Objects) (m : ℕ) {p : Place} where
 pub told : (o : Objects) (m : ℕ) {i j : Instruction} {b : Bool} → i ≡ j → b ≡ linked o m j → b ≡ linked o m i
 told o m e f = f ∙ ap (linked o m) (sym e)
 
--- what is asked of the words
-pub shaped : {table contents bodies counts : List ℕ} {n b m : ℕ} → Asked table n b contents bodies counts m → Shaped n b contents bodies m
-shaped a = record { ready = a.ready; is_method = a.is_method; shape = a.shape }
-
 -- the words that are read of a method and of object 5
-module _ {contents bodies : List ℕ} {n b m : ℕ} (a : Shaped n b contents bodies m) where
+module _ {table contents bodies counts : List ℕ} {n b m : ℕ} (a : Asked table n b contents bodies counts m) where
   pub method_entry : Entry n (m / 2) contents
   method_entry = entry_here a.ready.laid method_kind m a.is_method
 

@@ -21,11 +21,10 @@ use Rattle.model.specs.Notes.{notes_from, MethodNoted, NotedBefore}
 use Rattle.rules.proofs.Laid.{layout_at}
 use Rattle.readers.proofs.Names.{names_kind}
 use Rattle.readers.proofs.Loops.{UpBefore, up_none, up_more, up_all, up_no, stop, pass}
-use Rattle.methods.specs.Passes.{shape_rules, shape_fine, code_fine, shapes, holders, codes, blocks}
+use Rattle.methods.specs.Passes.{shape_rules, shape_fine, code_fine, shapes, holders, codes}
 use Rattle.methods.specs.Counts.{Held, Counts}
 use Rattle.methods.proofs.PassLaws.{passes}
 use Rattle.code.specs.Asked.{Asked, Blank, BlankFrom, MethodWalked, PassLent, ObjectNoted, CodesNoted, MethodsNoted}
-use Rattle.code.proofs.LinkFine.{shaped}
 use Rattle.code.proofs.CodePlace.{code_starts, body_size}
 
 half : (k : ℕ) → pointer k / 2 ≡ k
@@ -157,32 +156,24 @@ module _ (edition : ℕ) (o : Objects) where
   refused_seven ns e = record { answer = sym e; noted = λ q. absurd (subst T (sym q) tt) }
 
   pub seven_shapes : (ns : List ℕ) → shapes o ≡ false → MethodsNoted edition o ns false
-  seven_shapes ns e = refused_seven ns (passes edition o ∙ stop (shapes o) (holders o && (F && (codes edition o && blocks edition o))) e)
+  seven_shapes ns e = refused_seven ns (passes edition o ∙ stop (shapes o) (holders o && (F && codes edition o)) e)
 
-  after_shapes : shapes o ≡ true → rule7 edition o ≡ (holders o && (F && (codes edition o && blocks edition o)))
-  after_shapes e = passes edition o ∙ pass (shapes o) (holders o && (F && (codes edition o && blocks edition o))) e
+  after_shapes : shapes o ≡ true → rule7 edition o ≡ (holders o && (F && codes edition o))
+  after_shapes e = passes edition o ∙ pass (shapes o) (holders o && (F && codes edition o)) e
 
   pub seven_holders : (ns counts : List ℕ) (r : Bool) → shapes o ≡ true → Held o counts r → r ≡ false → MethodsNoted edition o ns false
   unfolding Held
   seven_holders ns counts true e h q = absurd (subst T q tt)
-  seven_holders ns counts false e h q = refused_seven ns (after_shapes e ∙ stop (holders o) (F && (codes edition o && blocks edition o)) (never (holders o) h))
+  seven_holders ns counts false e h q = refused_seven ns (after_shapes e ∙ stop (holders o) (F && codes edition o) (never (holders o) h))
 
-  after_holders : shapes o ≡ true → T (holders o) → rule7 edition o ≡ (F && (codes edition o && blocks edition o))
-  after_holders e h = after_shapes e ∙ pass (holders o) (F && (codes edition o && blocks edition o)) (T→true (holders o) h)
+  after_holders : shapes o ≡ true → T (holders o) → rule7 edition o ≡ (F && codes edition o)
+  after_holders e h = after_shapes e ∙ pass (holders o) (F && codes edition o) (T→true (holders o) h)
 
   pub seven_failures : (ns : List ℕ) → shapes o ≡ true → T (holders o) → F ≡ false → MethodsNoted edition o ns false
-  seven_failures ns e h f = refused_seven ns (after_holders e h ∙ stop F (codes edition o && blocks edition o) f)
+  seven_failures ns e h f = refused_seven ns (after_holders e h ∙ stop F (codes edition o) f)
 
-  after_failures : shapes o ≡ true → T (holders o) → F ≡ true → rule7 edition o ≡ (codes edition o && blocks edition o)
-  after_failures e h f = after_holders e h ∙ pass F (codes edition o && blocks edition o) f
-
-  pub seven_codes : (ns : List ℕ) (r : Bool) → shapes o ≡ true → T (holders o) → F ≡ true → CodesNoted edition o ns r → r ≡ false → MethodsNoted edition o ns false
-  seven_codes ns r e h f c q = refused_seven ns (after_failures e h f ∙ stop (codes edition o) (blocks edition o) (sym c.answer ∙ q))
-
-  pub seven_blocks : (ns : List ℕ) (r s : Bool) → shapes o ≡ true → T (holders o) → F ≡ true → CodesNoted edition o ns r → r ≡ true → s ≡ blocks edition o
-      → MethodsNoted edition o ns s
-  seven_blocks ns r s e h f c q z =
-      record { answer = z ∙ sym (after_failures e h f ∙ pass (codes edition o) (blocks edition o) (sym c.answer ∙ q)); noted = λ _. c.noted q }
+  pub seven_codes : (ns : List ℕ) (r : Bool) → shapes o ≡ true → T (holders o) → F ≡ true → CodesNoted edition o ns r → MethodsNoted edition o ns r
+  seven_codes ns r e h f c = record { answer = c.answer ∙ sym (after_holders e h ∙ pass F (codes edition o) f); noted = c.noted }
 
 module _ {table contents bodies counts : List ℕ} {n b notes pending : ℕ} (l : PassLent table n b contents bodies counts notes pending) where
   abbrev o : Objects
@@ -208,8 +199,8 @@ module _ {table contents bodies counts : List ℕ} {n b notes pending : ℕ} (l 
   unfolding code_size
   apart j k h l' g e =
       let a = asked_at j h (omega arith) e in
-      let s = code_starts (shaped a) in
-      let w = body_size (shaped a) in
+      let s = code_starts a in
+      let w = body_size a in
       let r : start o (pointer j / 2) + body_words o (pointer j / 2) ≤ start o (pointer k / 2) = moved (in_order l.ready.edition o (T→true _ l.ready.layout) j k h l' g) in
       omega arith
     where
@@ -228,8 +219,8 @@ module _ {table contents bodies counts : List ℕ} {n b notes pending : ℕ} (l 
     unfolding code_size
     walked_blank i x =
         let a = asked_at k h g e in
-        let s = code_starts (shaped a) in
-        let z = body_size (shaped a) in
+        let s = code_starts a in
+        let z = body_size a in
         let y : 2 * body_end o (pointer k / 2) ≤ i = subst (λ (j : ℕ). 2 * body_end o j ≤ i) (sym (half k)) x in
         w.others i (inr (omega arith)) ∙ blank i (omega arith)
 

@@ -57,8 +57,8 @@ module _ {t s : List ℕ} {waiting : ℕ} where
         never = λ e. other (λ z. omega arith) e;
       }
 
-module _ {counts words : List ℕ} {size limit : ℕ} {more : Instruction → Bool} where
-  pub queued : {t s : List ℕ} {k : ℕ} → length t ≤ length s → Walking counts words size limit more t s k → Queued t s k
+module _ {counts words : List ℕ} {size room : ℕ} {more : Instruction → Bool} where
+  pub queued : {t s : List ℕ} {k : ℕ} → length t ≤ length s → Walking counts words size room more t s k → Queued t s k
   queued {t} {s} {k} l w =
       let c = w.walk.count in
       let top : 0 < k → (d : ℕ) × Noted t (get_or s (k - 1) 0) d = λ h. w.walk.queued (k - 1) (omega arith) in
@@ -68,36 +68,36 @@ module _ {counts words : List ℕ} {size limit : ℕ} {more : Instruction → Bo
         noted = λ h. let e : get_or t (get_or s (k - 1) 0) 0 ≡ suc (top h).0 = (top h).1 in omega arith;
       }
 
-  module _ {t s : List ℕ} {waiting : ℕ} {t' s' : List ℕ} {r : Went} (turn : TurnAt counts words size limit more t s waiting t' s' r) where
-    pub next_refused : r ≡ Stuck → NextAt counts words size limit more t waiting t' s' Refused
+  module _ {t s : List ℕ} {waiting : ℕ} {t' s' : List ℕ} {r : Went} (turn : TurnAt counts words size room more t s waiting t' s' r) where
+    pub next_refused : r ≡ Stuck → NextAt counts words size room more t waiting t' s' Refused
     next_refused e =
         record { goes = λ k p d f. other (λ z. omega arith) f; over = λ f. other (λ z. omega arith) f; never = λ _. turn.ends e }
 
-    pub next_fresh : {k p d : ℕ} → r ≡ Fresh k p d → NextAt counts words size limit more t waiting t' s' (At k p d)
+    pub next_fresh : {k p d : ℕ} → r ≡ Fresh k p d → NextAt counts words size room more t waiting t' s' (At k p d)
     next_fresh {k} {p} {d} e =
         let w = turn.goes k (goes_fresh e) in
         let l = turn.latest.last k p d e in
-        let here : WalkingAt counts words size limit more t' s' k p d = record { walking = w.0; left = l.0; last = l.1; noted = l.2 } in
+        let here : WalkingAt counts words size room more t' s' k p d = record { walking = w.0; left = l.0; last = l.1; noted = l.2 } in
         record {
           goes = λ j q f g.
               let x : k ≡ j = ap count_in g in (
-                subst (λ (i : ℕ). WalkingAt counts words size limit more t' s' i q f) x
-                    (subst (λ (i : ℕ). WalkingAt counts words size limit more t' s' k i f) (ap place_in g)
-                    (subst (λ (i : ℕ). WalkingAt counts words size limit more t' s' k p i) (ap depth_in g) here)),
+                subst (λ (i : ℕ). WalkingAt counts words size room more t' s' i q f) x
+                    (subst (λ (i : ℕ). WalkingAt counts words size room more t' s' k i f) (ap place_in g)
+                    (subst (λ (i : ℕ). WalkingAt counts words size room more t' s' k p i) (ap depth_in g) here)),
                 (let y = w.1 in omega arith),
               );
           over = λ g. other (λ z. omega arith) g;
           never = λ g. other (λ z. omega arith) g;
         }
 
-    pub next_known : {k p d : ℕ} {x : Next} → length t' ≡ size → r ≡ Known k p d → Last t' s' k x → NextAt counts words size limit more t waiting t' s' x
+    pub next_known : {k p d : ℕ} {x : Next} → length t' ≡ size → r ≡ Known k p d → Last t' s' k x → NextAt counts words size room more t waiting t' s' x
     next_known {k} long e l =
         let w = turn.goes k (goes_known e) in
         record {
           goes = λ j q f g.
               let y = l.goes j q f g in
               let z : j ≡ k = y.0 in (
-                subst (λ (i : ℕ). WalkingAt counts words size limit more t' s' i q f) (sym z) (record { walking = w.0; left = y.1; last = y.2; noted = y.3 }),
+                subst (λ (i : ℕ). WalkingAt counts words size room more t' s' i q f) (sym z) (record { walking = w.0; left = y.1; last = y.2; noted = y.3 }),
                 (let v = w.1 in omega arith),
               );
           over = λ g. finishes long (l.over g) w.0;

@@ -1,4 +1,4 @@
--- What the functions of the third and fourth pass ask of and promise each other.
+-- What the functions of the third pass ask of and promise each other.
 use Rattle.std.specs.Prelude.{ℕ, suc, ◌+◌, ◌*◌, ◌<◌, ◌≤◌, ◌≡◌, ◌⊎◌, Bool, true, ◌&&◌, List, T, length, get_or}
 use Rattle.bytecode.specs.Test.{all_of}
 use Rattle.bytecode.specs.Table.{IsTable}
@@ -15,13 +15,7 @@ use Rattle.flow.specs.Walk.{most_code}
 use Rattle.methods.specs.Asked.{Ready, SendAsked}
 use Rattle.methods.specs.Passes.{shape_rules, shapes, code_fine, codes}
 
--- method m, whose words are right
-pub record Shaped (n b : ℕ) (contents bodies : List ℕ) (m : ℕ) : Type 0 where
-  pub ready : Ready n b contents bodies
-  pub is_method : T (is_kind (objects_at n b contents bodies) method_kind m)
-  pub shape : T (all_of (shape_rules (objects_at n b contents bodies) m))
-
--- in an image whose counts are there
+-- method m, whose words are right, in an image whose counts are there
 pub record Asked (table : List ℕ) (n b : ℕ) (contents bodies counts : List ℕ) (m : ℕ) : Type 0 where
   pub entries : IsTable table
   pub ready : Ready n b contents bodies
@@ -43,9 +37,9 @@ Blank notes = (i : ℕ) → get_or notes i 0 ≡ 0
 abbrev pub BlankFrom : ℕ → List ℕ → Type 0
 BlankFrom w notes = (i : ℕ) → 2 * w ≤ i → get_or notes i 0 ≡ 0
 
--- the rules of an instruction of method m, by counts of fields, temporaries and literals, and 0 or 1 for blocks
-abbrev pub rule_of : Objects → ℕ → ℕ → ℕ → ℕ → ℕ → Instruction → Bool
-rule_of o m fields temporaries literals blocks i = indexed fields temporaries literals blocks i && linked o m i
+-- the rules of an instruction of method m, by counts of fields, temporaries and literals
+abbrev pub rule_of : Objects → ℕ → ℕ → ℕ → ℕ → Instruction → Bool
+rule_of o m fields temporaries literals i = indexed fields temporaries literals i && linked o m i
 
 -- one method walked: the others' notes stay
 pub record MethodWalked (e : ℕ) (o : Objects) (m : ℕ) (notes notes' : List ℕ) (r : Bool) : Type 0 where
@@ -72,13 +66,6 @@ pub record ObjectNoted (e : ℕ) (o : Objects) (k : ℕ) (notes notes' : List �
 pub record CodesNoted (e : ℕ) (o : Objects) (notes : List ℕ) (r : Bool) : Type 0 where
   pub answer : r ≡ codes e o
   pub noted : r ≡ true → NotedBefore e o notes (suc o.n)
-
--- what the pass over blocks is lent: the notes of all methods
-pub record BlocksLent (e n b : ℕ) (contents bodies notes : List ℕ) : Type 0 where
-  pub ready : Ready n b contents bodies
-  pub shaped : T (shapes (objects_at n b contents bodies))
-  pub room : 2 * b ≤ length notes
-  pub noted : NotedBefore e (objects_at n b contents bodies) notes (suc n)
 
 -- and rule 7
 pub record MethodsNoted (e : ℕ) (o : Objects) (notes : List ℕ) (r : Bool) : Type 0 where

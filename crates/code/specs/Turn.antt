@@ -20,7 +20,7 @@ pub record Last (t s : List ℕ) (waiting : ℕ) (r : Next) : Type 0 where
   pub never : r ≡ Refused → ⊥
 
 -- a turn goes on and uses something up, or says whether there is a table
-pub record NextAt (counts words : List ℕ) (size limit : ℕ) (more : Instruction → Bool) (t : List ℕ) (waiting : ℕ) (t' s' : List ℕ) (r : Next) : Type 0 where
-  pub goes : (k p d : ℕ) → r ≡ At k p d → WalkingAt counts words size limit more t' s' k p d × (k + zeros t' < waiting + zeros t)
-  pub over : r ≡ Over → tableBy counts words size limit more ≡ some t'
-  pub never : r ≡ Refused → tableBy counts words size limit more ≡ none
+pub record NextAt (counts words : List ℕ) (size room : ℕ) (more : Instruction → Bool) (t : List ℕ) (waiting : ℕ) (t' s' : List ℕ) (r : Next) : Type 0 where
+  pub goes : (k p d : ℕ) → r ≡ At k p d → WalkingAt counts words size room more t' s' k p d × (k + zeros t' < waiting + zeros t)
+  pub over : r ≡ Over → tableBy counts words size room more ≡ some t'
+  pub never : r ≡ Refused → tableBy counts words size room more ≡ none

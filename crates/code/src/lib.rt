@@ -1,14 +1,12 @@
-// The third and the fourth pass of rule 7: the code of all methods, with the depth notes of all of them in one table, a byte for each byte of the bodies; and the blocks.
-ghost use Rattle.std.specs.Prelude.{◌≡◌, ◌&&◌, ◌*◌, ◌/◌, ◌<◌, ◌≤◌, length};
+// The third pass of rule 7: the code of all methods, and the depth notes of all of them in one table, a byte for each byte of the bodies.
+ghost use Rattle.std.specs.Prelude.{◌≡◌, ◌*◌, ◌/◌, ◌<◌, ◌≤◌, length};
 ghost use Rattle.bytecode.specs.Code.{decode_at};
 ghost use Rattle.bytecode.specs.Table.{place_index, IsTable};
 ghost use Rattle.bytecode.specs.Effect.{special_count};
 ghost use Rattle.model.specs.Objects.{objects_at, start};
 ghost use Rattle.model.proofs.Unchanged.{Small};
-ghost use Rattle.flow.specs.Index.{one_if};
 ghost use Rattle.flow.specs.Linked.{place_linked, linked};
 ghost use Rattle.model.specs.Method.{literal as literal_of};
-ghost use Rattle.model.specs.Limits.{has_blocks};
 ghost use Rattle.model.specs.Rules.{send_fine, method_table};
 ghost use Rattle.model.specs.Depth.{depthTable};
 ghost use Rattle.flow.specs.Walk.{Static, WalkingAt, tableBy, Answer, Lent, Walked};
@@ -16,13 +14,10 @@ ghost use Rattle.code.specs.Asked.{Asked, CodeLent, Blank, BlankFrom, rule_of, M
 ghost use Rattle.code.specs.Turn.{Queued, Last, NextAt};
 ghost use Rattle.methods.specs.Asked.{Ready};
 ghost use Rattle.readers.specs.Places.{Entry};
-ghost use Rattle.readers.specs.Header.{runs_of};
 
 use bytecode::{Instruction, Place};
 use flow::Went;
 use model::{Pointer, limits};
-
-mod blocks;
 
 // The argument count of a special send, from the table's need.
 fn special_count(table: &[u16; 256], k: u8) -> u8
@@ -157,12 +152,6 @@ fn instruction_fine(
             table, contents, bodies, n, b, counts, m, literal, arguments,
         ),
         Instruction::SpecialSend(k) => special_fine(table, contents, bodies, n, b, counts, m, k),
-        Instruction::PushBlock {
-            arguments: _,
-            ahead: _,
-            back: _,
-        } => true,
-        Instruction::BlockReturn => true,
         Instruction::Unused => true,
     }
 }
@@ -218,8 +207,7 @@ fn turn(
     counts: &[u8],
     m: u16,
     words: &[u16],
-    limits: &[u8; 5],
-    limit: usize,
+    limits: &[u8; 4],
     room: usize,
     notes: &mut [u8],
     pending: &mut [u16],
@@ -228,10 +216,10 @@ fn turn(
     depth: usize,
 ) -> Next
     requires asked { Asked table.now n b contents.now bodies.now counts.now m }
-    requires fact { Static table.now limits.now words.now limit room notes.old pending.old }
-    requires walking_at { WalkingAt limits.now words.now (length notes.old) limit (linked (objects_at n b contents.now bodies.now) m) notes.old pending.old
+    requires fact { Static table.now limits.now words.now room notes.old pending.old }
+    requires walking_at { WalkingAt limits.now words.now (length notes.old) room (linked (objects_at n b contents.now bodies.now) m) notes.old pending.old
         waiting at depth }
-    ensures { NextAt limits.now words.now (length notes.old) limit
+    ensures { NextAt limits.now words.now (length notes.old) room
         (linked (objects_at n b contents.now bodies.now) m) notes.old waiting notes.new pending.new result }
 {
     let op = bytecode::fetch(words, at);
@@ -243,7 +231,6 @@ fn turn(
     match flow::expand(
         limits,
         words,
-        limit,
         room,
         notes,
         pending,
@@ -269,16 +256,15 @@ fn drain(
     counts: &[u8],
     m: u16,
     words: &[u16],
-    limits: &[u8; 5],
-    limit: usize,
+    limits: &[u8; 4],
     room: usize,
     notes: &mut [u8],
     pending: &mut [u16],
 ) -> bool
     requires asked { Asked table.now n b contents.now bodies.now counts.now m }
-    requires fact { Static table.now limits.now words.now limit room notes.old pending.old }
-    requires walking_at { WalkingAt limits.now words.now (length notes.old) limit (linked (objects_at n b contents.now bodies.now) m) notes.old pending.old 1 0 0 }
-    ensures { Answer (tableBy limits.now words.now (length notes.old) limit
+    requires fact { Static table.now limits.now words.now room notes.old pending.old }
+    requires walking_at { WalkingAt limits.now words.now (length notes.old) room (linked (objects_at n b contents.now bodies.now) m) notes.old pending.old 1 0 0 }
+    ensures { Answer (tableBy limits.now words.now (length notes.old) room
         (linked (objects_at n b contents.now bodies.now) m)) notes.new result }
 {
     let mut waiting: usize = 1;
@@ -286,8 +272,8 @@ fn drain(
     let mut depth: usize = 0;
     loop {
         match turn(
-            table, contents, bodies, n, b, counts, m, words, limits, limit, room, notes, pending,
-            waiting, at, depth,
+            table, contents, bodies, n, b, counts, m, words, limits, room, notes, pending, waiting,
+            at, depth,
         ) {
             Next::At(k, p, d) => {
                 waiting = k;
@@ -305,7 +291,7 @@ fn drain(
 }
 
 // The depth walk over the code of a method, which has as many bytes as there are notes. They are 0, and end as the depth table, 0 for a
-// position that is not reached and one more than the depth (the table's number) for any other; or all as 0, where there is none.
+// position that is not reached and one more than the depth for any other; or all as 0, where there is none.
 fn walk(
     table: &[u16; 256],
     contents: &[u16],
@@ -318,7 +304,6 @@ fn walk(
     fields: u8,
     temporaries: u8,
     literals: u8,
-    blocks: u8,
     limit: usize,
     notes: &mut [u8],
     pending: &mut [u16],
@@ -327,7 +312,7 @@ fn walk(
     requires lent { Lent table.now words.now limit notes.old pending.old }
     requires blank { Blank notes.old }
     ensures { Walked (depthTable words.now (length notes.old) temporaries limit
-        (rule_of (objects_at n b contents.now bodies.now) m fields temporaries literals blocks)) (length notes.old) notes.new result }
+        (rule_of (objects_at n b contents.now bodies.now) m fields temporaries literals)) (length notes.old) notes.new result }
 {
     if notes.len() == 0 {
         return false;
@@ -338,7 +323,7 @@ fn walk(
     }
     notes[0] = 1;
     pending[0] = 0;
-    let limits = [1, fields, temporaries, literals, blocks];
+    let limits = [1, fields, temporaries, literals];
     if drain(
         table,
         contents,
@@ -349,8 +334,7 @@ fn walk(
         m,
         words,
         &limits,
-        limit,
-        2 * (limit - t),
+        limit - t,
         notes,
         pending,
     ) {
@@ -358,19 +342,6 @@ fn walk(
     }
     flow::clear(notes);
     false
-}
-
-// 1 where the instructions of blocks are used in a method, by its header, else 0.
-fn uses_blocks(edition: u16, header: usize) -> u8
-    ensures { result ≡ one_if (has_blocks edition && runs_of header) }
-{
-    if !readers::edition::has_blocks(edition) {
-        return 0;
-    }
-    if !readers::runs_code(header) {
-        return 0;
-    }
-    1
 }
 
 // The notes of a method's code: those of its depth table, all 0 where it has none, as they were.
@@ -400,7 +371,6 @@ fn code_notes(
     let temporaries = readers::temporary_count(header) as u8;
     let literals = readers::literal_count(header) as u8;
     let limit = readers::frame_words(header);
-    let blocks = uses_blocks(edition, header);
     walk(
         table,
         contents,
@@ -413,7 +383,6 @@ fn code_notes(
         fields,
         temporaries,
         literals,
-        blocks,
         limit,
         notes,
         pending,
@@ -651,8 +620,5 @@ pub fn methods_fine(
         return false;
     }
     let table = bytecode::table();
-    if !codes_noted(edition, &table, contents, bodies, n, b, &counts, notes) {
-        return false;
-    }
-    blocks::blocks_fine(edition, contents, bodies, n, b, notes)
+    codes_noted(edition, &table, contents, bodies, n, b, &counts, notes)
 }

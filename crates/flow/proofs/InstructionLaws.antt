@@ -1,28 +1,26 @@
 -- The rules with no objects, on the instructions that a byte can begin.
 use Prim.Native.Nat.{ℕ, zero, suc, ◌+◌, ◌-◌, ◌*◌, ◌%◌, ◌<◌, ◌≤◌}
 use mathlib.Core.Path.{◌≡◌, refl, ap, ◌∙◌, subst}
-use mathlib.Core.Logic.{◌⊎◌, inl, inr}
-use mathlib.Core.Bool.{Bool, true, false, ◌&&◌, ◌||◌}
+use mathlib.Core.Bool.{Bool, true, false, ◌&&◌}
 use mathlib.Core.List.{List}
 use native.Mathlib.Omega.{arith}
 use native.Mathlib.Decide.{dec_lt}
 use borrow.Author.Tests.{eq-eqb}
-use lib.Dec.{T, ltb, eqb, ltb→lt, eqb→eq}
+use lib.Dec.{T, ltb, leb, eqb, leb→le, ltb→lt, eqb→eq}
 use lib.ListN.{get_or}
 use Rattle.bytecode.specs.Test.{if◌then◌else◌, implies}
-use Rattle.bytecode.specs.Code.{place_of, short_of, constant_of, extended_of, block_of, jump_of, send_of, instruction_of, length_of}
+use Rattle.bytecode.specs.Code.{place_of, short_of, constant_of, extended_of, jump_of, send_of, instruction_of, length_of}
 use Rattle.bytecode.specs.Table.{place_bound, place_index, bound, index, group, alone, group_of, extra_of}
 use Rattle.bytecode.specs.declared.Place.TheVariants.{Field, Temporary, Literal, LiteralVariable}
 use Rattle.bytecode.specs.declared.Instruction.{Instruction}
-use Rattle.bytecode.specs.declared.Instruction.TheVariants.{Push, Store, PopStore, PushSelf, PushConstant, ReturnSelf, ReturnConstant, ReturnTop, Pop, Duplicate, Jump, JumpOn, Send, SuperSend, SpecialSend, PushBlock, BlockReturn, Unused}
+use Rattle.bytecode.specs.declared.Instruction.TheVariants.{Push, Store, PopStore, PushSelf, PushConstant, ReturnSelf, ReturnConstant, ReturnTop, Pop, Duplicate, Jump, JumpOn, Send, SuperSend, SpecialSend, Unused}
 use Rattle.bytecode.proofs.Choice.{ranges, if_lt, if_ge, if_either}
 use Rattle.bytecode.proofs.CodeLaws.{is_jump}
-use Rattle.bytecode.proofs.TestLaws.{T→true, true→T, and_left, or_cases, implied, below_at}
-use Rattle.model.specs.Depth.{number_after, code_fine, leaves_at}
+use Rattle.bytecode.proofs.TestLaws.{T→true, true→T, and_left, and_right, implied, below_at}
 use Rattle.model.specs.Rules.{is_writable}
 use Rattle.flow.specs.Index.{placeIndexed, indexed, place_indexed_by, indexed_by}
 
--- The rule is that on the index: no store to a literal, none of blocks, and used
+-- The rule is that on the index: no store to a literal, and used
 direct : Instruction → Bool
 direct (Push p) = true
 direct (Store (Literal i)) = false
@@ -45,8 +43,6 @@ direct (JumpOn x a) = true
 direct (Send l n) = true
 direct (SuperSend l n) = true
 direct (SpecialSend k) = true
-direct (PushBlock n a b) = false
-direct BlockReturn = false
 direct Unused = false
 
 direct_test : ℕ → Bool
@@ -94,8 +90,6 @@ module _ (counts : List ℕ) where
   said_if one (Send l n) = refl
   said_if one (SuperSend l n) = refl
   said_if one (SpecialSend k) = rw one
-  said_if one (PushBlock n a b) = tt
-  said_if one BlockReturn = tt
   said_if one Unused = tt
 
   -- an instruction of one byte that goes on has no rule but that on its index
@@ -126,8 +120,6 @@ module _ (counts : List ℕ) where
   return_says (Send l n) = tt
   return_says (SuperSend l n) = tt
   return_says (SpecialSend k) = tt
-  return_says (PushBlock n a b) = tt
-  return_says BlockReturn = tt
   return_says Unused = tt
 
   pub return_indexed : (i : Instruction) → group i ≡ 1 → indexed_by counts i ≡ true
@@ -194,82 +186,26 @@ extra_small b x =
     (if_either (λ k. k ≤ x) (eqb b 132) _ _ (omega arith)
     (if_either (λ k. k ≤ x) (eqb b 133) _ _ (omega arith) (if_either (λ k. k ≤ x) (eqb b 134) _ _ (omega arith) (omega arith))))
 
--- The group 2 has 125, 128 to 134, 137 and 144 to 175.
-far_range : ℕ → Bool
-far_range b = if ltb b 128 then eqb b 125 else if ltb b 144 then ltb b 135 || eqb b 137 else ltb b 176
-
+-- The group 2 has 128 to 134 and 144 to 175.
 far_test : ℕ → Bool
-far_test b = implies (eqb (group_of b) 2) (far_range b)
+far_test b = implies (eqb (group_of b) 2) (if ltb b 144 then leb 128 b && ltb b 135 else ltb b 176)
 
 far_tested : (b : ℕ) → b < 256 → T (far_test b)
-unfolding far_test far_range if◌then◌else◌ place_of short_of constant_of extended_of block_of jump_of send_of instruction_of length_of group group_of
+unfolding far_test if◌then◌else◌ place_of short_of constant_of extended_of jump_of send_of instruction_of length_of group group_of
 far_tested b h = below_at 256 far_test tt b h
 
-module _ (b : ℕ) (small : b < 256) (g : group_of b ≡ 2) where
-  far_at : T (far_range b)
-  unfolding far_test
-  far_at = implied (eqb (group_of b) 2) (far_range b) (far_tested b small) (true→T (eq-eqb (group_of b) 2 g))
+far_at : (b : ℕ) → b < 256 → group_of b ≡ 2 → T (if ltb b 144 then leb 128 b && ltb b 135 else ltb b 176)
+unfolding far_test
+far_at b h g =
+    implied (eqb (group_of b) 2) (if ltb b 144 then leb 128 b && ltb b 135 else ltb b 176) (far_tested b h) (true→T (eq-eqb (group_of b) 2 g))
 
-  pub far_first : b < 128 → b ≡ 125
-  unfolding far_range
-  far_first l = eqb→eq b 125 (subst T (if_lt b 128 (eqb b 125) _ l) far_at)
+pub far_low : (b : ℕ) → b < 256 → group_of b ≡ 2 → b < 144 → (128 ≤ b) × (b < 135)
+far_low b h g l =
+    let x : T (leb 128 b && ltb b 135) = subst T (if_lt b 144 (leb 128 b && ltb b 135) (ltb b 176) l) (far_at b h g) in
+    (leb→le 128 b (and_left (leb 128 b) (ltb b 135) x), ltb→lt b 135 (and_right (leb 128 b) (ltb b 135) x))
 
-  pub far_second : 134 < b → b < 144 → b ≡ 137
-  unfolding far_range
-  far_second l u =
-      by (or_cases (ltb b 135) (eqb b 137) (subst T (if_ge b 128 (eqb b 125) _ (omega arith) ∙ if_lt b 144 (ltb b 135 || eqb b 137) (ltb b 176) u) far_at))
-    where
-      by : T (ltb b 135) ⊎ T (eqb b 137) → b ≡ 137
-      by (inl t) = let k = ltb→lt b 135 t in absurd (omega arith)
-      by (inr t) = eqb→eq b 137 t
-
-  pub far_high : 144 ≤ b → b < 176
-  unfolding far_range
-  far_high l = ltb→lt b 176 (subst T (if_ge b 128 (eqb b 125) _ (omega arith) ∙ if_ge b 144 (ltb b 135 || eqb b 137) (ltb b 176) l) far_at)
-
--- An instruction that is no jump and none of blocks may stand in any code, and leaves one number to what follows.
-abbrev pub Own : Instruction → ℕ → Type 0
-Own i d = (code_fine i d ≡ true) × ((next q : ℕ) → leaves_at next i q d ≡ number_after i d)
-
-abbrev OwnIf : Instruction → ℕ → ℕ → Type 0
-OwnIf i d zero = Own i d
-OwnIf i d (suc zero) = Own i d
-OwnIf i d (suc (suc k)) = Unit {0}
-
-own_if : (i : Instruction) (d : ℕ) → OwnIf i d (group i)
-unfolding group code_fine leaves_at
-own_if (Push p) d = (refl, λ next q. refl)
-own_if (Store p) d = (refl, λ next q. refl)
-own_if (PopStore p) d = (refl, λ next q. refl)
-own_if PushSelf d = (refl, λ next q. refl)
-own_if (PushConstant w) d = (refl, λ next q. refl)
-own_if ReturnSelf d = (refl, λ next q. refl)
-own_if (ReturnConstant w) d = (refl, λ next q. refl)
-own_if ReturnTop d = (refl, λ next q. refl)
-own_if Pop d = (refl, λ next q. refl)
-own_if Duplicate d = (refl, λ next q. refl)
-own_if (Jump a b) d = tt
-own_if (JumpOn x a) d = tt
-own_if (Send l n) d = (refl, λ next q. refl)
-own_if (SuperSend l n) d = (refl, λ next q. refl)
-own_if (SpecialSend k) d = (refl, λ next q. refl)
-own_if (PushBlock n a b) d = tt
-own_if BlockReturn d = tt
-own_if Unused d = tt
-
-pub own_plain : (i : Instruction) (d : ℕ) → group i ≡ 0 → Own i d
-own_plain i d e = subst (OwnIf i d) e (own_if i d)
-
-pub own_return : (i : Instruction) (d : ℕ) → group i ≡ 1 → Own i d
-own_return i d e = subst (OwnIf i d) e (own_if i d)
-
--- a pushed block's second byte pushes 0 or 1
-pub form_least : (x : ℕ) (c : Bool) → (eqb x 117 || eqb x 118) && c ≡ true → 117 ≤ x
-form_least x c e = by (or_cases (eqb x 117) (eqb x 118) (and_left (eqb x 117 || eqb x 118) c (true→T e)))
-  where
-    by : T (eqb x 117) ⊎ T (eqb x 118) → 117 ≤ x
-    by (inl t) = let k = eqb→eq x 117 t in omega arith
-    by (inr t) = let k = eqb→eq x 118 t in omega arith
+pub far_high : (b : ℕ) → b < 256 → group_of b ≡ 2 → 144 ≤ b → b < 176
+far_high b h g l = ltb→lt b 176 (subst T (if_ge b 144 (leb 128 b && ltb b 135) (ltb b 176) l) (far_at b h g))
 
 -- The long jumps
 pub jump_long : (b : ℕ) (f : ℕ → ℕ) → 160 ≤ b → b < 168 → instruction_of b f ≡ Jump (b % 8 * 256 + f 1) 1024

@@ -20,7 +20,7 @@ use Rattle.flow.specs.declared.Went.TheVariants.{Stuck}
 use Rattle.flow.proofs.StepLaws.{same_count, not_both, step_latest}
 use Rattle.flow.proofs.VisitLaws.{visited_new}
 
-module _ (fine : ℕ → ℕ → Bool) (next : ℕ → List ℕ) (after : ℕ → ℕ → ℕ → ℕ) (room : ℕ → ℕ) where
+module _ (fine : ℕ → ℕ → Bool) (next : ℕ → List ℕ) (after : ℕ → ℕ → ℕ → ℕ) (room : ℕ) where
   abbrev None : Type 0
   None = HasTable fine next after → ⊥
 
@@ -58,9 +58,9 @@ module _ (fine : ℕ → ℕ → Bool) (next : ℕ → List ℕ) (after : ℕ �
     path_at p d (inl h) = w.path p d h
     path_at p d (inr z) = subst (λ (i : ℕ). At next after i d) (sym z.0) (subst (At next after q) (sym z.1) here)
 
-    within_at : (p d : ℕ) → Noted t p d ⊎ ((p ≡ q) × (d ≡ e) × (waiting < waiting')) → d ≤ room d
+    within_at : (p d : ℕ) → Noted t p d ⊎ ((p ≡ q) × (d ≡ e) × (waiting < waiting')) → d ≤ room
     within_at p d (inl h) = w.within p d h
-    within_at p d (inr z) = subst (λ (i : ℕ). i ≤ room i) (sym z.1) v.within
+    within_at p d (inr z) = let x = z.1 in let y = v.within in omega arith
 
     queued_at : (k : ℕ) → k < waiting' → Dec (k < waiting) → (d : ℕ) × Noted t' (get_or s' k 0) d
     queued_at k h (yes l) =
@@ -110,7 +110,7 @@ module _ (fine : ℕ → ℕ → Bool) (next : ℕ → List ℕ) (after : ℕ �
           let e : d ≡ k = suc_inj (sym h ∙ ap (λ (i : ℕ). get_or t i 0) (sym z) ∙ g) in
           subst (λ (i : ℕ). Done fine next after room t i k) (sym z) (subst (Done fine next after room t p) e x)
 
-  module _ (size : ℕ) (inside : (p d : ℕ) → T (fine p d) → p < size) (deep : (p d : ℕ) → T (fine p d) → d ≤ room d) where
+  module _ (size : ℕ) (inside : (p d : ℕ) → T (fine p d) → p < size) (deep : (p d : ℕ) → T (fine p d) → d ≤ room) where
     refused : (t s : List ℕ) (waiting : ℕ) (Busy : ℕ → Type 0) → Inv t s waiting Busy → length t ≡ size
         → (q e : ℕ) → At next after q e → Refused room t q e → None
     refused t s waiting Busy w l q e a (inl h) = not_fine q e a (λ x. let y = deep q e x in omega arith)
@@ -221,12 +221,12 @@ module _ (fine : ℕ → ℕ → Bool) (next : ℕ → List ℕ) (after : ℕ �
           }
 
   -- the start: only position 0 is noted and pending
-  pub begun : (size : ℕ) (t s : List ℕ) → t ≡ blanks size → 0 < size → size ≤ length s → size ≤ most_code → Inv (set t 0 1) (set s 0 0) 1 Nobody
-  begun size t s e some-code long small =
+  pub begun : (size : ℕ) (t s : List ℕ) → t ≡ blanks size → 0 < size → size ≤ length s → size ≤ most_code → room ≤ most_depth → Inv (set t 0 1) (set s 0 0) 1 Nobody
+  begun size t s e some-code long small shallow =
       let full : zeros t ≡ size = ap zeros e ∙ zeros_blank size in
       let all : length t ≡ size = ap length e ∙ length-replicate size 0 in
       let v : Visited room t s 0 0 0 (set t 0 1) (set s 0 0) 1 =
-      visited_new 0 0 (record { count = omega arith; long = omega arith; small = omega arith; shallow = zero_deep }) (omega arith) room (omega arith)
+      visited_new 0 0 (record { count = omega arith; long = omega arith; small = omega arith; shallow = shallow }) (omega arith) (omega arith)
       (ap (λ (l : List ℕ). get_or l 0 0) e ∙ blank size 0) in
       let only : (p d : ℕ) → Noted (set t 0 1) p d → (p ≡ 0) × (d ≡ 0) =
       λ p d h. ⊎_elim (λ z. absurd (never p d (sym (ap (λ (l : List ℕ). get_or l p 0) e ∙ blank size p) ∙ z))) (λ z. (z.0, z.1)) (v.grown p d h) in
@@ -234,13 +234,10 @@ module _ (fine : ℕ → ℕ → Bool) (next : ℕ → List ℕ) (after : ℕ �
         count = let a = v.count in let b = v.lengths.0 in omega arith;
         first = v.here;
         path = λ p d h. subst (λ (i : ℕ). At next after i d) (sym (only p d h).0) (subst (At next after 0) (sym (only p d h).1) origin);
-        within = λ p d h. subst (λ (i : ℕ). i ≤ room i) (sym (only p d h).1) (omega arith);
+        within = λ p d h. let z = (only p d h).1 in omega arith;
         queued = λ k h. (0, ap (λ (i : ℕ). get_or (set t 0 1) i 0) (v.pushed k (omega arith) h) ∙ v.here);
         done = λ p d h. inr (inl (0, omega arith, v.pushed 0 (omega arith) (omega arith) ∙ sym (only p d h).0));
       }
     where
-      zero_deep : 0 ≤ most_depth
-      zero_deep = omega arith
-
       never : (p d : ℕ) → ◌≡◌ {A = ℕ} 0 (suc d) → ⊥
       never p d z = omega arith

@@ -1,4 +1,3 @@
-pub mod RoomLaws
 pub mod VisitLaws
 pub mod StepLaws
 pub mod InvariantLaws

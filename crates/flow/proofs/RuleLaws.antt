@@ -6,29 +6,25 @@ use lib.Dec.{ltb}
 use Rattle.bytecode.specs.declared.Place.{Place}
 use Rattle.bytecode.specs.declared.Place.TheVariants.{Field, Temporary, Literal, LiteralVariable}
 use Rattle.bytecode.specs.declared.Instruction.{Instruction}
-use Rattle.bytecode.specs.declared.Instruction.TheVariants.{Push, Store, PopStore, PushSelf, PushConstant, ReturnSelf, ReturnConstant, ReturnTop, Pop, Duplicate, Jump, JumpOn, Send, SuperSend, SpecialSend, PushBlock, BlockReturn, Unused}
+use Rattle.bytecode.specs.declared.Instruction.TheVariants.{Push, Store, PopStore, PushSelf, PushConstant, ReturnSelf, ReturnConstant, ReturnTop, Pop, Duplicate, Jump, JumpOn, Send, SuperSend, SpecialSend, Unused}
 use Rattle.model.specs.Objects.{Objects, field_count}
 use Rattle.model.specs.Method.{home, temporary_count, literal_count, code_words, code_size, frame_words}
 use Rattle.model.specs.Depth.{depthTable}
-use Rattle.model.specs.Rules.{place_fine, is_writable, uses_blocks, allowed, method_table}
-use Rattle.flow.specs.Index.{placeIndexed, indexed, one_if}
+use Rattle.model.specs.Rules.{place_fine, is_writable, allowed, method_table}
+use Rattle.flow.specs.Index.{placeIndexed, indexed}
 use Rattle.flow.specs.Linked.{place_linked, linked}
 
 and_true : (a : Bool) → a ≡ a && true
 and_true true = refl
 and_true false = refl
 
-one_if_lem : (a : Bool) → a ≡ ltb 0 (one_if a) && true
-one_if_lem true = refl
-one_if_lem false = refl
-
 and_assoc : (a b c : Bool) → a && (b && c) ≡ (a && b) && c
 and_assoc true b c = refl
 and_assoc false b c = refl
 
 module _ (o : Objects) (m : ℕ) where
-  abbrev pub indexedIn : ℕ → Instruction → Bool
-  indexedIn edition = indexed (field_count o (home o m)) (temporary_count o m) (literal_count o m) (one_if (uses_blocks edition o m))
+  abbrev pub indexedIn : Instruction → Bool
+  indexedIn = indexed (field_count o (home o m)) (temporary_count o m) (literal_count o m)
 
   place_split : (p : Place) → place_fine o m p ≡ placeIndexed (field_count o (home o m)) (temporary_count o m) (literal_count o m) p && place_linked o m p
   unfolding place_fine placeIndexed place_linked
@@ -42,7 +38,7 @@ module _ (o : Objects) (m : ℕ) where
       ap (λ (x : Bool). is_writable p && x) (place_split p)
       ∙ and_assoc (is_writable p) (placeIndexed (field_count o (home o m)) (temporary_count o m) (literal_count o m) p) (place_linked o m p)
 
-  pub split : (edition : ℕ) (i : Instruction) → allowed edition o m i ≡ indexedIn edition i && linked o m i
+  pub split : (edition : ℕ) (i : Instruction) → allowed edition o m i ≡ indexedIn i && linked o m i
   unfolding allowed indexed linked
   split edition (Push p) = place_split p
   split edition (Store p) = store_split p
@@ -59,11 +55,9 @@ module _ (o : Objects) (m : ℕ) where
   split edition (Send l n) = refl
   split edition (SuperSend l n) = refl
   split edition (SpecialSend k) = refl
-  split edition (PushBlock n a b) = one_if_lem (uses_blocks edition o m)
-  split edition BlockReturn = one_if_lem (uses_blocks edition o m)
   split edition Unused = refl
 
   -- so a method's table is that of both parts together
-  pub table_split : (edition : ℕ) → method_table edition o m ≡ depthTable (code_words o m) (code_size o m) (temporary_count o m) (frame_words o m) (λ i. indexedIn edition i && linked o m i)
+  pub table_split : (edition : ℕ) → method_table edition o m ≡ depthTable (code_words o m) (code_size o m) (temporary_count o m) (frame_words o m) (λ i. indexedIn i && linked o m i)
   unfolding method_table
   table_split edition = λ k. depthTable (code_words o m) (code_size o m) (temporary_count o m) (frame_words o m) (λ i. split edition i k)

@@ -72,7 +72,7 @@ and_no b e = rw e
 not_two : {A : Type 0} {ok : Bool} → ok ≡ true → ok ≡ false → A
 not_two e f = absurd (subst T (sym e ∙ f) tt)
 
-module _ {room : ℕ → ℕ} {ok : Bool} {qs : List ℕ} {d : ℕ → ℕ} {t s : List ℕ} {waiting : ℕ} {t' s' : List ℕ} where
+module _ {room : ℕ} {ok : Bool} {qs : List ℕ} {d : ℕ → ℕ} {t s : List ℕ} {waiting : ℕ} {t' s' : List ℕ} where
   pub step_yes : {r : Went} → ok ≡ true → Visits room qs d t s waiting t' s' r → Step room ok qs d t s waiting t' s' r
   step_yes e v = record { holds = λ _. v; fails = λ f. not_two e f }
 
@@ -88,12 +88,12 @@ module _ {room : ℕ → ℕ} {ok : Bool} {qs : List ℕ} {d : ℕ → ℕ} {t s
       → Step room ok₁ qs₁ d₁ t s waiting t' s' r → Step room ok qs d t s waiting t' s' r
   step_as e f g v = rw (e, f, g) v
 
-pub step_none : {room : ℕ → ℕ} {ok : Bool} {d : ℕ → ℕ} {t s : List ℕ} {waiting p e : ℕ} → ok ≡ true → Step room ok [] d t s waiting t s (Known waiting p e)
+pub step_none : {room : ℕ} {ok : Bool} {d : ℕ → ℕ} {t s : List ℕ} {waiting p e : ℕ} → ok ≡ true → Step room ok [] d t s waiting t s (Known waiting p e)
 unfolding Visits
 step_none h = step_yes h (refl, refl, goes_known refl, latest_known)
 
 -- what visits leave last
-module _ (room d : ℕ → ℕ) (t' s' : List ℕ) (r : Went) where
+module _ (room : ℕ) (d : ℕ → ℕ) (t' s' : List ℕ) (r : Went) where
   visits_latest : (qs t s : List ℕ) (waiting : ℕ) → Visits room qs d t s waiting t' s' r → Latest t' s' r
   unfolding Visits
   visits_latest [] t s waiting v = rw (v.0, v.1) v.3

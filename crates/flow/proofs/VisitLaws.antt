@@ -2,7 +2,6 @@
 use Prim.Native.Nat.{ℕ, zero, suc, ◌+◌, ◌<◌, ◌≤◌}
 use mathlib.Core.Path.{◌≡◌, refl, sym, ap, ◌∙◌, subst}
 use mathlib.Core.Logic.{◌≢◌, ◌⊎◌, inl, inr}
-use mathlib.Core.Bool.{Bool, true}
 use mathlib.Core.List.{List, [], ◌∷◌}
 use native.Mathlib.Nat.{suc_inj}
 use native.Mathlib.Numerals.{add-one}
@@ -11,12 +10,12 @@ use native.Mathlib.Decide.{ℕ_discrete}
 use lib.ListN.{length, get_or, set, length-set}
 use lib.Seq.{get_or-set_same, get_or-set_other}
 use Rattle.model.proofs.Marks.{zeros_set}
-use Rattle.flow.specs.Walk.{most_depth, Noted, Goes, Asks, Visited, Refused, Visit, Visits, Step, alike}
+use Rattle.flow.specs.Walk.{Noted, Goes, Asks, Visited, Refused, Visit, Visits}
 use Rattle.flow.specs.declared.Went.{Went}
 use Rattle.flow.specs.declared.Went.TheVariants.{Fresh, Known, Stuck}
 use Rattle.flow.proofs.StepLaws.{same_count, not_both, goes_fresh, goes_known, latest_fresh, latest_known, latest_stuck}
 
-module _ {room : ℕ} {t s : List ℕ} {waiting : ℕ} (p d : ℕ) (asks : Asks t s waiting room) (in-t : p < length t) where
+module _ {room : ℕ} {t s : List ℕ} {waiting : ℕ} (p d : ℕ) (asks : Asks t s waiting room) (deep : d ≤ room) (in-t : p < length t) where
   -- a position without a note is left, so that there is room to push it
   pub has_room : get_or t p 0 ≡ 0 → waiting < length s
   has_room e = omega (arith, zeros_set t p d in-t e)
@@ -33,8 +32,8 @@ module _ {room : ℕ} {t s : List ℕ} {waiting : ℕ} (p d : ℕ) (asks : Asks 
         inr (z, suc_inj (sym h ∙ ap (λ (i : ℕ). get_or (set t p (suc d)) i 0) z ∙ new_here), omega arith)
     grown_at q k (no z) h = inl (sym (get_or-set_other t p q (suc d) 0 z) ∙ h)
 
-    new_visit : (most : ℕ → ℕ) → d ≤ most d → Visited most t s waiting p d (set t p (suc d)) (set s waiting p) (waiting + 1)
-    new_visit most deep =
+    new_visit : Visited room t s waiting p d (set t p (suc d)) (set s waiting p) (waiting + 1)
+    new_visit =
         record {
           within = deep;
           lengths = (length-set t p (suc d), length-set s waiting p);
@@ -47,33 +46,33 @@ module _ {room : ℕ} {t s : List ℕ} {waiting : ℕ} (p d : ℕ) (asks : Asks 
           pushed = λ k h l. subst (λ (j : ℕ). get_or (set s waiting p) j 0 ≡ p) (omega arith) (get_or-set_same s waiting p 0 (has_room e));
         }
 
-  pub visited_new : (most : ℕ → ℕ) → d ≤ most d → get_or t p 0 ≡ 0 → Visited most t s waiting p d (set t p (d + 1)) (set s waiting p) (waiting + 1)
-  visited_new most deep e = rw (add-one d) (new_visit e most deep)
+  pub visited_new : get_or t p 0 ≡ 0 → Visited room t s waiting p d (set t p (d + 1)) (set s waiting p) (waiting + 1)
+  visited_new e = rw (add-one d) (new_visit e)
 
-pub visited_same : (most : ℕ → ℕ) {t s : List ℕ} {waiting p d : ℕ} → d ≤ most d → get_or t p 0 ≡ d + 1 → Visited most t s waiting p d t s waiting
-visited_same most {d = d} deep e =
-    record {
-      within = deep;
-      lengths = (refl, refl);
-      count = refl;
-      more = omega arith;
-      here = e ∙ add-one d;
-      kept = λ q k h. h;
-      grown = λ q k h. inl h;
-      stack = λ k h. refl;
-      pushed = λ k h l. absurd (omega arith);
-    }
+  pub visited_same : get_or t p 0 ≡ d + 1 → Visited room t s waiting p d t s waiting
+  visited_same e =
+      record {
+        within = deep;
+        lengths = (refl, refl);
+        count = refl;
+        more = omega arith;
+        here = e ∙ add-one d;
+        kept = λ q k h. h;
+        grown = λ q k h. inl h;
+        stack = λ k h. refl;
+        pushed = λ k h l. absurd (omega arith);
+      }
 
 -- another depth is noted
-clash_at : (room : ℕ → ℕ) (t : List ℕ) (p d v : ℕ) → get_or t p 0 ≡ v → (v ≡ 0 → ⊥) → (v ≡ d + 1 → ⊥) → Refused room t p d
+clash_at : (room : ℕ) (t : List ℕ) (p d v : ℕ) → get_or t p 0 ≡ v → (v ≡ 0 → ⊥) → (v ≡ d + 1 → ⊥) → Refused room t p d
 clash_at room t p d zero e z h = absurd (z refl)
 clash_at room t p d (suc k) e z h = inr (inr (k, e, λ x. h (ap suc x ∙ sym (add-one d))))
 
-pub clash : (room : ℕ → ℕ) (t : List ℕ) (p d : ℕ) → (get_or t p 0 ≡ 0 → ⊥) → (get_or t p 0 ≡ d + 1 → ⊥) → Refused room t p d
+pub clash : (room : ℕ) (t : List ℕ) (p d : ℕ) → (get_or t p 0 ≡ 0 → ⊥) → (get_or t p 0 ≡ d + 1 → ⊥) → Refused room t p d
 clash room t p d z h = clash_at room t p d (get_or t p 0) refl z h
 
 -- what a visit answers
-module _ {room : ℕ → ℕ} {t s : List ℕ} {waiting p d : ℕ} {t' s' : List ℕ} where
+module _ {room : ℕ} {t s : List ℕ} {waiting p d : ℕ} {t' s' : List ℕ} where
   pub visit_fresh : Visited room t s waiting p d t' s' (waiting + 1) → Visit room t s waiting p d t' s' (Fresh (waiting + 1) p d)
   visit_fresh v =
       record {
@@ -94,53 +93,11 @@ module _ {room : ℕ → ℕ} {t s : List ℕ} {waiting p d : ℕ} {t' s' : List
   visit_stuck v = record { goes = λ j e. not_both e refl; ends = λ _. v; latest = latest_stuck }
 
   -- what a visit needs for the next one
-  pub asks_again : {k i j : ℕ} → Asks t s waiting i → j ≤ most_depth → Visited room t s waiting p d t' s' k → Asks t' s' k j
-  asks_again a h v = record { count = omega arith; long = omega arith; small = omega arith; shallow = h }
-
--- The same where the room is this for the depth
-visited_as : {room : ℕ → ℕ} {t s : List ℕ} {waiting p d k : ℕ} {t' s' : List ℕ} {j : ℕ} → room d ≡ k → Visited (alike k) t s waiting p d t' s' j → Visited room t s waiting p d t' s' j
-visited_as e x =
-    record {
-      within = let y = x.within in omega arith;
-      lengths = x.lengths;
-      count = x.count;
-      more = x.more;
-      here = x.here;
-      kept = x.kept;
-      grown = x.grown;
-      stack = x.stack;
-      pushed = x.pushed;
-    }
-
-refused_as : (room : ℕ → ℕ) (t : List ℕ) (p d k : ℕ) → room d ≡ k → Refused (alike k) t p d → Refused room t p d
-refused_as room t p d k e (inl x) = inl (let y : k < d = x in omega arith)
-refused_as room t p d k e (inr x) = inr x
-
-visit_as : {room : ℕ → ℕ} {t s : List ℕ} {waiting p d k : ℕ} {t' s' : List ℕ} {r : Went} → room d ≡ k → Visit (alike k) t s waiting p d t' s' r → Visit room t s waiting p d t' s' r
-visit_as {room} {t} {p = p} {d} {k} e v =
-    record { goes = λ j g. visited_as e (v.goes j g); ends = λ h. refused_as room t p d k e (v.ends h); latest = v.latest }
-
--- where the functions say this depth for the position, and this room for the depth
-pub visit_told : (rooms depths : ℕ → ℕ) {t s : List ℕ} {waiting p d k : ℕ} {t' s' : List ℕ} {r : Went} → depths p ≡ d → rooms d ≡ k
-    → Visit (alike k) t s waiting p d t' s' r → Visit rooms t s waiting p (depths p) t' s' r
-visit_told rooms depths {t} {s} {waiting} {p} {t' = t'} {s'} {r} e g v =
-    subst (λ (x : ℕ). Visit rooms t s waiting p x t' s' r) (sym e) (visit_as g v)
-
-visits_as : (room : ℕ → ℕ) (d k : ℕ) → room d ≡ k → (qs t s : List ℕ) (waiting : ℕ) (t' s' : List ℕ) (r : Went)
-    → Visits (alike k) qs (alike d) t s waiting t' s' r → Visits room qs (alike d) t s waiting t' s' r
-unfolding Visits
-visits_as room d k e [] t s waiting t' s' r v = v
-visits_as room d k e (q ∷ qs) t s waiting t' s' r (inl x) = inl (refused_as room t q d k e x.0, x.1)
-visits_as room d k e (q ∷ qs) t s waiting t' s' r (inr x) =
-    inr (x.0, x.1, x.2, visited_as e x.3, visits_as room d k e qs x.0 x.1 x.2 t' s' r x.4)
-
-pub step_room : {room : ℕ → ℕ} {d k : ℕ} {ok : Bool} {qs t s : List ℕ} {waiting : ℕ} {t' s' : List ℕ} {r : Went} → (ok ≡ true → room d ≡ k)
-    → Step (alike k) ok qs (alike d) t s waiting t' s' r → Step room ok qs (alike d) t s waiting t' s' r
-step_room {room} {d} {k} {ok} {qs} {t} {s} {waiting} {t'} {s'} {r} e v =
-    record { holds = λ h. visits_as room d k (e h) qs t s waiting t' s' r (v.holds h); fails = v.fails }
+  pub asks_again : {k : ℕ} → Asks t s waiting room → Visited room t s waiting p d t' s' k → Asks t' s' k room
+  asks_again a v = record { count = omega arith; long = omega arith; small = omega arith; shallow = a.shallow }
 
 -- one visit, and one before others
-module _ {room : ℕ → ℕ} {t s : List ℕ} {waiting p : ℕ} (d : ℕ → ℕ) {t₁ s₁ : List ℕ} {r₁ : Went} (v : Visit room t s waiting p (d p) t₁ s₁ r₁) where
+module _ {room : ℕ} {t s : List ℕ} {waiting p : ℕ} (d : ℕ → ℕ) {t₁ s₁ : List ℕ} {r₁ : Went} (v : Visit room t s waiting p (d p) t₁ s₁ r₁) where
   pub visits_one : Visits room (p ∷ []) d t s waiting t₁ s₁ r₁
   unfolding Visits
   visits_one = by r₁ refl

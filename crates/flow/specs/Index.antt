@@ -1,10 +1,10 @@
--- The rules of a single instruction that need no objects, only how many fields, temporaries and literals there are, and whether the instructions of
--- blocks are used (0: they are not): a part of `allowed` in model's specs/Rules.antt. The other part is specs/Linked.antt.
+-- The rules of a single instruction that need no objects, only how many fields, temporaries and literals there are: a part of `allowed` in
+-- model's specs/Rules.antt. The other part is specs/Linked.antt.
 use Rattle.std.specs.Prelude.{ℕ, Bool, true, false, ◌&&◌, List, ltb, get_or}
 use Rattle.bytecode.specs.declared.Place.{Place}
 use Rattle.bytecode.specs.declared.Place.TheVariants.{Field, Temporary, Literal, LiteralVariable}
 use Rattle.bytecode.specs.declared.Instruction.{Instruction}
-use Rattle.bytecode.specs.declared.Instruction.TheVariants.{Push, Store, PopStore, PushSelf, PushConstant, ReturnSelf, ReturnConstant, ReturnTop, Pop, Duplicate, Jump, JumpOn, Send, SuperSend, SpecialSend, PushBlock, BlockReturn, Unused}
+use Rattle.bytecode.specs.declared.Instruction.TheVariants.{Push, Store, PopStore, PushSelf, PushConstant, ReturnSelf, ReturnConstant, ReturnTop, Pop, Duplicate, Jump, JumpOn, Send, SuperSend, SpecialSend, Unused}
 use Rattle.model.specs.Rules.{is_writable}
 
 module _ (fields temporaries literals : ℕ) where
@@ -14,11 +14,10 @@ module _ (fields temporaries literals : ℕ) where
   placeIndexed (Literal i) = ltb i literals
   placeIndexed (LiteralVariable i) = ltb i literals
 
-module _ (fields temporaries literals blocks : ℕ) where
   unfoldable pub indexed : Instruction → Bool
-  indexed (Push p) = placeIndexed fields temporaries literals p
-  indexed (Store p) = is_writable p && placeIndexed fields temporaries literals p
-  indexed (PopStore p) = is_writable p && placeIndexed fields temporaries literals p
+  indexed (Push p) = placeIndexed p
+  indexed (Store p) = is_writable p && placeIndexed p
+  indexed (PopStore p) = is_writable p && placeIndexed p
   indexed PushSelf = true
   indexed (PushConstant w) = true
   indexed ReturnSelf = true
@@ -31,17 +30,11 @@ module _ (fields temporaries literals blocks : ℕ) where
   indexed (Send l n) = ltb l literals
   indexed (SuperSend l n) = ltb l literals
   indexed (SpecialSend k) = true
-  indexed (PushBlock n a b) = ltb 0 blocks
-  indexed BlockReturn = ltb 0 blocks
   indexed Unused = false
 
--- The same by a list of counts, the first four as bytecode's specs/Table.antt has them: 1, fields, temporaries, literals, and 0 or 1 for blocks
+-- The same by a list of counts, as bytecode's specs/Table.antt has it: 1, fields, temporaries, literals
 abbrev pub place_indexed_by : List ℕ → Place → Bool
 place_indexed_by counts = placeIndexed (get_or counts 1 0) (get_or counts 2 0) (get_or counts 3 0)
 
 abbrev pub indexed_by : List ℕ → Instruction → Bool
-indexed_by counts = indexed (get_or counts 1 0) (get_or counts 2 0) (get_or counts 3 0) (get_or counts 4 0)
-
-abbrev pub one_if : Bool → ℕ
-one_if true = 1
-one_if false = 0
+indexed_by counts = indexed (get_or counts 1 0) (get_or counts 2 0) (get_or counts 3 0)

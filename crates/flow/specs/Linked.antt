@@ -5,7 +5,7 @@ use Rattle.bytecode.specs.Effect.{special_count}
 use Rattle.bytecode.specs.declared.Place.{Place}
 use Rattle.bytecode.specs.declared.Place.TheVariants.{Field, Temporary, Literal, LiteralVariable}
 use Rattle.bytecode.specs.declared.Instruction.{Instruction}
-use Rattle.bytecode.specs.declared.Instruction.TheVariants.{Push, Store, PopStore, PushSelf, PushConstant, ReturnSelf, ReturnConstant, ReturnTop, Pop, Duplicate, Jump, JumpOn, Send, SuperSend, SpecialSend, PushBlock, BlockReturn, Unused}
+use Rattle.bytecode.specs.declared.Instruction.TheVariants.{Push, Store, PopStore, PushSelf, PushConstant, ReturnSelf, ReturnConstant, ReturnTop, Pop, Duplicate, Jump, JumpOn, Send, SuperSend, SpecialSend, Unused}
 use Rattle.model.specs.Objects.{Objects}
 use Rattle.model.specs.Method.{literal}
 use Rattle.model.specs.Rules.{variable_fine, send_fine, is_same, is_class, special_selector}
@@ -32,6 +32,4 @@ linked o m (JumpOn x a) = true
 linked o m (Send l n) = send_fine o (literal o m l) n
 linked o m (SuperSend l n) = send_fine o (literal o m l) n
 linked o m (SpecialSend k) = is_same k || (is_class k || send_fine o (special_selector o k) (special_count k))
-linked o m (PushBlock n a b) = true
-linked o m BlockReturn = true
 linked o m Unused = true

@@ -4,23 +4,19 @@ use mathlib.Core.Path.{◌≡◌, refl, sym, ap, ap₂, ◌∙◌, subst}
 use mathlib.Core.Logic.{◌≢◌}
 use mathlib.Core.List.{List, [], ◌∷◌}
 use native.Mathlib.Omega.{arith}
-use lib.Dec.{T, eqb}
-use Rattle.bytecode.specs.Test.{if◌then◌else◌}
+use lib.Dec.{T}
 use lib.ListN.{length, get_or, set, take, drop, length-set}
 use lib.Seq.{get_or-set_same, get_or-set_other, drop-set-lt}
 use Rattle.model.specs.Limits.{method_kind}
 use Rattle.model.specs.Word.{object_number}
 use Rattle.model.specs.Objects.{Objects, objects_at, start, body_words, part, is_kind}
-use Rattle.model.specs.Method.{header, temporary_count, literal_count, code_words, code_size}
+use Rattle.model.specs.Method.{header, literal_count, code_words, code_size}
 use Rattle.model.proofs.ChainLaws.{named}
-use Rattle.model.proofs.Extends.{Extends, words_same, literal_count_same}
+use Rattle.model.proofs.Extends.{Extends, words_same, temporaries_same, literal_count_same}
 use Rattle.model.specs.declared.CodePosition.{CodePosition}
 use Rattle.model.specs.declared.StackPosition.{StackPosition}
-use Rattle.plain.specs.Flat.{frame_depth, frame_method, frame_mark, frame_position, frame_receiver}
-use Rattle.plain.specs.Running.{top_operands}
-use Rattle.plain.proofs.RunningLaws.{own_at, top_bounds}
-use Rattle.plain.proofs.HomeWords.{home_base, BaseIs, itself, another, home_holds}
-use Rattle.plain.proofs.BlockSteps.{top_base}
+use Rattle.plain.specs.Flat.{frame_depth, frame_method, frame_position, frame_receiver, operands_start}
+use Rattle.plain.proofs.RunningLaws.{top_bounds}
 use Rattle.readers.specs.Header.{temporaries_of}
 use Rattle.objects.specs.Lent.{Holds, CodeAt}
 use Rattle.objects.specs.declared.Code.{Code}
@@ -62,12 +58,6 @@ module _ (a : Active) (stack : List ℕ) where
       get_or-set_other (set stack (a.base.0 + 1) a.position.0) (a.base.0 + 2) i (a.end.0 - a.operands.0) 0 (omega arith)
       ∙ get_or-set_other stack (a.base.0 + 1) i a.position.0 0 (omega arith)
 
-  -- and so is every other word
-  pub word_apart : (i : ℕ) → i ≢ a.base.0 + 1 → i ≢ a.base.0 + 2 → get_or (written a stack) i 0 ≡ get_or stack i 0
-  word_apart i h k =
-      get_or-set_other (set stack (a.base.0 + 1) a.position.0) (a.base.0 + 2) i (a.end.0 - a.operands.0) 0 k
-      ∙ get_or-set_other stack (a.base.0 + 1) i a.position.0 0 h
-
   -- and so are parts above them
   pub part_written : (i k : ℕ) → a.base.0 + 3 ≤ i → part (written a stack) i k ≡ part stack i k
   part_written i k h =
@@ -87,7 +77,7 @@ module _ (a : Active) (stack : List ℕ) where
 
 -- a word written above its position and depth
 module _ (a : Active) (stack : List ℕ) (at w : ℕ) (h : a.base.0 + 3 ≤ at) where
-  pub put_written : written a (set stack at w) ≡ set (written a stack) at w
+  put_written : written a (set stack at w) ≡ set (written a stack) at w
   put_written =
       ap (λ (l : List ℕ). set l (a.base.0 + 2) (a.end.0 - a.operands.0)) (set_swap stack at (a.base.0 + 1) w a.position.0 (omega arith))
       ∙ set_swap (set stack (a.base.0 + 1) a.position.0) at (a.base.0 + 2) w (a.end.0 - a.operands.0) (omega arith)
@@ -99,15 +89,6 @@ module _ (a : Active) (stack : List ℕ) (at w : ℕ) (h : a.base.0 + 3 ≤ at) 
 
   pub put_method : a.base.0 + 4 ≤ at → frame_method (set stack at w) a.base.0 ≡ frame_method stack a.base.0
   put_method k = get_or-set_other stack at (a.base.0 + 3) w 0 (omega arith)
-
--- a word written elsewhere
-pub puts_apart : (a : Active) (stack : List ℕ) (at w : ℕ) → at ≢ a.base.0 + 1 → at ≢ a.base.0 + 2 → (q : CodePosition) (e : StackPosition)
-    → written (moved_on a q e) (set stack at w) ≡ set (set (set (written a stack) at w) (a.base.0 + 1) q.0) (a.base.0 + 2) (e.0 - a.operands.0)
-puts_apart a stack at w h k q e =
-    moves_on a (set stack at w) q e
-    ∙ ap (λ (l : List ℕ). set (set l (a.base.0 + 1) q.0) (a.base.0 + 2) (e.0 - a.operands.0))
-    (ap (λ (l : List ℕ). set l (a.base.0 + 2) (a.end.0 - a.operands.0)) (set_swap stack at (a.base.0 + 1) w a.position.0 h)
-    ∙ set_swap (set stack (a.base.0 + 1) a.position.0) at (a.base.0 + 2) w (a.end.0 - a.operands.0) k)
 
 -- ---- the frame's numbers
 
@@ -153,11 +134,8 @@ module _ {n b : ℕ} {contents bodies stack : List ℕ} {a : Active} (r : IsActi
   pub active_method : (w : ℕ) → w ≡ m → Holds method_kind n b contents bodies w
   active_method w e = holds_method r.runs w (e ∙ sym method_read)
 
-  pub operands_read : a.operands.0 ≡ top_operands n b a.base.0 contents bodies v
-  operands_read = r.stands.operands
-
-  pub mark_read : frame_mark v a.base.0 ≡ frame_mark stack a.base.0
-  mark_read = word_written a stack (a.base.0 + 4) (omega arith)
+  pub operands_read : a.operands.0 ≡ operands_start o (frame_method v a.base.0) a.base.0
+  operands_read = r.stands.operands ∙ ap (λ (k : ℕ). operands_start o k a.base.0) (sym method_read)
 
   pub ends : Ends a stack
   ends =
@@ -188,30 +166,22 @@ module _ (n b : ℕ) (contents bodies stack : List ℕ) (t : StackPosition) wher
   abbrev mₑ : ℕ
   mₑ = frame_method stack t.0
 
-  -- the temporaries that stand in it
-  pub own_is : {word temporaries own home : ℕ} → word ≡ header oₑ mₑ → temporaries ≡ temporaries_of word → home ≡ home_base stack t.0
-      → own ≡ (if eqb home t.0 then temporaries else 0)
-      → own_at n b t.0 contents bodies stack ≡ (if eqb (home_base stack t.0) t.0 then temporary_count oₑ mₑ else 0) → own ≡ own_at n b t.0 contents bodies stack
-  own_is e d h w u = w ∙ ap₂ (λ (x y : ℕ). if eqb x t.0 then y else 0) h (d ∙ ap temporaries_of e) ∙ sym u
-
-  pub entered : (c : Code) (word temporaries own operands home : ℕ) → CodeAt n b contents bodies mₑ c → word ≡ header oₑ mₑ → temporaries ≡ temporaries_of word
-      → home ≡ home_base stack t.0 → own ≡ (if eqb home t.0 then temporaries else 0)
-      → own_at n b t.0 contents bodies stack ≡ (if eqb (home_base stack t.0) t.0 then temporary_count oₑ mₑ else 0) → operands ≡ t.0 + 6 + own
+  pub entered : (c : Code) (word temporaries operands : ℕ) → CodeAt n b contents bodies mₑ c → word ≡ header oₑ mₑ → temporaries ≡ temporaries_of word
+      → operands ≡ t.0 + 6 + temporaries
       → Held n b t.0 contents bodies stack (record {
         base = t;
-        home = record { 0 = home };
         code = c.from;
         limit = c.end;
         operands = record { 0 = operands };
         position = record { 0 = frame_position stack t.0 };
         end = record { 0 = operands + frame_depth stack t.0 };
       })
-  entered c word temporaries own operands home q e d h w u f =
+  entered c word temporaries operands q e d f =
       record {
         base = refl;
         same = ap (λ (l : List ℕ). set l (t.0 + 2) (operands + frame_depth stack t.0 - operands)) (set_same stack (t.0 + 1) (frame_position stack t.0) refl)
             ∙ set_same stack (t.0 + 2) (operands + frame_depth stack t.0 - operands) (omega arith);
-        stands = record { code = q.from; limit = q.end; operands = f ∙ ap (λ (k : ℕ). t.0 + 6 + k) (own_is e d h w u); home = h; above = omega arith };
+        stands = record { code = q.from; limit = q.end; operands = f ∙ ap (λ (k : ℕ). t.0 + 6 + k) (d ∙ ap temporaries_of e); above = omega arith };
       }
 
 module _ {n b top : ℕ} {contents bodies stack : List ℕ} {a : Active} (h : Held n b top contents bodies stack a) (low : top + 3 ≤ length stack) where
@@ -241,8 +211,8 @@ lends {n} {b} {contents} {bodies} {stack} {a} r =
     let c = code_at (active_method r (frame_method stack a.base.0) refl) refl refl refl in
     let f = c.from in
     let e = c.end in
-    let x = r.stands.code ∙ ap (λ (k : ℕ). start (objects_at n b contents bodies) (object_number k) + (2 + literal_count (objects_at n b contents bodies) k)) (method_read r) in
-    let y = r.stands.limit ∙ ap (λ (k : ℕ). start (objects_at n b contents bodies) (object_number k) + body_words (objects_at n b contents bodies) (object_number k)) (method_read r) in
+    let x = r.stands.code in
+    let y = r.stands.limit in
     let from : a.code ≡ _ = x ∙ sym f in
     let end : a.limit ≡ _ = y ∙ sym e in
     record {
@@ -273,42 +243,14 @@ module _ (n' b' : ℕ) (contents' bodies' : List ℕ) {n b : ℕ} {contents bodi
   long : body_words o' (object_number mₓ) ≡ body_words oₓ (object_number mₓ)
   long = let h = named oₓ method_kind mₓ is_kind_lem in words_same x (object_number mₓ) h.least h.most
 
-  pub stands_onward : {stack' : List ℕ} (q : CodePosition) (e : StackPosition) → Onward a stack stack' e.0
-      → own_at n' b' a.base.0 contents' bodies' (written (moved_on a q e) stack') ≡ own_at n b a.base.0 contents bodies (written a stack)
-      → home_base (written (moved_on a q e) stack') a.base.0 ≡ home_base (written a stack) a.base.0
-      → Stands n' b' contents' bodies' (written (moved_on a q e) stack') (moved_on a q e)
-  stands_onward {stack'} q e w own home =
+  pub stands_onward : {stack' : List ℕ} (q : CodePosition) (e : StackPosition) → Onward a stack stack' e.0 → Stands n' b' contents' bodies' stack' (moved_on a q e)
+  stands_onward q e w =
       let s = r.stands in
-      let p : mₓ ≡ frame_method (written (moved_on a q e) stack') a.base.0 = sym (word_written (moved_on a q e) stack' (a.base.0 + 3) (omega arith) ∙ w.method) in
-      let v = written a stack in
+      let p = sym w.method in
       record {
-        code = s.code ∙ ap (λ (k : ℕ). start oₓ (object_number k) + (2 + literal_count oₓ k)) (method_read r)
-            ∙ ap₂ (λ (u v : ℕ). u + (2 + v)) (sym starts) (sym (literal_count_same x r.runs.right mₓ is_kind_lem))
+        code = s.code ∙ ap₂ (λ (u v : ℕ). u + (2 + v)) (sym starts) (sym (literal_count_same x r.runs.right mₓ is_kind_lem))
             ∙ ap (λ (k : ℕ). start o' (object_number k) + (2 + literal_count o' k)) p;
-        limit = s.limit ∙ ap (λ (k : ℕ). start oₓ (object_number k) + body_words oₓ (object_number k)) (method_read r)
-            ∙ ap₂ ◌+◌ (sym starts) (sym long) ∙ ap (λ (k : ℕ). start o' (object_number k) + body_words o' (object_number k)) p;
-        operands = s.operands ∙ ap (λ (k : ℕ). a.base.0 + 6 + k) (sym own);
-        home = s.home ∙ sym home;
+        limit = s.limit ∙ ap₂ ◌+◌ (sym starts) (sym long) ∙ ap (λ (k : ℕ). start o' (object_number k) + body_words o' (object_number k)) p;
+        operands = s.operands ∙ ap (λ (k : ℕ). a.base.0 + 6 + k) (sym (temporaries_same x r.runs.right mₓ is_kind_lem)) ∙ ap (λ (k : ℕ). operands_start o' k a.base.0) p;
         above = w.above;
       }
-
--- a frame that is held is one that stands
-pub held_stands : {n b top : ℕ} {contents bodies stack : List ℕ} {a : Active} → Held n b top contents bodies stack a → Stands n b contents bodies (written a stack) a
-held_stands {n} {b} {top} {contents} {bodies} {stack} {a} h = subst (λ (s : List ℕ). Stands n b contents bodies s a) (sym h.same) h.stands
-
--- the temporaries that a frame uses stand apart from its position, depth and method
-pub temporary_apart : {n b : ℕ} {contents bodies stack : List ℕ} {a : Active} → IsActive n b contents bodies stack a → (j : ℕ)
-    → j < temporary_count (objects_at n b contents bodies) (frame_method (written a stack) a.base.0)
-    → (a.home.0 + 6 + j ≢ a.base.0 + 1) × (a.home.0 + 6 + j ≢ a.base.0 + 2) × (a.home.0 + 6 + j ≢ a.base.0 + 3)
-temporary_apart {n} {b} {contents} {bodies} {stack} {a} r j l = by (top_base r.runs)
-  where
-    by : BaseIs n b contents bodies (written a stack) r.runs.edition a.base.0
-        → (a.home.0 + 6 + j ≢ a.base.0 + 1) × (a.home.0 + 6 + j ≢ a.base.0 + 2) × (a.home.0 + 6 + j ≢ a.base.0 + 3)
-    by (itself q p) = let h = r.stands.home in ((λ e. omega arith), (λ e. omega arith), (λ e. omega arith))
-    by (another q p u m w) =
-        let h = r.stands.home in
-        let x = u.ends in
-        let y = home_holds u.home in
-        let t : temporary_count (objects_at n b contents bodies) (frame_method (written a stack) (home_base (written a stack) a.base.0))
-        ≡ temporary_count (objects_at n b contents bodies) (frame_method (written a stack) a.base.0) = ap (temporary_count (objects_at n b contents bodies)) m in
-        ((λ e. omega arith), (λ e. omega arith), (λ e. omega arith))

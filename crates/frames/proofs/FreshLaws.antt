@@ -3,81 +3,80 @@ use Prim.Native.Nat.{ℕ, suc, ◌+◌, ◌-◌, ◌≤◌, ◌<◌}
 use mathlib.Core.Path.{◌≡◌, refl, sym, ap, ◌∙◌, subst}
 use mathlib.Core.List.{List, [], ◌∷◌, ◌++◌}
 use native.Mathlib.Omega.{arith}
-use lib.ListN.{length, get_or, set, replicate, length-append, length-replicate}
-use lib.Seq.{sets}
-use Rattle.bytecode.specs.Test.{if◌then◌else◌}
-use Rattle.bytecode.proofs.Choice.{if_no, if_eq}
+use lib.ListN.{length, get_or, set, replicate, length-set}
+use lib.Seq.{sets, get_or-set_same, get_or-set_other}
 use Rattle.bytecode.specs.Constant.{nil_word}
 use Rattle.model.specs.Word.{object_number}
-use Rattle.model.specs.Objects.{Objects, objects_at, body_words}
-use Rattle.model.specs.Method.{temporary_count, literal_count}
-use Rattle.plain.specs.State.{no_mark, is_block_of}
-use Rattle.plain.specs.Flat.{frame_method, frame_mark, own_temporaries}
-use Rattle.plain.specs.Running.{rest_frames}
-use Rattle.plain.proofs.CacheLaws.{sets_at}
-use Rattle.plain.proofs.RunningLaws.{own_at}
-use Rattle.plain.proofs.HomeWords.{home_base}
+use Rattle.model.specs.Objects.{Objects, objects_at, start, body_words}
+use Rattle.model.specs.Method.{literal_count}
+use Rattle.plain.specs.Flat.{frame_method, operands_start}
 use Rattle.frames.specs.Words.{new_words}
 use Rattle.frames.specs.declared.Active.{Active}
 use Rattle.frames.specs.Active.{Fresh, Held}
 use Rattle.frames.proofs.ActiveLaws.{set_same}
 
--- its arguments, and nil in the other temporaries
-pub temporaries_long : (arguments : List ℕ) (temporaries : ℕ) → length arguments ≤ temporaries → length (arguments ++ replicate (temporaries - length arguments) nil_word) ≡ temporaries
-temporaries_long arguments temporaries h =
-    let l = length-append arguments (replicate (temporaries - length arguments) nil_word) in
-    let k = length-replicate (temporaries - length arguments) nil_word in
-    omega arith
+-- a word below those that are written
+sets_below : (ws l : List ℕ) (j i : ℕ) → i < j → get_or (sets l j ws) i 0 ≡ get_or l i 0
+sets_below [] l j i h = refl
+sets_below (w ∷ ws) l j i h = sets_below ws (set l j w) (suc j) i (omega arith) ∙ get_or-set_other l j i w 0 (omega arith)
 
-module _ (n b : ℕ) (contents bodies : List ℕ) {f : Active} {m own start depth at : ℕ} (fresh : Fresh (objects_at n b contents bodies) m own start depth at f) (l stack' : List ℕ)
-    (sender mark receiver : ℕ) (ws : List ℕ) (e : stack' ≡ sets l f.base.0 (sender ∷ start ∷ depth ∷ m ∷ mark ∷ receiver ∷ ws)) (fits : f.base.0 + (6 + length ws) ≤ length l) where
+-- the second, third and fourth of them
+pub record Written (l : List ℕ) (j x y z : ℕ) : Type 0 where
+  pub second : get_or l (j + 1) 0 ≡ x
+  pub third : get_or l (j + 2) 0 ≡ y
+  pub fourth : get_or l (j + 3) 0 ≡ z
+
+four_written : (w x y z : ℕ) (ws l : List ℕ) (j : ℕ) → j + 4 ≤ length l → Written (sets l j (w ∷ x ∷ y ∷ z ∷ ws)) j x y z
+four_written w x y z ws l j h =
+    let k₁ = length-set l j w in
+    let k₂ = length-set (set l j w) (suc j) x in
+    let k₃ = length-set (set (set l j w) (suc j) x) (suc (suc j)) y in
+    record {
+      second = ap (λ (i : ℕ). get_or (sets l j (w ∷ x ∷ y ∷ z ∷ ws)) i 0) (one j) ∙ sets_below (y ∷ z ∷ ws) (set (set l j w) (suc j) x) (suc (suc j)) (suc j) (omega arith)
+          ∙ get_or-set_same (set l j w) (suc j) x 0 (omega arith);
+      third = ap (λ (i : ℕ). get_or (sets l j (w ∷ x ∷ y ∷ z ∷ ws)) i 0) (two j)
+          ∙ sets_below (z ∷ ws) (set (set (set l j w) (suc j) x) (suc (suc j)) y) (suc (suc (suc j))) (suc (suc j)) (omega arith)
+          ∙ get_or-set_same (set (set l j w) (suc j) x) (suc (suc j)) y 0 (omega arith);
+      fourth = ap (λ (i : ℕ). get_or (sets l j (w ∷ x ∷ y ∷ z ∷ ws)) i 0) (three j)
+          ∙ sets_below ws (set (set (set (set l j w) (suc j) x) (suc (suc j)) y) (suc (suc (suc j))) z) (suc (suc (suc (suc j)))) (suc (suc (suc j))) (omega arith)
+          ∙ get_or-set_same (set (set (set l j w) (suc j) x) (suc (suc j)) y) (suc (suc (suc j))) z 0 (omega arith);
+    }
+  where
+    one : (i : ℕ) → i + 1 ≡ suc i
+    one i = omega arith
+
+    two : (i : ℕ) → i + 2 ≡ suc (suc i)
+    two i = omega arith
+
+    three : (i : ℕ) → i + 3 ≡ suc (suc (suc i))
+    three i = omega arith
+
+module _ (n b : ℕ) (contents bodies : List ℕ) {f : Active} {m : ℕ} (fresh : Fresh (objects_at n b contents bodies) m f) (l stack' : List ℕ) (sender receiver temporaries : ℕ) (arguments : List ℕ)
+    (e : stack' ≡ sets l f.base.0 (new_words sender m receiver temporaries arguments)) (fits : f.base.0 + 6 ≤ length l) where
   abbrev base : ℕ
   base = f.base.0
 
   abbrev o : Objects
   o = objects_at n b contents bodies
 
-  abbrev words : List ℕ
-  words = sender ∷ start ∷ depth ∷ m ∷ mark ∷ receiver ∷ ws
-
-  word : (i : ℕ) → i < 6 → get_or stack' (base + i) 0 ≡ get_or words i 0
-  word i h = ap (λ (x : List ℕ). get_or x (base + i) 0) e ∙ sets_at words l base i (omega arith) (omega arith)
+  new_words_lem : Written stack' base 0 0 m
+  new_words_lem =
+      subst (λ (x : List ℕ). Written x base 0 0 m) (sym e)
+      (four_written sender 0 0 m (0 ∷ receiver ∷ (arguments ++ replicate (temporaries - length arguments) nil_word)) l base (omega arith))
 
   pub new_method : frame_method stack' base ≡ m
-  new_method = word 3 (omega arith)
+  new_method = new_words_lem.fourth
 
-  pub new_mark : frame_mark stack' base ≡ mark
-  new_mark = word 4 (omega arith)
-
-  pub new_held_as : own_at n b base contents bodies stack' ≡ own → home_base stack' base ≡ at → Held n b base contents bodies stack' f
-  new_held_as q h =
+  pub new_held : Held n b base contents bodies stack' f
+  new_held =
       record {
         base = refl;
-        same = ap (λ (x : List ℕ). set x (base + 2) (f.end.0 - f.operands.0)) (set_same stack' (base + 1) f.position.0 (fresh.position ∙ sym (word 1 (omega arith))))
-            ∙ set_same stack' (base + 2) (f.end.0 - f.operands.0) (let z = fresh.ends in let y = word 2 (omega arith) in omega arith);
+        same = ap (λ (x : List ℕ). set x (base + 2) (f.end.0 - f.operands.0)) (set_same stack' (base + 1) f.position.0 (fresh.position ∙ sym new_words_lem.second))
+            ∙ set_same stack' (base + 2) (f.end.0 - f.operands.0) (let z = fresh.none in let y = new_words_lem.third in omega arith);
         stands = record {
-          code = subst (λ (x : ℕ). f.code ≡ Rattle.model.specs.Objects.start o (object_number x) + (2 + literal_count o x)) (sym new_method) fresh.code;
-          limit = subst (λ (x : ℕ). f.limit ≡ Rattle.model.specs.Objects.start o (object_number x) + body_words o (object_number x)) (sym new_method) fresh.limit;
-          operands = fresh.operands ∙ ap (λ (k : ℕ). base + 6 + k) (sym q);
-          home = fresh.home ∙ sym h;
-          above = let z = fresh.ends in omega arith;
+          code = subst (λ (x : ℕ). f.code ≡ start o (object_number x) + (2 + literal_count o x)) (sym new_method) fresh.code;
+          limit = subst (λ (x : ℕ). f.limit ≡ start o (object_number x) + body_words o (object_number x)) (sym new_method) fresh.limit;
+          operands = subst (λ (x : ℕ). f.operands.0 ≡ operands_start o x base) (sym new_method) fresh.operands;
+          above = let z = fresh.none in omega arith;
         };
       }
-
--- the frame of a method, which has no mark
-module _ (n b : ℕ) (contents bodies : List ℕ) {f : Active} {m : ℕ} (fresh : Fresh (objects_at n b contents bodies) m (temporary_count (objects_at n b contents bodies) m) 0 0 f.base.0 f)
-    (l stack' : List ℕ) (sender receiver temporaries : ℕ) (arguments : List ℕ) (e : stack' ≡ sets l f.base.0 (new_words sender m receiver temporaries arguments))
-    (fits : f.base.0 + (6 + length (arguments ++ replicate (temporaries - length arguments) nil_word)) ≤ length l) where
-  abbrev tail : List ℕ
-  tail = arguments ++ replicate (temporaries - length arguments) nil_word
-
-  unmarked : frame_mark stack' f.base.0 ≡ no_mark
-  unmarked = new_mark n b contents bodies fresh l stack' sender 0 receiver tail e fits
-
-  pub new_held : Held n b f.base.0 contents bodies stack' f
-  unfolding own_temporaries home_base
-  new_held =
-      new_held_as n b contents bodies fresh l stack' sender 0 receiver tail e fits
-      (ap (λ (k : ℕ). if is_block_of k (rest_frames n b f.base.0 contents bodies stack') then 0 else temporary_count (objects_at n b contents bodies) (frame_method stack' f.base.0)) unmarked
-      ∙ if_no _ _ refl ∙ ap (temporary_count (objects_at n b contents bodies)) (new_method n b contents bodies fresh l stack' sender 0 receiver tail e fits))
-      (if_eq (frame_mark stack' f.base.0) no_mark _ _ unmarked)

@@ -1,7 +1,7 @@
 -- A running frame's method: its code, the positions that are noted, the instruction that is about to be done.
 use Prim.Native.Nat.{ℕ, suc, ◌+◌, ◌-◌, ◌*◌, ◌≤◌, ◌<◌}
 use mathlib.Core.Path.{◌≡◌, refl, sym, subst}
-use mathlib.Core.Bool.{Bool, true, false}
+use mathlib.Core.Bool.{true}
 use mathlib.Core.List.{List}
 use native.Mathlib.Omega.{arith}
 use native.Mathlib.Decide.{dec_lt}
@@ -16,21 +16,19 @@ use Rattle.model.specs.Limits.{method_kind}
 use Rattle.model.specs.Word.{object_number}
 use Rattle.model.specs.Objects.{Objects, objects_at, start, body_words, is_kind}
 use Rattle.model.specs.Method.{temporary_count, literal_count, code_words, code_size, frame_words}
-use Rattle.model.specs.Depth.{note_at, code_depth, rulesAt, fineAt}
+use Rattle.model.specs.Depth.{note_at, rulesAt, fineAt}
 use Rattle.model.specs.Rules.{Right, allowed, method_table}
 use Rattle.model.proofs.ChainLaws.{named}
 use Rattle.model.proofs.Facts.{inside, most_words, method_facts, method_words}
 use Rattle.model.proofs.DepthLaws.{Spot, spot, fine_inside}
-use Rattle.plain.specs.State.{Frame, is_block_of}
-use Rattle.plain.specs.Flat.{frame_sender, frame_depth, frame_method, frame_mark, frame_position, frame_at}
-use Rattle.plain.specs.Running.{Runs, top_frame, rest_frames}
+use Rattle.plain.specs.State.{Frame}
+use Rattle.plain.specs.Flat.{frame_sender, frame_depth, frame_method, frame_position, frame_at}
+use Rattle.plain.specs.Running.{Runs, top_frame}
 use Rattle.plain.proofs.FrameLaws.{frame_spot}
-use Rattle.plain.proofs.RunningLaws.{all_right, top_right, is_method, top_bounds, words_cases}
-use Rattle.plain.proofs.HomeWords.{below_stands, own_base}
+use Rattle.plain.proofs.RunningLaws.{top_right, is_method, top_bounds, words_cases}
 use Rattle.plain.proofs.ReturnLaws.{sender_bounds}
 use Rattle.objects.specs.Lent.{Holds}
 use Rattle.frames.specs.Active.{Holdable}
-use Rattle.frames.proofs.HomesAlike.{alike_self}
 
 never_unused : (q : ℕ) → T (usable q Unused) → ⊥
 unfolding usable
@@ -70,13 +68,9 @@ module _ {n b top : ℕ} {contents bodies stack : List ℕ} (r : Runs n b top co
   pub holds_method : (w : ℕ) → w ≡ m → Holds method_kind n b contents bodies w
   holds_method w e = record { right = (r.edition, r.right); kinds = subst (λ (x : ℕ). T (is_kind o method_kind x)) (sym e) (is_method r) }
 
-  -- whether it is a block's
-  abbrev block : Bool
-  block = is_block_of (frame_mark stack top) (rest_frames n b top contents bodies stack)
-
-  spot_here : Spot r.edition o m p (code_depth block (frame_depth stack top))
+  spot_here : Spot r.edition o m p (frame_depth stack top)
   unfolding frame_at
-  spot_here = frame_spot o true block f (top_right r)
+  spot_here = frame_spot o true f (top_right r)
 
   -- the bytes of the code
   pub coded : Coded o m
@@ -92,11 +86,11 @@ module _ {n b top : ℕ} {contents bodies stack : List ℕ} (r : Runs n b top co
 
   pub position_inside : p < code_size o m
   unfolding fineAt
-  position_inside = fine_inside (code_words o m) (code_size o m) (temporary_count o m) (frame_words o m) (allowed r.edition o m) p (code_depth block (frame_depth stack top)) spot_here.kept
+  position_inside = fine_inside (code_words o m) (code_size o m) (temporary_count o m) (frame_words o m) (allowed r.edition o m) p (frame_depth stack top) spot_here.kept
 
   usable_here : T (usable (next_at (code_words o m) p) (decode_at (code_words o m) (code_size o m) p))
   unfolding rulesAt
-  usable_here = rule (rulesAt (code_words o m) (code_size o m) (temporary_count o m) (frame_words o m) (allowed r.edition o m) p (code_depth block (frame_depth stack top))) spot_here.kept 0
+  usable_here = rule (rulesAt (code_words o m) (code_size o m) (temporary_count o m) (frame_words o m) (allowed r.edition o m) p (frame_depth stack top)) spot_here.kept 0
 
   pub next_inside : next_at (code_words o m) p ≤ code_size o m
   next_inside = go (dec_lt (code_size o m) (next_at (code_words o m) p))
@@ -115,15 +109,7 @@ module _ {n b top : ℕ} {contents bodies stack : List ℕ} (r : Runs n b top co
       let k = top_bounds r in
       let q = position_inside in
       let c = coded.small in
-      record {
-        method = holds_method m refl;
-        low = omega arith;
-        small = omega arith;
-        few = omega arith;
-        own = own_base n b contents bodies stack r.edition true top (all_right r);
-        framed = record { n = n; b = b; contents = contents; bodies = bodies; edition = r.edition; is_top = true; standing = stack; alike = alike_self stack top; rights = all_right r };
-        position = omega arith;
-      }
+      record { method = holds_method m refl; low = omega arith; small = omega arith; few = omega arith; position = omega arith }
 
   -- and so can the one below it.
   pub sender_holdable : 0 < top → Holdable n b (frame_sender stack top) contents bodies stack
@@ -132,13 +118,4 @@ module _ {n b top : ℕ} {contents bodies stack : List ℕ} (r : Runs n b top co
       let q = k.position in
       let c = (method_coded r.right (frame_method stack (frame_sender stack top)) k.is_method).small in
       let w = words_cases o (frame_method stack (frame_sender stack top)) in
-      let d = below_stands n b contents bodies stack r.edition true top (all_right r) h in
-      record {
-        method = record { right = (r.edition, r.right); kinds = k.is_method };
-        low = omega arith;
-        small = omega arith;
-        few = omega arith;
-        own = own_base n b contents bodies stack r.edition false (frame_sender stack top) d.rights;
-        framed = record { n = n; b = b; contents = contents; bodies = bodies; edition = r.edition; is_top = false; standing = stack; alike = alike_self stack (frame_sender stack top); rights = d.rights };
-        position = omega arith;
-      }
+      record { method = record { right = (r.edition, r.right); kinds = k.is_method }; low = omega arith; small = omega arith; few = omega arith; position = omega arith }

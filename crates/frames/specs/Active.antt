@@ -1,16 +1,13 @@
 -- The running frame as the run loop holds it, and what the stack stands for meanwhile.
-use Rattle.std.specs.Prelude.{ℕ, ◌+◌, ◌-◌, ◌≤◌, ◌<◌, ◌≡◌, Bool, List, eqb, length, get_or, set}
-use Rattle.bytecode.specs.Test.{if◌then◌else◌}
+use Rattle.std.specs.Prelude.{ℕ, ◌+◌, ◌-◌, ◌≤◌, ◌<◌, ◌≡◌, List, length, set}
 use Rattle.model.specs.Word.{object_number}
 use Rattle.model.specs.Objects.{Objects, objects_at, start, body_words}
 use Rattle.model.specs.Limits.{method_kind}
 use Rattle.model.specs.Method.{temporary_count, literal_count, frame_size}
 use Rattle.model.specs.declared.CodePosition.{CodePosition}
 use Rattle.model.specs.declared.StackPosition.{StackPosition}
-use Rattle.plain.specs.Flat.{frame_depth, frame_position, frame_method, frame_mark, temporaries_start}
-use Rattle.plain.specs.Running.{Runs, top_operands}
-use Rattle.plain.proofs.RunningLaws.{own_at}
-use Rattle.plain.proofs.HomeWords.{RightAt, home_base}
+use Rattle.plain.specs.Flat.{frame_depth, frame_position, frame_method, operands_start}
+use Rattle.plain.specs.Running.{Runs}
 use Rattle.objects.specs.Lent.{Holds}
 use Rattle.frames.specs.declared.Active.{Active}
 
@@ -18,47 +15,25 @@ use Rattle.frames.specs.declared.Active.{Active}
 abbrev pub written : Active → List ℕ → List ℕ
 written a stack = set (set stack (a.base.0 + 1) a.position.0) (a.base.0 + 2) (a.end.0 - a.operands.0)
 
--- Where its code stands, its operands start, and the temporaries that it uses: those of the frame at `home`
+-- Where its code stands and its operands start
 pub record Stands (n b : ℕ) (contents bodies stack : List ℕ) (a : Active) : Type 0 where
   pub code : a.code ≡ start (objects_at n b contents bodies) (object_number (frame_method stack a.base.0)) +
       (2 + literal_count (objects_at n b contents bodies) (frame_method stack a.base.0))
   pub limit : a.limit ≡ start (objects_at n b contents bodies) (object_number (frame_method stack a.base.0)) +
       body_words (objects_at n b contents bodies) (object_number (frame_method stack a.base.0))
-  pub operands : a.operands.0 ≡ top_operands n b a.base.0 contents bodies stack
-  pub home : a.home.0 ≡ home_base stack a.base.0
+  pub operands : a.operands.0 ≡ operands_start (objects_at n b contents bodies) (frame_method stack a.base.0) a.base.0
   pub above : a.operands.0 ≤ a.end.0
 
 pub record IsActive (n b : ℕ) (contents bodies stack : List ℕ) (a : Active) : Type 0 where
   pub runs : Runs n b a.base.0 contents bodies (written a stack)
-  pub stands : Stands n b contents bodies (written a stack) a
-
--- Stacks with the same senders and marks from the frame at a base down: all words up to the base, and the mark of that frame
-pub record Alike (stack standing : List ℕ) (base : ℕ) : Type 0 where
-  pub long : length stack ≡ length standing
-  pub words : (i : ℕ) → i ≤ base → get_or stack i 0 ≡ get_or standing i 0
-  pub mark : frame_mark stack base ≡ frame_mark standing base
-
--- The frames from a base down are right, among some objects; in the stack itself or in one with the same senders and marks, since position and depth of the running frame need not be
--- written.
-pub record Framed (stack : List ℕ) (base : ℕ) : Type 0 where
-  pub n : ℕ
-  pub b : ℕ
-  pub contents : List ℕ
-  pub bodies : List ℕ
-  pub edition : ℕ
-  pub is_top : Bool
-  pub standing : List ℕ
-  pub alike : Alike stack standing base
-  pub rights : RightAt n b base contents bodies standing edition is_top
+  pub stands : Stands n b contents bodies stack a
 
 -- A frame that can be taken from its words, and what is taken
 pub record Holdable (n b top : ℕ) (contents bodies stack : List ℕ) : Type 0 where
   pub method : Holds method_kind n b contents bodies (frame_method stack top)
   pub low : top + 18 ≤ length stack
   pub small : top + 18 ≤ 65536
-  pub few : own_at n b top contents bodies stack + frame_depth stack top ≤ 32
-  pub own : own_at n b top contents bodies stack ≡ (if eqb (home_base stack top) top then temporary_count (objects_at n b contents bodies) (frame_method stack top) else 0)
-  pub framed : Framed stack top
+  pub few : temporary_count (objects_at n b contents bodies) (frame_method stack top) + frame_depth stack top ≤ 32
   pub position : frame_position stack top < 65536
 
 pub record Held (n b top : ℕ) (contents bodies stack : List ℕ) (a : Active) : Type 0 where
@@ -66,14 +41,13 @@ pub record Held (n b top : ℕ) (contents bodies stack : List ℕ) (a : Active) 
   pub same : written a stack ≡ stack
   pub stands : Stands n b contents bodies stack a
 
--- The frame of a method before its first bytecode, with `own` temporaries and `depth` operands, which starts at a position and uses the temporaries of the frame at `at`
-pub record Fresh (o : Objects) (m own start depth at : ℕ) (a : Active) : Type 0 where
-  pub code : a.code ≡ Rattle.model.specs.Objects.start o (object_number m) + (2 + literal_count o m)
-  pub limit : a.limit ≡ Rattle.model.specs.Objects.start o (object_number m) + body_words o (object_number m)
-  pub operands : a.operands.0 ≡ temporaries_start a.base.0 + own
-  pub position : a.position.0 ≡ start
-  pub ends : a.end.0 ≡ a.operands.0 + depth
-  pub home : a.home.0 ≡ at
+-- The frame of a method before its first bytecode
+pub record Fresh (o : Objects) (m : ℕ) (a : Active) : Type 0 where
+  pub code : a.code ≡ start o (object_number m) + (2 + literal_count o m)
+  pub limit : a.limit ≡ start o (object_number m) + body_words o (object_number m)
+  pub operands : a.operands.0 ≡ operands_start o m a.base.0
+  pub position : a.position.0 ≡ 0
+  pub none : a.end.0 ≡ a.operands.0
 
 -- What writing its words asks
 abbrev pub Leaving : List ℕ → Active → Type 0
@@ -81,7 +55,7 @@ Leaving stack a = (a.base.0 + 2 < length stack) × (a.position.0 < 65536) × (a.
 
 -- The frame at another position, with its operands up to another end
 abbrev pub moved_on : Active → CodePosition → StackPosition → Active
-moved_on a q e = record { base = a.base; home = a.home; code = a.code; limit = a.limit; operands = a.operands; position = q; end = e }
+moved_on a q e = record { base = a.base; code = a.code; limit = a.limit; operands = a.operands; position = q; end = e }
 
 -- The stack afterwards still holds the frame's method, and the operands end at or above their start.
 pub record Onward (a : Active) (stack stack' : List ℕ) (end : ℕ) : Type 0 where

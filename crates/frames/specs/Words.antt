@@ -5,7 +5,3 @@ use Rattle.bytecode.specs.Constant.{nil_word}
 abbrev pub new_words : ℕ → ℕ → ℕ → ℕ → List ℕ → List ℕ
 new_words sender method receiver temporaries arguments =
     sender ∷ 0 ∷ 0 ∷ method ∷ 0 ∷ receiver ∷ (arguments ++ replicate (temporaries - length arguments) nil_word)
-
--- and of a block's (02, M-106): the arguments are its first operands
-abbrev pub block_frame_words : ℕ → ℕ → ℕ → ℕ → ℕ → List ℕ → List ℕ
-block_frame_words sender start method mark receiver arguments = sender ∷ start ∷ length arguments ∷ method ∷ mark ∷ receiver ∷ arguments

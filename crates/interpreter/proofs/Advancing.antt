@@ -1,24 +1,20 @@
 -- The events of a bytecode, with the send or the return that is made of them: the step, or the halt.
 use Prim.Native.Nat.{ℕ, suc, ◌+◌, ◌-◌, ◌≤◌, ◌<◌}
 use mathlib.Core.Path.{◌≡◌, refl, sym, ap, ◌∙◌, subst}
-use mathlib.Core.Logic.{◌⊎◌, inl, inr}
 use mathlib.Core.List.{List}
 use native.Mathlib.Omega.{arith}
 use lib.ListN.{set}
 use lib.Seq.{get_or-set_other}
 use Rattle.model.specs.Objects.{objects_at}
-use Rattle.model.specs.Method.{frame_size}
-use Rattle.model.specs.declared.Pointer.{Pointer}
+use Rattle.model.specs.Method.{temporary_count, frame_size}
 use Rattle.model.specs.declared.CodePosition.{CodePosition}
 use Rattle.model.specs.declared.StackPosition.{StackPosition}
 use Rattle.plain.specs.Registers.{no_stack_room, phase_of}
-use Rattle.plain.specs.Step.{Stepped, returned, returned_home}
-use Rattle.plain.specs.Flat.{frame_sender, frame_depth, frame_method, frame_at}
-use Rattle.plain.specs.Running.{top_operands, Runs, Sending, Made, running_with, finished_with, running_at, room_at, top_frame, rest_frames, send_step, failed_step}
+use Rattle.plain.specs.Step.{Stepped, returned}
+use Rattle.plain.specs.Flat.{frame_sender, frame_depth, frame_method}
+use Rattle.plain.specs.Running.{Runs, Sending, Made, running_with, finished_with, running_at, room_at, top_frame, rest_frames, send_step, failed_step}
 use Rattle.plain.proofs.MadeLaws.{moved_made, made_as}
-use Rattle.plain.proofs.ReturnLaws.{sender_bounds, bottom_returns, sender_returns, returned_to}
-use Rattle.plain.proofs.OldEditions.{top_plain, never_valued, never_pushed}
-use Rattle.bytecode.proofs.Choice.{if_no}
+use Rattle.plain.proofs.ReturnLaws.{sender_bounds, bottom_returns, sender_returns}
 use Rattle.frames.specs.declared.Active.{Active}
 use Rattle.frames.specs.declared.Message.{Message}
 use Rattle.frames.specs.Active.{IsActive, Leaving, frame_end, written, moved_on}
@@ -26,12 +22,12 @@ use Rattle.frames.proofs.Standing.{noted_small}
 use Rattle.frames.proofs.ActiveLaws.{depth_read, leaving}
 use Rattle.cache.specs.Caches.{Caches}
 use Rattle.steps.specs.declared.Event.{Event}
-use Rattle.steps.specs.declared.Event.TheVariants.{Next, Send, Return, ReturnFromBlock, Value, Block, Halt}
+use Rattle.steps.specs.declared.Event.TheVariants.{Next, Send, Return, Halt}
 use Rattle.steps.specs.Events.{Says, Becomes, Halting}
 use Rattle.sends.specs.declared.Sent.{Sent}
 use Rattle.sends.specs.declared.Sent.TheVariants.{Answered, Entered, Full, Failed}
 use Rattle.sends.specs.Sends.{Halts, Fails, Sends, SentIs}
-use Rattle.interpreter.specs.Advances.{Returned, AdvancedIs, step_of}
+use Rattle.interpreter.specs.Advances.{Returned, pushed_on, AdvancedIs, step_of}
 use Rattle.interpreter.specs.declared.Advanced.TheVariants as A
 
 -- Buffers that are left as they were
@@ -84,25 +80,13 @@ module _ {n b : ℕ} {contents bodies stack : List ℕ} {a : Active} (r : IsActi
         }
 
   -- A return
-  module _ (w : ℕ) (e : event ≡ Return w ⊎ event ≡ ReturnFromBlock w) where
+  module _ (w : ℕ) (e : event ≡ Return w) where
     abbrev return-step : ℕ → ℕ → ℕ → Stepped
     return-step edition receiver selector =
         returned (running_at edition receiver selector n b top contents bodies v) (top_frame n b top contents bodies v) (rest_frames n b top contents bodies v) w
 
-    -- the frame is no block's, so that it returns itself
-    home_return : Becomes n b contents a bodies stack bodies₁ stack₁
-        (λ room edition receiver selector. returned_home (running_at edition receiver selector n b top contents bodies v) (top_frame n b top contents bodies v) (rest_frames n b top contents bodies v) w)
-        → Becomes n b contents a bodies stack bodies₁ stack₁ (λ room edition receiver selector. return-step edition receiver selector)
-    unfolding returned_home frame_at
-    home_return x =
-        record { words = x.words; frames = x.frames; steps = λ edition receiver selector room. x.steps edition receiver selector room ∙ if_no _ _ (top_plain r.runs) }
-
-    by_return : event ≡ Return w ⊎ event ≡ ReturnFromBlock w → Becomes n b contents a bodies stack bodies₁ stack₁ (λ room edition receiver selector. return-step edition receiver selector)
-    by_return (inl q) = home_return (by_event (Return w) q)
-    by_return (inr q) = by_event (ReturnFromBlock w) q
-
     returns_word : Becomes n b contents a bodies stack bodies₁ stack₁ (λ room edition receiver selector. return-step edition receiver selector)
-    returns_word = by_return e
+    returns_word = by_event (Return w) e
 
     pub leaves_return : Leaving stack₁ a
     leaves_return = subst (λ (s : List ℕ). Leaving s a) (sym returns_word.frames) (leaving r)
@@ -132,9 +116,9 @@ module _ {n b : ℕ} {contents bodies stack : List ℕ} {a : Active} (r : IsActi
             (subst (λ (s : List ℕ). Made (return-step edition receiver selector) 0 (running_with edition receiver selector n b f.base.0) contents bodies v cache contents bodies₁ s cache)
             (sym h.words)
             (subst (λ (t : ℕ). Made (return-step edition receiver selector) 0 (running_with edition receiver selector n b t) contents bodies v cache contents bodies₁
-            (returned_to n b t contents bodies₁ stack₂ w) cache) (sym h.base)
+            (pushed_on n b t contents bodies₁ stack₂ w) cache) (sym h.base)
             (onto x.words same (λ (l s : List ℕ). Made (return-step edition receiver selector) 0 (running_with edition receiver selector n b (frame_sender s top)) contents bodies v cache
-            contents l (returned_to n b (frame_sender s top) contents l s w) cache) (sender_returns r.runs above edition receiver selector w cache))))
+            contents l (pushed_on n b (frame_sender s top) contents l s w) cache) (sender_returns r.runs above edition receiver selector w cache))))
 
         -- the frame below ends where the top one began
         ends_below : frame_end n b f.base.0 contents bodies₁ (written f stack') ≤ top
@@ -142,7 +126,7 @@ module _ {n b : ℕ} {contents bodies stack : List ℕ} {a : Active} (r : IsActi
             let t = f.base.0 in
             let o = objects_at n b contents bodies₁ in
             let k = subst (λ (x : ℕ). x + frame_size o (frame_method stack₂ x) ≡ top) (sym h.base) (sender_bounds return_runs above).below in
-            let at = top_operands n b t contents bodies₁ stack₂ + frame_depth stack₂ t in
+            let at = t + (6 + (temporary_count o (frame_method stack₂ t) + frame_depth stack₂ t)) in
             let m : frame_method (written f stack') t ≡ frame_method stack₂ t = ap (λ (l : List ℕ). frame_method l t) h.words
             ∙ get_or-set_other (set stack₂ at w) (t + 2) (t + 3) (suc (frame_depth stack₂ t)) 0 (omega arith) ∙ get_or-set_other stack₂ at (t + 3) w 0 (omega arith) in
             subst (λ (x : ℕ). t + frame_size o x ≤ top) (sym m) (omega arith)
@@ -150,17 +134,6 @@ module _ {n b : ℕ} {contents bodies stack : List ℕ} {a : Active} (r : IsActi
         pub returned_below : (cache : List ℕ) (edition receiver selector : ℕ)
             → AdvancedIs edition receiver selector n b a contents bodies stack cache contents bodies₁ stack' cache (A.Below f)
         returned_below cache edition receiver selector = (returns_below cache edition receiver selector, h.stands, ends_below)
-
-  -- Editions without blocks send value to none and push none.
-  pub not_valued : (block : Pointer) (count : ℕ) (next : CodePosition) → event ≡ Value block count next → ⊥
-  not_valued block count next e =
-      let x : Says n b contents a bodies stack bodies₁ stack₁ (Value block count next) = by_event (Value block count next) e in
-      never_valued x.0
-
-  pub not_pushed : (count : ℕ) (next target : CodePosition) → event ≡ Block count next target → ⊥
-  not_pushed count next target e =
-      let x : Says n b contents a bodies stack bodies₁ stack₁ (Block count next target) = by_event (Block count next target) e in
-      never_pushed x.0.at
 
   -- A send
   module _ (m : Message) (e : event ≡ Send m) where

@@ -126,18 +126,6 @@ pub fn advance(
             }
             Advanced::Below(return_to(contents, bodies, stack, n, b, top, w))
         }
-        Event::ReturnFromBlock(w) => {
-            frames::leave(stack, active);
-            let top = active.base;
-            let base = top.0;
-            if base == 0 {
-                return Advanced::Finished(w);
-            }
-            Advanced::Below(return_to(contents, bodies, stack, n, b, top, w))
-        }
-        // no edition that runs has blocks
-        Event::Value { .. } => Advanced::Halted(0),
-        Event::Block { .. } => Advanced::Halted(0),
         Event::Halt(k) => {
             frames::leave(stack, active);
             Advanced::Halted(k)

@@ -7,4 +7,4 @@ use Rattle.state.specs.Parts.{registers_fine}
 -- edition, N and B are in range, phase and value are right
 pub record FirstParts (r : Registers) : Type 0 where
   pub header : header_fine r.edition r.n r.b ≡ true
-  pub registers : registers_fine r.edition r.n r.phase r.value ≡ true
+  pub registers : registers_fine r.n r.phase r.value ≡ true

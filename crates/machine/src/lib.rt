@@ -201,12 +201,7 @@ fn state_fine(
     if !store::header_fine(edition, registers.n, registers.b) {
         return false;
     }
-    if !state::registers_fine(
-        edition,
-        registers.n as usize,
-        registers.phase,
-        registers.value,
-    ) {
+    if !state::registers_fine(registers.n as usize, registers.phase, registers.value) {
         return false;
     }
     let b = registers.b;

@@ -7,9 +7,9 @@ use mathlib.Core.List.{List, [], ◌∷◌}
 use native.Mathlib.Omega.{arith}
 use borrow.Author.Tests.{eq-eqb, eqb-true}
 use lib.Dec.{T, ltb, eqb}
-use lib.ListN.{length, get_or, set, take, replicate, length-set}
+use lib.ListN.{length, get_or, set, take, length-set}
 use lib.Seq.{sets, get_or-set_other}
-use Rattle.bytecode.specs.Constant.{nil_word, false_word}
+use Rattle.bytecode.specs.Constant.{false_word}
 use Rattle.bytecode.proofs.Choice.{if_yes, if_no}
 use Rattle.bytecode.proofs.TestLaws.{true→T, T→true, and_left, and_right}
 use Rattle.model.specs.declared.Pointer.{Pointer}
@@ -33,10 +33,10 @@ use Rattle.model.proofs.MessageLaws.{HasMessageRoom, message_room, message_law}
 use Rattle.plain.specs.Registers.{not_understood, no_stack_room}
 use Rattle.plain.specs.State.{fits_stack}
 use Rattle.plain.specs.Step.{Stepped, Activation, halts, answered, entered, unfit, entering, activate, has_word_of, popped, without}
-use Rattle.plain.specs.Flat.{frame_depth, frame_method, temporaries_start, frame_at}
+use Rattle.plain.specs.Flat.{frame_depth, frame_method, operands_start, frame_at}
 use Rattle.plain.specs.Cache.{filled}
 use Rattle.plain.specs.Step as S
-use Rattle.plain.specs.Running.{Runs, running_with, top_operands, top_frame, room_at, Made, sent_receiver, sent_arguments, failed_step}
+use Rattle.plain.specs.Running.{running_with, top_frame, room_at, Made, sent_receiver, sent_arguments, failed_step}
 use Rattle.plain.proofs.FrameLaws.{fits}
 use Rattle.plain.proofs.RunningLaws.{top_bounds, is_method}
 use Rattle.plain.proofs.Preserve.{entered_runs}
@@ -47,9 +47,8 @@ use Rattle.objects.specs.Lent.{Holds}
 use Rattle.frames.specs.declared.Active.{Active}
 use Rattle.frames.specs.declared.Message.{Message}
 use Rattle.frames.specs.Words.{new_words}
-use Rattle.frames.specs.Active.{Held, frame_end}
-use Rattle.frames.proofs.FreshLaws.{temporaries_long, new_method}
-use Rattle.frames.proofs.ActiveLaws.{depth_taken}
+use Rattle.frames.specs.Active.{frame_end}
+use Rattle.frames.proofs.FreshLaws.{new_method}
 use Rattle.frames.proofs.Standing.{noted_small}
 use Rattle.primitives.specs.Outcomes.{room_for, Stand, MessageRoom}
 use Rattle.sends.specs.Sends.{Guarded, Halts}
@@ -78,22 +77,6 @@ sought_method {e} {o} {contents} {bodies} {class} {count} y m p s = subst (Found
 
 pub placed_at : {o : Objects} {room base m : ℕ} (y : Placed) (temporaries end : ℕ) → y ≡ P.At temporaries end → PlacedIs o room base m y → FrameFits o room base m temporaries end
 placed_at {o} {room} {base} {m} y temporaries end p s = subst (PlacedIs o room base m) p s
-
--- the receiver, from the top frame as it is taken
-module _ {n b top : ℕ} {contents bodies stack : List ℕ} {a : Active} (count : ℕ) (r : Runs n b top contents bodies stack) (needs : suc count ≤ frame_depth stack top)
-    (h : Held n b top contents bodies stack a) where
-  depth_is : a.end.0 - a.operands.0 ≡ frame_depth stack top
-  depth_is = depth_taken h (let t = top_bounds r in omega arith) ∙ ap (frame_depth stack) h.base
-
-  pub taken_needs : a.operands.0 + suc count ≤ a.end.0
-  taken_needs = let d = depth_is in let u = h.stands.above in omega arith
-
-  pub receiver_taken : ReceiverIs n b top contents bodies stack count (record { place = a.end.0 - 1 - count; left = a.end.0 - 1 - count - a.operands.0 })
-  receiver_taken =
-      let d = depth_is in
-      let u = taken_needs in
-      let s = h.stands.operands ∙ ap (λ (k : ℕ). top_operands n b k contents bodies stack) h.base in
-      record { below = omega arith; stands = omega arith }
 
 module _ {e n b top : ℕ} {contents bodies stack cache : List ℕ} {q : Message} (r : Resends e n b top contents bodies stack cache q) where
   abbrev o : Objects
@@ -267,8 +250,8 @@ module _ {e n b top : ℕ} {contents bodies stack cache : List ℕ} {q : Message
           unfolding frame_at
           word =
               subst T
-              (sym (ap (λ (c : ℕ). ltb (length (top_frame n b top contents bodies stack).temporaries + length (without (top_frame n b top contents bodies stack) (suc count))) c)
-              (frame_same ext r.right running (is_method r.sending.runs))))
+              (sym (ap₂ (λ (a c : ℕ). ltb (a + length (without (top_frame n b top contents bodies stack) (suc count))) c)
+              (temporaries_same ext r.right running (is_method r.sending.runs)) (frame_same ext r.right running (is_method r.sending.runs))))
               (word_left r.sending)
 
           same_method : frame_method stack' top ≡ running
@@ -369,23 +352,20 @@ module _ {e n b top : ℕ} {contents bodies stack cache : List ℕ} {q : Message
               held =
                   record {
                     base = record { 0 = base };
-                    home = record { 0 = base };
                     code = start o (object_number m) + (2 + literal_count o m);
                     limit = start o (object_number m) + body_words o (object_number m);
-                    operands = record { 0 = temporaries_start base + temporary_count o m };
+                    operands = record { 0 = operands_start o m base };
                     position = record { 0 = 0 };
-                    end = record { 0 = temporaries_start base + temporary_count o m };
+                    end = record { 0 = operands_start o m base };
                   }
 
               method : frame_method stack' base ≡ m
               method =
+                  let i = inside in
                   let g = length-set stack (top + 1) q.next.0 in
                   let j = length-set (set stack (top + 1) q.next.0) (top + 2) p.left in
-                  let y = temporaries_long (message_word o ∷ []) temporaries enters_there.one in
-                  let u = enters_there.fits in
-                  new_method n b contents bodies {f = held} {own = temporary_count o m} {start = 0} {depth = 0} {at = base}
-                  (record { code = refl; limit = refl; operands = refl; position = refl; ends = omega arith; home = refl }) moved stack' top 0 (get_or stack p.place 0)
-                  (message_word o ∷ replicate (temporaries - 1) nil_word) es (omega arith)
+                  new_method n b contents bodies {f = held} (record { code = refl; limit = refl; operands = refl; position = refl; none = refl }) moved stack' top (get_or stack p.place 0)
+                  temporaries (message_word o ∷ []) es (omega arith)
 
               pub frame_sent : (receiver₀ selector₀ : ℕ)
                   → ResentIs e receiver₀ selector₀ n b top q contents bodies stack cache contents' bodies' stack' cache' (R.Sent (n + 2) (b + (count + 2)) (record { 0 = base }) end read)

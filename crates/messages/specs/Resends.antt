@@ -10,8 +10,8 @@ use Rattle.model.specs.Lookup.{found, lookup, dictionaries_read}
 use Rattle.model.specs.Rules.{Right, IsRight}
 use Rattle.model.specs.Primitive.{has_message_room}
 use Rattle.plain.specs.State.{fits_stack}
-use Rattle.plain.specs.Flat.{frame_depth}
-use Rattle.plain.specs.Running.{running_with, Made, room_at, top_operands, Sending, failed_step}
+use Rattle.plain.specs.Flat.{frame_depth, frame_method, operands_start}
+use Rattle.plain.specs.Running.{running_with, Made, room_at, Sending, failed_step}
 use Rattle.frames.specs.declared.Message.{Message}
 use Rattle.frames.specs.Active.{frame_end}
 use Rattle.cache.specs.declared.Lookup.{Lookup}
@@ -55,7 +55,7 @@ SoughtIs e o contents bodies class count r = FoundIs e o contents bodies class c
 -- The receiver's place and the operands below it
 pub record ReceiverIs (n b top : ℕ) (contents bodies stack : List ℕ) (count : ℕ) (r : Receiver) : Type 0 where
   pub below : r.left ≡ frame_depth stack top - suc count
-  pub stands : r.place ≡ top_operands n b top contents bodies stack + (frame_depth stack top - suc count)
+  pub stands : r.place ≡ operands_start (objects_at n b contents bodies) (frame_method stack top) top + (frame_depth stack top - suc count)
 
 -- A frame of method m at a base: its temporaries and its end; or it does not fit
 pub record FrameFits (o : Objects) (room base m temporaries end : ℕ) : Type 0 where

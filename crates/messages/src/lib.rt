@@ -98,11 +98,14 @@ fn receiver_of(
     requires { Runs n b top.0 contents.now bodies.now stack.now × (suc count ≤ frame_depth stack.now top.0) }
     ensures { ReceiverIs n b top.0 contents.now bodies.now stack.now count result }
 {
-    let active = frames::hold(contents, bodies, stack, n, b, top);
-    let place = active.end.0 - 1 - count;
+    let base = top.0;
+    let running = Pointer(stack[base + limits::FRAME_METHOD]);
+    let depth = stack[base + limits::FRAME_DEPTH] as usize;
+    let temporaries = readers::temporary_count(objects::header(contents, bodies, n, b, running));
+    let left = depth - 1 - count;
     Receiver {
-        place: place,
-        left: place - active.operands.0,
+        place: frames::first_temporary(top) + temporaries + left,
+        left: left,
     }
 }
 

@@ -1,12 +1,12 @@
--- Rule 7 in four passes over the objects: the words of methods, the dictionaries that hold them, their code, and the blocks.
+-- Rule 7 in three passes over the objects: the words of methods, the dictionaries that hold them, their code.
 use Rattle.std.specs.Prelude.{ℕ, ◌+◌, ◌*◌, Bool, ◌&&◌, List, [], ◌∷◌, leb, ltb, eqb}
 use Rattle.bytecode.specs.Test.{up_to, below, implies, all_of}
-use Rattle.model.specs.Limits.{class_kind, method_kind, block_kind, field_flag, primitive_flag}
+use Rattle.model.specs.Limits.{class_kind, method_kind, field_flag, primitive_flag}
 use Rattle.model.specs.Word.{is_integer, is_valid, pointer, object_number}
 use Rattle.model.specs.Objects.{Objects, kind, size, is_kind, field_count}
 use Rattle.model.specs.Method.{header, home, literal, flag, temporary_count, literal_count, argument_count, runs_code}
 use Rattle.model.specs.Depth.{is_some}
-use Rattle.model.specs.Rules.{extension_fine, method_table, dictionary_methods_fine, block_rules}
+use Rattle.model.specs.Rules.{extension_fine, method_table, dictionary_methods_fine}
 
 -- every rule of a method but that of its code
 unfoldable pub shape_rules : Objects → ℕ → List Bool
@@ -30,9 +30,6 @@ holder_fine o k = implies (eqb (kind o k) class_kind) (dictionary_methods_fine o
 unfoldable pub code_fine : ℕ → Objects → ℕ → Bool
 code_fine e o k = implies (eqb (kind o k) method_kind) (implies (runs_code o (pointer k)) (is_some (method_table e o (pointer k))))
 
-unfoldable pub block_fine : ℕ → Objects → ℕ → Bool
-block_fine e o k = implies (eqb (kind o k) block_kind) (all_of (block_rules e o (pointer k)))
-
 unfoldable pub shapes : Objects → Bool
 shapes o = up_to o.n (shape_fine o)
 
@@ -41,9 +38,6 @@ holders o = up_to o.n (holder_fine o)
 
 unfoldable pub codes : ℕ → Objects → Bool
 codes e o = up_to o.n (code_fine e o)
-
-unfoldable pub blocks : ℕ → Objects → Bool
-blocks e o = up_to o.n (block_fine e o)
 
 -- the last three of a method's shape
 unfoldable pub field_rule : Objects → ℕ → Bool

@@ -5,22 +5,17 @@ use mathlib.Core.Bool.{◌&&◌}
 use mathlib.Core.List.{List, [], ◌∷◌, ◌++◌}
 use native.Mathlib.Omega.{arith}
 use native.Mathlib.Decide.{dec_le}
-use borrow.Author.Tests.{eq-eqb}
 use lib.Dec.{T, leb, ltb, leb→le, le→leb, ltb→lt}
 use lib.ListN.{length, get_or, length-append, get_or-append}
 use lib.Seq.{get_or-append-add}
-use Rattle.bytecode.specs.Test.{all_of}
-use Rattle.bytecode.proofs.TestLaws.{true→T, and_left, and_right, and_both, rules}
-use Rattle.model.proofs.Parts.{◌also◌}
-use Rattle.model.specs.Limits.{least_objects, most_objects, most_body_words, entry_words, fields_kind, bytes_kind, class_kind, method_kind, block_kind, last_kind, fixed_form, indexed_form, bytes_form, block_form, block_words_of, largest_integer, has_blocks}
-use Rattle.model.specs.Word.{is_integer, is_valid, pointer, object_number}
-use Rattle.model.specs.Objects.{Objects, entry_word, class_word, kind, start, size, sized_in_bytes, body_words, body_word, is_kind, field_count, form, block_mark, block_start_of, block_count}
-use Rattle.model.specs.Rules.{starts_block, block_rules}
+use Rattle.bytecode.proofs.TestLaws.{and_left, and_right, and_both}
+use Rattle.model.specs.Limits.{least_objects, most_objects, most_body_words, entry_words, fields_kind, bytes_kind, class_kind, fixed_form, indexed_form, bytes_form}
+use Rattle.model.specs.Word.{is_valid}
+use Rattle.model.specs.Objects.{Objects, entry_word, class_word, kind, start, size, sized_in_bytes, body_words, body_word, is_kind, field_count, form}
 use Rattle.model.specs.Image.{Room}
 use Rattle.model.specs.Primitive.{appended, has_room}
-use Rattle.model.proofs.Facts.{Right, Padded, Layout, Fits, fixed, indexed, bytes, block, last_kind_lem, last_with, in_words, in_bytes, sized_at, least_of, least, layout, last_end, inside, word_valid}
+use Rattle.model.proofs.Facts.{Right, Padded, Layout, Fits, fixed, indexed, bytes, in_words, in_bytes, sized_at, least_of, least, layout, last_end, inside, word_valid}
 use Rattle.model.proofs.Extends.{Free, Extends, words_same, valid_grows, kind_kept, fields_same, form_same}
-use Rattle.model.proofs.Unchanged.{starts_same}
 use Rattle.model.proofs.RightLaws.{Renewed, right_kept}
 
 -- N, B and the buffers have room for it.
@@ -42,46 +37,29 @@ room_facts room o count t =
       bodies = leb→le (o.b + count) room.bodies (and_right (leb (entry_words * (o.n + 1)) room.contents) _ q);
     }
 
--- The body of a block
-pub record BlockBody (e : ℕ) (o : Objects) (body : List ℕ) : Type 0 where
-  pub four : length body ≡ block_words_of
-  pub odd : get_or body 0 0 % 2 ≡ 1
-  pub least : 1 ≤ get_or body 0 0 / 2
-  pub most : get_or body 0 0 / 2 ≤ largest_integer
-  pub method : T (is_kind o method_kind (get_or body 3 0))
-  pub starts : T (starts_block e o (get_or body 3 0) (get_or body 1 0) (get_or body 2 0))
-
--- A body that suits the form of class c: as many fields, at least as many, bytes with their padding, or a block's
-pub data Suits (e : ℕ) (o : Objects) (c kd sz : ℕ) (body : List ℕ) : Type 0 where
+-- A body that suits the form of class c: as many fields, at least as many, or bytes with their padding
+pub data Suits (o : Objects) (c kd sz : ℕ) (body : List ℕ) : Type 0 where
   as_many : kd ≡ fields_kind → form o c ≡ fixed_form → sz ≡ field_count o c → length body ≡ sz
-      → ((i : ℕ) → i < length body → T (is_valid (o.n + 1) (get_or body i 0))) → Suits e o c kd sz body
+      → ((i : ℕ) → i < length body → T (is_valid (o.n + 1) (get_or body i 0))) → Suits o c kd sz body
   at_least : kd ≡ fields_kind → form o c ≡ indexed_form → field_count o c ≤ sz → length body ≡ sz
-      → ((i : ℕ) → i < length body → T (is_valid (o.n + 1) (get_or body i 0))) → Suits e o c kd sz body
+      → ((i : ℕ) → i < length body → T (is_valid (o.n + 1) (get_or body i 0))) → Suits o c kd sz body
   of_bytes : kd ≡ bytes_kind → form o c ≡ bytes_form → length body ≡ (sz + 1) / 2
-      → (sz % 2 ≡ 1 → get_or body (length body - 1) 0 % 256 ≡ 0) → Suits e o c kd sz body
-  of_block : kd ≡ block_kind → form o c ≡ block_form → sz ≡ block_words_of → T (has_blocks e) → BlockBody e o body → Suits e o c kd sz body
+      → (sz % 2 ≡ 1 → get_or body (length body - 1) 0 % 256 ≡ 0) → Suits o c kd sz body
 
--- its kind
-record SuitKind (e kd sz : ℕ) : Type 0 where
-  last : kd ≤ last_kind e
-  free : Free kd
-  block : kd ≡ block_kind → sz ≡ block_words_of
+suits_kind : {o : Objects} {c kd sz : ℕ} {body : List ℕ} → Suits o c kd sz body → kd ≤ 1
+suits_kind (as_many p f m q v) = omega arith
+suits_kind (at_least p f m q v) = omega arith
+suits_kind (of_bytes p f q v) = omega arith
 
-suits_kind : {e : ℕ} {o : Objects} {c kd sz : ℕ} {body : List ℕ} → Suits e o c kd sz body → SuitKind e kd sz
-suits_kind {e} (as_many p f m q v) = let l = (last_kind_lem e).0 in record { last = omega arith; free = λ h. absurd (omega arith); block = λ h. absurd (omega arith) }
-suits_kind {e} (at_least p f m q v) = let l = (last_kind_lem e).0 in record { last = omega arith; free = λ h. absurd (omega arith); block = λ h. absurd (omega arith) }
-suits_kind {e} (of_bytes p f q v) = let l = (last_kind_lem e).0 in record { last = omega arith; free = λ h. absurd (omega arith); block = λ h. absurd (omega arith) }
-suits_kind {e} (of_block p f m t y) = let l = last_with e t in record { last = omega arith; free = λ h. omega arith; block = λ h. m }
-
-pub suits_free : {e : ℕ} {o : Objects} {c kd sz : ℕ} {body : List ℕ} → Suits e o c kd sz body → Free kd
-suits_free s = (suits_kind s).free
+pub suits_free : {o : Objects} {c kd sz : ℕ} {body : List ℕ} → Suits o c kd sz body → Free kd
+suits_free s h = let k = suits_kind s in absurd (omega arith)
 
 module _ {e : ℕ} {o : Objects} (r : Right e o) (c kd sz : ℕ) (body : List ℕ) where
   abbrev grown : Objects
   grown = appended o c kd sz body
 
   -- the one object that is new
-  pub one_more : (k : ℕ) → o.n < k → k ≤ grown.n → k ≡ o.n + 1
+  one_more : (k : ℕ) → o.n < k → k ≤ grown.n → k ≡ o.n + 1
   unfolding appended
   one_more k a b = omega arith
 
@@ -90,7 +68,7 @@ module _ {e : ℕ} {o : Objects} (r : Right e o) (c kd sz : ℕ) (body : List �
   unfolding appended
   appended_entry k i h g l = let q = r.contents in get_or-append o.contents (c ∷ kd ∷ o.b ∷ sz ∷ []) 0 (entry_words * (k - 1) + i) (omega arith)
 
-  pub new_entry : (k i : ℕ) → k ≡ o.n + 1 → entry_word grown k i ≡ get_or (c ∷ kd ∷ o.b ∷ sz ∷ []) i 0
+  new_entry : (k i : ℕ) → k ≡ o.n + 1 → entry_word grown k i ≡ get_or (c ∷ kd ∷ o.b ∷ sz ∷ []) i 0
   unfolding appended
   new_entry k i p =
       let q = r.contents in
@@ -105,7 +83,7 @@ module _ {e : ℕ} {o : Objects} (r : Right e o) (c kd sz : ℕ) (body : List �
       let s = r.bodies in
       ap (λ (x : ℕ). get_or (o.bodies ++ body) (x + i) 0) (appended_entry k 2 h g (omega arith)) ∙ get_or-append o.bodies body 0 (start o k + i) (omega arith)
 
-  pub new_word : (k i : ℕ) → k ≡ o.n + 1 → body_word grown k i ≡ get_or body i 0
+  new_word : (k i : ℕ) → k ≡ o.n + 1 → body_word grown k i ≡ get_or body i 0
   unfolding appended
   new_word k i p =
       ap (λ (x : ℕ). get_or (o.bodies ++ body) (x + i) 0) (new_entry k 2 p ∙ sym r.bodies) ∙ get_or-append-add o.bodies body i 0
@@ -126,7 +104,7 @@ module _ {e : ℕ} {o : Objects} (r : Right e o) (c kd sz : ℕ) (body : List �
       longer : length o.bodies ≤ length grown.bodies
       longer = unfold appended in let q = length-append o.bodies body in omega arith
 
-  module _ (t : T (is_kind o class_kind c)) (s : Suits e o c kd sz body) where
+  module _ (t : T (is_kind o class_kind c)) (s : Suits o c kd sz body) where
     ext : Extends o grown
     ext = appended_extends (suits_free s)
 
@@ -139,11 +117,10 @@ module _ {e : ℕ} {o : Objects} (r : Right e o) (c kd sz : ℕ) (body : List �
         at_size : size grown k ≡ sz
         at_size = new_entry k 3 h
 
-        go : Suits e o c kd sz body → body_words grown k ≡ length body
+        go : Suits o c kd sz body → body_words grown k ≡ length body
         go (as_many p f m q v) = let a = at_kind in in_words grown k (omega arith) (omega arith) ∙ at_size ∙ sym q
         go (at_least p f m q v) = let a = at_kind in in_words grown k (omega arith) (omega arith) ∙ at_size ∙ sym q
         go (of_bytes p f q v) = in_bytes grown k (sized_at (kind grown k) bytes_kind (at_kind ∙ p) tt) ∙ ap (λ (x : ℕ). (x + 1) / 2) at_size ∙ sym q
-        go (of_block p f m u y) = let a = at_kind in in_words grown k (omega arith) (omega arith) ∙ at_size ∙ m ∙ sym y.four
 
     new_class : (k : ℕ) → k ≡ o.n + 1 → T (is_kind grown class_kind (class_word grown k))
     new_class k h = subst (λ (x : ℕ). T (is_kind grown class_kind x)) (sym (new_entry k 0 h)) (kind_kept ext class_kind c t)
@@ -163,11 +140,10 @@ module _ {e : ℕ} {o : Objects} (r : Right e o) (c kd sz : ℕ) (body : List �
         fc : field_count grown c ≡ field_count o c
         fc = fields_same ext r c t
 
-        go : Suits e o c kd sz body → Fits grown k c
+        go : Suits o c kd sz body → Fits grown k c
         go (as_many p f m q v) = fixed (fm ∙ f) (at_kind ∙ p) (at_size ∙ m ∙ sym fc)
         go (at_least p f m q v) = let a = fc in let b = at_size in indexed (fm ∙ f) (at_kind ∙ p) (omega arith)
         go (of_bytes p f q v) = bytes (fm ∙ f) (at_kind ∙ p)
-        go (of_block p f m u y) = block (fm ∙ f) (at_kind ∙ p)
 
     new_padded : (k : ℕ) → k ≡ o.n + 1 → Padded grown k
     new_padded k h a b = go s
@@ -175,13 +151,12 @@ module _ {e : ℕ} {o : Objects} (r : Right e o) (c kd sz : ℕ) (body : List �
         at_kind : kind grown k ≡ kd
         at_kind = new_entry k 1 h
 
-        sized : (z : ℕ) → kd ≡ z → T (sized_in_bytes z)
-        sized z p = subst (λ (x : ℕ). T (sized_in_bytes x)) (at_kind ∙ p) a
+        fields : kd ≡ fields_kind → ⊥
+        fields p = subst (λ (x : ℕ). T (sized_in_bytes x)) (at_kind ∙ p) a
 
-        go : Suits e o c kd sz body → body_word grown k (body_words grown k - 1) % 256 ≡ 0
-        go (as_many p f m q v) = absurd (sized fields_kind p)
-        go (at_least p f m q v) = absurd (sized fields_kind p)
-        go (of_block p f m u y) = absurd (sized block_kind p)
+        go : Suits o c kd sz body → body_word grown k (body_words grown k - 1) % 256 ≡ 0
+        go (as_many p f m q v) = absurd (fields p)
+        go (at_least p f m q v) = absurd (fields p)
         go (of_bytes p f q v) =
             ap (λ (x : ℕ). body_word grown k (x - 1) % 256) (new_words_lem k h) ∙ ap (λ (x : ℕ). x % 256) (new_word k (length body - 1) h)
             ∙ v (ap (λ (x : ℕ). x % 2) (sym (new_entry k 3 h)) ∙ b)
@@ -190,18 +165,17 @@ module _ {e : ℕ} {o : Objects} (r : Right e o) (c kd sz : ℕ) (body : List �
     before_new : (k : ℕ) → k ≡ o.n + 1 → k - 1 ≡ o.n
     before_new k h = omega arith
 
-    new_layout : (k : ℕ) → k ≡ o.n + 1 → Layout e grown k
+    new_layout : (k : ℕ) → k ≡ o.n + 1 → Layout grown k
     new_layout k h =
         let l = least r in
         let a : kind grown k ≡ kd = new_entry k 1 h in
         let d = suits_kind s in
         record {
-          kinds = subst (λ (x : ℕ). x ≤ last_kind e) (sym a) d.last;
+          kinds = omega arith;
           first = λ p. absurd (omega arith);
           next = λ p. new_entry k 2 h ∙ sym (last_end r) ∙ sym (ap₂ ◌+◌ (ap (start grown) (before_new k h) ∙ appended_entry o.n 2 (omega arith)
               (omega arith) (omega arith)) (ap (body_words grown) (before_new k h) ∙ words_same ext o.n (omega arith) (omega arith)));
-          four = λ p. let z = d.free (omega arith) in absurd (omega arith);
-          block = λ p. new_entry k 3 h ∙ d.block (sym a ∙ p);
+          four = λ p. absurd (omega arith);
           padded = new_padded k h;
         }
 
@@ -216,40 +190,10 @@ module _ {e : ℕ} {o : Objects} (r : Right e o) (c kd sz : ℕ) (body : List �
     new_valid : (i : ℕ) → kd ≡ fields_kind → i < length body → T (is_valid (o.n + 1) (get_or body i 0))
     new_valid i p l = go s
       where
-        go : Suits e o c kd sz body → T (is_valid (o.n + 1) (get_or body i 0))
+        go : Suits o c kd sz body → T (is_valid (o.n + 1) (get_or body i 0))
         go (as_many q f m d v) = v i l
         go (at_least q f m d v) = v i l
         go (of_bytes q f d v) = absurd (omega arith)
-        go (of_block q f m u y) = absurd (omega arith)
-
-    new_block : (k : ℕ) → k ≡ o.n + 1 → kind grown k ≡ block_kind → T (all_of (block_rules e grown (pointer k)))
-    unfolding block_rules
-    new_block k h p = go s
-      where
-        word : (i : ℕ) → body_word grown (object_number (pointer k)) i ≡ get_or body i 0
-        word i = new_word (object_number (pointer k)) i (half k ∙ h)
-          where
-            half : (k : ℕ) → 2 * k / 2 ≡ k
-            half k = omega arith
-
-        at_kind : kind grown k ≡ kd
-        at_kind = new_entry k 1 h
-
-        go : Suits e o c kd sz body → T (all_of (block_rules e grown (pointer k)))
-        go (as_many q f m d v) = let a = at_kind in absurd (omega arith)
-        go (at_least q f m d v) = let a = at_kind in absurd (omega arith)
-        go (of_bytes q f d v) = let a = at_kind in absurd (omega arith)
-        go (of_block q f m u y) =
-            let mark = word 0 in
-            rules (block_rules e grown (pointer k))
-            (and_both (is_integer (block_mark grown (pointer k))) (leb (block_mark grown (pointer k) / 2) largest_integer)
-            (true→T (eq-eqb _ 1 (ap (λ (x : ℕ). x % 2) mark ∙ y.odd))) (le→leb _ largest_integer (subst (λ (x : ℕ). x / 2 ≤ largest_integer) (sym mark) y.most))
-            also le→leb 1 _ (subst (λ (x : ℕ). 1 ≤ x / 2) (sym mark) y.least)
-            also subst (λ (x : ℕ). T (is_kind grown method_kind x)) (sym (word 3)) (kind_kept ext method_kind (get_or body 3 0) y.method)
-            also subst T (sym (ap (λ (x : ℕ). starts_block e grown x (block_start_of grown (pointer k)) (block_count grown (pointer k))) (word 3)
-            ∙ ap₂ (starts_block e grown (get_or body 3 0)) (word 1) (word 2) ∙ starts_same ext r (get_or body 3 0) y.method (get_or body 1 0) (get_or body 2 0)))
-            y.starts
-            also tt)
 
     all_valid : (k i : ℕ) → 1 ≤ k → k ≤ grown.n → kind grown k ≡ fields_kind → i < body_words grown k → T (is_valid grown.n (body_word grown k i))
     all_valid k i h g p l = go (dec_le k o.n)
@@ -258,7 +202,7 @@ module _ {e : ℕ} {o : Objects} (r : Right e o) (c kd sz : ℕ) (body : List �
         go (yes q) =
             let w = words_same ext k h q in
             let a : kind grown k ≡ kind o k = appended_entry k 1 h q (omega arith) in
-            subst (λ (x : ℕ). T (is_valid grown.n x)) (sym (appended_word k i h q (omega arith))) (valid_grows ext (body_word o k i) (word_valid r k i h q (omega arith) (omega arith) (omega arith) (omega arith)))
+            subst (λ (x : ℕ). T (is_valid grown.n x)) (sym (appended_word k i h q (omega arith))) (valid_grows ext (body_word o k i) (word_valid r k i h q (omega arith) (omega arith) (omega arith)))
         go (no q) =
             let m = one_more k (omega arith) g in
             let w = new_words_lem k m in
@@ -288,7 +232,6 @@ module _ {e : ℕ} {o : Objects} (r : Right e o) (c kd sz : ℕ) (body : List �
             room = λ k a b. let q = new_end k (one_more k a b) in omega arith;
             classes = λ k a b. new_class k (one_more k a b);
             fitting = λ k a b. new_fits k (one_more k a b);
-            blocks = λ k a b p. new_block k (one_more k a b) p;
           }
         where
           long : length grown.contents ≡ entry_words * grown.n

@@ -13,7 +13,7 @@ use Rattle.bytecode.specs.Test.{if◌then◌else◌, all_of}
 use Rattle.bytecode.specs.Code.{next_at, decode_at}
 use Rattle.bytecode.specs.Effect.{usable, successors}
 use Rattle.bytecode.specs.declared.Instruction.{Instruction}
-use Rattle.bytecode.specs.declared.Instruction.TheVariants.{Push, Store, PopStore, PushSelf, PushConstant, ReturnSelf, ReturnConstant, ReturnTop, Pop, Duplicate, Jump, JumpOn, Send, SuperSend, SpecialSend, PushBlock, BlockReturn, Unused}
+use Rattle.bytecode.specs.declared.Instruction.TheVariants.{Push, Store, PopStore, PushSelf, PushConstant, ReturnSelf, ReturnConstant, ReturnTop, Pop, Duplicate, Jump, JumpOn, Send, SuperSend, SpecialSend, Unused}
 use Rattle.bytecode.proofs.Choice.{if_ge}
 use Rattle.bytecode.proofs.TestLaws.{rule}
 use Rattle.model.specs.Objects.{Objects}
@@ -22,7 +22,7 @@ use Rattle.model.specs.Depth.{Reached, first, onward, note_at, successorsAt, dep
 use Rattle.model.specs.Rules.{allowed, SoundMethod, method_table}
 use Rattle.model.proofs.WalkLaws.{Notes, at_reached, found, decides_walk}
 
-one_or_none : (b : Bool) (p : ℕ) → length (if b then p ∷ [] else []) ≤ 1
+one_or_none : (b : Bool) (p : ℕ) → length (if b then p ∷ [] else []) ≤ 2
 unfolding if◌then◌else◌
 one_or_none true p = omega arith
 one_or_none false p = omega arith
@@ -39,13 +39,11 @@ at_most_two next (ReturnConstant w) = omega arith
 at_most_two next ReturnTop = omega arith
 at_most_two next Pop = omega arith
 at_most_two next Duplicate = omega arith
-at_most_two next (Jump a b) = let l = one_or_none (leb b (next + a)) (next + a - b) in omega arith
+at_most_two next (Jump a b) = one_or_none (leb b (next + a)) (next + a - b)
 at_most_two next (JumpOn x a) = omega arith
 at_most_two next (Send l n) = omega arith
 at_most_two next (SuperSend l n) = omega arith
 at_most_two next (SpecialSend k) = omega arith
-at_most_two next (PushBlock n a b) = let l = one_or_none (leb b (next + a)) (next + a - b) in omega arith
-at_most_two next BlockReturn = omega arith
 at_most_two next Unused = omega arith
 
 not_unused : (next : ℕ) (i : Instruction) → T (usable next i) → i ≡ Unused → ⊥
@@ -115,22 +113,6 @@ module _ (e : ℕ) (o : Objects) (m : ℕ) where
             along = λ q s. ap (λ (x : Option (List ℕ)). note_at x q) h ∙ notes.reached q (onward r s)
                 ∙ ap suc (notes.table.along p q r s ∙ ap (λ (k : ℕ). depthAfterAt (code_words o m) (code_size o m) p q (pred k)) n);
           }
-
-  -- the noted positions are the reached ones
-  pub spot_reached : (p d : ℕ) → note_at (method_table e o m) p ≡ suc d → Reached (successorsAt (code_words o m) (code_size o m)) p
-  spot_reached p d h = go (method_table e o m) refl h
-    where
-      go : (x : Option (List ℕ)) → method_table e o m ≡ x → note_at x p ≡ suc d → Reached (successorsAt (code_words o m) (code_size o m)) p
-      go none h n = let z : ◌≡◌ {A = ℕ} 0 (suc d) = n in absurd (omega arith)
-      go (some t) h n = at_reached ((method_notes t h).path p d n)
-
-  pub reached_spot : T (is_some (method_table e o m)) → (p : ℕ) → Reached (successorsAt (code_words o m) (code_size o m)) p
-      → note_at (method_table e o m) p ≡ suc (pred (note_at (method_table e o m) p))
-  reached_spot s p r = go (method_table e o m) refl s
-    where
-      go : (x : Option (List ℕ)) → method_table e o m ≡ x → T (is_some x) → note_at x p ≡ suc (pred (note_at x p))
-      go none h s' = absurd s'
-      go (some t) h s' = (method_notes t h).reached p r
 
   -- position 0 of a sound method is noted with depth 0
   pub spot_start : T (is_some (method_table e o m)) → note_at (method_table e o m) 0 ≡ 1

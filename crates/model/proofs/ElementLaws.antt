@@ -14,7 +14,7 @@ use Rattle.model.specs.Word.{is_integer, is_natural, is_valid, object_number}
 use Rattle.model.specs.Objects.{Objects, class_word, kind, start, size, body_word, class_of, form}
 use Rattle.model.specs.Primitive.{Outcome, answers, fails, store_word, store_byte, element_start, element_count, has_elements, is_indexable, holds_bytes, is_index, place_of_index, at_put}
 use Rattle.model.proofs.Parts.{or_left, or_right}
-use Rattle.model.proofs.Facts.{Right, Valid, odd, names, valid_cases, Fits, fixed, indexed, bytes, other, block, entry_fits, class_facts}
+use Rattle.model.proofs.Facts.{Right, Valid, odd, names, valid_cases, Fits, fixed, indexed, bytes, other, entry_fits, class_facts}
 use Rattle.model.proofs.SendFacts.{class_kind_lem}
 
 -- The tests as facts: the forms that are taken
@@ -119,8 +119,7 @@ module _ {e : ℕ} {o : Objects} (r : Right e o) (w : ℕ) (v : T (is_valid o.n 
       go (fixed a b c) = absurd (omega arith)
       go (indexed a b c) = absurd (omega arith)
       go (bytes a b) = b
-      go (other a b c) = absurd (omega arith)
-      go (block a b) = absurd (omega arith)
+      go (other a b) = absurd (omega arith)
 
   pub words_kind : w % 2 ≢ 1 → form o (class_of o w) ≡ indexed_form → kind o (object_number w) ≡ fields_kind
   words_kind d p = go (fits_class d)
@@ -129,8 +128,7 @@ module _ {e : ℕ} {o : Objects} (r : Right e o) (w : ℕ) (v : T (is_valid o.n 
       go (fixed a b c) = absurd (omega arith)
       go (indexed a b c) = b
       go (bytes a b) = absurd (omega arith)
-      go (other a b c) = absurd (omega arith)
-      go (block a b) = absurd (omega arith)
+      go (other a b) = absurd (omega arith)
 
   -- no named fields in bytes
   pub none_named : w % 2 ≢ 1 → form o (class_of o w) ≡ bytes_form → element_start o w ≡ 0
@@ -145,8 +143,7 @@ module _ {e : ℕ} {o : Objects} (r : Right e o) (w : ℕ) (v : T (is_valid o.n 
       go (fixed a b c) = absurd (omega arith)
       go (indexed a b c) = c
       go (bytes a b) = absurd (omega arith)
-      go (other a b c) = absurd (omega arith)
-      go (block a b) = absurd (omega arith)
+      go (other a b) = absurd (omega arith)
 
   pub elements_fill : Indexable o w → element_start o w + element_count o w ≡ size o (object_number w)
   elements_fill h = let l = named_inside h.even h.forms in omega arith

@@ -1,4 +1,4 @@
--- Objects that hold others: the entries stay, classes, lists, methods and blocks keep their words, and of these only blocks are new.
+-- Objects that hold others: the entries stay, classes, lists and methods keep their words, and new objects are none of these.
 -- Lookups, chains and depth tables are then the same.
 use Prim.Native.Nat.{ℕ, ◌+◌, ◌-◌, ◌*◌, ◌/◌, ◌%◌, ◌≤◌, ◌<◌}
 use mathlib.Core.Path.{◌≡◌, refl, sym, ap, ap₂, ◌∙◌, subst}
@@ -11,13 +11,13 @@ use lib.ListN.{length, get_or}
 use Rattle.bytecode.specs.Test.{if◌then◌else◌}
 use Rattle.bytecode.specs.Constant.{nil_word}
 use Rattle.bytecode.proofs.Choice.{if_yes, if_no}
-use Rattle.model.specs.Limits.{entry_words, class_kind, list_kind, method_kind, block_kind, class_words, block_words_of, last_count_flag, primitive_flag, large_frame_words, small_frame_words}
+use Rattle.model.specs.Limits.{entry_words, class_kind, list_kind, method_kind, class_words, last_count_flag, primitive_flag, large_frame_words, small_frame_words}
 use Rattle.model.specs.Word.{is_integer, is_valid, integer_class}
-use Rattle.model.specs.Objects.{Objects, entry_word, class_word, kind, start, size, sized_in_bytes, body_words, body_word, body_of, part, is_kind, is_nil_or, class_of, superclass_word, dictionary_word, field_count, form, pair_count, pair_selector, pair_method, block_mark, block_start_of, block_count, block_method}
+use Rattle.model.specs.Objects.{Objects, entry_word, class_word, kind, start, size, sized_in_bytes, body_words, body_word, body_of, part, is_kind, is_nil_or, class_of, superclass_word, dictionary_word, field_count, form, pair_count, pair_selector, pair_method}
 use Rattle.model.specs.Method.{header, home, literal, flag, temporary_count, literal_count, code_words, code_size, frame_words, extension, primitive_number, argument_count, runs_code}
 use Rattle.model.proofs.ChainLaws.{Named, named}
 use Rattle.model.proofs.Parts.{same_test, part_same}
-use Rattle.model.proofs.Facts.{Right, Valid, odd, names, naming, valid_cases, valid_more, least, inside, class_words_lem, block_words, method_words, list_words, method_facts}
+use Rattle.model.proofs.Facts.{Right, Valid, odd, names, naming, valid_cases, valid_more, least, inside, class_words_lem, method_words, list_words, method_facts}
 
 -- a kind that is none of classes, lists and methods
 abbrev pub Free : ℕ → Type 0
@@ -52,7 +52,7 @@ module _ {o o' : Objects} (x : Extends o o') where
       naming o' k w (record { even = h.even; least = h.least; most = m; kinds = x.entries (w / 2) 1 h.least h.most (omega arith) ∙ h.kinds })
 
   -- an old object's kind, from its new one
-  pub kind_back : (k w : ℕ) → Named o' k w → w / 2 ≤ o.n → T (is_kind o k w)
+  kind_back : (k w : ℕ) → Named o' k w → w / 2 ≤ o.n → T (is_kind o k w)
   kind_back k w h l =
       naming o k w (record { even = h.even; least = h.least; most = l; kinds = sym (x.entries (w / 2) 1 h.least l (omega arith)) ∙ h.kinds })
 
@@ -142,25 +142,6 @@ module _ {e : ℕ} {o o' : Objects} (x : Extends o o') (r : Right e o) where
 
   pub form_same : (c : ℕ) → T (is_kind o class_kind c) → form o' c ≡ form o c
   form_same c t = ap (λ (w : ℕ). w / 2) (class_word_same c 3 t (omega arith))
-
-  -- blocks
-  pub block_word_same : (w i : ℕ) → T (is_kind o block_kind w) → i < block_words_of → body_word o' (w / 2) i ≡ body_word o (w / 2) i
-  block_word_same w i t l =
-      let h = named o block_kind w t in
-      let s = block_words r w t in
-      x.bodies (w / 2) i h.least h.most (omega (arith, h.kinds)) (omega arith)
-
-  pub block_mark_same : (w : ℕ) → T (is_kind o block_kind w) → block_mark o' w ≡ block_mark o w
-  block_mark_same w t = block_word_same w 0 t (omega arith)
-
-  pub block_start_same : (w : ℕ) → T (is_kind o block_kind w) → block_start_of o' w ≡ block_start_of o w
-  block_start_same w t = block_word_same w 1 t (omega arith)
-
-  pub block_count_same : (w : ℕ) → T (is_kind o block_kind w) → block_count o' w ≡ block_count o w
-  block_count_same w t = block_word_same w 2 t (omega arith)
-
-  pub block_method_same : (w : ℕ) → T (is_kind o block_kind w) → block_method o' w ≡ block_method o w
-  block_method_same w t = block_word_same w 3 t (omega arith)
 
   -- dictionaries
   pub pair_count_same : (d : ℕ) → T (is_kind o list_kind d) → pair_count o' d ≡ pair_count o d

@@ -10,16 +10,16 @@ use lib.Dec.{T, T_not, not_T, leb, ltb, eqb, leb→le, le→leb, ltb→lt, lt→
 use lib.ListN.{length}
 use Rattle.bytecode.specs.Test.{if◌then◌else◌, up_to, every, implies, all_of}
 use Rattle.bytecode.specs.Constant.{nil_word}
-use Rattle.bytecode.proofs.Choice.{if_yes, if_no, if_eq, if_ne, if_cases, if_either}
+use Rattle.bytecode.proofs.Choice.{if_yes, if_no, if_cases}
 use Rattle.bytecode.proofs.TestLaws.{true→T, T→true, and_left, and_right, and_both, or_cases, implied, rule, rules, up_to_at, at_up_to, below_at, every_at, at_every}
-use Rattle.model.specs.Limits.{has_messages, failure_selector_object, message_class_object, array_class_object, message_fields, has_blocks, block_kind, last_kind, block_form, block_words_of, block_class_object}
+use Rattle.model.specs.Limits.{has_messages, failure_selector_object, message_class_object, array_class_object, message_fields}
 use Rattle.model.specs.Limits.{least_objects, most_objects, most_body_words, fields_kind, bytes_kind, class_kind, list_kind, method_kind, last_form, fixed_form, indexed_form, bytes_form, other_form, class_words, most_fields, longest_chain, nil_object, false_object, true_object, integer_class_object, selectors_object, special_selectors, field_flag, primitive_flag}
-use Rattle.model.specs.Word.{is_integer, is_pointer, is_valid, pointer, object_number, integer_class, failure_selector, message_class, array_class, block_class}
+use Rattle.model.specs.Word.{is_integer, is_pointer, is_valid, pointer, object_number, integer_class, failure_selector, message_class, array_class}
 use Rattle.model.specs.Objects.{Objects, class_word, kind, start, size, sized_in_bytes, body_words, body_end, body_word, body_of, is_kind, is_nil_or, superclass_word, dictionary_word, fields_word, form_word, field_count, form, pair_count, pair_selector, pair_method}
 use Rattle.model.specs.Method.{header, home, literal, flag, temporary_count, literal_count, extension, argument_count, runs_code}
 use Rattle.model.specs.Lookup.{ends_within}
 use Rattle.model.specs.Depth.{is_some}
-use Rattle.model.specs.Rules.{start_fine_of, padding_fine, layout_rules, rule4, holds_words, words_fine, rule5, chain_fine, rule14, fits, entry_fine, pair_fine, dictionary_fine, class_rules, message_object_rules, block_object_rules, known_object_rules, object_fine, rule6, takes_count, method_table, extension_fine, method_rules, dictionary_methods_fine, block_rules, failure_methods_fine, rule7}
+use Rattle.model.specs.Rules.{start_fine_of, padding_fine, layout_rules, rule4, words_fine, rule5, chain_fine, rule14, fits, entry_fine, pair_fine, dictionary_fine, class_rules, message_object_rules, known_object_rules, object_fine, rule6, takes_count, method_table, extension_fine, method_rules, dictionary_methods_fine, failure_methods_fine, rule7}
 pub use Rattle.model.specs.Rules.{Right}
 use Rattle.model.proofs.ChainLaws.{Named, named}
 use Rattle.model.proofs.Parts.{◌also◌, implying, or_left, or_right, length_part, part_at}
@@ -43,18 +43,6 @@ named_pointer o k h g =
 
 pub pointer_of : (w : ℕ) → w % 2 ≡ 0 → pointer (object_number w) ≡ w
 pointer_of w h = omega arith
-
--- a rule of all objects of a kind, at the word of one, and from each word
-pub of_kind : (o : Objects) (kd : ℕ) (f : ℕ → Bool) → ((k : ℕ) → 1 ≤ k → k ≤ o.n → T (implies (eqb (kind o k) kd) (f (pointer k)))) → (w : ℕ) → T (is_kind o kd w) → T (f w)
-of_kind o kd f all w t =
-    let h = named o kd w t in
-    subst (λ (x : ℕ). T (f x)) (pointer_of w h.even)
-    (implied (eqb (kind o (w / 2)) kd) (f (pointer (w / 2))) (all (w / 2) h.least h.most) (true→T (eq-eqb (kind o (w / 2)) kd h.kinds)))
-
-pub each_kind : (o : Objects) (kd : ℕ) (f : ℕ → Bool) → ((w : ℕ) → T (is_kind o kd w) → T (f w)) → (k : ℕ) → 1 ≤ k → k ≤ o.n → T (implies (eqb (kind o k) kd) (f (pointer k)))
-each_kind o kd f each k h g =
-    implying (eqb (kind o k) kd) (f (pointer k))
-    (λ q. each (pointer k) (subst (λ (z : ℕ). T (is_kind o z (pointer k))) (eqb→eq (kind o k) kd q) (naming o (kind o k) (pointer k) (named_pointer o k h g))))
 
 pub data Valid (n w : ℕ) : Type 0 where
   odd : w % 2 ≡ 1 → Valid n w
@@ -115,58 +103,37 @@ sized_at k m e t = subst (λ (x : ℕ). T (sized_in_bytes x)) (sym e) t
 pub not_sized : (k : ℕ) → T (not (sized_in_bytes k)) → (k ≢ bytes_kind) × (k ≢ method_kind)
 not_sized k t = (λ e. T_not (sized_in_bytes k) t (sized_at k bytes_kind e tt), λ e. T_not (sized_in_bytes k) t (sized_at k method_kind e tt))
 
--- a kind whose words are valid
-pub held : (k : ℕ) → T (holds_words k) → (k ≢ bytes_kind) × (k ≢ method_kind) × (k ≢ block_kind)
-held k t = (no bytes_kind tt, no method_kind tt, no block_kind tt)
-  where
-    no : (m : ℕ) → T (sized_in_bytes m || eqb m block_kind) → k ≢ m
-    no m u e = T_not (sized_in_bytes k || eqb k block_kind) t (subst (λ (x : ℕ). T (sized_in_bytes x || eqb x block_kind)) (sym e) u)
-
-pub holds : (k : ℕ) → k ≢ bytes_kind → k ≢ method_kind → k ≢ block_kind → T (holds_words k)
-holds k a b c = not_T (sized_in_bytes k || eqb k block_kind) (λ t. none (or_cases (sized_in_bytes k) (eqb k block_kind) t))
-  where
-    none : T (sized_in_bytes k) ⊎ T (eqb k block_kind) → ⊥
-    none (inl t) = sized (bytes_cases k t)
-      where
-        sized : (k ≡ bytes_kind) ⊎ (k ≡ method_kind) → ⊥
-        sized (inl x) = a x
-        sized (inr x) = b x
-    none (inr t) = c (eqb→eq k block_kind t)
-
 -- Rule 4
 abbrev pub Padded : Objects → ℕ → Type 0
 Padded o k = T (sized_in_bytes (kind o k)) → size o k % 2 ≡ 1 → body_word o k (body_words o k - 1) % 256 ≡ 0
 
-pub record Layout (e : ℕ) (o : Objects) (k : ℕ) : Type 0 where
-  pub kinds : kind o k ≤ last_kind e
+pub record Layout (o : Objects) (k : ℕ) : Type 0 where
+  pub kinds : kind o k ≤ method_kind
   pub first : k ≡ 1 → start o k ≡ 0
   pub next : k ≢ 1 → start o k ≡ start o (k - 1) + body_words o (k - 1)
   pub four : kind o k ≡ class_kind → size o k ≡ class_words
-  pub block : kind o k ≡ block_kind → size o k ≡ block_words_of
   pub padded : Padded o k
 
-pub layout_facts : (e : ℕ) (o : Objects) (k : ℕ) → T (all_of (layout_rules e o k)) → Layout e o k
+pub layout_facts : (e : ℕ) (o : Objects) (k : ℕ) → T (all_of (layout_rules e o k)) → Layout o k
 unfolding layout_rules start_fine_of padding_fine
 layout_facts e o k t =
     record {
-      kinds = leb→le (kind o k) (last_kind e) (rule (layout_rules e o k) t 0);
+      kinds = leb→le (kind o k) method_kind (rule (layout_rules e o k) t 0);
       first = λ h. eqb→eq (start o k) 0 (subst T (if_yes _ _ (eq-eqb k 1 h)) (rule (layout_rules e o k) t 1));
       next = λ h. eqb→eq (start o k) (body_end o (k - 1)) (subst T (if_no _ _ (ne_eqb k 1 h)) (rule (layout_rules e o k) t 1));
       four = λ h. eqb→eq (size o k) class_words (implied (eqb (kind o k) class_kind) _ (rule (layout_rules e o k) t 2) (true→T (eq-eqb (kind o k) class_kind h)));
-      block = λ h. eqb→eq (size o k) block_words_of (implied (eqb (kind o k) block_kind) _ (rule (layout_rules e o k) t 3) (true→T (eq-eqb (kind o k) block_kind h)));
-      padded = λ a b. eqb→eq _ 0 (implied (sized_in_bytes (kind o k) && eqb (size o k % 2) 1) _ (rule (layout_rules e o k) t 4)
+      padded = λ a b. eqb→eq _ 0 (implied (sized_in_bytes (kind o k) && eqb (size o k % 2) 1) _ (rule (layout_rules e o k) t 3)
           (and_both (sized_in_bytes (kind o k)) (eqb (size o k % 2) 1) a (true→T (eq-eqb (size o k % 2) 1 b))));
     }
 
-pub layout_rules_lem : (e : ℕ) (o : Objects) (k : ℕ) → Layout e o k → T (all_of (layout_rules e o k))
+pub layout_rules_lem : (e : ℕ) (o : Objects) (k : ℕ) → Layout o k → T (all_of (layout_rules e o k))
 unfolding layout_rules start_fine_of padding_fine
 layout_rules_lem e o k h =
     rules (layout_rules e o k)
-    (le→leb (kind o k) (last_kind e) h.kinds
+    (le→leb (kind o k) method_kind h.kinds
     also if_cases T (eqb k 1) (eqb (start o k) 0) (eqb (start o k) (body_end o (k - 1))) (λ q. true→T (eq-eqb (start o k) 0 (h.first (eqb-true k 1 q))))
     (λ q. true→T (eq-eqb (start o k) (body_end o (k - 1)) (h.next (eqb-false k 1 q))))
     also implying (eqb (kind o k) class_kind) (eqb (size o k) class_words) (λ q. true→T (eq-eqb (size o k) class_words (h.four (eqb→eq (kind o k) class_kind q))))
-    also implying (eqb (kind o k) block_kind) (eqb (size o k) block_words_of) (λ q. true→T (eq-eqb (size o k) block_words_of (h.block (eqb→eq (kind o k) block_kind q))))
     also implying (sized_in_bytes (kind o k) && eqb (size o k % 2) 1) (eqb (body_word o k (body_words o k - 1) % 256) 0) padding
     also tt)
   where
@@ -177,80 +144,86 @@ layout_rules_lem e o k h =
 
 -- Rule 5, word by word
 pub words_rule : (o : Objects) (k : ℕ) → body_end o k ≤ length o.bodies → T (is_valid o.n (class_word o k))
-    → (kind o k ≢ bytes_kind → kind o k ≢ method_kind → kind o k ≢ block_kind → (i : ℕ) → i < body_words o k → T (is_valid o.n (body_word o k i))) → T (words_fine o k)
+    → (kind o k ≢ bytes_kind → kind o k ≢ method_kind → (i : ℕ) → i < body_words o k → T (is_valid o.n (body_word o k i))) → T (words_fine o k)
 unfolding words_fine body_of
 words_rule o k h c f =
-    and_both (is_valid o.n (class_word o k)) (implies (holds_words (kind o k)) (every (is_valid o.n) (body_of o k))) c
-    (implying (holds_words (kind o k)) (every (is_valid o.n) (body_of o k)) body)
+    and_both (is_valid o.n (class_word o k)) (implies (not (sized_in_bytes (kind o k))) (every (is_valid o.n) (body_of o k))) c
+    (implying (not (sized_in_bytes (kind o k))) (every (is_valid o.n) (body_of o k)) body)
   where
     long : length (body_of o k) ≡ body_words o k
     long = length_part o.bodies (start o k) (body_words o k) h
 
-    body : T (holds_words (kind o k)) → T (every (is_valid o.n) (body_of o k))
+    body : T (not (sized_in_bytes (kind o k))) → T (every (is_valid o.n) (body_of o k))
     body q =
-        let d = held (kind o k) q in
         at_every (is_valid o.n) (body_of o k)
         (λ i l. subst (λ (w : ℕ). T (is_valid o.n w)) (sym (part_at o.bodies (start o k) (body_words o k) i (omega (arith, long))))
-        (f d.0 d.1 d.2 i (omega (arith, long))))
+        (f (not_sized (kind o k) q).0 (not_sized (kind o k) q).1 i (omega (arith, long))))
 
 -- The form of an object's class
 pub data Fits (o : Objects) (k c : ℕ) : Type 0 where
   fixed : form o c ≡ fixed_form → kind o k ≡ fields_kind → size o k ≡ field_count o c → Fits o k c
   indexed : form o c ≡ indexed_form → kind o k ≡ fields_kind → field_count o c ≤ size o k → Fits o k c
   bytes : form o c ≡ bytes_form → kind o k ≡ bytes_kind → Fits o k c
-  other : form o c ≡ other_form → class_kind ≤ kind o k → kind o k ≤ method_kind → Fits o k c
-  block : form o c ≡ block_form → kind o k ≡ block_kind → Fits o k c
+  other : form o c ≡ other_form → class_kind ≤ kind o k → Fits o k c
 
 pub fits_cases : (e : ℕ) (o : Objects) (k : ℕ) → T (fits e o k) → Fits o k (class_word o k)
 unfolding fits
-fits_cases e o k =
-    if_cases Fitting (eqb (form o c) fixed_form) _ _
-    (λ p t. fixed (eqb-true (form o c) fixed_form p) (eqb→eq (kind o k) fields_kind (and_left (eqb (kind o k) fields_kind) (eqb (size o k) (field_count o c)) t))
-    (eqb→eq (size o k) (field_count o c) (and_right (eqb (kind o k) fields_kind) (eqb (size o k) (field_count o c)) t)))
-    (λ p. if_cases Fitting (eqb (form o c) indexed_form) _ _
-    (λ p t. indexed (eqb-true (form o c) indexed_form p) (eqb→eq (kind o k) fields_kind (and_left (eqb (kind o k) fields_kind) (leb (field_count o c) (size o k)) t))
-    (leb→le (field_count o c) (size o k) (and_right (eqb (kind o k) fields_kind) (leb (field_count o c) (size o k)) t)))
-    (λ p. if_cases Fitting (eqb (form o c) bytes_form) _ _ (λ p t. bytes (eqb-true (form o c) bytes_form p) (eqb→eq (kind o k) bytes_kind t))
-    (λ p. if_cases Fitting (eqb (form o c) other_form) _ _
-    (λ p t. other (eqb-true (form o c) other_form p) (leb→le class_kind (kind o k) (and_left (leb class_kind (kind o k)) (leb (kind o k) method_kind) t))
-    (leb→le (kind o k) method_kind (and_right (leb class_kind (kind o k)) (leb (kind o k) method_kind) t)))
-    (λ p. if_cases Fitting (eqb (form o c) block_form) _ _ (λ p t. block (eqb-true (form o c) block_form p) (eqb→eq (kind o k) block_kind t)) (λ p t. absurd t)))))
+fits_cases e o k t = go (eqb (form o c) fixed_form) (eqb (form o c) indexed_form) (eqb (form o c) bytes_form) (eqb (form o c) other_form) refl refl refl refl t
   where
     c : ℕ
     c = class_word o k
 
-    Fitting : Bool → Type 0
-    Fitting t = T t → Fits o k c
+    go : (x y z v : Bool) → eqb (form o c) fixed_form ≡ x → eqb (form o c) indexed_form ≡ y → eqb (form o c) bytes_form ≡ z → eqb (form o c) other_form ≡ v
+        → T (if x then eqb (kind o k) fields_kind && eqb (size o k) (field_count o c) else
+        if y then eqb (kind o k) fields_kind && leb (field_count o c) (size o k) else
+        if z then eqb (kind o k) bytes_kind else
+        if v then leb class_kind (kind o k) && leb (kind o k) method_kind else false) → Fits o k c
+    go true y z v p q r m s =
+        fixed (eqb-true (form o c) fixed_form p) (eqb→eq (kind o k) fields_kind (and_left (eqb (kind o k) fields_kind) (eqb (size o k) (field_count o c)) (subst T (if_yes _ _ refl) s)))
+        (eqb→eq (size o k) (field_count o c) (and_right (eqb (kind o k) fields_kind) (eqb (size o k) (field_count o c)) (subst T (if_yes _ _ refl) s)))
+    go false true z v p q r m s =
+        let s' : T (eqb (kind o k) fields_kind && leb (field_count o c) (size o k)) = subst T (if_no _ _ refl ∙ if_yes _ _ refl) s in
+        indexed (eqb-true (form o c) indexed_form q) (eqb→eq (kind o k) fields_kind (and_left (eqb (kind o k) fields_kind) (leb (field_count o c) (size o k)) s'))
+        (leb→le (field_count o c) (size o k) (and_right (eqb (kind o k) fields_kind) (leb (field_count o c) (size o k)) s'))
+    go false false true v p q r m s =
+        bytes (eqb-true (form o c) bytes_form r) (eqb→eq (kind o k) bytes_kind (subst T (if_no _ _ refl ∙ if_no _ _ refl ∙ if_yes _ _ refl) s))
+    go false false false true p q r m s =
+        other (eqb-true (form o c) other_form m)
+        (leb→le class_kind (kind o k) (and_left (leb class_kind (kind o k)) (leb (kind o k) method_kind)
+        (subst T (if_no _ _ refl ∙ if_no _ _ refl ∙ if_no _ _ refl ∙ if_yes _ _ refl) s)))
+    go false false false false p q r m s = absurd (subst T (if_no _ _ refl ∙ if_no _ _ refl ∙ if_no _ _ refl ∙ if_no _ _ refl) s)
 
-pub fits_rule : (e : ℕ) (o : Objects) (k : ℕ) → Fits o k (class_word o k) → T (fits e o k)
+pub fits_rule : (e : ℕ) (o : Objects) (k : ℕ) → kind o k ≤ method_kind → Fits o k (class_word o k) → T (fits e o k)
 unfolding fits
-fits_rule e o k (fixed a b c) =
-    subst T (sym (if_eq (form o (class_word o k)) fixed_form _ _ a))
+fits_rule e o k h (fixed a b c) =
+    subst T (sym (if_yes _ _ (eq-eqb (form o (class_word o k)) fixed_form a)))
     (and_both (eqb (kind o k) fields_kind) (eqb (size o k) (field_count o (class_word o k))) (true→T (eq-eqb (kind o k) fields_kind b)) (true→T (eq-eqb (size o k) (field_count o (class_word o k)) c)))
-fits_rule e o k (indexed a b c) =
-    subst T (sym (if_ne (form o (class_word o k)) fixed_form _ _ (omega arith) ∙ if_eq (form o (class_word o k)) indexed_form _ _ a))
+fits_rule e o k h (indexed a b c) =
+    subst T (sym (if_no _ _ (ne_eqb (form o (class_word o k)) fixed_form (omega arith)) ∙ if_yes _ _ (eq-eqb (form o (class_word o k)) indexed_form a)))
     (and_both (eqb (kind o k) fields_kind) (leb (field_count o (class_word o k)) (size o k)) (true→T (eq-eqb (kind o k) fields_kind b)) (le→leb (field_count o (class_word o k)) (size o k) c))
-fits_rule e o k (bytes a b) =
-    subst T (sym (if_ne (form o (class_word o k)) fixed_form _ _ (omega arith) ∙ if_ne (form o (class_word o k)) indexed_form _ _ (omega arith)
-    ∙ if_eq (form o (class_word o k)) bytes_form _ _ a))
+fits_rule e o k h (bytes a b) =
+    subst T (sym (if_no _ _ (ne_eqb (form o (class_word o k)) fixed_form (omega arith)) ∙ if_no _ _ (ne_eqb (form o (class_word o k)) indexed_form (omega arith))
+    ∙ if_yes _ _ (eq-eqb (form o (class_word o k)) bytes_form a)))
     (true→T (eq-eqb (kind o k) bytes_kind b))
-fits_rule e o k (other a b c) =
-    subst T (sym (if_ne (form o (class_word o k)) fixed_form _ _ (omega arith) ∙ if_ne (form o (class_word o k)) indexed_form _ _ (omega arith)
-    ∙ if_ne (form o (class_word o k)) bytes_form _ _ (omega arith) ∙ if_eq (form o (class_word o k)) other_form _ _ a))
-    (and_both (leb class_kind (kind o k)) (leb (kind o k) method_kind) (le→leb class_kind (kind o k) b) (le→leb (kind o k) method_kind c))
-fits_rule e o k (block a b) =
-    subst T (sym (if_ne (form o (class_word o k)) fixed_form _ _ (omega arith) ∙ if_ne (form o (class_word o k)) indexed_form _ _ (omega arith)
-    ∙ if_ne (form o (class_word o k)) bytes_form _ _ (omega arith) ∙ if_ne (form o (class_word o k)) other_form _ _ (omega arith) ∙ if_eq (form o (class_word o k)) block_form _ _ a))
-    (true→T (eq-eqb (kind o k) block_kind b))
+fits_rule e o k h (other a b) =
+    subst T (sym (if_no _ _ (ne_eqb (form o (class_word o k)) fixed_form (omega arith)) ∙ if_no _ _ (ne_eqb (form o (class_word o k)) indexed_form (omega arith))
+    ∙ if_no _ _ (ne_eqb (form o (class_word o k)) bytes_form (omega arith)) ∙ if_yes _ _ (eq-eqb (form o (class_word o k)) other_form a)))
+    (and_both (leb class_kind (kind o k)) (leb (kind o k) method_kind) (le→leb class_kind (kind o k) b) (le→leb (kind o k) method_kind h))
 
 -- Rule 14
 pub short_chain : (o : Objects) → T (rule14 o) → (c : ℕ) → T (is_kind o class_kind c) → T (ends_within longest_chain o c)
 unfolding rule14 chain_fine
-short_chain o t = of_kind o class_kind (ends_within longest_chain o) (up_to_at o.n (chain_fine o) t)
+short_chain o t c q =
+    let h = named o class_kind c q in
+    subst (λ (w : ℕ). T (ends_within longest_chain o w)) (pointer_of c h.even)
+    (implied (eqb (kind o (c / 2)) class_kind) (ends_within longest_chain o (pointer (c / 2))) (up_to_at o.n (chain_fine o) t (c / 2) h.least h.most)
+    (true→T (eq-eqb (kind o (c / 2)) class_kind h.kinds)))
 
 pub chains_rule : (o : Objects) → ((c : ℕ) → T (is_kind o class_kind c) → T (ends_within longest_chain o c)) → T (rule14 o)
 unfolding rule14 chain_fine
-chains_rule o f = at_up_to o.n (chain_fine o) (each_kind o class_kind (ends_within longest_chain o) f)
+chains_rule o f =
+    at_up_to o.n (chain_fine o) (λ k h g. implying (eqb (kind o k) class_kind) (ends_within longest_chain o (pointer k))
+    (λ q. f (pointer k) (subst (λ (z : ℕ). T (is_kind o z (pointer k))) (eqb→eq (kind o k) class_kind q) (naming o (kind o k) (pointer k) (named_pointer o k h g)))))
 
 -- Rule 6: a pair of a dictionary, a class, the known objects
 pub record PairFacts (o : Objects) (d i : ℕ) : Type 0 where
@@ -361,44 +334,14 @@ method_facts_of e o m t =
       sound = implied (runs_code o m) _ (rule (method_rules e o m) t 8);
     }
 
--- all of it at an object
-abbrev pub methods_at : ℕ → Objects → ℕ → Bool
-methods_at e o k = implies (eqb (kind o k) method_kind) (all_of (method_rules e o (pointer k)))
-
-abbrev pub dictionaries_at : Objects → ℕ → Bool
-dictionaries_at o k = implies (eqb (kind o k) class_kind) (dictionary_methods_fine o (pointer k))
-
-abbrev pub blocks_at : ℕ → Objects → ℕ → Bool
-blocks_at e o k = implies (eqb (kind o k) block_kind) (all_of (block_rules e o (pointer k)))
-
-abbrev pub seven_at : ℕ → Objects → ℕ → Bool
-seven_at e o k = methods_at e o k && (dictionaries_at o k && blocks_at e o k)
-
--- What an edition asks for: the five objects of the first, those of messages, that of blocks
+-- What an edition asks for: the five objects of the first, and those of messages
 pub five_least : (e : ℕ) → 5 ≤ least_objects e
 unfolding least_objects
-five_least e = if_either (λ (k : ℕ). 5 ≤ k) (has_blocks e) 9 _ (omega arith) (if_either (λ (k : ℕ). 5 ≤ k) (has_messages e) 8 5 (omega arith) (omega arith))
+five_least e = if_cases (λ (k : ℕ). 5 ≤ k) (has_messages e) 8 5 (λ p. omega arith) (λ p. omega arith)
 
-pub eight_least : (e : ℕ) → T (has_messages e) → 8 ≤ least_objects e
+pub eight_least : (e : ℕ) → T (has_messages e) → least_objects e ≡ 8
 unfolding least_objects
-eight_least e t =
-    if_either (λ (k : ℕ). 8 ≤ k) (has_blocks e) 9 _ (omega arith) (subst (λ (k : ℕ). 8 ≤ k) (sym (if_yes 8 5 (T→true (has_messages e) t))) (omega arith))
-
-pub last_kind_lem : (e : ℕ) → (method_kind ≤ last_kind e) × (last_kind e ≤ block_kind)
-unfolding last_kind
-last_kind_lem e = if_either (λ (k : ℕ). (method_kind ≤ k) × (k ≤ block_kind)) (has_blocks e) block_kind method_kind (omega arith, omega arith) (omega arith, omega arith)
-
-pub last_with : (e : ℕ) → T (has_blocks e) → last_kind e ≡ block_kind
-unfolding last_kind
-last_with e t = if_yes block_kind method_kind (T→true (has_blocks e) t)
-
-pub last_without : (e : ℕ) → has_blocks e ≡ false → last_kind e ≡ method_kind
-unfolding last_kind
-last_without e t = if_no block_kind method_kind t
-
-pub nine_least : (e : ℕ) → T (has_blocks e) → least_objects e ≡ 9
-unfolding least_objects
-nine_least e t = if_yes 9 _ (T→true (has_blocks e) t)
+eight_least e t = if_yes 8 5 (T→true (has_messages e) t)
 
 -- 02, M-104: the objects of messages
 pub record MessageFacts (o : Objects) : Type 0 where
@@ -433,9 +376,6 @@ module _ {e : ℕ} {o : Objects} (r : Right e o) where
   pub message_least : T (has_messages e) → 8 ≤ o.n
   message_least t = let l = eight_least e t in let m = least_of in omega arith
 
-  pub block_least : T (has_blocks e) → 9 ≤ o.n
-  block_least t = let l = nine_least e t in let m = least_of in omega arith
-
   pub most : o.n ≤ most_objects
   most =
       leb→le o.n most_objects (and_left (leb o.n most_objects) (leb o.b most_body_words) (and_right (leb (least_objects e) o.n) (leb o.n most_objects && leb o.b most_body_words) r.sizes))
@@ -446,7 +386,7 @@ module _ {e : ℕ} {o : Objects} (r : Right e o) where
       (leb o.n most_objects && leb o.b most_body_words) r.sizes))
 
   -- layout
-  pub layout : (k : ℕ) → 1 ≤ k → k ≤ o.n → Layout e o k
+  pub layout : (k : ℕ) → 1 ≤ k → k ≤ o.n → Layout o k
   unfolding rule4
   layout k h g =
       layout_facts e o k (up_to_at o.n (λ k. all_of (layout_rules e o k)) (and_left (up_to o.n (λ k. all_of (layout_rules e o k))) (eqb (body_end o o.n) o.b) r.rule_4) k h g)
@@ -492,17 +432,24 @@ module _ {e : ℕ} {o : Objects} (r : Right e o) where
   fine_words k h g = up_to_at o.n (words_fine o) r.rule_5 k h g
 
   -- each word of a body of kind 0, 2 or 3 is valid
-  pub word_valid : (k i : ℕ) → 1 ≤ k → k ≤ o.n → kind o k ≢ bytes_kind → kind o k ≢ method_kind → kind o k ≢ block_kind → i < body_words o k → T (is_valid o.n (body_word o k i))
+  pub word_valid : (k i : ℕ) → 1 ≤ k → k ≤ o.n → kind o k ≢ bytes_kind → kind o k ≢ method_kind → i < body_words o k → T (is_valid o.n (body_word o k i))
   unfolding words_fine body_of
-  word_valid k i h g a b c l =
+  word_valid k i h g a b l =
       let t = fine_words k h g in
-      let q : T (implies (holds_words (kind o k)) (every (is_valid o.n) (body_of o k))) = and_right (is_valid o.n (class_word o k)) _ t in
-      let v : T (every (is_valid o.n) (body_of o k)) = implied (holds_words (kind o k)) _ q (holds (kind o k) a b c) in
+      let q : T (implies (not (sized_in_bytes (kind o k))) (every (is_valid o.n) (body_of o k))) = and_right (is_valid o.n (class_word o k)) _ t in
+      let v : T (every (is_valid o.n) (body_of o k)) = implied (not (sized_in_bytes (kind o k))) _ q (not_T (sized_in_bytes (kind o k)) no_bytes) in
       subst (λ (w : ℕ). T (is_valid o.n w)) (part_at o.bodies (start o k) (body_words o k) i l)
       (every_at (is_valid o.n) (body_of o k) v i (omega (arith, length_part o.bodies (start o k) (body_words o k) room)))
     where
       room : start o k + body_words o k ≤ length o.bodies
       room = let q = inside k h g in let s = r.bodies in omega arith
+
+      no_bytes : T (sized_in_bytes (kind o k)) → ⊥
+      no_bytes t = go (bytes_cases (kind o k) t)
+        where
+          go : (kind o k ≡ bytes_kind) ⊎ (kind o k ≡ method_kind) → ⊥
+          go (inl x) = a x
+          go (inr x) = b x
 
   fine_object : (k : ℕ) → 1 ≤ k → k ≤ o.n → T (object_fine e o k)
   unfolding rule6
@@ -532,8 +479,11 @@ module _ {e : ℕ} {o : Objects} (r : Right e o) where
   -- classes
   pub class_rules_lem : (c : ℕ) → T (is_kind o class_kind c) → T (all_of (class_rules e o c))
   unfolding object_fine
-  class_rules_lem =
-      of_kind o class_kind (λ c. all_of (class_rules e o c)) (λ k h g. and_right (entry_fine e o k) (implies (eqb (kind o k) class_kind) (all_of (class_rules e o (pointer k)))) (fine_object k h g))
+  class_rules_lem c t =
+      let h = named o class_kind c t in
+      let q = and_right (entry_fine e o (c / 2)) (implies (eqb (kind o (c / 2)) class_kind) (all_of (class_rules e o (pointer (c / 2))))) (fine_object (c / 2) h.least h.most) in
+      subst (λ (x : ℕ). T (all_of (class_rules e o x))) (pointer_of c h.even) (implied (eqb (kind o (c / 2)) class_kind)
+      (all_of (class_rules e o (pointer (c / 2)))) q (true→T (eq-eqb (kind o (c / 2)) class_kind h.kinds)))
 
   pub class_facts : (c : ℕ) → T (is_kind o class_kind c) → ClassFacts e o c
   class_facts c t = class_facts_of e o c (class_rules_lem c t)
@@ -560,22 +510,6 @@ module _ {e : ℕ} {o : Objects} (r : Right e o) where
   pub array_class_lem : T (has_messages e) → T (is_kind o class_kind array_class)
   array_class_lem t = let l = message_least t in naming o class_kind array_class (record { even = omega arith; least = omega arith; most = omega arith; kinds = (message_facts t).array })
 
-  -- the class of blocks
-  pub block_object_rules_lem : T (has_blocks e) → T (all_of (block_object_rules o))
-  unfolding known_object_rules
-  block_object_rules_lem t = implied (has_blocks e) (all_of (block_object_rules o)) (rule (known_object_rules e o) known 9) t
-
-  pub block_class_lem : T (has_blocks e) → T (is_kind o class_kind block_class)
-  unfolding block_object_rules
-  block_class_lem t =
-      let l = block_least t in
-      let k = eqb→eq (kind o block_class_object) class_kind (rule (block_object_rules o) (block_object_rules_lem t) 0) in
-      naming o class_kind block_class (record { even = omega arith; least = omega arith; most = omega arith; kinds = k })
-
-  pub block_class_form : T (has_blocks e) → form o block_class ≡ block_form
-  unfolding block_object_rules
-  block_class_form t = eqb→eq (form o block_class) block_form (rule (block_object_rules o) (block_object_rules_lem t) 1)
-
   -- nil is no class, the class of integers is one
   pub nil_no_class : T (is_kind o class_kind nil_word) → ⊥
   nil_no_class t = let h = named o class_kind nil_word t in let k : kind o 1 ≡ 0 = known_facts.nil in let q : kind o 1 ≡ 2 = h.kinds in omega arith
@@ -595,28 +529,26 @@ module _ {e : ℕ} {o : Objects} (r : Right e o) where
   special_valid k h =
       let l = least in
       let a = known_facts.selectors in
-      word_valid selectors_object k (omega arith) (omega arith) (omega arith) (omega arith) (omega arith) (inside_selectors k h)
+      word_valid selectors_object k (omega arith) (omega arith) (omega arith) (omega arith) (inside_selectors k h)
 
-  -- methods, classes and blocks
-  fine_seven : (k : ℕ) → 1 ≤ k → k ≤ o.n → T (seven_at e o k)
+  -- methods
+  fine_seven : (k : ℕ) → 1 ≤ k → k ≤ o.n → T (implies (eqb (kind o k) method_kind) (all_of (method_rules e o (pointer k))) && implies (eqb (kind o k) class_kind) (dictionary_methods_fine o (pointer k)))
   unfolding rule7
-  fine_seven k h g = up_to_at o.n (seven_at e o) (and_left (up_to o.n (seven_at e o)) (failure_methods_fine e o) r.rule_7) k h g
+  fine_seven k h g =
+      up_to_at o.n (λ k. implies (eqb (kind o k) method_kind) (all_of (method_rules e o (pointer k))) && implies (eqb (kind o k) class_kind) (dictionary_methods_fine o (pointer k)))
+      (and_left (up_to o.n _) (failure_methods_fine e o) r.rule_7) k h g
 
   -- methods under object 6 take one argument
   pub failure_count_lem : T (has_messages e) → T (takes_count o failure_selector 1)
   unfolding rule7 failure_methods_fine
-  failure_count_lem t = implied (has_messages e) (takes_count o failure_selector 1) (and_right (up_to o.n (seven_at e o)) (failure_methods_fine e o) r.rule_7) t
+  failure_count_lem t = implied (has_messages e) (takes_count o failure_selector 1) (and_right (up_to o.n _) (failure_methods_fine e o) r.rule_7) t
 
   pub method_rules_lem : (m : ℕ) → T (is_kind o method_kind m) → T (all_of (method_rules e o m))
-  method_rules_lem = of_kind o method_kind (λ m. all_of (method_rules e o m)) (λ k h g. and_left (methods_at e o k) _ (fine_seven k h g))
-
-  pub block_rules_lem : (w : ℕ) → T (is_kind o block_kind w) → T (all_of (block_rules e o w))
-  block_rules_lem = of_kind o block_kind (λ w. all_of (block_rules e o w)) (λ k h g. and_right (dictionaries_at o k) (blocks_at e o k) (and_right (methods_at e o k) _ (fine_seven k h g)))
-
-  pub block_words : (w : ℕ) → T (is_kind o block_kind w) → body_words o (w / 2) ≡ block_words_of
-  block_words w t =
-      let h = named o block_kind w t in
-      in_words o (w / 2) (omega (arith, h.kinds)) (omega (arith, h.kinds)) ∙ (layout (w / 2) h.least h.most).block h.kinds
+  method_rules_lem m t =
+      let h = named o method_kind m t in
+      let q = and_left (implies (eqb (kind o (m / 2)) method_kind) (all_of (method_rules e o (pointer (m / 2))))) _ (fine_seven (m / 2) h.least h.most) in
+      subst (λ (x : ℕ). T (all_of (method_rules e o x))) (pointer_of m h.even) (implied (eqb (kind o (m / 2)) method_kind)
+      (all_of (method_rules e o (pointer (m / 2)))) q (true→T (eq-eqb (kind o (m / 2)) method_kind h.kinds)))
 
   pub method_facts : (m : ℕ) → T (is_kind o method_kind m) → MethodFacts e o m
   method_facts m t = method_facts_of e o m (method_rules_lem m t)
@@ -651,7 +583,12 @@ module _ {e : ℕ} {o : Objects} (r : Right e o) where
           subst (λ (k : ℕ). pair_selector o (dictionary_word o c) k < pair_selector o (dictionary_word o c) (suc j)) e next
 
   pub fine_methods : (c : ℕ) → T (is_kind o class_kind c) → T (dictionary_methods_fine o c)
-  fine_methods = of_kind o class_kind (dictionary_methods_fine o) (λ k h g. and_left (dictionaries_at o k) (blocks_at e o k) (and_right (methods_at e o k) _ (fine_seven k h g)))
+  fine_methods c t =
+      let h = named o class_kind c t in
+      let q = and_right (implies (eqb (kind o (c / 2)) method_kind) (all_of (method_rules e o (pointer (c / 2))))) (implies (eqb (kind o (c / 2)) class_kind)
+      (dictionary_methods_fine o (pointer (c / 2)))) (fine_seven (c / 2) h.least h.most) in
+      subst (λ (x : ℕ). T (dictionary_methods_fine o x)) (pointer_of c h.even) (implied (eqb (kind o (c / 2)) class_kind)
+      (dictionary_methods_fine o (pointer (c / 2))) q (true→T (eq-eqb (kind o (c / 2)) class_kind h.kinds)))
 
   -- a method's home is the class that holds it, and its count is that of all methods under its selector
   pub pair_home : (c i : ℕ) → T (is_kind o class_kind c) → i < pair_count o (dictionary_word o c) → home o (pair_method o (dictionary_word o c) i) ≡ c

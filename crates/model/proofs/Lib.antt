@@ -14,7 +14,6 @@ pub mod Unchanged
 pub mod RightLaws
 pub mod StoreLaws
 pub mod AppendLaws
-pub mod BlockLaws
 pub mod SendFacts
 pub mod ElementLaws
 pub mod ElementExamples

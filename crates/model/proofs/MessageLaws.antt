@@ -21,7 +21,6 @@ use Rattle.model.specs.Primitive.{Outcome, answers, fails, element_count, is_ind
 use Rattle.model.proofs.Facts.{Right, valid_name, valid_more, message_facts, message_class_lem, array_class_lem}
 use Rattle.model.proofs.Extends.{extends_trans}
 use Rattle.model.proofs.AppendLaws.{HasRoom, at_least, as_many}
-use Rattle.model.proofs.BlockLaws.{no_new_trans}
 use Rattle.model.proofs.PrimitiveLaws.{Performed, append_law}
 
 -- Room for both
@@ -49,7 +48,7 @@ module _ {e : ℕ} {o : Objects} (r : Right e o) (t : T (has_messages e)) (room 
   array_law : Performed room e o (pointer (o.n + 1)) (array_made o arguments)
   unfolding array_made
   array_law =
-      append_law r room array_class fields_kind (length arguments) arguments (omega arith) (array_class_lem r t)
+      append_law r room array_class fields_kind (length arguments) arguments (array_class_lem r t)
       (at_least refl (message_facts r t).array_form (let f = (message_facts r t).array_fields in omega arith) refl
       (λ i l. valid_more o.n (o.n + 1) (get_or arguments i 0) (omega arith) (every_at (is_valid o.n) arguments va i l)))
       (record { objects = let a = h.objects in omega arith; words = let a = h.words in omega arith; contents = let a = h.contents in omega arith; bodies = let a = h.bodies in omega arith })
@@ -73,14 +72,13 @@ module _ {e : ℕ} {o : Objects} (r : Right e o) (t : T (has_messages e)) (room 
   message_law =
       let a = array_law in
       let m = message_facts a.right t in
-      let p = append_law a.right room message_class fields_kind message_fields (selector ∷ pointer (o.n + 1) ∷ []) (omega arith) (message_class_lem a.right t) (as_many refl m.message_form (sym m.message_fields_lem) refl body_valid) room_between in
+      let p = append_law a.right room message_class fields_kind message_fields (selector ∷ pointer (o.n + 1) ∷ []) (message_class_lem a.right t) (as_many refl m.message_form (sym m.message_fields_lem) refl body_valid) room_between in
       record {
         right = p.right;
         extends = extends_trans a.extends p.extends;
         valid = (unfold array_made appended in valid_name (o.n + 1 + 1) (message_word o) (omega arith) (omega arith) (omega arith));
         contents = λ q. p.contents (a.contents q);
         bodies = λ q. p.bodies (a.bodies q);
-        blocks = no_new_trans a.extends p.extends a.blocks p.blocks;
       }
 
 -- A message is no integer, so that of all primitives that take one argument only 110 succeeds with it.

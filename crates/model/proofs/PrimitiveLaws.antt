@@ -1,7 +1,7 @@
 -- A primitive that answers leaves right objects right, extends them, and answers a valid word.
 use Prim.Native.Nat.{ℕ, ◌+◌, ◌-◌, ◌*◌, ◌/◌, ◌%◌, ◌≤◌, ◌<◌, min, max}
 use mathlib.Core.Path.{◌≡◌, refl, sym, ap, ap₂, ◌∙◌, subst}
-use mathlib.Core.Logic.{◌≢◌, inl, inr}
+use mathlib.Core.Logic.{inl, inr}
 use mathlib.Core.Bool.{Bool, true, false, ◌&&◌, not}
 use mathlib.Core.List.{List}
 use native.Mathlib.Omega.{arith}
@@ -17,7 +17,7 @@ use Rattle.bytecode.proofs.Choice.{if_yes, if_cases}
 use Rattle.bytecode.proofs.TestLaws.{true→T, and_left, and_right, every_at}
 use Rattle.model.specs.declared.Computed.{Computed}
 use Rattle.model.specs.declared.Computed.TheVariants.{Word, Failed}
-use Rattle.model.specs.Limits.{most_body_words, entry_words, fields_kind, bytes_kind, class_kind, block_kind, fixed_form, indexed_form, bytes_form, largest_integer}
+use Rattle.model.specs.Limits.{most_body_words, entry_words, fields_kind, bytes_kind, class_kind, fixed_form, indexed_form, bytes_form, largest_integer}
 use Rattle.model.specs.Word.{is_integer, is_natural, is_valid, in_range, word_of, value_of, pointer, boolean_word}
 use Rattle.model.specs.Objects.{Objects, kind, size, body_word, is_kind, class_of, field_count, form}
 use Rattle.model.specs.Image.{Room}
@@ -29,7 +29,6 @@ use Rattle.model.proofs.Extends.{Extends, extends_refl, valid_grows}
 use Rattle.model.proofs.ElementLaws.{Forms, Indexable, indexable_facts, index_facts, place_inside, listed, bytes_kind_lem, words_kind}
 use Rattle.model.proofs.SendFacts.{class_valid_lem}
 use Rattle.model.proofs.StoreLaws.{stored_extends, stored_right, byte_extends, byte_right}
-use Rattle.model.proofs.BlockLaws.{NoNewBlocks, no_new_refl, no_new_word, no_new_byte, no_new_appended}
 use Rattle.model.proofs.AppendLaws.{HasRoom, room_facts, Suits, as_many, at_least, of_bytes, suits_free, appended_extends, appended_right}
 
 pub record Performed (room : Room) (e : ℕ) (o : Objects) (v : ℕ) (o' : Objects) : Type 0 where
@@ -38,7 +37,6 @@ pub record Performed (room : Room) (e : ℕ) (o : Objects) (v : ℕ) (o' : Objec
   pub valid : T (is_valid o'.n v)
   pub contents : entry_words * o.n ≤ room.contents → entry_words * o'.n ≤ room.contents
   pub bodies : o.b ≤ room.bodies → o'.b ≤ room.bodies
-  pub blocks : NoNewBlocks o o'
 
 -- the law of an outcome: nothing where it fails
 abbrev pub Kept : Room → ℕ → Objects → Outcome → Type 0
@@ -121,7 +119,7 @@ module _ {e : ℕ} {o : Objects} (r : Right e o) where
   module _ (room : Room) where
     -- nothing is changed
     same_objects : (v : ℕ) → T (is_valid o.n v) → Performed room e o v o
-    same_objects v t = record { right = r; extends = extends_refl o; valid = t; contents = λ h. h; bodies = λ h. h; blocks = no_new_refl o }
+    same_objects v t = record { right = r; extends = extends_refl o; valid = t; contents = λ h. h; bodies = λ h. h }
 
     computed_law : (z : Computed) → ValidWord o z → Kept room e o (computed o z)
     computed_law (Word w) t = same_objects w t
@@ -151,7 +149,7 @@ module _ {e : ℕ} {o : Objects} (r : Right e o) where
           let k = in_fields h p in
           let q = in_words o (w / 2) (omega arith) (omega arith) in
           let s = listed r w v h.even in
-          word_valid r (w / 2) i s.first s.last (omega arith) (omega arith) (omega arith) (omega arith)
+          word_valid r (w / 2) i s.first s.last (omega arith) (omega arith) (omega arith)
 
       pub at_law : (x : ℕ) → Kept room e o (at o w x)
       unfolding at
@@ -174,7 +172,6 @@ module _ {e : ℕ} {o : Objects} (r : Right e o) where
             valid = valid_grows x y u;
             contents = λ q. (unfold store_byte store_word in q);
             bodies = λ q. (unfold store_byte store_word in q);
-            blocks = no_new_byte o (w / 2) i b;
           }
         where
           x : Extends o (store_byte o (w / 2) i b)
@@ -188,7 +185,6 @@ module _ {e : ℕ} {o : Objects} (r : Right e o) where
             valid = valid_grows x y u;
             contents = λ q. (unfold store_word in q);
             bodies = λ q. (unfold store_word in q);
-            blocks = no_new_word o (w / 2) i y;
           }
         where
           x : Extends o (store_word o (w / 2) i y)
@@ -204,23 +200,22 @@ module _ {e : ℕ} {o : Objects} (r : Right e o) where
           (λ p. tt)
 
     -- One more object, where there is room for it: 70 and 71, arrays and messages
-    pub append_law : (c kd sz : ℕ) (body : List ℕ) → kd ≢ block_kind → T (is_kind o class_kind c) → Suits e o c kd sz body → HasRoom room o (length body)
+    pub append_law : (c kd sz : ℕ) (body : List ℕ) → T (is_kind o class_kind c) → Suits o c kd sz body → HasRoom room o (length body)
         → Performed room e o (pointer (o.n + 1)) (appended o c kd sz body)
-    append_law c kd sz body d t s h =
+    append_law c kd sz body t s h =
         record {
           right = appended_right r c kd sz body t s h.objects h.words;
           extends = appended_extends r c kd sz body (suits_free s);
           valid = (unfold appended in valid_name (o.n + 1) (pointer (o.n + 1)) (omega arith) (omega arith) (omega arith));
           contents = λ q. (unfold appended in h.contents);
           bodies = λ q. (unfold appended in h.bodies);
-          blocks = no_new_appended r c kd sz body d;
         }
 
-    pub make_law : (c kd sz count fill : ℕ) → kd ≢ block_kind → T (is_kind o class_kind c) → Suits e o c kd sz (replicate count fill) → Kept room e o (make room o c kd sz count fill)
+    pub make_law : (c kd sz count fill : ℕ) → T (is_kind o class_kind c) → Suits o c kd sz (replicate count fill) → Kept room e o (make room o c kd sz count fill)
     unfolding make
-    make_law c kd sz count fill d t s =
+    make_law c kd sz count fill t s =
         if_cases (Kept room e o) (has_room room o count) _ fails
-        (λ p. append_law c kd sz (replicate count fill) d t s (subst (HasRoom room o) (sym (length-replicate count fill)) (room_facts room o count (true→T p)))) (λ p. tt)
+        (λ p. append_law c kd sz (replicate count fill) t s (subst (HasRoom room o) (sym (length-replicate count fill)) (room_facts room o count (true→T p)))) (λ p. tt)
 
     fill_valid : (count i : ℕ) → i < length (replicate count nil_word) → T (is_valid (o.n + 1) (get_or (replicate count nil_word) i 0))
     fill_valid count i l =
@@ -234,7 +229,7 @@ module _ {e : ℕ} {o : Objects} (r : Right e o) where
     unfolding new
     new_law c =
         if_cases (Kept room e o) (is_kind o class_kind c && eqb (form o c) fixed_form) _ fails
-        (λ p. make_law c fields_kind (field_count o c) (field_count o c) nil_word (omega arith) (and_left (is_kind o class_kind c) (eqb (form o c) fixed_form) (true→T p))
+        (λ p. make_law c fields_kind (field_count o c) (field_count o c) nil_word (and_left (is_kind o class_kind c) (eqb (form o c) fixed_form) (true→T p))
         (as_many refl (eqb→eq (form o c) fixed_form (and_right (is_kind o class_kind c) (eqb (form o c) fixed_form) (true→T p))) refl
         (length-replicate (field_count o c) nil_word) (fill_valid (field_count o c))))
         (λ p. tt)
@@ -245,10 +240,10 @@ module _ {e : ℕ} {o : Objects} (r : Right e o) where
         if_cases (Kept room e o) (is_kind o class_kind c && is_natural largest_integer x) _ fails
         (λ p. let t = and_left (is_kind o class_kind c) (is_natural largest_integer x) (true→T p) in
         if_cases (Kept room e o) (eqb (form o c) indexed_form) _ _
-        (λ q. make_law c fields_kind (field_count o c + x / 2) (field_count o c + x / 2) nil_word (omega arith) t
+        (λ q. make_law c fields_kind (field_count o c + x / 2) (field_count o c + x / 2) nil_word t
         (at_least refl (eqb-true (form o c) indexed_form q) (omega arith) (length-replicate (field_count o c + x / 2) nil_word) (fill_valid (field_count o c + x / 2))))
         (λ q. if_cases (Kept room e o) (eqb (form o c) bytes_form) _ fails
-        (λ s. make_law c bytes_kind (x / 2) ((x / 2 + 1) / 2) 0 (omega arith) t
+        (λ s. make_law c bytes_kind (x / 2) ((x / 2 + 1) / 2) 0 t
         (of_bytes refl (eqb-true (form o c) bytes_form s) (length-replicate ((x / 2 + 1) / 2) 0) (λ h. fill_zero ((x / 2 + 1) / 2) (length (replicate ((x / 2 + 1) / 2) 0) - 1))))
         (λ s. tt)))
         (λ p. tt)

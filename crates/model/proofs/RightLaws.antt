@@ -11,18 +11,18 @@ use lib.ListN.{length}
 use Rattle.bytecode.specs.Test.{up_to, below, every, implies, all_of}
 use Rattle.bytecode.specs.Constant.{nil_word}
 use Rattle.bytecode.proofs.TestLaws.{true→T, and_both, or_cases, rule, rules, at_up_to, at_below}
-use Rattle.model.specs.Limits.{has_blocks, block_kind, last_kind, block_form, block_class_object, largest_integer, has_messages, failure_selector_object, message_class_object, array_class_object, message_fields, fixed_form, indexed_form}
+use Rattle.model.specs.Limits.{has_messages, failure_selector_object, message_class_object, array_class_object, message_fields, fixed_form, indexed_form}
 use Rattle.model.specs.Limits.{entry_words, other_form, nil_object, false_object, true_object, integer_class_object, selectors_object, special_selectors, fields_kind, bytes_kind, class_kind, list_kind, method_kind, bytes_form, most_fields, longest_chain, last_form, field_flag, primitive_flag}
-use Rattle.model.specs.Word.{is_integer, is_natural, is_valid, pointer, integer_class, failure_selector, message_class, array_class, block_class}
-use Rattle.model.specs.Objects.{Objects, entry_word, class_word, kind, start, size, body_words, body_end, body_word, body_of, is_kind, is_nil_or, superclass_word, dictionary_word, field_count, form, pair_count, pair_selector, pair_method, block_start_of, block_count, block_method}
+use Rattle.model.specs.Word.{is_integer, is_natural, is_valid, pointer, integer_class, failure_selector, message_class, array_class}
+use Rattle.model.specs.Objects.{Objects, entry_word, class_word, kind, start, size, body_words, body_end, body_word, body_of, is_kind, is_nil_or, superclass_word, dictionary_word, field_count, form, pair_count, pair_selector, pair_method}
 use Rattle.model.specs.Method.{home, literal, flag, literal_count, argument_count}
 use Rattle.model.specs.Depth.{is_some}
-use Rattle.model.specs.Rules.{sizes_fine, layout_rules, rule4, words_fine, rule5, rule14, fits, entry_fine, pair_fine, dictionary_fine, class_rules, message_object_rules, block_object_rules, known_object_rules, object_fine, rule6, takes_count, extension_fine, method_rules, dictionary_methods_fine, starts_block, block_rules, failure_methods_fine, rule7}
+use Rattle.model.specs.Rules.{sizes_fine, layout_rules, rule4, words_fine, rule5, rule14, fits, entry_fine, pair_fine, dictionary_fine, class_rules, message_object_rules, known_object_rules, object_fine, rule6, takes_count, extension_fine, method_rules, dictionary_methods_fine, failure_methods_fine, rule7}
 use Rattle.model.proofs.ChainLaws.{named}
 use Rattle.model.proofs.Parts.{◌also◌, implying, every_more, below_same}
-use Rattle.model.proofs.Facts.{Right, Padded, Layout, layout_rules_lem, last_kind_lem, words_rule, Fits, fixed, indexed, bytes, other, block, fits_rule, naming, named_pointer, each_kind, valid_kind, least, layout, inside, word_valid, chains_rule, chain_ends, entry_class, entry_fits, known, known_facts, message_least, message_rules, message_class_lem, array_class_lem, failure_count_lem, integer_class_lem, class_rules_lem, class_facts, method_rules_lem, method_facts, pair_facts, fine_methods, block_least, block_object_rules_lem, block_class_lem, block_rules_lem, methods_at, dictionaries_at, blocks_at, seven_at}
-use Rattle.model.proofs.Extends.{Extends, words_same, valid_grows, kind_kept, kind_same, nil_or_same, body_same, class_word_same, superclass_same, dictionary_same, fields_same, form_same, block_mark_same, block_start_same, block_count_same, block_method_same, pair_count_same, pair_selector_same, pair_method_same, method_size_same, header_same, home_same, home_fields_same, flag_same, temporaries_same, literal_count_same, literal_same, extension_same, arguments_same, runs_same}
-use Rattle.model.proofs.Unchanged.{implies_same, ends_same, count_same, table_same, starts_same}
+use Rattle.model.proofs.Facts.{Right, Padded, Layout, layout_rules_lem, words_rule, Fits, fixed, indexed, bytes, other, fits_rule, naming, named_pointer, valid_kind, least, layout, inside, word_valid, chains_rule, chain_ends, entry_class, entry_fits, known, known_facts, message_least, message_rules, message_class_lem, array_class_lem, failure_count_lem, integer_class_lem, class_rules_lem, class_facts, method_rules_lem, method_facts, pair_facts, fine_methods}
+use Rattle.model.proofs.Extends.{Extends, words_same, valid_grows, kind_kept, kind_same, nil_or_same, body_same, class_word_same, superclass_same, dictionary_same, fields_same, form_same, pair_count_same, pair_selector_same, pair_method_same, method_size_same, header_same, home_same, home_fields_same, flag_same, temporaries_same, literal_count_same, literal_same, extension_same, arguments_same, runs_same}
+use Rattle.model.proofs.Unchanged.{implies_same, ends_same, count_same, table_same}
 
 -- what a change has to show besides
 pub record Renewed (e : ℕ) (o o' : Objects) : Type 0 where
@@ -32,11 +32,10 @@ pub record Renewed (e : ℕ) (o o' : Objects) : Type 0 where
   pub last : start o' o'.n + body_words o' o'.n ≡ o'.b
   pub padded : (k : ℕ) → 1 ≤ k → k ≤ o.n → Padded o' k
   pub fields : (k i : ℕ) → 1 ≤ k → k ≤ o'.n → kind o' k ≡ fields_kind → i < body_words o' k → T (is_valid o'.n (body_word o' k i))
-  pub laid : (k : ℕ) → o.n < k → k ≤ o'.n → Layout e o' k
+  pub laid : (k : ℕ) → o.n < k → k ≤ o'.n → Layout o' k
   pub room : (k : ℕ) → o.n < k → k ≤ o'.n → start o' k + body_words o' k ≤ o'.b
   pub classes : (k : ℕ) → o.n < k → k ≤ o'.n → T (is_kind o' class_kind (class_word o' k))
   pub fitting : (k : ℕ) → o.n < k → k ≤ o'.n → Fits o' k (class_word o' k)
-  pub blocks : (k : ℕ) → o.n < k → k ≤ o'.n → kind o' k ≡ block_kind → T (all_of (block_rules e o' (pointer k)))
 
 moved : {a b : Bool} → a ≡ b → T b → T a
 moved p t = subst T (sym p) t
@@ -136,43 +135,26 @@ module _ {e : ℕ} {o o' : Objects} (x : Extends o o') (r : Right e o) where
       ∙ count_same x r (pair_selector o d i) (argument_count o (pair_method o d i)))))
       (fine_methods r c t)
 
-  -- and so do blocks
-  block_kept : (w : ℕ) → T (is_kind o block_kind w) → T (all_of (block_rules e o' w))
-  unfolding block_rules
-  block_kept w t =
-      let old = block_rules_lem r w t in
-      let m = block_method_same x r w t in
-      let k : T (is_kind o method_kind (block_method o w)) = rule (block_rules e o w) old 2 in
-      rules (block_rules e o' w)
-      (moved (ap (is_natural largest_integer) (block_mark_same x r w t)) (rule (block_rules e o w) old 0)
-      also moved (ap (λ (z : ℕ). leb 1 (z / 2)) (block_mark_same x r w t)) (rule (block_rules e o w) old 1)
-      also moved (ap (is_kind o' method_kind) m) (kind_kept x method_kind (block_method o w) k)
-      also moved (ap (λ (z : ℕ). starts_block e o' z (block_start_of o' w) (block_count o' w)) m
-      ∙ ap₂ (starts_block e o' (block_method o w)) (block_start_same x r w t) (block_count_same x r w t) ∙ starts_same x r (block_method o w) k (block_start_of o w) (block_count o w))
-      (rule (block_rules e o w) old 3)
-      also tt)
-
-  -- what all objects of a class's, list's or method's kind keep: each is an old one
-  kept_kind : (kd : ℕ) → class_kind ≤ kd → kd ≤ method_kind → (f : ℕ → Bool) → ((w : ℕ) → T (is_kind o kd w) → T (f w)) → (k : ℕ) → 1 ≤ k → k ≤ o'.n → T (implies (eqb (kind o' k) kd) (f (pointer k)))
-  kept_kind kd l u f kept = each_kind o' kd f (λ w t. kept w (subst T (kind_same x kd w l u) t))
+  -- an object of a class's, list's or method's kind is an old one
+  old_kind : (k kd : ℕ) → class_kind ≤ kd → kd ≤ method_kind → 1 ≤ k → k ≤ o'.n → kind o' k ≡ kd → T (is_kind o kd (pointer k))
+  old_kind k kd l u h g p =
+      subst T (kind_same x kd (pointer k) l u) (subst (λ (z : ℕ). T (is_kind o' z (pointer k))) p (naming o' (kind o' k) (pointer k) (named_pointer o' k h g)))
 
   rule_14_kept : T (rule14 o')
   rule_14_kept = chains_rule o' (λ c t. moved (ends_same x r longest_chain c) (chain_ends r c (subst T (kind_same x class_kind c (omega arith) (omega arith)) t)))
 
-  pub rule_7_kept : ((k : ℕ) → o.n < k → k ≤ o'.n → kind o' k ≡ block_kind → T (all_of (block_rules e o' (pointer k)))) → T (rule7 e o')
+  pub rule_7_kept : T (rule7 e o')
   unfolding rule7 failure_methods_fine
-  rule_7_kept new =
-      and_both (up_to o'.n (seven_at e o')) (failure_methods_fine e o')
-      (at_up_to o'.n (seven_at e o')
-      (λ k h g. and_both (methods_at e o' k) (dictionaries_at o' k && blocks_at e o' k) (kept_kind method_kind (omega arith) (omega arith) (λ m. all_of (method_rules e o' m)) method_kept k h g)
-      (and_both (dictionaries_at o' k) (blocks_at e o' k) (kept_kind class_kind (omega arith) (omega arith) (dictionary_methods_fine o') methods_kept k h g)
-      (implying (eqb (kind o' k) block_kind) (all_of (block_rules e o' (pointer k))) (λ q. blocks k h g (eqb→eq (kind o' k) block_kind q) (dec_le k o.n))))))
+  rule_7_kept =
+      and_both (up_to o'.n (λ k. implies (eqb (kind o' k) method_kind) (all_of (method_rules e o' (pointer k))) && implies (eqb (kind o' k) class_kind) (dictionary_methods_fine o' (pointer k))))
+      (failure_methods_fine e o')
+      (at_up_to o'.n (λ k. implies (eqb (kind o' k) method_kind) (all_of (method_rules e o' (pointer k))) && implies (eqb (kind o' k) class_kind) (dictionary_methods_fine o' (pointer k)))
+      (λ k h g. and_both (implies (eqb (kind o' k) method_kind) (all_of (method_rules e o' (pointer k)))) (implies (eqb (kind o' k) class_kind) (dictionary_methods_fine o' (pointer k)))
+      (implying (eqb (kind o' k) method_kind) (all_of (method_rules e o' (pointer k))) (λ q. method_kept (pointer k)
+      (old_kind k method_kind (omega arith) (omega arith) h g (eqb→eq (kind o' k) method_kind q))))
+      (implying (eqb (kind o' k) class_kind) (dictionary_methods_fine o' (pointer k)) (λ q. methods_kept (pointer k)
+      (old_kind k class_kind (omega arith) (omega arith) h g (eqb→eq (kind o' k) class_kind q))))))
       (implying (has_messages e) (takes_count o' failure_selector 1) (λ q. moved (count_same x r failure_selector 1) (failure_count_lem r q)))
-    where
-      blocks : (k : ℕ) → 1 ≤ k → k ≤ o'.n → kind o' k ≡ block_kind → Dec (k ≤ o.n) → T (all_of (block_rules e o' (pointer k)))
-      blocks k h g p (no q) = new k (omega arith) g p
-      blocks k h g p (yes q) =
-          block_kept (pointer k) (subst (λ (z : ℕ). T (is_kind o z (pointer k))) (sym (x.entries k 1 h q (omega arith)) ∙ p) (naming o (kind o k) (pointer k) (named_pointer o k h q)))
 
   -- the objects of messages
   messages_kept : T (has_messages e) → T (all_of (message_object_rules o'))
@@ -189,17 +171,6 @@ module _ {e : ℕ} {o o' : Objects} (x : Extends o o') (r : Right e o) where
       also moved (ap (λ (z : ℕ). eqb z class_kind) (same array_class_object (omega arith) (omega arith))) (rule (message_object_rules o) m 4)
       also moved (ap (λ (z : ℕ). eqb z indexed_form) (form_same x r array_class (array_class_lem r t))) (rule (message_object_rules o) m 5)
       also moved (ap (λ (z : ℕ). eqb z 0) (fields_same x r array_class (array_class_lem r t))) (rule (message_object_rules o) m 6)
-      also tt)
-
-  -- that of blocks
-  block_object_kept : T (has_blocks e) → T (all_of (block_object_rules o'))
-  unfolding block_object_rules
-  block_object_kept t =
-      let l = block_least r t in
-      let b = block_object_rules_lem r t in
-      rules (block_object_rules o')
-      (moved (ap (λ (z : ℕ). eqb z class_kind) (x.entries block_class_object 1 (omega arith) (omega arith) (omega arith))) (rule (block_object_rules o) b 0)
-      also moved (ap (λ (z : ℕ). eqb z block_form) (form_same x r block_class (block_class_lem r t))) (rule (block_object_rules o) b 1)
       also tt)
 
   -- the known objects
@@ -219,8 +190,7 @@ module _ {e : ℕ} {o o' : Objects} (x : Extends o o') (r : Right e o) where
       also moved (ap (λ (z : ℕ). eqb z special_selectors) (same selectors_object 3 (omega arith) (omega arith) (omega arith))) (rule (known_object_rules e o) (known r) 6)
       also moved (ap (every (is_nil_or o' bytes_kind)) (body_same x r selectors_object (omega arith) (omega arith) (omega arith)))
       (every_more (is_nil_or o bytes_kind) (is_nil_or o' bytes_kind) (body_of o selectors_object) (λ w. selector w) (rule (known_object_rules e o) (known r) 7))
-      also implying (has_messages e) (all_of (message_object_rules o')) messages_kept
-      also implying (has_blocks e) (all_of (block_object_rules o')) block_object_kept
+      also implying (has_messages e) (all_of (message_object_rules o')) (λ q. messages_kept q)
       also tt)
     where
       selector : (w : ℕ) → T (is_nil_or o bytes_kind w) → T (is_nil_or o' bytes_kind w)
@@ -239,23 +209,22 @@ module _ {e : ℕ} {o o' : Objects} (x : Extends o o') (r : Right e o) where
         go (yes q) = old k h q
         go (no q) = new k (omega arith) g
 
-    layout_kept : (k : ℕ) → 1 ≤ k → k ≤ o.n → Layout e o' k
+    layout_kept : (k : ℕ) → 1 ≤ k → k ≤ o.n → Layout o' k
     layout_kept k h g =
         let f = layout r k h g in
         let kd : kind o' k ≡ kind o k = x.entries k 1 h g (omega arith) in
         let st : start o' k ≡ start o k = x.entries k 2 h g (omega arith) in
         let sz : size o' k ≡ size o k = x.entries k 3 h g (omega arith) in
         record {
-          kinds = subst (λ (z : ℕ). z ≤ last_kind e) (sym kd) f.kinds;
+          kinds = subst (λ (z : ℕ). z ≤ method_kind) (sym kd) f.kinds;
           first = λ p. st ∙ f.first p;
           next = λ p. st ∙ f.next p ∙ sym (ap₂ ◌+◌ (x.entries (k - 1) 2 (omega arith) (omega arith) (omega arith)) (words_same x (k - 1) (omega arith) (omega arith)));
           four = λ p. sz ∙ f.four (sym kd ∙ p);
-          block = λ p. sz ∙ f.block (sym kd ∙ p);
           padded = y.padded k h g;
         }
 
-    laid_out : (k : ℕ) → 1 ≤ k → k ≤ o'.n → Layout e o' k
-    laid_out = entry_at (Layout e o') layout_kept y.laid
+    laid_out : (k : ℕ) → 1 ≤ k → k ≤ o'.n → Layout o' k
+    laid_out = entry_at (Layout o') layout_kept y.laid
 
     rule_4_kept : T (rule4 e o')
     unfolding rule4
@@ -282,16 +251,16 @@ module _ {e : ℕ} {o o' : Objects} (x : Extends o o') (r : Right e o) where
     is_classed : (k : ℕ) → 1 ≤ k → k ≤ o'.n → T (is_kind o' class_kind (class_word o' k))
     is_classed = entry_at (λ k. T (is_kind o' class_kind (class_word o' k))) classes_kept y.classes
 
-    word_kept : (k : ℕ) → 1 ≤ k → k ≤ o'.n → kind o' k ≢ bytes_kind → kind o' k ≢ method_kind → kind o' k ≢ block_kind → (i : ℕ) → i < body_words o' k → T (is_valid o'.n (body_word o' k i))
-    word_kept k h g a b c i l = go (ℕ_discrete (kind o' k) fields_kind) (dec_le k o.n)
+    word_kept : (k : ℕ) → 1 ≤ k → k ≤ o'.n → kind o' k ≢ bytes_kind → kind o' k ≢ method_kind → (i : ℕ) → i < body_words o' k → T (is_valid o'.n (body_word o' k i))
+    word_kept k h g a b i l = go (ℕ_discrete (kind o' k) fields_kind) (dec_le k o.n)
       where
         go : Dec (kind o' k ≡ fields_kind) → Dec (k ≤ o.n) → T (is_valid o'.n (body_word o' k i))
         go (yes p) q = y.fields k i h g p l
-        go (no p) (no q) = let z = x.new k (omega arith) g (omega arith) in let m = (laid_out k h g).kinds in let u = (last_kind_lem e).1 in absurd (omega arith)
+        go (no p) (no q) = let z = x.new k (omega arith) g (omega arith) in let m = (laid_out k h g).kinds in absurd (omega arith)
         go (no p) (yes q) =
             let kd : kind o' k ≡ kind o k = x.entries k 1 h q (omega arith) in
             let w = words_same x k h q in
-            moved (ap (is_valid o'.n) (x.bodies k i h q (omega arith) (omega arith))) (valid_grows x (body_word o k i) (word_valid r k i h q (omega arith) (omega arith) (omega arith) (omega arith)))
+            moved (ap (is_valid o'.n) (x.bodies k i h q (omega arith) (omega arith))) (valid_grows x (body_word o k i) (word_valid r k i h q (omega arith) (omega arith) (omega arith)))
 
     rule_5_kept : T (rule5 e o')
     unfolding rule5
@@ -322,8 +291,7 @@ module _ {e : ℕ} {o o' : Objects} (x : Extends o o') (r : Right e o) where
         go (fixed p q s) = fixed (fm ∙ p) (kd ∙ q) (sz ∙ s ∙ sym fc)
         go (indexed p q s) = let a = fc in let b = sz in indexed (fm ∙ p) (kd ∙ q) (omega arith)
         go (bytes p q) = bytes (fm ∙ p) (kd ∙ q)
-        go (other p q s) = let a = kd in other (fm ∙ p) (omega arith) (omega arith)
-        go (block p q) = block (fm ∙ p) (kd ∙ q)
+        go (other p q) = let a = fm in let b = kd in other (omega arith) (omega arith)
 
     rule_6_kept : T (rule6 e o')
     unfolding rule6 object_fine entry_fine
@@ -331,10 +299,11 @@ module _ {e : ℕ} {o o' : Objects} (x : Extends o o') (r : Right e o) where
         and_both (all_of (known_object_rules e o')) (up_to o'.n (object_fine e o')) known_kept
         (at_up_to o'.n (object_fine e o')
         (λ k h g. and_both (entry_fine e o' k) (implies (eqb (kind o' k) class_kind) (all_of (class_rules e o' (pointer k))))
-        (and_both (is_kind o' class_kind (class_word o' k)) (fits e o' k) (is_classed k h g) (fits_rule e o' k
+        (and_both (is_kind o' class_kind (class_word o' k)) (fits e o' k) (is_classed k h g) (fits_rule e o' k (laid_out k h g).kinds
         (entry_at (λ k. Fits o' k (class_word o' k)) fits_kept y.fitting k h g)))
-        (kept_kind class_kind (omega arith) (omega arith) (λ c. all_of (class_rules e o' c)) class_kept k h g)))
+        (implying (eqb (kind o' k) class_kind) (all_of (class_rules e o' (pointer k))) (λ q. class_kept (pointer k)
+        (old_kind k class_kind (omega arith) (omega arith) h g (eqb→eq (kind o' k) class_kind q))))))
 
     pub right_kept : Right e o'
     right_kept =
-        record { edition = r.edition; contents = y.contents; bodies = y.bodies; sizes = y.sizes; rule_4 = rule_4_kept; rule_5 = rule_5_kept; rule_14 = rule_14_kept; rule_6 = rule_6_kept; rule_7 = rule_7_kept y.blocks }
+        record { edition = r.edition; contents = y.contents; bodies = y.bodies; sizes = y.sizes; rule_4 = rule_4_kept; rule_5 = rule_5_kept; rule_14 = rule_14_kept; rule_6 = rule_6_kept; rule_7 = rule_7_kept }

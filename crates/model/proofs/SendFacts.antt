@@ -19,7 +19,7 @@ use Rattle.model.specs.Method.{home, argument_count}
 use Rattle.model.specs.Lookup.{found, find_from, find_in, lookup, dictionaries_read, in_chain, Looks, ended, here, above, InChain, same, higher}
 use Rattle.model.specs.Rules.{takes_count, send_fine}
 use Rattle.model.proofs.ChainLaws.{named, class_below}
-use Rattle.model.proofs.Facts.{Right, Valid, odd, names, naming, valid_cases, valid_name, valid_kind, pointer_of, in_words, word_valid, Fits, fixed, indexed, bytes, other, block, entry_class, entry_fits, class_facts, known_facts, integer_class_lem, nil_no_class, pair_facts, pair_home}
+use Rattle.model.proofs.Facts.{Right, Valid, odd, names, naming, valid_cases, valid_name, valid_kind, pointer_of, in_words, word_valid, Fits, fixed, indexed, bytes, other, entry_class, entry_fits, class_facts, known_facts, integer_class_lem, nil_no_class, pair_facts, pair_home}
 use Rattle.model.proofs.LookupLaws.{reads_few, decides_in}
 use Rattle.model.proofs.Unchanged.{find_hit, find_miss}
 
@@ -163,8 +163,7 @@ module _ {e : ℕ} {o : Objects} (r : Right e o) where
           fitted (fixed x k z) f = (is_fields k, omega arith)
           fitted (indexed x k z) f = (is_fields k, omega arith)
           fitted (bytes x k) f = let z = none (omega arith) in absurd (omega arith)
-          fitted (other x k u) f = let z = none (omega arith) in absurd (omega arith)
-          fitted (block x k) f = let z = none (omega arith) in absurd (omega arith)
+          fitted (other x k) f = let z = none (omega arith) in absurd (omega arith)
 
   -- a field holds a valid word, and so does the class of a valid word
   pub field_valid_lem : (w i : ℕ) → T (is_kind o fields_kind w) → i < size o (w / 2) → T (is_valid o.n (body_word o (w / 2) i))
@@ -174,7 +173,7 @@ module _ {e : ℕ} {o : Objects} (r : Right e o) where
       let nb : kind o (w / 2) ≢ bytes_kind = λ q. omega arith in
       let nm : kind o (w / 2) ≢ method_kind = λ q. omega arith in
       let b = in_words o (w / 2) nb nm in
-      word_valid r (w / 2) i h.least h.most nb nm (omega arith) (omega arith)
+      word_valid r (w / 2) i h.least h.most nb nm (omega arith)
 
   -- a valid word's class is one
   pub class_kind_lem : (w : ℕ) → T (is_valid o.n w) → T (is_kind o class_kind (class_of o w))

@@ -84,7 +84,7 @@ module _ {e : ℕ} {o : Objects} (r : Right e o) (k j w : ℕ) (h : 1 ≤ k) (g 
     put_fields m i b c d f = go (ℕ_discrete m k) (ℕ_discrete i j)
       where
         old : T (is_valid o.n (body_word o m i))
-        old = word_valid r m i b c (omega arith) (omega arith) (omega arith) f
+        old = word_valid r m i b c (omega arith) (omega arith) f
 
         go : Dec (m ≡ k) → Dec (i ≡ j) → T (is_valid o.n (body_word (store_word o k j w) m i))
         go (no p) q = subst (λ (x : ℕ). T (is_valid o.n x)) (sym (put_elsewhere m i b c p f)) old
@@ -108,7 +108,6 @@ module _ {e : ℕ} {o : Objects} (r : Right e o) (k j w : ℕ) (h : 1 ≤ k) (g 
           room = λ m b c. absurd (omega arith);
           classes = λ m b c. absurd (omega arith);
           fitting = λ m b c. absurd (omega arith);
-          blocks = λ m b c d. absurd (omega arith);
         }
 
     pub put_right : Right e (store_word o k j w)

@@ -1,37 +1,35 @@
 -- Lookups, class chains, argument counts and depth tables are the same in objects that extend others.
 use Prim.Native.Nat.{ℕ, zero, suc, ◌+◌, ◌-◌, ◌/◌, ◌%◌, ◌≤◌, ◌<◌}
 use mathlib.Core.Path.{◌≡◌, refl, sym, ap, ap₂, ◌∙◌, subst, fun_ext}
-use mathlib.Core.Logic.{◌⊎◌, inl, inr}
 use mathlib.Core.Bool.{Bool, true, false, ◌&&◌, ◌||◌, not}
 use mathlib.Core.List.{List, []}
-use mathlib.Core.Option.{Option}
 use native.Mathlib.Omega.{arith}
 use borrow.Author.Tests.{ltb-true}
 use lib.Dec.{T, leb, ltb, eqb, ltb→lt, eqb→eq}
 use Rattle.bytecode.specs.Test.{if◌then◌else◌, below, implies}
 use Rattle.bytecode.specs.Constant.{nil_word}
-use Rattle.bytecode.specs.Code.{next_at, decode_at, instruction_of, place_of, short_of, constant_of, block_of, extended_of, jump_of, send_of, byte_at, bytes_after}
+use Rattle.bytecode.specs.Code.{next_at, decode_at, instruction_of, place_of, short_of, constant_of, extended_of, jump_of, send_of, byte_at, bytes_after}
 use Rattle.bytecode.specs.Table.{place_index}
 use Rattle.bytecode.specs.Effect.{need, usable, special_count}
 use Rattle.bytecode.specs.declared.Place.{Place}
 use Rattle.bytecode.specs.declared.Place.TheVariants.{Field, Temporary, Literal, LiteralVariable}
 use Rattle.bytecode.specs.declared.Instruction.{Instruction}
-use Rattle.bytecode.specs.declared.Instruction.TheVariants.{Push, Store, PopStore, PushSelf, PushConstant, ReturnSelf, ReturnConstant, ReturnTop, Pop, Duplicate, Jump, JumpOn, Send, SuperSend, SpecialSend, PushBlock, BlockReturn, Unused}
+use Rattle.bytecode.specs.declared.Instruction.TheVariants.{Push, Store, PopStore, PushSelf, PushConstant, ReturnSelf, ReturnConstant, ReturnTop, Pop, Duplicate, Jump, JumpOn, Send, SuperSend, SpecialSend, Unused}
 use Rattle.bytecode.proofs.Choice.{if_cases, if_either}
-use Rattle.bytecode.proofs.TestLaws.{true→T, and_left, and_right, and_both, or_cases}
+use Rattle.bytecode.proofs.TestLaws.{true→T, and_left, and_right, and_both}
 use Rattle.model.specs.declared.Found.{Found}
 use Rattle.model.specs.declared.Found.TheVariants.{Method, Nothing}
-use Rattle.model.specs.Limits.{has_blocks, push_block_bytes, fields_kind, bytes_kind, class_kind, list_kind, method_kind, longest_chain, selectors_object, special_selectors}
+use Rattle.model.specs.Limits.{fields_kind, bytes_kind, class_kind, list_kind, method_kind, longest_chain, selectors_object, special_selectors}
 use Rattle.model.specs.Word.{is_valid, pointer}
 use Rattle.model.specs.Objects.{Objects, kind, size, is_kind, superclass_word, dictionary_word, pair_count, pair_selector, pair_method}
 use Rattle.model.specs.Method.{literal, temporary_count, literal_count, code_words, code_size, frame_words, argument_count}
 use Rattle.model.specs.Lookup.{found, find_from, find_in, lookup_within, lookup, dictionaries_within, dictionaries_read, in_chain_within, in_chain, ends_within}
-use Rattle.model.specs.Depth.{operands_in, temporaries_in, code_fine, note_at, walk_from, successorsAt, depthAfterAt, rulesAt, fineAt, depthTable}
-use Rattle.model.specs.Rules.{takes_count, send_fine, variable_fine, place_fine, is_writable, special_selector, is_same, is_class, allowed, method_table, pushes_block, starts_block, rule8}
+use Rattle.model.specs.Depth.{walk_from, successorsAt, depthAfterAt, rulesAt, fineAt, depthTable}
+use Rattle.model.specs.Rules.{takes_count, send_fine, variable_fine, place_fine, is_writable, special_selector, is_same, is_class, allowed, method_table, rule8}
 use Rattle.model.proofs.ChainLaws.{named, class_hit, class_miss, no_class, read_hit, read_miss, read_none, chain_class, chain_none, ends_class, ends_none}
 use Rattle.model.proofs.Parts.{below_same, up_to_same, implying}
 use Rattle.model.proofs.Facts.{Right, naming, named_pointer, least, known_facts, inside_selectors, special_valid, class_facts, pair_facts, method_facts}
-use Rattle.model.proofs.Extends.{Extends, valid_grows, kind_kept, kind_same, kind_valid, superclass_same, dictionary_same, pair_count_same, pair_selector_same, pair_method_same, home_fields_same, temporaries_same, literal_count_same, literal_same, frame_same, code_size_same, code_same, arguments_same, runs_same}
+use Rattle.model.proofs.Extends.{Extends, valid_grows, kind_kept, kind_same, kind_valid, superclass_same, dictionary_same, pair_count_same, pair_selector_same, pair_method_same, home_fields_same, temporaries_same, literal_count_same, literal_same, frame_same, code_size_same, code_same, arguments_same}
 
 -- a test behind another is asked only where that one holds
 pub and_same : (a a' b b' : Bool) → a' ≡ a → (T a → b' ≡ b) → (a' && b') ≡ (a && b)
@@ -175,7 +173,7 @@ module _ {e : ℕ} {o o' : Objects} (x : Extends o o') (r : Right e o) where
       and_same (is_kind o fields_kind w) (is_kind o' fields_kind w) (leb 2 (size o (w / 2))) (leb 2 (size o' (w / 2))) (kind_valid x fields_kind w v)
       (λ t. let h = named o fields_kind w t in ap (leb 2) (x.entries (w / 2) 3 h.least h.most (omega arith)))
 
--- Special sends of code are 32, places have 6 bits, and blocks take 0 or 1 argument: no instruction of another number is decoded.
+-- Special sends of code are 32, and places have 6 bits: no instruction of another number is decoded.
 abbrev pub Small : Instruction → Type 0
 Small (Push p) = place_index p < 64
 Small (Store p) = place_index p < 64
@@ -192,8 +190,6 @@ Small (JumpOn y a) = Unit {0}
 Small (Send l n) = Unit {0}
 Small (SuperSend l n) = Unit {0}
 Small (SpecialSend k) = k < special_selectors
-Small (PushBlock n a b) = n ≤ 1
-Small BlockReturn = Unit {0}
 Small Unused = Unit {0}
 
 small_if : (b : Bool) (i j : Instruction) → Small i → Small j → Small (if b then i else j)
@@ -213,25 +209,14 @@ small_short b =
 
 small_constant : (b : ℕ) → Small (constant_of b)
 unfolding constant_of
-small_constant b = small_if _ _ _ tt (small_if _ _ _ tt (small_if _ _ _ tt (small_if _ _ _ tt (small_if _ _ _ tt (small_if _ _ _ tt tt)))))
-
-small_block : (f : ℕ → ℕ) → Small (block_of f)
-unfolding block_of
-small_block f = if_cases Small (is_count && _) _ Unused (λ p. few (or_cases (eqb (f 1) 117) (eqb (f 1) 118) (and_left is_count _ (true→T p)))) (λ p. tt)
-  where
-    is_count : Bool
-    is_count = eqb (f 1) 117 || eqb (f 1) 118
-
-    few : T (eqb (f 1) 117) ⊎ T (eqb (f 1) 118) → f 1 - 117 ≤ 1
-    few (inl t) = let e = eqb→eq (f 1) 117 t in omega arith
-    few (inr t) = let e = eqb→eq (f 1) 118 t in omega arith
+small_constant b = small_if _ _ _ tt (small_if _ _ _ tt (small_if _ _ _ tt (small_if _ _ _ tt (small_if _ _ _ tt tt))))
 
 small_extended : (b : ℕ) (f : ℕ → ℕ) → Small (extended_of b f)
 unfolding extended_of
 small_extended b f =
     let place = small_place (f 1) in
     small_if _ _ _ place (small_if _ _ _ place (small_if _ _ _ place
-    (small_if _ _ _ tt (small_if _ _ _ tt (small_if _ _ _ tt (small_if _ _ _ tt (small_if _ _ _ tt (small_if _ _ _ tt (small_if _ _ _ (small_block f) tt)))))))))
+    (small_if _ _ _ tt (small_if _ _ _ tt (small_if _ _ _ tt (small_if _ _ _ tt (small_if _ _ _ tt (small_if _ _ _ tt tt))))))))
 
 small_jump : (b y : ℕ) → Small (jump_of b y)
 unfolding jump_of
@@ -290,14 +275,12 @@ module _ {e : ℕ} {o o' : Objects} (x : Extends o o') (r : Right e o) where
     allowed_same (SpecialSend k) s =
         ap (λ (b : Bool). is_same k || (is_class k || b))
         (ap (λ (w : ℕ). send_fine o' w (special_count k)) (special_same k s) ∙ send_same x r (special_selector o k) (special_count k) (special_valid r k s))
-    allowed_same (PushBlock n a b) s = ap (λ (z : Bool). has_blocks e && z) (runs_same x r m t)
-    allowed_same BlockReturn s = ap (λ (z : Bool). has_blocks e && z) (runs_same x r m t)
     allowed_same Unused s = refl
 
     fine_same : (ws : List ℕ) (sz tc fw p d : ℕ) → fineAt ws sz tc fw (allowed e o' m) p d ≡ fineAt ws sz tc fw (allowed e o m) p d
     unfolding fineAt rulesAt
     fine_same ws sz tc fw p d =
-        ap (λ (b : Bool). usable (next_at ws p) (decode_at ws sz p) && (b && (leb (need (decode_at ws sz p)) (operands_in d) && (leb (temporaries_in tc d + operands_in d) fw && (code_fine (decode_at ws sz p) d && true))))) (allowed_same (decode_at ws sz p) (small_at ws sz p))
+        ap (λ (b : Bool). usable (next_at ws p) (decode_at ws sz p) && (b && (leb (need (decode_at ws sz p)) d && (leb (tc + d) fw && true)))) (allowed_same (decode_at ws sz p) (small_at ws sz p))
 
     rules_same : (ws : List ℕ) (sz tc fw : ℕ) → depthTable ws sz tc fw (allowed e o' m) ≡ depthTable ws sz tc fw (allowed e o m)
     unfolding depthTable
@@ -309,13 +292,6 @@ module _ {e : ℕ} {o o' : Objects} (x : Extends o o') (r : Right e o) where
         ap₂ (λ (ws : List ℕ) (sz : ℕ). depthTable ws sz (temporary_count o' m) (frame_words o' m) (allowed e o' m)) (code_same x r m t) (code_size_same x r m t)
         ∙ ap₂ (λ (a b : ℕ). depthTable (code_words o m) (code_size o m) a b (allowed e o' m)) (temporaries_same x r m t) (frame_same x r m t)
         ∙ rules_same (code_words o m) (code_size o m) (temporary_count o m) (frame_words o m)
-
-    -- where the code of blocks starts
-    pub starts_same : (start count : ℕ) → starts_block e o' m start count ≡ starts_block e o m start count
-    unfolding starts_block
-    starts_same start count =
-        ap₂ (λ (ws : List ℕ) (sz : ℕ). leb push_block_bytes start && (ltb 0 (note_at (method_table e o' m) (start - push_block_bytes)) && pushes_block count (decode_at ws sz (start - push_block_bytes)))) (code_same x r m t) (code_size_same x r m t)
-        ∙ ap (λ (z : Option (List ℕ)). leb push_block_bytes start && (ltb 0 (note_at z (start - push_block_bytes)) && pushes_block count (decode_at (code_words o m) (code_size o m) (start - push_block_bytes)))) table_same
 
 -- start words stay right
 pub start_same : {o o' : Objects} → Extends o o' → (w s : ℕ) → T (rule8 o w s []) → T (rule8 o' w s [])

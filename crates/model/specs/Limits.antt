@@ -12,13 +12,9 @@ is_edition e = leb 1 e && leb e last_edition
 abbrev pub has_messages : ℕ → Bool
 has_messages e = leb 2 e
 
--- 02, M-106: from edition 3 on code makes blocks
-abbrev pub has_blocks : ℕ → Bool
-has_blocks e = leb 3 e
-
 -- 01, "Image": objects and body words of an image. Every edition has the objects with a fixed number.
 unfoldable pub least_objects : ℕ → ℕ
-least_objects e = if has_blocks e then 9 else if has_messages e then 8 else 5
+least_objects e = if has_messages e then 8 else 5
 
 abbrev pub most_objects : ℕ
 most_objects = 2047
@@ -49,13 +45,10 @@ list_kind = 3
 abbrev pub method_kind : ℕ
 method_kind = 4
 
-abbrev pub block_kind : ℕ
-block_kind = 5
+abbrev pub last_kind : ℕ → ℕ
+last_kind e = method_kind
 
-unfoldable pub last_kind : ℕ → ℕ
-last_kind e = if has_blocks e then block_kind else method_kind
-
--- forms of a class's objects: F fields; at least F; bytes; classes, lists, methods and integers; blocks
+-- forms of a class's objects: F fields; at least F; bytes; classes, lists, methods and integers
 abbrev pub fixed_form : ℕ
 fixed_form = 0
 
@@ -68,11 +61,8 @@ bytes_form = 2
 abbrev pub other_form : ℕ
 other_form = 3
 
-abbrev pub block_form : ℕ
-block_form = 4
-
-unfoldable pub last_form : ℕ → ℕ
-last_form e = if has_blocks e then block_form else other_form
+abbrev pub last_form : ℕ → ℕ
+last_form e = other_form
 
 -- words of a class body, and the most fields that it can ask for
 abbrev pub class_words : ℕ
@@ -80,14 +70,6 @@ class_words = 4
 
 abbrev pub most_fields : ℕ
 most_fields = 255
-
--- 02, M-106: a block's words are its mark, where its code starts, how many arguments it takes, and its method
-abbrev pub block_words_of : ℕ
-block_words_of = 4
-
--- the bytes of the instruction that pushes a block
-abbrev pub push_block_bytes : ℕ
-push_block_bytes = 5
 
 -- 02, M-101: the classes of the longest superclass chain
 abbrev pub longest_chain : ℕ
@@ -121,10 +103,6 @@ message_class_object = 7
 
 abbrev pub array_class_object : ℕ
 array_class_object = 8
-
--- and from edition 3 on: the class of blocks
-abbrev pub block_class_object : ℕ
-block_class_object = 9
 
 -- a message has its selector and the array of its arguments
 abbrev pub message_fields : ℕ

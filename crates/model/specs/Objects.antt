@@ -1,9 +1,9 @@
 -- Objects: the table of contents and the bodies, read by object number (01, "Image").
 -- A read outside the two lists gives 0; the image rules see to it that none is made.
-use Rattle.std.specs.Prelude.{ℕ, zero, suc, ◌+◌, ◌-◌, ◌*◌, ◌/◌, max, Bool, ◌&&◌, ◌||◌, List, [], ◌++◌, eqb, length, get_or, take, drop}
+use Rattle.std.specs.Prelude.{ℕ, ◌+◌, ◌-◌, ◌*◌, ◌/◌, Bool, ◌&&◌, ◌||◌, List, [], ◌++◌, eqb, length, get_or, take, drop}
 use Rattle.bytecode.specs.Test.{if◌then◌else◌}
 use Rattle.bytecode.specs.Constant.{nil_word}
-use Rattle.model.specs.Limits.{entry_words, bytes_kind, method_kind, block_kind}
+use Rattle.model.specs.Limits.{entry_words, bytes_kind, method_kind}
 use Rattle.model.specs.Word.{is_integer, is_pointer, object_number, integer_class}
 
 -- n objects and b body words: `contents` has 4n words, `bodies` b.
@@ -102,29 +102,3 @@ pair_selector o d i = body_word o (object_number d) (2 * i)
 
 abbrev pub pair_method : Objects → ℕ → ℕ → ℕ
 pair_method o d i = body_word o (object_number d) (2 * i + 1)
-
--- A block, given by its word (02, M-106): its mark, the word of an integer, which its home frame has too; where its code starts and how many arguments it
--- takes, as plain numbers; its method
-abbrev pub block_mark : Objects → ℕ → ℕ
-block_mark o w = body_word o (object_number w) 0
-
-abbrev pub block_start_of : Objects → ℕ → ℕ
-block_start_of o w = body_word o (object_number w) 1
-
-abbrev pub block_count : Objects → ℕ → ℕ
-block_count o w = body_word o (object_number w) 2
-
-abbrev pub block_method : Objects → ℕ → ℕ
-block_method o w = body_word o (object_number w) 3
-
--- The word names a block that takes so many arguments.
-unfoldable pub is_block_of_of : Objects → ℕ → ℕ → Bool
-is_block_of_of o count w = is_kind o block_kind w && eqb (block_count o w) count
-
--- The largest mark of a block, as a number, among the objects 1 to k; 0 where there is none
-unfoldable pub largest_mark_to : Objects → ℕ → ℕ
-largest_mark_to o zero = 0
-largest_mark_to o (suc k) = max (if eqb (kind o (suc k)) block_kind then block_mark o (2 * suc k) / 2 else 0) (largest_mark_to o k)
-
-abbrev pub largest_mark : Objects → ℕ
-largest_mark o = largest_mark_to o o.n

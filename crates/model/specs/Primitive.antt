@@ -5,8 +5,8 @@ use Rattle.bytecode.specs.Test.{if◌then◌else◌}
 use Rattle.bytecode.specs.Constant.{nil_word}
 use Rattle.model.specs.declared.Computed.{Computed}
 use Rattle.model.specs.declared.Computed.TheVariants.{Word, Failed}
-use Rattle.model.specs.Limits.{most_objects, most_body_words, largest_integer, most_elements, entry_words, fields_kind, bytes_kind, class_kind, block_kind, block_words_of, fixed_form, indexed_form, bytes_form, message_fields}
-use Rattle.model.specs.Word.{is_integer, is_natural, pointer, object_number, boolean_word, message_class, array_class, block_class}
+use Rattle.model.specs.Limits.{most_objects, most_body_words, largest_integer, most_elements, entry_words, fields_kind, bytes_kind, class_kind, fixed_form, indexed_form, bytes_form, message_fields}
+use Rattle.model.specs.Word.{is_integer, is_natural, pointer, object_number, boolean_word, message_class, array_class}
 use Rattle.model.specs.Objects.{Objects, class_of, form, size, start, body_word, field_count, is_kind}
 use Rattle.model.specs.Image.{Room}
 use Rattle.model.specs.Arithmetic.{arithmetic}
@@ -101,13 +101,6 @@ unfoldable pub has_message_room : Room → Objects → ℕ → Bool
 has_message_room room o count =
     leb (o.n + 2) most_objects && (leb (o.b + (count + message_fields)) most_body_words
     && (leb (entry_words * (o.n + 2)) room.contents && leb (o.b + (count + message_fields)) room.bodies))
-
--- 02, M-106: a block with this mark, start, count and method; where there is room. It is the last object then.
-unfoldable pub block_made_of : Objects → ℕ → ℕ → ℕ → ℕ → Objects
-block_made_of o mark start count m = appended o block_class block_kind block_words_of (mark ∷ start ∷ count ∷ m ∷ [])
-
-abbrev pub block_word : Objects → ℕ
-block_word o = pointer (o.n + 1)
 
 unfoldable pub make : Room → Objects → ℕ → ℕ → ℕ → ℕ → ℕ → Outcome
 make room o class kind size count fill =

@@ -1,24 +1,23 @@
 -- The rules of an image, by the number that a breach of them gets (01, "Image", "Code" and "From the input"), in the order in which they are
 -- asked. Each is a test of the objects; `e` is the edition.
-use Rattle.std.specs.Prelude.{ℕ, ◌+◌, ◌-◌, ◌*◌, ◌/◌, ◌%◌, ◌≡◌, Bool, true, false, ◌&&◌, ◌||◌, not, List, [], ◌∷◌, T, leb, ltb, eqb, length}
+use Rattle.std.specs.Prelude.{ℕ, ◌+◌, ◌-◌, ◌*◌, ◌%◌, ◌≡◌, Bool, true, false, ◌&&◌, ◌||◌, not, List, [], ◌∷◌, T, leb, ltb, eqb, length}
 use Rattle.std.proofs.Math.Option.{Option}
 use Rattle.bytecode.specs.Test.{if◌then◌else◌, up_to, below, every, implies, all_of}
 use Rattle.bytecode.specs.Constant.{nil_word}
-use Rattle.bytecode.specs.Code.{next_at, decode_at}
 use Rattle.bytecode.specs.Effect.{special_count}
 use Rattle.bytecode.specs.declared.Place.{Place}
 use Rattle.bytecode.specs.declared.Place.TheVariants.{Field, Temporary, Literal, LiteralVariable}
 use Rattle.bytecode.specs.declared.Instruction.{Instruction}
-use Rattle.bytecode.specs.declared.Instruction.TheVariants.{Push, Store, PopStore, PushSelf, PushConstant, ReturnSelf, ReturnConstant, ReturnTop, Pop, Duplicate, Jump, JumpOn, Send, SuperSend, SpecialSend, PushBlock, BlockReturn, Unused}
-use Rattle.model.specs.Limits.{is_edition, has_blocks, entry_words, least_objects, most_objects, most_body_words, fields_kind, bytes_kind, class_kind, list_kind, method_kind, block_kind, last_kind, fixed_form, indexed_form}
-use Rattle.model.specs.Limits.{bytes_form, other_form, block_form, last_form, class_words, block_words_of, push_block_bytes, largest_integer, block_class_object, most_fields, longest_chain, nil_object, false_object, true_object, integer_class_object, selectors_object, special_selectors, field_flag, primitive_flag}
+use Rattle.bytecode.specs.declared.Instruction.TheVariants.{Push, Store, PopStore, PushSelf, PushConstant, ReturnSelf, ReturnConstant, ReturnTop, Pop, Duplicate, Jump, JumpOn, Send, SuperSend, SpecialSend, Unused}
+use Rattle.model.specs.Limits.{is_edition, entry_words, least_objects, most_objects, most_body_words, fields_kind, bytes_kind, class_kind, list_kind, method_kind, last_kind, fixed_form, indexed_form}
+use Rattle.model.specs.Limits.{bytes_form, other_form, last_form, class_words, most_fields, longest_chain, nil_object, false_object, true_object, integer_class_object, selectors_object, special_selectors, field_flag, primitive_flag}
 use Rattle.model.specs.Limits.{has_messages, failure_selector_object, message_class_object, array_class_object, message_fields}
-use Rattle.model.specs.Word.{is_integer, is_natural, is_valid, pointer, object_number, integer_class, failure_selector, message_class, array_class, block_class}
+use Rattle.model.specs.Word.{is_integer, is_natural, is_valid, pointer, object_number, integer_class, failure_selector, message_class, array_class}
 use Rattle.model.specs.Objects.{Objects, class_word, kind, start, size, sized_in_bytes, body_words, body_end, body_word, body_of, is_kind}
-use Rattle.model.specs.Objects.{is_nil_or, superclass_word, dictionary_word, fields_word, form_word, field_count, form, pair_count, pair_selector, pair_method, block_mark, block_start_of, block_count, block_method}
+use Rattle.model.specs.Objects.{is_nil_or, superclass_word, dictionary_word, fields_word, form_word, field_count, form, pair_count, pair_selector, pair_method}
 use Rattle.model.specs.Method.{header, home, literal, flag, temporary_count, literal_count, code_words, code_size, frame_words, extension, argument_count, runs_code}
 use Rattle.model.specs.Lookup.{ends_within}
-use Rattle.model.specs.Depth.{Reached, successorsAt, depthTable, is_some, note_at, Sound}
+use Rattle.model.specs.Depth.{depthTable, is_some, Sound}
 
 -- 2: edition, N and B in range
 abbrev pub sizes_fine : ℕ → ℕ → ℕ → Bool
@@ -41,7 +40,6 @@ layout_rules e o k =
     leb (kind o k) (last_kind e) ∷
     start_fine_of o k ∷
     implies (eqb (kind o k) class_kind) (eqb (size o k) class_words) ∷
-    implies (eqb (kind o k) block_kind) (eqb (size o k) block_words_of) ∷
     padding_fine o k ∷
     []
 
@@ -49,12 +47,10 @@ layout_rules e o k =
 unfoldable pub rule4 : ℕ → Objects → Bool
 rule4 e o = up_to o.n (λ k. all_of (layout_rules e o k)) && eqb (body_end o o.n) o.b
 
--- 5: each entry's class, and each word of a body of kind 0, 2 or 3, is valid. A block's words are left to 7.
-abbrev pub holds_words : ℕ → Bool
-holds_words k = not (sized_in_bytes k || eqb k block_kind)
-
+-- 5: each entry's class, and each word of a body of kind 0, 2 or 3, is valid.
 unfoldable pub words_fine : Objects → ℕ → Bool
-words_fine o k = is_valid o.n (class_word o k) && implies (holds_words (kind o k)) (every (is_valid o.n) (body_of o k))
+words_fine o k =
+    is_valid o.n (class_word o k) && implies (not (sized_in_bytes (kind o k))) (every (is_valid o.n) (body_of o k))
 
 unfoldable pub rule5 : ℕ → Objects → Bool
 rule5 e o = up_to o.n (words_fine o)
@@ -74,7 +70,6 @@ fits e o k =
     if eqb (form o (class_word o k)) indexed_form then eqb (kind o k) fields_kind && leb (field_count o (class_word o k)) (size o k) else
     if eqb (form o (class_word o k)) bytes_form then eqb (kind o k) bytes_kind else
     if eqb (form o (class_word o k)) other_form then leb class_kind (kind o k) && leb (kind o k) method_kind else
-    if eqb (form o (class_word o k)) block_form then eqb (kind o k) block_kind else
     false
 
 unfoldable pub entry_fine : ℕ → Objects → ℕ → Bool
@@ -89,7 +84,7 @@ pair_fine o d i =
 unfoldable pub dictionary_fine : Objects → ℕ → Bool
 dictionary_fine o d = eqb (size o (object_number d) % 2) 0 && below (pair_count o d) (pair_fine o d)
 
--- The superclass is nil or a class, the dictionary a list, F from 0 to 255, the form a number; bytes and the forms behind them have no fields;
+-- The superclass is nil or a class, the dictionary a list, F from 0 to 255, the form a number; bytes and the last form have no fields;
 -- F is not below the superclass's; the dictionary is right.
 unfoldable pub class_rules : ℕ → Objects → ℕ → List Bool
 class_rules e o c =
@@ -114,10 +109,6 @@ message_object_rules o =
     eqb (field_count o array_class) 0 ∷
     []
 
--- 02, M-106: 9 is a class of form 4.
-unfoldable pub block_object_rules : Objects → List Bool
-block_object_rules o = eqb (kind o block_class_object) class_kind ∷ eqb (form o block_class) block_form ∷ []
-
 -- nil, false and true have fields, 4 is a class of form 3, 5 a list of 32 words, each nil or a selector.
 unfoldable pub known_object_rules : ℕ → Objects → List Bool
 known_object_rules e o =
@@ -130,7 +121,6 @@ known_object_rules e o =
     eqb (size o selectors_object) special_selectors ∷
     every (is_nil_or o bytes_kind) (body_of o selectors_object) ∷
     implies (has_messages e) (all_of (message_object_rules o)) ∷
-    implies (has_blocks e) (all_of (block_object_rules o)) ∷
     []
 
 unfoldable pub object_fine : ℕ → Objects → ℕ → Bool
@@ -179,14 +169,6 @@ is_same k = eqb k 22
 abbrev pub is_class : ℕ → Bool
 is_class k = eqb k 23
 
--- 201 (value) and 202 (value:), which run the code of a block of matching count (02, M-106)
-abbrev pub is_value : ℕ → Bool
-is_value k = eqb k 25 || eqb k 26
-
--- The instructions of blocks are used from edition 3 on, in methods whose code can run (docs/DECISIONS.md, "Closures").
-abbrev pub uses_blocks : ℕ → Objects → ℕ → Bool
-uses_blocks e o m = has_blocks e && runs_code o m
-
 -- The rules of a reached instruction that do not speak of depth
 unfoldable pub allowed : ℕ → Objects → ℕ → Instruction → Bool
 allowed e o m (Push p) = place_fine o m p
@@ -204,8 +186,6 @@ allowed e o m (JumpOn x a) = true
 allowed e o m (Send l n) = ltb l (literal_count o m) && send_fine o (literal o m l) n
 allowed e o m (SuperSend l n) = ltb l (literal_count o m) && send_fine o (literal o m l) n
 allowed e o m (SpecialSend k) = is_same k || (is_class k || send_fine o (special_selector o k) (special_count k))
-allowed e o m (PushBlock n a b) = uses_blocks e o m
-allowed e o m BlockReturn = uses_blocks e o m
 allowed e o m Unused = false
 
 -- A method is sound where its code has a depth table: the statement, and the table itself.
@@ -241,51 +221,6 @@ dictionary_methods_fine o c =
     eqb (home o (pair_method o (dictionary_word o c) i)) c
     && takes_count o (pair_selector o (dictionary_word o c) i) (argument_count o (pair_method o (dictionary_word o c) i)))
 
--- 02, M-106: a block's mark is an integer from 1, and its code starts behind a reached instruction of its method that pushes a block of so many arguments. (That the test
--- finds such an instruction wherever there is one is `block_starts`, proofs/BlockLaws.antt.)
-abbrev pub pushes_block : ℕ → Instruction → Bool
-pushes_block count (Push p) = false
-pushes_block count (Store p) = false
-pushes_block count (PopStore p) = false
-pushes_block count PushSelf = false
-pushes_block count (PushConstant w) = false
-pushes_block count ReturnSelf = false
-pushes_block count (ReturnConstant w) = false
-pushes_block count ReturnTop = false
-pushes_block count Pop = false
-pushes_block count Duplicate = false
-pushes_block count (Jump a b) = false
-pushes_block count (JumpOn x a) = false
-pushes_block count (Send l n) = false
-pushes_block count (SuperSend l n) = false
-pushes_block count (SpecialSend k) = false
-pushes_block count (PushBlock n a b) = eqb n count
-pushes_block count BlockReturn = false
-pushes_block count Unused = false
-
-unfoldable pub starts_block : ℕ → Objects → ℕ → ℕ → ℕ → Bool
-starts_block e o m start count =
-    leb push_block_bytes start
-    && (ltb 0 (note_at (method_table e o m) (start - push_block_bytes)) && pushes_block count (decode_at (code_words o m) (code_size o m) (start - push_block_bytes)))
-
--- The same as a statement: the code is sound, and a reached instruction of it that pushes such a block ends where the block starts.
-pub record MakesBlock (e : ℕ) (o : Objects) (m start count : ℕ) : Type 0 where
-  pub sound : T (is_some (method_table e o m))
-  pub place : ℕ
-  pub reached : Reached (successorsAt (code_words o m) (code_size o m)) place
-  pub distance : ℕ
-  pub back : ℕ
-  pub pushes : decode_at (code_words o m) (code_size o m) place ≡ PushBlock count distance back
-  pub next : next_at (code_words o m) place ≡ start
-
-unfoldable pub block_rules : ℕ → Objects → ℕ → List Bool
-block_rules e o w =
-    is_natural largest_integer (block_mark o w) ∷
-    leb 1 (block_mark o w / 2) ∷
-    is_kind o method_kind (block_method o w) ∷
-    starts_block e o (block_method o w) (block_start_of o w) (block_count o w) ∷
-    []
-
 -- 02, M-104: methods under object 6 take the message.
 unfoldable pub failure_methods_fine : ℕ → Objects → Bool
 failure_methods_fine e o = implies (has_messages e) (takes_count o failure_selector 1)
@@ -294,8 +229,7 @@ unfoldable pub rule7 : ℕ → Objects → Bool
 rule7 e o =
     up_to o.n (λ k.
     implies (eqb (kind o k) method_kind) (all_of (method_rules e o (pointer k)))
-    && (implies (eqb (kind o k) class_kind) (dictionary_methods_fine o (pointer k))
-    && implies (eqb (kind o k) block_kind) (all_of (block_rules e o (pointer k)))))
+    && implies (eqb (kind o k) class_kind) (dictionary_methods_fine o (pointer k)))
     && failure_methods_fine e o
 
 -- 8: receiver and arguments are valid, the selector is of kind 1. (The start words have no arguments.)

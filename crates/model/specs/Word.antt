@@ -4,7 +4,7 @@ use Rattle.std.specs.Prelude.{ℕ, ◌+◌, ◌-◌, ◌*◌, ◌/◌, ◌%◌, 
 use Rattle.std.specs.Int.Signed.{mag}
 use Rattle.bytecode.specs.Test.{if◌then◌else◌}
 use Rattle.bytecode.specs.Constant.{false_word, true_word}
-use Rattle.model.specs.Limits.{largest_integer, integer_class_object, failure_selector_object, message_class_object, array_class_object, block_class_object}
+use Rattle.model.specs.Limits.{largest_integer, integer_class_object, failure_selector_object, message_class_object, array_class_object}
 
 -- An odd word is an integer.
 abbrev pub is_integer : ℕ → Bool
@@ -51,9 +51,6 @@ message_class = pointer message_class_object
 
 abbrev pub array_class : ℕ
 array_class = pointer array_class_object
-
-abbrev pub block_class : ℕ
-block_class = pointer block_class_object
 
 abbrev pub boolean_word : Bool → ℕ
 boolean_word true = true_word

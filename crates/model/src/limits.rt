@@ -26,9 +26,7 @@ pub const LIST: u16 = 3;
 
 pub const METHOD: u16 = 4;
 
-pub const BLOCK: u16 = 5;
-
-// Forms of a class's objects: F fields; at least F; bytes; classes, lists, methods and integers; blocks.
+// Forms of a class's objects: F fields, at least F, bytes, and last the other kinds and integers.
 pub const FIXED: u16 = 0;
 
 pub const INDEXED: u16 = 1;
@@ -36,8 +34,6 @@ pub const INDEXED: u16 = 1;
 pub const OF_BYTES: u16 = 2;
 
 pub const OTHER: u16 = 3;
-
-pub const OF_BLOCKS: u16 = 4;
 
 // A class body: its words by their places, how many, and the most fields that it can ask for.
 pub const SUPERCLASS: usize = 0;
@@ -51,20 +47,6 @@ pub const FORM_WORD: usize = 3;
 pub const CLASS_WORDS: u16 = 4;
 
 pub const MOST_FIELDS: u16 = 255;
-
-// A block body: its words by their places, and how many.
-pub const BLOCK_MARK: usize = 0;
-
-pub const BLOCK_START: usize = 1;
-
-pub const BLOCK_COUNT: usize = 2;
-
-pub const BLOCK_METHOD: usize = 3;
-
-pub const BLOCK_WORDS: u16 = 4;
-
-// Bytes of the instruction that pushes a block.
-pub const PUSH_BLOCK_BYTES: usize = 5;
 
 // The classes of the longest superclass chain.
 pub const LONGEST_CHAIN: usize = 24;
@@ -101,7 +83,7 @@ pub const FRAME_DEPTH: usize = 2;
 
 pub const FRAME_METHOD: usize = 3;
 
-pub const FRAME_MARK: usize = 4;
+pub const FRAME_ZERO: usize = 4;
 
 pub const FRAME_RECEIVER: usize = 5;
 
@@ -132,8 +114,6 @@ pub const MESSAGE_CLASS_OBJECT: usize = 7;
 
 pub const ARRAY_CLASS_OBJECT: usize = 8;
 
-pub const BLOCK_CLASS_OBJECT: usize = 9;
-
 pub const NIL: u16 = 2;
 
 pub const FALSE: u16 = 4;
@@ -151,8 +131,6 @@ pub const FAILURE_SELECTOR: u16 = 12;
 pub const MESSAGE_CLASS: u16 = 14;
 
 pub const ARRAY_CLASS: u16 = 16;
-
-pub const BLOCK_CLASS: u16 = 18;
 
 // A message: its selector and the array of its arguments.
 pub const MESSAGE_FIELDS: u16 = 2;

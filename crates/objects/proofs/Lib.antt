@@ -3,4 +3,3 @@ pub mod Bodies
 pub mod Methods
 pub mod Searches
 pub mod Chains
-pub mod Blocks

@@ -1,9 +1,7 @@
 -- Objects in the lent buffers: what a function asks of them, and what it leaves there.
-use Rattle.std.specs.Prelude.{ℕ, ◌+◌, ◌-◌, ◌*◌, ◌/◌, ◌≤◌, ◌≡◌, List, T, eqb, length, take, drop}
-use Rattle.bytecode.specs.Test.{if◌then◌else◌}
-use Rattle.model.specs.Limits.{block_kind}
+use Rattle.std.specs.Prelude.{ℕ, ◌+◌, ◌-◌, ◌≤◌, ◌≡◌, List, T, length, take, drop}
 use Rattle.model.specs.Word.{object_number}
-use Rattle.model.specs.Objects.{Objects, objects_at, kind, start, body_words, is_kind, block_mark}
+use Rattle.model.specs.Objects.{objects_at, start, body_words, is_kind}
 use Rattle.model.specs.Method.{literal_count, code_words, code_size}
 use Rattle.model.specs.Rules.{IsRight}
 use Rattle.objects.specs.declared.Code.{Code}
@@ -21,7 +19,3 @@ pub record CodeAt (n b : ℕ) (contents bodies : List ℕ) (m : ℕ) (c : Code) 
   pub ordered : c.from ≤ c.end
   pub inside : c.end ≤ length bodies
   pub words : take (c.end - c.from) (drop c.from bodies) ≡ code_words (objects_at n b contents bodies) m
-
--- The mark of object k as a number, 0 where it is no block
-abbrev pub mark_number : Objects → ℕ → ℕ
-mark_number o k = if eqb (kind o k) block_kind then block_mark o (2 * k) / 2 else 0

@@ -2,19 +2,19 @@
 // words stand there; the definitions are model's specs/, over the objects in the two buffers.
 ghost use Rattle.std.specs.Prelude.{◌≡◌, List, ℕ, ◌+◌, ◌-◌, ◌*◌, ◌/◌, ◌<◌, ◌≤◌, T, length, take, drop};
 ghost use Rattle.bytecode.specs.Code.{byte_at, bytes_after, instruction_of, next_at};
-ghost use Rattle.model.specs.Limits.{entry_words, class_kind, list_kind, method_kind, block_kind, primitive_flag, largest_integer};
+ghost use Rattle.model.specs.Limits.{entry_words, class_kind, list_kind, method_kind, primitive_flag};
 ghost use Rattle.model.specs.Word.{is_valid, object_number};
-ghost use Rattle.model.specs.Objects.{objects_at, class_of, is_nil_or, superclass_word, dictionary_word, field_count, form, block_mark, block_start_of, block_method, is_block_of_of, largest_mark, at_front};
+ghost use Rattle.model.specs.Objects.{objects_at, class_of, is_nil_or, superclass_word, dictionary_word, field_count, form, at_front};
 ghost use Rattle.model.specs.Method.{header, home, literal, flag, literal_count, extension, primitive_number, argument_count};
 ghost use Rattle.model.specs.Lookup.{find_in, lookup, dictionaries_read, pairs_in, pairs_read, in_chain};
 ghost use Rattle.model.specs.Rules.{IsRight};
 ghost use Rattle.model.specs.Primitive.{store_word, object_byte, store_byte};
 ghost use Rattle.readers.specs.Places.{Inside};
-ghost use Rattle.objects.specs.Lent.{Holds, CodeAt, mark_number};
+ghost use Rattle.objects.specs.Lent.{Holds, CodeAt};
 ghost use Rattle.objects.specs.Searches.{IsDictionary, FirstPlace, SearchIs};
 
 use bytecode::Decoded;
-use model::{CodePosition, Found, Pointer, limits};
+use model::{Found, Pointer, limits};
 
 // A method's code in bodies: its words stand from `from` up to `end`, `size` counts its bytes.
 #[derive(Drop)]
@@ -125,68 +125,6 @@ pub fn form_of(contents: &[u16], bodies: &[u16], n: usize, b: usize, c: Pointer)
     ensures { result ≡ form (objects_at n b contents.now bodies.now) c.0 }
 {
     readers::word_of(contents, bodies, n, b, c, limits::FORM_WORD) as usize / 2
-}
-
-// The words of a block: its mark, where its code starts, its method.
-pub fn block_mark(contents: &[u16], bodies: &[u16], n: usize, b: usize, w: Pointer) -> u16
-    requires { Holds block_kind n b contents.now bodies.now w.0 }
-    ensures { result ≡ block_mark (objects_at n b contents.now bodies.now) w.0 }
-{
-    readers::word_of(contents, bodies, n, b, w, limits::BLOCK_MARK)
-}
-
-pub fn block_start(contents: &[u16], bodies: &[u16], n: usize, b: usize, w: Pointer) -> CodePosition
-    requires { Holds block_kind n b contents.now bodies.now w.0 }
-    ensures { (result.0 ≡ block_start_of (objects_at n b contents.now bodies.now) w.0) × (result.0 < 65536) }
-{
-    CodePosition(readers::word_of(contents, bodies, n, b, w, limits::BLOCK_START) as usize)
-}
-
-pub fn block_method(contents: &[u16], bodies: &[u16], n: usize, b: usize, w: Pointer) -> Pointer
-    requires { Holds block_kind n b contents.now bodies.now w.0 }
-    ensures { result.0 ≡ block_method (objects_at n b contents.now bodies.now) w.0 }
-{
-    Pointer(readers::word_of(contents, bodies, n, b, w, limits::BLOCK_METHOD))
-}
-
-// Whether a word names a block that takes so many arguments.
-pub fn is_block(contents: &[u16], bodies: &[u16], n: usize, b: usize, w: u16, count: usize) -> bool
-    requires { IsRight (objects_at n b contents.now bodies.now) }
-    ensures { result ≡ is_block_of_of (objects_at n b contents.now bodies.now) count w }
-{
-    if !readers::is_kind(contents, n, limits::BLOCK, w) {
-        return false;
-    }
-    let takes = readers::word_of(contents, bodies, n, b, Pointer(w), limits::BLOCK_COUNT) as usize;
-    takes == count
-}
-
-// The mark of object k as a number, 0 where it is no block.
-fn mark_number(contents: &[u16], bodies: &[u16], n: usize, b: usize, k: usize) -> usize
-    requires { IsRight (objects_at n b contents.now bodies.now) × (1 ≤ k) × (k ≤ n) }
-    ensures { result ≡ mark_number (objects_at n b contents.now bodies.now) k }
-{
-    if readers::kind(contents, n, k) != limits::BLOCK {
-        return 0;
-    }
-    block_mark(contents, bodies, n, b, Pointer((2 * k) as u16)) as usize / 2
-}
-
-// The largest mark of a block, as a number; 0 where there is none.
-pub fn largest_mark(contents: &[u16], bodies: &[u16], n: usize, b: usize) -> usize
-    requires { IsRight (objects_at n b contents.now bodies.now) }
-    ensures { (result ≡ largest_mark (objects_at n b contents.now bodies.now)) × (result ≤ largest_integer) }
-{
-    let mut k: usize = 0;
-    let mut largest: usize = 0;
-    while k < n {
-        k += 1;
-        let mark = mark_number(contents, bodies, n, b, k);
-        if largest < mark {
-            largest = mark;
-        }
-    }
-    largest
 }
 
 // The words of a method.

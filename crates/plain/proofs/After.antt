@@ -9,7 +9,6 @@ use Rattle.model.specs.Image.{Room}
 use Rattle.model.proofs.Facts.{Right}
 use Rattle.model.proofs.Extends.{Extends}
 use Rattle.model.proofs.Unchanged.{start_same}
-use Rattle.model.proofs.BlockLaws.{NoNewBlocks}
 use Rattle.plain.specs.State.{Plain, objects}
 use Rattle.plain.proofs.Preserve.{Kept}
 use Rattle.plain.proofs.StateLaws.{PlainRight, goes}
@@ -20,11 +19,6 @@ pub record After (e : ℕ) (room : Room) (o o' : Objects) : Type 0 where
   pub right : Right e o'
   pub contents : entry_words * o'.n ≤ room.contents
   pub bodies : o'.b ≤ room.bodies
-
--- and no block is made
-pub record Calm (e : ℕ) (room : Room) (o o' : Objects) : Type 0 where
-  pub after : After e room o o'
-  pub blocks : NoNewBlocks o o'
 
 -- a right state after a step
 pub kept_right : (room : Room) (s s' : Plain) → PlainRight room s → Kept (After s.registers.edition room) room s s' → PlainRight room s'

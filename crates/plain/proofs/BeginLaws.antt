@@ -29,7 +29,7 @@ use Rattle.plain.proofs.FrameLaws.{FramesRight, fits}
 use Rattle.plain.proofs.StepLaws.{Valid}
 use Rattle.plain.proofs.Preserve.{World, Shape, runs, ends, Activates, activates, new_right}
 use Rattle.plain.proofs.StateLaws.{PlainRight, goes, rests}
-use Rattle.plain.proofs.After.{After, Calm}
+use Rattle.plain.proofs.After.{After}
 use Rattle.plain.proofs.RunLaws.{Worlds}
 
 -- drop
@@ -60,32 +60,32 @@ module _ (room : Room) (worlds : Worlds room) (p : Plain) (r : PlainRight room p
   abbrev edition : ℕ
   edition = p.registers.edition
 
-  world : World (Calm edition room) (After edition room) edition room o
+  world : World (After edition room) edition room o
   world = worlds edition o r.image r.contents r.bodies
 
   module _ (receiver : ℕ) (arguments : List ℕ) (v : T (is_valid o.n receiver)) (va : Valid o.n arguments) where
     activated_begins : (m : ℕ) → T (is_kind o Rattle.model.specs.Limits.method_kind m) → argument_count o m ≡ length arguments → (x : Activation)
-        → Activates (Calm edition room) (After edition room) room edition o world m receiver x
+        → Activates (After edition room) room edition o world m receiver x
         → BeginGoes room p (begin_activated room p m receiver arguments x)
     activated_begins m k c (answered w o') a =
         let e : Shape room.stack (with_frames (with_objects p o') [] finished 0 w) = ends refl a.1 refl refl in
         record {
           right = record {
-            image = a.0.after.right;
-            contents = a.0.after.contents;
-            bodies = a.0.after.bodies;
-            starts = start_same a.0.after.extends
+            image = a.0.right;
+            contents = a.0.contents;
+            bodies = a.0.bodies;
+            starts = start_same a.0.extends
                 p.registers.start_receiver p.registers.start_selector r.starts;
             stands = goes e;
           };
-          extends = a.0.after.extends;
+          extends = a.0.extends;
           shape = e;
           bottom = refl;
         }
     activated_begins m k c entered a =
         if_cases (BeginGoes room p) (fits_stack room.stack 0 (frame_size o m)) _ _
         (λ q.
-        let f = new_right (Calm edition room) (After edition room) room edition o world m receiver arguments k v va c a.0 a.1 0 in
+        let f = new_right (After edition room) room edition o world m receiver arguments k v va c a.0 a.1 0 in
         let g : FramesRight edition o room.stack true 0 (new_frame o 0 m receiver arguments ∷ []) = unfold new_frame in (f, fits room.stack 0 (frame_size o m) (true→T q), refl, refl) in
         let e : Shape room.stack (with_frames p (new_frame o 0 m receiver arguments ∷ []) running 0 0) = runs refl refl g in
         record { right = record { image = r.image; contents = r.contents; bodies = r.bodies; starts = r.starts; stands = goes e }; extends = extends_refl o; shape = e; bottom = refl })
@@ -99,7 +99,7 @@ module _ (room : Room) (worlds : Worlds room) (p : Plain) (r : PlainRight room p
         (λ q.
         let c = eqb-true (argument_count o m.0) (length arguments) q in
         activated_begins m.0 (world.lookup_method selector (class_of o receiver) m.0 e) c (activate edition room o m.0 receiver arguments)
-        (activates (Calm edition room) (After edition room) room edition o world m.0 receiver arguments v va c))
+        (activates (After edition room) room edition o world m.0 receiver arguments v va c))
         (λ q. record { not_3 = λ z. omega arith; not_11 = λ z. omega arith })
 
   pub begins : (receiver selector : ℕ) (arguments : List ℕ) → BeginGoes room p (begin room p receiver selector arguments)

@@ -8,17 +8,17 @@ use lib.ListN.{length}
 use Rattle.bytecode.specs.Test.{if◌then◌else◌, all_of}
 use Rattle.model.specs.Word.{is_valid}
 use Rattle.plain.specs.Registers.{finished, last_phase, has_frames}
-use Rattle.plain.specs.State.{Frame, is_empty}
+use Rattle.plain.specs.State.{Frame}
 use Rattle.plain.specs.Cache.{cache_fine}
 use Rattle.plain.specs.Flat.{Flat, flat_objects, frames_from, if_frames, plain_of}
-use Rattle.plain.specs.Check.{image_rules, frames_fine, plain_rules, plain_fine, state_fine}
+use Rattle.plain.specs.Check.{image_rules, frames_fine, is_empty, plain_rules, plain_fine, state_fine}
 
 module _ (s : Flat) where
   abbrev pub imagePart : Bool
   imagePart = all_of (image_rules s.registers.edition (flat_objects s) s.registers.start_receiver s.registers.start_selector)
 
   abbrev pub phasePart : Bool
-  phasePart = leb s.registers.phase (last_phase s.registers.edition)
+  phasePart = leb s.registers.phase last_phase
 
   abbrev pub valuePart : Bool
   valuePart = if eqb s.registers.phase finished then is_valid s.registers.n s.registers.value else eqb s.registers.value 0

@@ -1,24 +1,23 @@
 -- Opens every definition of the three crates, for proofs by computation: such a proof says `unfolding computing`.
 use Rattle.bytecode.specs.Test.{if◌then◌else◌}
-use Rattle.bytecode.specs.Code.{block_of, byte_at, place_of, short_of, constant_of, extended_of, jump_of, send_of, instruction_of, length_of, next_at, decode_at}
+use Rattle.bytecode.specs.Code.{byte_at, place_of, short_of, constant_of, extended_of, jump_of, send_of, instruction_of, length_of, next_at, decode_at}
 use Rattle.bytecode.specs.Effect.{special_count, need, leaves, usable, successors}
-use Rattle.model.specs.Limits.{last_kind, last_form, least_objects}
+use Rattle.model.specs.Limits.{least_objects}
 use Rattle.model.specs.Word.{word_of, value_of, is_pointer, is_valid}
-use Rattle.model.specs.Objects.{is_block_of_of, largest_mark_to, body_words, body_of, is_kind, class_of}
+use Rattle.model.specs.Objects.{body_words, body_of, is_kind, class_of}
 use Rattle.model.specs.Method.{code_words, code_size, frame_words, argument_count}
-use Rattle.model.specs.Depth.{temporaries_in, code_fine, leaves_at, walk, walk_from, successorsAt, depthAfterAt, rulesAt, fineAt, depthTable}
+use Rattle.model.specs.Depth.{walk, walk_from, successorsAt, depthAfterAt, rulesAt, fineAt, depthTable}
 use Rattle.model.specs.Lookup.{find_from, find_in, lookup_within, lookup, dictionaries_within, dictionaries_read, pairs_from, pairs_in, pairs_within, pairs_read, in_chain_within, in_chain, ends_within}
-use Rattle.model.specs.Rules.{block_object_rules, starts_block, block_rules, start_fine_of, padding_fine, layout_rules, rule4, words_fine, rule5, chain_fine, rule14, fits, entry_fine, pair_fine, dictionary_fine, class_rules, message_object_rules, known_object_rules, object_fine, rule6, takes_count, send_fine, variable_fine, place_fine, allowed, method_table, method_rules, dictionary_methods_fine, failure_methods_fine, rule7, rule8}
+use Rattle.model.specs.Rules.{start_fine_of, padding_fine, layout_rules, rule4, words_fine, rule5, chain_fine, rule14, fits, entry_fine, pair_fine, dictionary_fine, class_rules, message_object_rules, known_object_rules, object_fine, rule6, takes_count, send_fine, variable_fine, place_fine, allowed, method_table, method_rules, dictionary_methods_fine, failure_methods_fine, rule7, rule8}
 use Rattle.model.specs.Image.{words_of, bytes_of, header_of, objects_in, image_header, image_objects, image_of, length_fine, buffers_fine, objects_verdict, load_verdict}
 use Rattle.model.specs.Arithmetic.{floor_quotient, floor_remainder, shifted, number, divided, exact_quotient, on_integers, on_bits, arithmetic}
-use Rattle.model.specs.Primitive.{block_made_of, store_word, object_byte, store_byte, is_indexable, is_index, at, at_put, size_answer, appended, has_room, array_made, message_made, has_message_room, make, new, new_with, perform, primitive_count, primitive}
-use Rattle.plain.specs.Registers.{last_phase}
-use Rattle.plain.specs.State.{from_home, temporaries_of, stored_at_home, block_frame, new_frame, fits_stack}
-use Rattle.plain.specs.Step.{stored_temporary, returned_home, value_sends, block_pushed, operand, field_of, literal_of, pushed, read, stored_field, stored, returned, entering, activate, framed, failed, sends, arithmetic_sends, special_sends, jumps, execute, step_frame, step}
+use Rattle.model.specs.Primitive.{store_word, object_byte, store_byte, is_indexable, is_index, at, at_put, size_answer, appended, has_room, array_made, message_made, has_message_room, make, new, new_with, perform, primitive_count, primitive}
+use Rattle.plain.specs.State.{new_frame, fits_stack}
+use Rattle.plain.specs.Step.{operand, field_of, literal_of, pushed, read, stored_field, stored, returned, entering, activate, framed, failed, sends, arithmetic_sends, special_sends, jumps, execute, step_frame, step}
 use Rattle.plain.specs.Calls.{loaded, begin, steps, largest_end, standing_end, reach_of, dictionaries_of, dropped, call}
 use Rattle.plain.specs.Cache.{cache_entry_of, filled, cached_right, cache_fine}
-use Rattle.plain.specs.Flat.{own_temporaries, frame_at, frames_from, plain_of}
-use Rattle.plain.specs.Check.{mark_fine, shares_home, image_rules, note_of, frame_rules, frames_fine, plain_rules, plain_fine, state_fine, check}
+use Rattle.plain.specs.Flat.{frame_at, frames_from, plain_of}
+use Rattle.plain.specs.Check.{image_rules, note_of, frame_rules, frames_fine, plain_rules, plain_fine, state_fine, check}
 use Rattle.plain.specs.FlatCalls.{laid, stack_after, cache_after, flat_begin, flat_run, flat_drop, flat_forget, flat_call, zeroed, flat_load, saved_image, save_verdict, flat_save}
 use Rattle.plain.specs.Program.{step80}
 
@@ -31,5 +30,5 @@ unfolding if◌then◌else◌ byte_at place_of short_of constant_of extended_of 
     appended has_room array_made message_made has_message_room make new new_with perform primitive_count primitive new_frame fits_stack operand field_of literal_of pushed read stored_field stored returned entering activate framed failed sends
     arithmetic_sends special_sends jumps execute step_frame step loaded begin steps largest_end standing_end reach_of dictionaries_of dropped call cache_entry_of filled cached_right cache_fine frame_at frames_from plain_of image_rules note_of frame_rules
     frames_fine plain_rules plain_fine state_fine check laid stack_after cache_after flat_begin flat_run flat_drop flat_forget flat_call zeroed flat_load saved_image save_verdict
-    flat_save step80 block_of last_kind last_form temporaries_in code_fine leaves_at block_object_rules starts_block block_rules is_block_of_of largest_mark_to block_made_of from_home temporaries_of stored_at_home block_frame stored_temporary returned_home value_sends block_pushed own_temporaries mark_fine shares_home last_phase
+    flat_save step80
 computing = tt

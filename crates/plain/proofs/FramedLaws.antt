@@ -3,11 +3,9 @@ use Prim.Native.Nat.{ℕ, zero, suc, ◌+◌, ◌*◌, ◌-◌, ◌≤◌, ◌<�
 use mathlib.Core.Path.{◌≡◌, refl, sym, ap, ap₂, ◌∙◌, subst}
 use mathlib.Core.Bool.{Bool, true, false}
 use mathlib.Core.List.{List, [], ◌∷◌, ◌++◌, append-nil}
-use mathlib.Core.Option.{none, some}
 use native.Mathlib.Omega.{arith}
-use borrow.Author.Tests.{lt-ltb}
 use lib.Dec.{T, ltb→lt}
-use lib.ListN.{length, get_or, get_elem?, take, drop, set, replicate, length-drop}
+use lib.ListN.{length, get_or, take, drop, set, replicate, length-drop}
 use lib.Seq.{sets, ext_get_or, get_or-take, get_or-drop, length-take-le}
 use Rattle.bytecode.specs.Test.{every}
 use Rattle.bytecode.specs.Constant.{nil_word}
@@ -18,25 +16,23 @@ use Rattle.model.specs.Limits.{entry_words, method_kind}
 use Rattle.model.specs.Word.{is_valid}
 use Rattle.model.specs.Objects.{Objects, objects_at, is_kind, part}
 use Rattle.model.specs.Method.{temporary_count, frame_words, frame_size, argument_count, code_words, code_size}
-use Rattle.model.specs.Depth.{note_at, code_depth, operands_in, temporaries_in, rulesAt}
+use Rattle.model.specs.Depth.{note_at, rulesAt}
 use Rattle.model.specs.Lookup.{found, lookup, dictionaries_read}
 use Rattle.model.specs.Rules.{method_table, allowed}
 use Rattle.model.specs.Image.{Room}
 use Rattle.model.proofs.Facts.{method_facts}
 use Rattle.model.proofs.DepthLaws.{spot, spot_start}
-use Rattle.model.proofs.BlockLaws.{temporaries_in_lem}
 use Rattle.model.proofs.SendFacts.{FoundFacts, lookup_facts}
 use Rattle.model.proofs.Lent.{contents_room, bodies_room, front_same}
 use Rattle.plain.specs.Registers.{running, no_stack_room}
-use Rattle.plain.specs.State.{Frame, Plain, is_block_of, with_objects, with_frames, moved_to, new_frame, fits_stack}
-use Rattle.plain.specs.Step.{looked, looked_up, Stepped, leads_to, halts, provided, operand, without, has_word_of, on_top, pushed, answered, entered, unfit, activate, framed, changed, activated, after_lookup, popped}
-use Rattle.plain.specs.Flat.{frame_depth, frame_method, frame_mark, own_temporaries, frame_at}
-use Rattle.plain.specs.FlatCalls.{at_front, frame_image, laid}
+use Rattle.plain.specs.State.{Frame, Plain, with_objects, with_frames, moved_to, new_frame, fits_stack}
+use Rattle.plain.specs.Step.{looked, looked_up, Stepped, leads_to, halts, provided, without, has_word_of, on_top, pushed, answered, entered, unfit, activate, framed, changed, activated, after_lookup, popped}
+use Rattle.plain.specs.Flat.{frame_depth, frame_method, operands_start, frame_at}
+use Rattle.plain.specs.FlatCalls.{at_front, laid}
 use Rattle.plain.specs.Cache.{filled}
-use Rattle.plain.specs.Running.{Runs, running_with, running_at, top_frame, rest_frames, top_operands, Made, Sending, sent_receiver, sent_arguments, send_step, failed_step}
+use Rattle.plain.specs.Running.{running_with, running_at, top_frame, rest_frames, Made, Sending, sent_receiver, sent_arguments, send_step, failed_step}
 use Rattle.plain.proofs.StepLaws.{Valid, has_word, without_length}
 use Rattle.plain.proofs.Preserve.{entered_runs}
-use Rattle.plain.proofs.LaidLaws.{own_temporaries_lem}
 use Rattle.plain.proofs.RunningLaws.{stood, all_right, top_right, top_bounds}
 use Rattle.plain.proofs.WriteLaws.{operand_here, moved_writes, pushed_writes}
 
@@ -77,75 +73,8 @@ pub temporaries_fit : (e : ℕ) (o : Objects) (m : ℕ) → note_at (method_tabl
 unfolding rulesAt
 temporaries_fit e o m n =
     let k = rule (rulesAt (code_words o m) (code_size o m) (temporary_count o m) (frame_words o m) (allowed e o m) 0 0) (spot e o m 0 0 n).kept 3 in
-    let h = lib.Dec.leb→le (temporaries_in (temporary_count o m) (code_depth false 0) + operands_in (code_depth false 0)) (frame_words o m) k in
-    omega (arith, temporaries_in_lem false (temporary_count o m) 0)
-
--- ---- the receiver and the arguments of a send, and the words that it writes
-
-module _ {n b top : ℕ} {contents bodies stack : List ℕ} (r : Runs n b top contents bodies stack) (count position : ℕ) (needs : suc count ≤ frame_depth stack top) where
-  abbrev oᵣ : Objects
-  oᵣ = objects_at n b contents bodies
-
-  abbrev fᵣ : Frame
-  fᵣ = top_frame n b top contents bodies stack
-
-  abbrev restᵣ : List Frame
-  restᵣ = rest_frames n b top contents bodies stack
-
-  -- the temporaries that stand in the top frame
-  abbrev own : ℕ
-  own = own_temporaries oᵣ (frame_mark stack top) (frame_method stack top) restᵣ
-
-  pub sent_valid : T (is_valid n (sent_receiver n b top contents bodies stack count))
-  unfolding frame_at
-  sent_valid =
-      let q = top_right r in
-      let l = q.depth in
-      subst (λ (w : ℕ). T (is_valid n w))
-      (sym (operand_here oᵣ stack top fᵣ restᵣ true refl q (frame_depth stack top - suc count) (omega arith)) ∙ ap (λ (x : ℕ). get_or stack x 0) (sums top own (frame_depth stack top - suc count)))
-      (valid_at n fᵣ.operands (frame_depth stack top - suc count) q.valid_operands (omega arith))
-    where
-      sums : (a b c : ℕ) → a + (6 + (b + c)) ≡ a + 6 + b + c
-      sums a b c = omega arith
-
-  -- the receiver is the operand under the arguments
-  pub sent_operand : operand fᵣ count ≡ some (sent_receiver n b top contents bodies stack count)
-  unfolding operand frame_at
-  sent_operand =
-      let q = top_right r in
-      let l = q.depth in
-      if_yes (get_elem? fᵣ.operands (fᵣ.depth - suc count)) none (lt-ltb count fᵣ.depth (omega arith))
-      ∙ element_is fᵣ.operands (fᵣ.depth - suc count) (omega arith)
-      ∙ ap some (sym (operand_here oᵣ stack top fᵣ restᵣ true refl q (fᵣ.depth - suc count) (omega arith)))
-      ∙ ap (λ (x : ℕ). some (get_or stack x 0)) (sums top own (frame_depth stack top - suc count))
-    where
-      sums : (a b c : ℕ) → a + (6 + (b + c)) ≡ a + 6 + b + c
-      sums a b c = omega arith
-
-      element_is : (l : List ℕ) (i : ℕ) → i < length l → get_elem? l i ≡ some (get_or l i 0)
-      element_is [] i h = absurd (omega arith)
-      element_is (x ∷ l) zero h = refl
-      element_is (x ∷ l) (suc i) h = element_is l i (omega arith)
-
-  pub sent_here : part stack (top_operands n b top contents bodies stack + (frame_depth stack top - suc count) + 1) count ≡ sent_arguments n b top contents bodies stack count
-  unfolding frame_at
-  sent_here =
-      let t = top_bounds r in
-      let i = t.inside in
-      let w = t.holds in
-      ap (λ (x : ℕ). part stack x count) (behind (top_operands n b top contents bodies stack))
-      ∙ part_end stack (top_operands n b top contents bodies stack) (frame_depth stack top) count (omega arith) (omega arith)
-    where
-      behind : (x : ℕ) → x + (frame_depth stack top - suc count) + 1 ≡ x + (frame_depth stack top - count)
-      behind x = omega arith
-
-  -- a frame g above the top one, whose receiver and arguments are popped
-  pub frame_above : (base : ℕ) (g : Frame) → g.sender ≡ top
-      → sets (set (set stack (top + 1) position) (top + 2) (frame_depth stack top - suc count)) base (frame_image g) ≡ laid stack base (g ∷ popped fᵣ position (suc count) ∷ restᵣ)
-  unfolding frame_at laid
-  frame_above base g e =
-      ap (λ (l : List ℕ). sets l base (frame_image g))
-      (sym (moved_writes r.edition oᵣ stack top (suc top) fᵣ restᵣ (all_right r) (stood r) position (frame_depth stack top - suc count) (omega arith)) ∙ ap (λ (k : ℕ). laid stack k (popped fᵣ position (suc count) ∷ restᵣ)) (sym e))
+    let h = lib.Dec.leb→le (temporary_count o m + 0) (frame_words o m) k in
+    omega arith
 
 module _ {n b top : ℕ} {contents bodies stack : List ℕ} {selector count class position : ℕ} {sure : Bool} (s : Sending n b top contents bodies stack selector count class position sure) where
   abbrev o : Objects
@@ -166,17 +95,33 @@ module _ {n b top : ℕ} {contents bodies stack : List ℕ} {selector count clas
   abbrev depth : ℕ
   depth = frame_depth stack top
 
-  -- where its operands start
-  abbrev start : ℕ
-  start = top_operands n b top contents bodies stack
-
   -- ---- the receiver and the arguments
 
   pub receiver_valid : T (is_valid n receiver)
-  receiver_valid = sent_valid s.runs count position s.needs
+  unfolding frame_at
+  receiver_valid =
+      let r = top_right s.runs in
+      let h = s.needs in
+      let l = r.depth in
+      subst (λ (w : ℕ). T (is_valid n w))
+      (sym (operand_here o stack top f true refl r (depth - suc count) (omega arith)) ∙ ap (λ (x : ℕ). get_or stack x 0) (sums top (temporary_count o (frame_method stack top)) (depth - suc count)))
+      (valid_at n f.operands (depth - suc count) r.valid_operands (omega arith))
+    where
+      sums : (a b c : ℕ) → a + (6 + (b + c)) ≡ a + 6 + b + c
+      sums a b c = omega arith
 
-  pub arguments_here : part stack (start + (depth - suc count) + 1) count ≡ given
-  arguments_here = sent_here s.runs count position s.needs
+  pub arguments_here : part stack (operands_start o (frame_method stack top) top + (depth - suc count) + 1) count ≡ given
+  unfolding frame_at
+  arguments_here =
+      let h = s.needs in
+      let t = top_bounds s.runs in
+      let i = t.inside in
+      let w = t.holds in
+      ap (λ (x : ℕ). part stack x count) (behind (operands_start o (frame_method stack top) top))
+      ∙ part_end stack (operands_start o (frame_method stack top) top) depth count (omega arith) (omega arith)
+    where
+      behind : (x : ℕ) → x + (depth - suc count) + 1 ≡ x + (depth - count)
+      behind x = let h = s.needs in omega arith
 
   -- ---- the method that was found
 
@@ -211,21 +156,17 @@ module _ {n b top : ℕ} {contents bodies stack : List ℕ} {selector count clas
   pub word_left : T (has_word_of o (popped f position (suc count)) (length (without f (suc count))))
   unfolding frame_at
   word_left =
-      let r = top_right s.runs in
-      let l = without_length o true (is_block_of f.mark rest) f r (suc count) s.needs in
-      has_word s.runs.edition o (is_block_of (frame_mark stack top) rest) (frame_method stack top) position (length f.temporaries) (length (without f (suc count)))
-      (s.noted ∙ ap (λ (k : ℕ). suc (code_depth (is_block_of (frame_mark stack top) rest) (suc k))) (sym l)) r.temporaries
+      let l = without_length o f (top_right s.runs) (suc count) s.needs in
+      has_word s.runs.edition o (frame_method stack top) position (length (without f (suc count))) (s.noted ∙ ap (λ (k : ℕ). suc (suc k)) (sym l))
 
   pub answer_written : (w : ℕ)
-      → set (set (set stack (start + (depth - suc count)) w) (top + 1) position) (top + 2) (depth - suc count + 1)
+      → set (set (set stack (operands_start o (frame_method stack top) top + (depth - suc count)) w) (top + 1) position) (top + 2) (depth - suc count + 1)
       ≡ laid stack top (moved_to f position (take (f.depth - suc count) f.operands ++ (w ∷ [])) ∷ rest)
   unfolding frame_at
   answer_written w =
-      let own = own_temporaries o (frame_mark stack top) (frame_method stack top) rest in
-      let h = ltb→lt (own + (depth - suc count)) (frame_words o (frame_method stack top))
-      (has_word s.runs.edition o (is_block_of (frame_mark stack top) rest) (frame_method stack top) position own (depth - suc count) s.noted
-      (own_temporaries_lem o (frame_mark stack top) (frame_method stack top) rest)) in
-      ap₂ (λ (i k : ℕ). set (set (set stack i w) (top + 1) position) (top + 2) k) (sums top own (depth - suc count)) (one (depth - suc count))
+      let h = ltb→lt (temporary_count o (frame_method stack top) + (depth - suc count)) (frame_words o (frame_method stack top))
+      (has_word s.runs.edition o (frame_method stack top) position (depth - suc count) s.noted) in
+      ap₂ (λ (i k : ℕ). set (set (set stack i w) (top + 1) position) (top + 2) k) (sums top (temporary_count o (frame_method stack top)) (depth - suc count)) (one (depth - suc count))
       ∙ sym (pushed_writes s.runs.edition o stack top (suc top) f rest (all_right s.runs) (stood s.runs) position (depth - suc count) w (omega arith) h)
     where
       sums : (a b c : ℕ) → a + 6 + b + c ≡ a + (6 + (b + c))
@@ -238,11 +179,11 @@ module _ {n b top : ℕ} {contents bodies stack : List ℕ} {selector count clas
   pub frame_written : (o₁ : Objects) (m base : ℕ) (arguments : List ℕ)
       → sets (set (set stack (top + 1) position) (top + 2) (depth - suc count)) base (new_image top m receiver (temporary_count o₁ m) arguments)
       ≡ laid stack base (new_frame o₁ top m receiver arguments ∷ popped f position (suc count) ∷ rest)
-  unfolding new_frame
+  unfolding frame_at laid new_frame
   frame_written o₁ m base arguments =
-      ap (λ (ws : List ℕ). sets (set (set stack (top + 1) position) (top + 2) (depth - suc count)) base (top ∷ 0 ∷ 0 ∷ m ∷ 0 ∷ receiver ∷ ws))
+      ap₂ (λ (l ws : List ℕ). sets l base (top ∷ 0 ∷ 0 ∷ m ∷ 0 ∷ receiver ∷ ws))
+      (sym (moved_writes s.runs.edition o stack top (suc top) f rest (all_right s.runs) (stood s.runs) position (depth - suc count) (omega arith)))
       (sym (append-nil (arguments ++ replicate (temporary_count o₁ m - length arguments) nil_word)))
-      ∙ frame_above s.runs count position s.needs base (new_frame o₁ top m receiver arguments) refl
 
   -- ---- the step
 
@@ -305,7 +246,7 @@ module _ {n b top : ℕ} {contents bodies stack : List ℕ} {selector count clas
         pub answered_made : (cache : List ℕ) (w n' b' : ℕ) (o' : Objects) (contents' bodies' stack' cache' : List ℕ) → activate edition room o m receiver given ≡ answered w o' → o'.n ≡ n'
             → o'.b ≡ b'
             → contents' ≡ at_front o'.contents contents → bodies' ≡ at_front o'.bodies bodies
-            → stack' ≡ set (set (set stack (start + (depth - suc count)) w) (top + 1) position) (top + 2) (depth - suc count + 1)
+            → stack' ≡ set (set (set stack (operands_start o (frame_method stack top) top + (depth - suc count)) w) (top + 1) position) (top + 2) (depth - suc count + 1)
             → cache' ≡ filled cache (looked selector class m d)
             → Made x d (running_with edition receiver₀ selector₀ n' b' top) contents bodies stack cache contents' bodies' stack' cache'
         answered_made cache w n' b' o' contents' bodies' stack' cache' a en eb ec ed es ek =

@@ -1,37 +1,37 @@
 -- A step halts only for a cause that stands at the top frame's position (specs/Causes.antt).
 use Prim.Native.Nat.{ℕ, suc, ◌+◌, ◌-◌, ◌≤◌}
-use mathlib.Core.Path.{◌≡◌, refl, sym, ap, ap₂, ◌∙◌, subst}
+use mathlib.Core.Path.{◌≡◌, refl, sym, subst}
 use mathlib.Core.Logic.{inl, inr}
-use mathlib.Core.Bool.{Bool, true, false, ◌&&◌, ◌||◌, not}
-use mathlib.Core.List.{List, [], ◌∷◌, ◌++◌}
+use mathlib.Core.Bool.{Bool, true, false, ◌||◌}
+use mathlib.Core.List.{List, [], ◌∷◌}
 use mathlib.Core.Option.{Option, none, some}
 use native.Mathlib.Omega.{arith}
 use borrow.Author.Tests.{eqb-false, ltb-true, ne_eqb}
 use lib.Dec.{T, leb, ltb, eqb}
-use lib.ListN.{length, get_elem?, drop}
+use lib.ListN.{length, get_elem?}
 use Rattle.bytecode.proofs.Choice.{if_yes, if_cases}
 use Rattle.bytecode.specs.Constant.{false_word, true_word}
 use Rattle.bytecode.specs.Effect.{special_count}
 use Rattle.bytecode.specs.declared.Place.{Place}
 use Rattle.bytecode.specs.declared.Place.TheVariants.{Field, Temporary, Literal, LiteralVariable}
 use Rattle.bytecode.specs.declared.Instruction.{Instruction}
-use Rattle.bytecode.specs.declared.Instruction.TheVariants.{Push, Store, PopStore, PushSelf, PushConstant, ReturnSelf, ReturnConstant, ReturnTop, Pop, Duplicate, Jump, JumpOn, Send, SuperSend, SpecialSend, PushBlock, BlockReturn, Unused}
+use Rattle.bytecode.specs.declared.Instruction.TheVariants.{Push, Store, PopStore, PushSelf, PushConstant, ReturnSelf, ReturnConstant, ReturnTop, Pop, Duplicate, Jump, JumpOn, Send, SuperSend, SpecialSend, Unused}
 use Rattle.model.specs.declared.Pointer.{Pointer}
 use Rattle.model.specs.declared.Found.{Found}
 use Rattle.model.specs.declared.Found.TheVariants.{Method, Nothing}
 use Rattle.model.specs.declared.Computed.{Computed}
 use Rattle.model.specs.declared.Computed.TheVariants.{Word, Failed}
-use Rattle.model.specs.Limits.{has_messages, block_words_of}
+use Rattle.model.specs.Limits.{has_messages}
 use Rattle.model.specs.Word.{boolean_word, failure_selector}
-use Rattle.model.specs.Objects.{Objects, class_of, block_mark, is_block_of_of}
+use Rattle.model.specs.Objects.{Objects, class_of}
 use Rattle.model.specs.Lookup.{lookup}
-use Rattle.model.specs.Rules.{special_selector, is_same, is_class, is_value}
+use Rattle.model.specs.Rules.{special_selector, is_same, is_class}
 use Rattle.model.specs.Arithmetic.{arithmetic}
 use Rattle.model.specs.Image.{Room}
-use Rattle.model.specs.Primitive.{message_word, has_message_room, has_room, block_made_of, block_word}
-use Rattle.plain.specs.Registers.{Cause, not_understood, no_boolean, no_stack_room, no_block_room, home_gone}
-use Rattle.plain.specs.State.{Frame, Plain, is_empty, is_block_of, from_home, temporaries_of, with_mark, objects, moved_to}
-use Rattle.plain.specs.Step.{Looked, no_lookup, looked_up, Stepped, leads_to, halts, missing, ◌>>=◌, provided, operand, without, literal_of, field_of, has_word_of, pushed, read, stored_field, stored, returned, returned_first, returned_home, valued, value_sends, mark_of, has_mark, block_pushed, on_top, Activation, answered, entered, unfit, activate, framed, changed, activated, messaged, resent, failed, after_lookup, popped, sends, above_home, tried_primitive, or_sends, arithmetic_sends, special_sends, jumps, execute, step_frame, step}
+use Rattle.model.specs.Primitive.{message_word, has_message_room}
+use Rattle.plain.specs.Registers.{Cause, not_understood, no_boolean, no_stack_room}
+use Rattle.plain.specs.State.{Frame, Plain, objects, moved_to}
+use Rattle.plain.specs.Step.{Looked, no_lookup, looked_up, Stepped, leads_to, halts, missing, ◌>>=◌, provided, operand, without, literal_of, field_of, has_word_of, pushed, read, stored_field, stored, returned, Activation, answered, entered, unfit, activate, framed, changed, activated, messaged, resent, failed, after_lookup, popped, sends, above_home, tried_primitive, or_sends, arithmetic_sends, special_sends, jumps, execute, step_frame, step}
 use Rattle.plain.specs.Calls.{halted}
 use Rattle.plain.specs.Causes.{SendsOf, Sent, arguments_of, Fails, with_message, Because, HaltsFor}
 
@@ -48,9 +48,6 @@ after_read C (some w) k h = h w refl
 after_test : (C : Cause → Type 0) (b : Bool) (x : Stepped) → Caused C x → Caused C (provided b x)
 after_test C true x h = h
 after_test C false x h = tt
-
-no_frames : {f : Frame} {fs : List Frame} → f ∷ fs ≡ [] → ⊥
-no_frames e = subst (λ (l : List Frame). T (not (is_empty l))) e tt
 
 neither : (a b : Bool) → (a || b) ≡ false → (a ≡ false) × (b ≡ false)
 neither true b e = absurd (subst T e tt)
@@ -73,28 +70,20 @@ module _ (room : Room) (s : Plain) (f : Frame) (rest : List Frame) where
   stores : (C : Cause → Type 0) (g : Frame) (p : Place) (w : ℕ) → Caused C (stored s g rest p w)
   unfolding stored
   stores C g (Field i) w = field_stored C g g.receiver i w
-  stores C g (Temporary i) w = after_read C (get_elem? (temporaries_of g rest) i) _ (λ old e. tt)
+  stores C g (Temporary i) w = after_read C (get_elem? g.temporaries i) _ (λ old e. tt)
   stores C g (Literal i) w = tt
   stores C g (LiteralVariable i) w = after_read C (literal_of (objects s) g.method i) _ (λ v e. field_stored C g v 1 w)
 
-  returns : (C : Cause → Type 0) (h : Frame) (w : ℕ) (fs : List Frame) → Caused C (returned s h fs w)
+  returns : (C : Cause → Type 0) (w : ℕ) (fs : List Frame) → Caused C (returned s f fs w)
   unfolding returned
-  returns C h w [] = tt
-  returns C h w (g ∷ gs) = after_test C (has_word_of (objects s) g g.depth) _ tt
-
-  home_returns : (C : Cause → Type 0) (w : ℕ) → Caused C (returned_home s f rest w)
-  unfolding returned_home
-  home_returns C w = if_cases (Caused C) (is_block_of f.mark rest) _ _ (λ b. first (from_home f.mark rest)) (λ b. returns C f w rest)
-    where
-      first : (fs : List Frame) → Caused C (returned_first s fs w)
-      first [] = tt
-      first (h ∷ below) = returns C h w below
+  returns C w [] = tt
+  returns C w (g ∷ gs) = after_test C (has_word_of (objects s) g g.depth) _ tt
 
   -- ---- sends
 
   module _ (i : Instruction) where
     abbrev C : Cause → Type 0
-    C cause = Because room s f rest i cause
+    C cause = Because room s f i cause
 
     changes : (o : Objects) (x : Stepped) → Caused C x → Caused C (changed o x)
     changes o (leads_to p l) h = tt
@@ -112,7 +101,7 @@ module _ (room : Room) (s : Plain) (f : Frame) (rest : List Frame) where
         let p = messaged s t.selector (arguments_of f t.count) in
         let k = popped f q (suc t.count) in
         changes o (pushed p k rest k.position k.operands w l) (pushes_in C p k k.position k.operands w l)
-    message_halts t q g h r m e entered d l = if_cases (Caused C) _ _ _ (λ b. tt) (λ b. inl (t, inr (g, h, r, m, e, (d, b))))
+    message_halts t q g h r m e entered d l = if_cases (Caused C) _ _ _ (λ b. tt) (λ b. (t, inr (g, h, r, m, e, (d, b))))
     message_halts t q g h r m e unfit d l = (t, g, inr (inr (inr (m, e, d))))
 
     resent_halts : (t : Sent (objects s) f i) (q : ℕ) → Fails room s f t → has_messages s.registers.edition ≡ true → (x : Found) → lookup (objects s) failure_selector t.class ≡ x
@@ -135,7 +124,7 @@ module _ (room : Room) (s : Plain) (f : Frame) (rest : List Frame) where
     found_halts t q m e (answered w o) h l =
         let g = popped f q (suc t.count) in
         changes o (pushed s g rest g.position g.operands w l) (pushes C g g.position g.operands w l)
-    found_halts t q m e entered h l = if_cases (Caused C) _ _ _ (λ b. tt) (λ b. inl (t, inl (m, e, (h, b))))
+    found_halts t q m e entered h l = if_cases (Caused C) _ _ _ (λ b. tt) (λ b. (t, inl (m, e, (h, b))))
     found_halts t q m e unfit h l = failed_halts t q (inr (m, e, h))
 
     lookup_halts : (t : Sent (objects s) f i) (q : ℕ) (x : Found) → lookup (objects s) t.selector t.class ≡ x
@@ -143,12 +132,12 @@ module _ (room : Room) (s : Plain) (f : Frame) (rest : List Frame) where
     lookup_halts t q Nothing e = failed_halts t q (inl e)
     lookup_halts t q (Method m) e = found_halts t q m e _ refl (looked_up (objects s) t.selector t.class m.0)
 
-    send_halts : (q : ℕ) (from : ℕ → ℕ) (selector count : ℕ) → ((receiver : ℕ) → operand f count ≡ some receiver → SendsOf (objects s) f receiver selector (from receiver) count i)
+    send_halts : (q : ℕ) (from : ℕ → ℕ) (selector count : ℕ) → ((receiver : ℕ) → SendsOf (objects s) f receiver selector (from receiver) count i)
         → Caused C (sends room s f rest q from selector count)
     unfolding sends
     send_halts q from selector count h =
         after_read C (operand f count) _
-        (λ receiver e. lookup_halts (record { receiver = receiver; selector = selector; class = from receiver; count = count; below = e; sends = h receiver e }) q _ refl)
+        (λ receiver e. lookup_halts (record { receiver = receiver; selector = selector; class = from receiver; count = count; below = e; sends = h receiver }) q _ refl)
 
   -- ---- special sends and jumps
 
@@ -159,7 +148,7 @@ module _ (room : Room) (s : Plain) (f : Frame) (rest : List Frame) where
 
   module _ (k : ℕ) where
     abbrev D : Cause → Type 0
-    D cause = Because room s f rest (SpecialSend k) cause
+    D cause = Because room s f (SpecialSend k) cause
 
     one : ltb k 16 ≡ true → 1 ≡ special_count k
     unfolding special_count
@@ -167,27 +156,6 @@ module _ (room : Room) (s : Plain) (f : Frame) (rest : List Frame) where
 
     unlike : ltb k 16 ≡ true → (n : ℕ) → 16 ≤ n → eqb k n ≡ false
     unlike b n h = ne_eqb k n (λ e. let l = ltb-true k 16 b in omega arith)
-
-    no_value : ltb k 16 ≡ true → (count receiver : ℕ) → is_value k && is_block_of_of (objects s) count receiver ≡ false
-    no_value b count receiver = ap₂ (λ (x y : Bool). (x || y) && is_block_of_of (objects s) count receiver) (unlike b 25 (omega arith)) (unlike b 26 (omega arith))
-
-    -- value
-    value_halts : (q : ℕ) → is_same k ≡ false → is_class k ≡ false → is_value k ≡ true → Caused D (value_sends room s f rest q k)
-    unfolding value_sends
-    value_halts q x y v =
-        after_read D (operand f (special_count k)) _
-        (λ receiver e. if_cases (Caused D) (is_block_of_of (objects s) (special_count k) receiver) _ _
-        (λ b. enters receiver e b (from_home (block_mark (objects s) receiver) (f ∷ rest)) refl)
-        (λ b. send_halts (SpecialSend k) q (class_of (objects s)) (special_selector (objects s) k) (special_count k)
-        (λ w d. (refl, refl, refl, x, y, ap₂ (λ (c z : Bool). c && z) v (ap (is_block_of_of (objects s) (special_count k)) (mathlib.Core.Option.some-injective w receiver (sym d ∙ e)) ∙ b)))))
-      where
-        enters : (receiver : ℕ) → operand f (special_count k) ≡ some receiver → is_block_of_of (objects s) (special_count k) receiver ≡ true → (fs : List Frame)
-            → from_home (block_mark (objects s) receiver) (f ∷ rest) ≡ fs
-            → Caused D (valued room s (popped f q (suc (special_count k))) rest receiver (drop (f.depth - special_count k) f.operands) fs)
-        enters receiver e b [] z = (record { special = k; block = receiver; is = refl; value = v; below = e; takes = b }, z)
-        enters receiver e b (h ∷ below) z =
-            if_cases (Caused D) _ _ _ (λ c. tt)
-            (λ c. inr (record { special = k; block = receiver; is = refl; value = v; below = e; takes = b }, (λ y. no_frames (sym z ∙ y)), c))
 
     special_halts : (q : ℕ) → Caused D (special_sends room s f rest q k)
     unfolding special_sends arithmetic_sends
@@ -197,18 +165,16 @@ module _ (room : Room) (s : Plain) (f : Frame) (rest : List Frame) where
         (λ x e. after_read D (operand f 0) _
         (λ y d. computes k q (arithmetic (tried_primitive k) x y) D
         (send_halts (SpecialSend k) q (class_of (objects s)) (special_selector (objects s) k) 1
-        (λ receiver e. (refl, one b, refl, unlike b 22 (omega arith), unlike b 23 (omega arith), no_value b 1 receiver))))))
+        (λ receiver. (refl, one b, refl, unlike b 22 (omega arith), unlike b 23 (omega arith)))))))
         (λ b. if_cases (Caused D) (is_same k) _ _
         (λ x. after_read D (operand f 1) _ (λ y e. after_read D (operand f 0) _ (λ z d. pushes D f q (without f 2) _ no_lookup)))
         (λ x. if_cases (Caused D) (is_class k) _ _
         (λ y. after_read D (operand f 0) _ (λ z d. pushes D f q (without f 1) _ no_lookup))
-        (λ y. if_cases (Caused D) (is_value k) _ _ (λ v. value_halts q x y v)
-        (λ v. send_halts (SpecialSend k) q (class_of (objects s)) (special_selector (objects s) k) (special_count k)
-        (λ receiver e. (refl, refl, refl, x, y, ap (λ (c : Bool). c && is_block_of_of (objects s) (special_count k) receiver) v))))))
+        (λ y. send_halts (SpecialSend k) q (class_of (objects s)) (special_selector (objects s) k) (special_count k) (λ receiver. (refl, refl, refl, x, y)))))
 
   module _ (condition : Bool) (ahead : ℕ) where
     abbrev J : Cause → Type 0
-    J cause = Because room s f rest (JumpOn condition ahead) cause
+    J cause = Because room s f (JumpOn condition ahead) cause
 
     jump_halts : (q : ℕ) → Caused J (jumps s f rest q condition ahead)
     unfolding jumps
@@ -218,40 +184,27 @@ module _ (room : Room) (s : Plain) (f : Frame) (rest : List Frame) where
         (λ b. if_cases (Caused J) (eqb w true_word || eqb w false_word) _ _ (λ c. tt)
         (λ c. let n = neither (eqb w true_word) (eqb w false_word) c in ((condition, ahead, refl), w, e, eqb-false w true_word n.0, eqb-false w false_word n.1))))
 
-  block_halts : (n ahead back q target : ℕ) → Caused (Because room s f rest (PushBlock n ahead back)) (block_pushed room s f rest q n target)
-  unfolding block_pushed pushed
-  block_halts n ahead back q target =
-      if_cases (Caused (Because room s f rest (PushBlock n ahead back))) (has_mark (objects s) f && has_room room (objects s) block_words_of) _ _
-      (λ b. by (has_word_of (objects s) (with_mark f (mark_of (objects s) f)) (length f.operands))) (λ b. ((n, ahead, back, refl), b))
-    where
-      by : (t : Bool) → Caused (Because room s f rest (PushBlock n ahead back)) (changed (block_made_of (objects s) (mark_of (objects s) f) q n f.method)
-          (provided t (leads_to (on_top s (moved_to (with_mark f (mark_of (objects s) f)) target (f.operands ++ (block_word (objects s) ∷ []))) rest) no_lookup)))
-      by true = tt
-      by false = tt
-
   -- ---- every instruction
 
-  execute_halts : (q : ℕ) (i : Instruction) → Caused (Because room s f rest i) (execute room s f rest q i)
+  execute_halts : (q : ℕ) (i : Instruction) → Caused (Because room s f i) (execute room s f rest q i)
   unfolding execute
-  execute_halts q (Push p) = after_read _ (read (objects s) f rest p) _ (λ w e. pushes _ f q f.operands w no_lookup)
+  execute_halts q (Push p) = after_read _ (read (objects s) f p) _ (λ w e. pushes _ f q f.operands w no_lookup)
   execute_halts q (Store p) = after_read _ (operand f 0) _ (λ w e. stores _ (moved_to f q f.operands) p w)
   execute_halts q (PopStore p) = after_read _ (operand f 0) _ (λ w e. stores _ (popped f q 1) p w)
   execute_halts q PushSelf = pushes _ f q f.operands f.receiver no_lookup
   execute_halts q (PushConstant w) = pushes _ f q f.operands w no_lookup
-  execute_halts q ReturnSelf = home_returns _ f.receiver
-  execute_halts q (ReturnConstant w) = home_returns _ w
-  execute_halts q ReturnTop = after_read _ (operand f 0) _ (λ w e. home_returns _ w)
+  execute_halts q ReturnSelf = returns _ f.receiver rest
+  execute_halts q (ReturnConstant w) = returns _ w rest
+  execute_halts q ReturnTop = after_read _ (operand f 0) _ (λ w e. returns _ w rest)
   execute_halts q Pop = after_read _ (operand f 0) _ (λ w e. tt)
   execute_halts q Duplicate = after_read _ (operand f 0) _ (λ w e. pushes _ f q f.operands w no_lookup)
   execute_halts q (Jump ahead back) = after_test _ (leb back (q + ahead)) _ tt
   execute_halts q (JumpOn condition ahead) = jump_halts condition ahead q
   execute_halts q (Send l n) =
-      after_read _ (literal_of (objects s) f.method l) _ (λ w e. send_halts (Send l n) q (class_of (objects s)) w n (λ receiver d. (e, refl, refl)))
+      after_read _ (literal_of (objects s) f.method l) _ (λ w e. send_halts (Send l n) q (class_of (objects s)) w n (λ receiver. (e, refl, refl)))
   execute_halts q (SuperSend l n) =
-      after_read _ (literal_of (objects s) f.method l) _ (λ w e. send_halts (SuperSend l n) q (above_home s f) w n (λ receiver d. (e, refl, refl)))
+      after_read _ (literal_of (objects s) f.method l) _ (λ w e. send_halts (SuperSend l n) q (above_home s f) w n (λ receiver. (e, refl, refl)))
   execute_halts q (SpecialSend k) = special_halts k q
-  execute_halts q (PushBlock n ahead back) = after_test _ (leb back (q + ahead)) _ (block_halts n ahead back q (q + ahead - back))
-  execute_halts q BlockReturn = after_read _ (operand f 0) _ (λ w e. returns _ f w rest)
   execute_halts q Unused = tt
 
 -- the phase says nothing of the cause
@@ -260,8 +213,6 @@ still room s cause [] h = h
 still room s not_understood (f ∷ rest) h = h
 still room s no_boolean (f ∷ rest) h = h
 still room s no_stack_room (f ∷ rest) h = h
-still room s no_block_room (f ∷ rest) h = h
-still room s home_gone (f ∷ rest) h = h
 
 -- A step that halts does so for a cause that stands at the top frame's position, in the state that it leaves.
 pub halts_for : (room : Room) (s : Plain) (cause : Cause) → step room s ≡ halts cause → HaltsFor room (halted s cause) cause s.frames

@@ -8,12 +8,11 @@ use native.Mathlib.Omega.{arith}
 use lib.ListN.{length, get_or, take, drop, length-append}
 use lib.Seq.{sets, sets-eq, length-sets, drop-drop, get_or-drop, get_or-take, take_at, take-take, take-append-le, drop_at, length-take-le}
 use Rattle.model.specs.Objects.{Objects, part}
-use Rattle.bytecode.specs.Test.{if◌then◌else◌}
-use Rattle.model.specs.Method.{temporary_count, frame_words, frame_size}
-use Rattle.plain.specs.State.{Frame, is_block_of}
-use Rattle.plain.specs.Flat.{frame_sender, frame_depth, frame_method, frame_mark, own_temporaries, frame_at, frames_from, unless_bottom}
+use Rattle.model.specs.Method.{temporary_count, frame_size}
+use Rattle.plain.specs.State.{Frame}
+use Rattle.plain.specs.Flat.{frame_sender, frame_depth, frame_method, frame_at, frames_from, unless_bottom}
 use Rattle.plain.specs.FlatCalls.{frame_image, laid}
-use Rattle.plain.proofs.FrameLaws.{own_count, FrameRight, Fits, FramesRight, head_right, depth_within}
+use Rattle.plain.proofs.FrameLaws.{FrameRight, Fits, FramesRight, depth_within}
 
 -- words written at a base, and what stands from there on
 module _ (stack : List ℕ) (base : ℕ) (words : List ℕ) (inside : base + length words ≤ length stack) where
@@ -38,27 +37,8 @@ module _ (stack : List ℕ) (base : ℕ) (words : List ℕ) (inside : base + len
       ∙ take-append-le e (take base stack) (words ++ tail) (subst (λ (k : ℕ). e ≤ k) (sym (length-take-le base stack (omega arith))) h)
       ∙ take-take e base stack h
 
--- The temporaries that stand in a frame, above these frames, are those that a right one has.
-pub own_temporaries_lem : (o : Objects) (mark m : ℕ) (below : List Frame) → own_temporaries o mark m below ≡ own_count (is_block_of mark below) (temporary_count o m)
-unfolding own_temporaries
-own_temporaries_lem o mark m below = go (is_block_of mark below)
-  where
-    go : (block : Bool) → (if block then 0 else temporary_count o m) ≡ own_count block (temporary_count o m)
-    go true = unfold if◌then◌else◌ in refl
-    go false = unfold if◌then◌else◌ in refl
-
-pub own_length : {e : ℕ} (o : Objects) (is_top : Bool) (f : Frame) (below : List Frame) → FrameRight e o is_top (is_block_of f.mark below) f
-    → length f.temporaries ≡ own_temporaries o f.mark f.method below
-own_length o is_top f below r = r.temporaries ∙ sym (own_temporaries_lem o f.mark f.method below)
-
--- and they and the operands are within the frame
-pub own_within : {e : ℕ} (o : Objects) (is_top : Bool) (f : Frame) (below : List Frame) → FrameRight e o is_top (is_block_of f.mark below) f
-    → own_temporaries o f.mark f.method below + f.depth ≤ frame_words o f.method
-own_within o is_top f below r =
-    subst (λ (k : ℕ). k + f.depth ≤ frame_words o f.method) (sym (own_temporaries_lem o f.mark f.method below)) (depth_within o is_top (is_block_of f.mark below) f r)
-
 -- one frame; its words are given as a list that equals its image, so that they stay a list
-module _ (o : Objects) (f : Frame) (below : List Frame) (temporaries : length f.temporaries ≡ own_temporaries o f.mark f.method below) (depth : length f.operands ≡ f.depth)
+module _ (o : Objects) (f : Frame) (temporaries : length f.temporaries ≡ temporary_count o f.method) (depth : length f.operands ≡ f.depth)
     (stack : List ℕ) (base : ℕ) (image : List ℕ) (is-image : image ≡ frame_image f) (inside : base + length image ≤ length stack) where
   abbrev after : List ℕ
   after = sets stack base image
@@ -77,26 +57,22 @@ module _ (o : Objects) (f : Frame) (below : List Frame) (temporaries : length f.
   sender' : get_or after base 0 ≡ f.sender
   sender' = ap (λ (k : ℕ). get_or after k 0) (sym (add-zero base)) ∙ word 0
 
-  -- as many temporaries as the frame has
-  own' : own_temporaries o (frame_mark after base) (frame_method after base) below ≡ own_temporaries o f.mark f.method below
-  own' = ap₂ (λ (k m : ℕ). own_temporaries o k m below) (word 4) (word 3)
-
-  temporaries' : part after (base + 6) (own_temporaries o (frame_mark after base) (frame_method after base) below) ≡ f.temporaries
+  temporaries' : part after (base + 6) (temporary_count o (frame_method after base)) ≡ f.temporaries
   temporaries' =
-      ap (part after (base + 6)) own'
-      ∙ ap (take (own_temporaries o f.mark f.method below)) body
-      ∙ take_at f.temporaries (f.operands ++ beyond) (own_temporaries o f.mark f.method below) temporaries
+      ap (λ (m : ℕ). part after (base + 6) (temporary_count o m)) (word 3)
+      ∙ ap (take (temporary_count o f.method)) body
+      ∙ take_at f.temporaries (f.operands ++ beyond) (temporary_count o f.method) temporaries
 
-  operands' : part after (base + 6 + own_temporaries o (frame_mark after base) (frame_method after base) below) (frame_depth after base) ≡ f.operands
+  operands' : part after (base + 6 + temporary_count o (frame_method after base)) (frame_depth after base) ≡ f.operands
   operands' =
-      ap₂ (λ (t d : ℕ). part after (base + 6 + t) d) own' (word 2)
+      ap₂ (λ (m d : ℕ). part after (base + 6 + temporary_count o m) d) (word 3) (word 2)
       ∙ ap (take f.depth)
-      (sym (drop-drop (own_temporaries o f.mark f.method below) (base + 6) after)
-      ∙ ap (drop (own_temporaries o f.mark f.method below)) body
-      ∙ drop_at f.temporaries (f.operands ++ beyond) (own_temporaries o f.mark f.method below) temporaries)
+      (sym (drop-drop (temporary_count o f.method) (base + 6) after)
+      ∙ ap (drop (temporary_count o f.method)) body
+      ∙ drop_at f.temporaries (f.operands ++ beyond) (temporary_count o f.method) temporaries)
       ∙ take_at f.operands beyond f.depth depth
 
-  pub read_back : frame_at o after base below ≡ f
+  pub read_back : frame_at o after base ≡ f
   unfolding frame_at
   read_back =
       λ i. record { sender = sender' i; position = word 1 i; depth = word 2 i; method = word 3 i; mark = word 4 i; receiver = word 5 i; temporaries = temporaries' i; operands = operands' i }
@@ -118,15 +94,14 @@ module _ (s s' : List ℕ) (e : ℕ) (same : take e s' ≡ take e s) where
   part_same a n h = sym (part_front s' a n e h) ∙ ap (λ (l : List ℕ). part l a n) same ∙ part_front s a n e h
 
   -- and the same frame at a base
-  pub frame_same : (o : Objects) (base : ℕ) (below : List Frame) → base + (6 + (own_temporaries o (frame_mark s base) (frame_method s base) below + frame_depth s base)) ≤ e
-      → frame_at o s' base below ≡ frame_at o s base below
+  pub frame_same : (o : Objects) (base : ℕ) → base + (6 + (temporary_count o (frame_method s base) + frame_depth s base)) ≤ e → frame_at o s' base ≡ frame_at o s base
   unfolding frame_at
-  frame_same o base below h =
+  frame_same o base h =
       λ i. record {
         sender = word_same base (omega arith) i;
         position = word_same (base + 1) (omega arith) i;
         depth = depth' i;
-        method = word_same (base + 3) (omega arith) i;
+        method = method' i;
         mark =
             word_same (base + 4) (omega arith) i;
         receiver = word_same (base + 5) (omega arith) i;
@@ -134,20 +109,19 @@ module _ (s s' : List ℕ) (e : ℕ) (same : take e s' ≡ take e s) where
         operands = operands'' i;
       }
     where
-      own'' : own_temporaries o (frame_mark s' base) (frame_method s' base) below ≡ own_temporaries o (frame_mark s base) (frame_method s base) below
-      own'' = ap₂ (λ (k m : ℕ). own_temporaries o k m below) (word_same (base + 4) (omega arith)) (word_same (base + 3) (omega arith))
+      method' : frame_method s' base ≡ frame_method s base
+      method' = word_same (base + 3) (omega arith)
 
       depth' : frame_depth s' base ≡ frame_depth s base
       depth' = word_same (base + 2) (omega arith)
 
-      temporaries'' : part s' (base + 6) (own_temporaries o (frame_mark s' base) (frame_method s' base) below) ≡ part s (base + 6) (own_temporaries o (frame_mark s base) (frame_method s base) below)
-      temporaries'' = ap (part s' (base + 6)) own'' ∙ part_same (base + 6) (own_temporaries o (frame_mark s base) (frame_method s base) below) (omega arith)
+      temporaries'' : part s' (base + 6) (temporary_count o (frame_method s' base)) ≡ part s (base + 6) (temporary_count o (frame_method s base))
+      temporaries'' = ap (λ (m : ℕ). part s' (base + 6) (temporary_count o m)) method' ∙ part_same (base + 6) (temporary_count o (frame_method s base)) (omega arith)
 
-      operands'' : part s' (base + 6 + own_temporaries o (frame_mark s' base) (frame_method s' base) below) (frame_depth s' base)
-          ≡ part s (base + 6 + own_temporaries o (frame_mark s base) (frame_method s base) below) (frame_depth s base)
+      operands'' : part s' (base + 6 + temporary_count o (frame_method s' base)) (frame_depth s' base) ≡ part s (base + 6 + temporary_count o (frame_method s base)) (frame_depth s base)
       operands'' =
-          ap₂ (λ (t d : ℕ). part s' (base + 6 + t) d) own'' depth'
-          ∙ part_same (base + 6 + own_temporaries o (frame_mark s base) (frame_method s base) below) (frame_depth s base) (omega arith)
+          ap₂ (λ (m d : ℕ). part s' (base + 6 + temporary_count o m) d) method' depth'
+          ∙ part_same (base + 6 + temporary_count o (frame_method s base)) (frame_depth s base) (omega arith)
 
 -- Laying frames keeps the stack's length.
 pub length_laid : (stack : List ℕ) (base : ℕ) (fs : List Frame) → length (laid stack base fs) ≡ length stack
@@ -156,15 +130,15 @@ length_laid stack base [] = refl
 length_laid stack base (f ∷ rest) = length-sets (laid stack f.sender rest) base (frame_image f) ∙ length_laid stack f.sender rest
 
 module _ (e : ℕ) (o : Objects) (n : ℕ) (stack : List ℕ) (long : length stack ≡ n) where
-  image_length : (is_top : Bool) (f : Frame) (below : List Frame) → FrameRight e o is_top (is_block_of f.mark below) f → length (frame_image f) ≤ frame_size o f.method
-  image_length is_top f below r =
-      let w = own_within o is_top f below r in
-      let a = own_length o is_top f below r in
+  image_length : (is_top : Bool) (f : Frame) → FrameRight e o is_top f → length (frame_image f) ≤ frame_size o f.method
+  image_length is_top f r =
+      let w = depth_within o is_top f r in
+      let a = r.temporaries in
       let b = r.depth in
       omega (arith, length-append f.temporaries f.operands)
 
   -- a right frame is read back where it is laid, from every stack that agrees with it up to its end
-  module _ (is_top : Bool) (base : ℕ) (f : Frame) (rest : List Frame) (r : FrameRight e o is_top (is_block_of f.mark rest) f) (fit : Fits n base (frame_size o f.method))
+  module _ (is_top : Bool) (base : ℕ) (f : Frame) (rest : List Frame) (r : FrameRight e o is_top f) (fit : Fits n base (frame_size o f.method))
       (s' : List ℕ) (same : take (base + frame_size o f.method) s' ≡ take (base + frame_size o f.method) (laid stack base (f ∷ rest))) where
     abbrev under : List ℕ
     under = laid stack f.sender rest
@@ -172,23 +146,22 @@ module _ (e : ℕ) (o : Objects) (n : ℕ) (stack : List ℕ) (long : length sta
     inside' : base + length (frame_image f) ≤ length under
     inside' =
         let l = length_laid stack f.sender rest in
-        let i = image_length is_top f rest r in
+        let i = image_length is_top f r in
         let h = fit.inside in
         omega (arith, long)
 
-    here : frame_at o (laid stack base (f ∷ rest)) base rest ≡ f
+    here : frame_at o (laid stack base (f ∷ rest)) base ≡ f
     unfolding laid
-    here = read_back o f rest (own_length o is_top f rest r) r.depth under base (frame_image f) refl inside'
+    here = read_back o f r.temporaries r.depth under base (frame_image f) refl inside'
 
-    top_frame : frame_at o s' base rest ≡ f
+    top_frame : frame_at o s' base ≡ f
     top_frame =
-        let w = own_within o is_top f rest r in
+        let w = depth_within o is_top f r in
         let m : frame_method (laid stack base (f ∷ rest)) base ≡ f.method = unfold frame_at in ap (λ (g : Frame). g.method) here in
-        let k : frame_mark (laid stack base (f ∷ rest)) base ≡ f.mark = unfold frame_at in ap (λ (g : Frame). g.mark) here in
         let d : frame_depth (laid stack base (f ∷ rest)) base ≡ f.depth = unfold frame_at in ap (λ (g : Frame). g.depth) here in
-        let t : own_temporaries o (frame_mark (laid stack base (f ∷ rest)) base) (frame_method (laid stack base (f ∷ rest)) base) rest ≡ own_temporaries o f.mark f.method rest
-        = ap₂ (λ (x y : ℕ). own_temporaries o x y rest) k m in
-        frame_same (laid stack base (f ∷ rest)) s' (base + frame_size o f.method) same o base rest (omega arith)
+        frame_same (laid stack base (f ∷ rest)) s' (base + frame_size o f.method) same o base
+        (subst (λ (k : ℕ). base + (6 + (temporary_count o k + frame_depth (laid stack base (f ∷ rest)) base)) ≤ base + frame_size o f.method) (sym m)
+        (subst (λ (k : ℕ). base + (6 + (temporary_count o f.method + k)) ≤ base + frame_size o f.method) (sym d) (omega arith)))
         ∙ here
 
     under_same : (k : ℕ) → k ≤ base → take k s' ≡ take k under
@@ -217,19 +190,18 @@ module _ (e : ℕ) (o : Objects) (n : ℕ) (stack : List ℕ) (long : length sta
   frames_back [] is_top base left r h s' same = absurd r
   frames_back (f ∷ []) is_top base zero r h s' same = absurd (omega arith)
   frames_back (f ∷ []) is_top base (suc left) r h s' same =
-      ap (λ (xs : List Frame). frame_at o s' base xs ∷ xs) (at_bottom base (frames_from left o s' (frame_sender s' base)) r.2)
-      ∙ ap (λ (x : Frame). x ∷ []) (top_frame is_top base f [] (head_right e o n is_top base f [] r) r.1 s' same)
+      ap₂ (λ (x : Frame) (xs : List Frame). x ∷ xs) (top_frame is_top base f [] r.0 r.1 s' same)
+      (at_bottom base (frames_from left o s' (frame_sender s' base)) r.2)
   frames_back (f ∷ g ∷ rest) is_top base zero r h s' same = absurd (omega arith)
   frames_back (f ∷ g ∷ rest) is_top base (suc left) r h s' same =
       let above : base ≡ f.sender + frame_size o g.method = r.2 in
       let t = top_frame is_top base f (g ∷ rest) r.0 r.1 s' same in
       let s : frame_sender s' base ≡ f.sender = unfold frame_at in ap (λ (x : Frame). x.sender) t in
-      ap (λ (xs : List Frame). frame_at o s' base xs ∷ xs)
+      ap₂ (λ (x : Frame) (xs : List Frame). x ∷ xs) t
       (not_bottom base (frames_from left o s' (frame_sender s' base)) (omega arith)
       ∙ ap (frames_from left o s') s
       ∙ frames_back (g ∷ rest) false f.sender left r.3 (omega arith) s'
       (under_same is_top base f (g ∷ rest) r.0 r.1 s' same (f.sender + frame_size o g.method) (omega arith)))
-      ∙ ap (λ (x : Frame). x ∷ g ∷ rest) t
 
   -- the frames of a right state are read back from the stack in which they are laid
   pub laid_back : (fs : List Frame) (top : ℕ) → FramesRight e o n true top fs → frames_from (suc top) o (laid stack top fs) top ≡ fs

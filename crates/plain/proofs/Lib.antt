@@ -8,7 +8,6 @@ pub mod FrameLaws
 pub mod LaidLaws
 pub mod NowLaws
 pub mod StepLaws
-pub mod HomeLaws
 pub mod Preserve
 pub mod StateLaws
 pub mod CacheLaws
@@ -23,13 +22,9 @@ pub mod Theorem
 pub mod Consequences
 pub mod WriteLaws
 pub mod RunningLaws
-pub mod HomeWords
-pub mod UsedLaws
 pub mod FramedLaws
 pub mod MessageSteps
 pub mod ReturnLaws
-pub mod BlockSteps
-pub mod OldEditions
 pub mod TurnLaws
 pub mod CheckParts
 pub mod MadeLaws

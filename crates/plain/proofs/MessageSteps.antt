@@ -23,12 +23,12 @@ use Rattle.model.specs.Image.{Room}
 use Rattle.model.specs.Primitive.{Outcome, answers, fails, primitive, message_made, message_word, has_message_room}
 use Rattle.model.proofs.MessageLaws.{message_fails, identity_answers}
 use Rattle.plain.specs.Registers.{running, not_understood, no_stack_room}
-use Rattle.plain.specs.State.{Frame, Plain, is_block_of, with_objects, with_frames, moved_to, new_frame, fits_stack}
+use Rattle.plain.specs.State.{Frame, Plain, with_objects, with_frames, moved_to, new_frame, fits_stack}
 use Rattle.plain.specs.Step.{Looked, looked, looked_up, Stepped, leads_to, halts, provided, without, has_word_of, on_top, pushed, Activation, answered, entered, unfit, entering, primitive_answered, activate, framed, changed, activated, messaged, resent, failed, popped}
-use Rattle.plain.specs.Flat.{frame_depth, frame_method, frame_at}
+use Rattle.plain.specs.Flat.{frame_depth, frame_method, operands_start, frame_at}
 use Rattle.plain.specs.FlatCalls.{at_front}
 use Rattle.plain.specs.Cache.{filled}
-use Rattle.plain.specs.Running.{running_with, running_at, top_frame, rest_frames, top_operands, Made, Sending, sent_receiver, sent_arguments, failed_step}
+use Rattle.plain.specs.Running.{running_with, running_at, top_frame, rest_frames, Made, Sending, sent_receiver, sent_arguments, failed_step}
 use Rattle.plain.proofs.StepLaws.{arguments_length, arguments_valid}
 use Rattle.plain.proofs.RunningLaws.{top_right}
 use Rattle.plain.proofs.FramedLaws.{new_image, answer_written, frame_written}
@@ -92,10 +92,10 @@ module _ {n b top : ℕ} {contents bodies stack : List ℕ} {selector count clas
   y = failed_step room edition receiver₀ selector₀ n b top contents bodies stack selector count class position
 
   pub given_length : length given ≡ count
-  given_length = let h = s.needs in arguments_length o true (is_block_of f.mark rest) f (top_right s.runs) count (unfold frame_at in omega arith)
+  given_length = let h = s.needs in arguments_length o f (top_right s.runs) count (unfold frame_at in omega arith)
 
   pub given_valid : T (every (is_valid n) given)
-  given_valid = arguments_valid o true (is_block_of f.mark rest) f (top_right s.runs) count
+  given_valid = arguments_valid o f (top_right s.runs) count
 
   -- an edition without messages
   pub no_messages : has_messages edition ≡ false → y ≡ halts not_understood
@@ -164,7 +164,7 @@ module _ {n b top : ℕ} {contents bodies stack : List ℕ} {selector count clas
         pub message_answer_made : {d : ℕ} → d ≡ dictionaries_read o failure_selector class → (cache : List ℕ) (w : ℕ) (o' : Objects) (n' b' : ℕ) (contents' bodies' stack' cache' : List ℕ)
             → T (has_word_of o₁ (popped f position (suc count)) (length (without f (suc count)))) → activation ≡ answered w o' → o'.n ≡ n' → o'.b ≡ b'
             → contents' ≡ at_front o'.contents contents → bodies' ≡ at_front o'.bodies bodies
-            → stack' ≡ set (set (set stack (top_operands n b top contents bodies stack + (depth - suc count)) w) (top + 1) position) (top + 2) (depth - suc count + 1)
+            → stack' ≡ set (set (set stack (operands_start o (frame_method stack top) top + (depth - suc count)) w) (top + 1) position) (top + 2) (depth - suc count + 1)
             → cache' ≡ filled cache (looked failure_selector class m d)
             → Made y d (running_with edition receiver₀ selector₀ n' b' top) contents bodies stack cache contents' bodies' stack' cache'
         message_answer_made {d = d} read cache w o' n' b' contents' bodies' stack' cache' has a en eb ec ed es ek =

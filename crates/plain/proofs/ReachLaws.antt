@@ -9,7 +9,7 @@ use lib.Dec.{eqb}
 use Rattle.bytecode.specs.Test.{if◌then◌else◌}
 use Rattle.bytecode.proofs.Choice.{if_yes, if_no}
 use Rattle.model.specs.Image.{accepted}
-use Rattle.plain.specs.Registers.{running, Cause, not_understood, no_boolean, no_stack_room, no_block_room, home_gone, phase_of}
+use Rattle.plain.specs.Registers.{running, Cause, not_understood, no_boolean, no_stack_room, phase_of}
 use Rattle.plain.specs.Step.{read_in, Stepped, leads_to, halts, missing, step}
 use Rattle.plain.specs.Calls.{Ran, ran, stuck, steps, Answer, done, refused_by, result, wrote, run_call}
 use Rattle.plain.specs.Flat.{Flat, room_of, plain_of}
@@ -47,8 +47,6 @@ not_running : (c : Cause) → eqb (phase_of c) running ≡ false
 not_running not_understood = refl
 not_running no_boolean = refl
 not_running no_stack_room = refl
-not_running no_block_room = refl
-not_running home_gone = refl
 
 -- What is left of a run, in two
 joined : (m n k h d : ℕ) (s : Flat) → FlatRight s → top_end (plain_of s) ≤ h → runs_from (m + n) k h d s ≡ onwards n (runs_from m k h d s)

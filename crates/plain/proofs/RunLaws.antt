@@ -8,9 +8,7 @@ use borrow.Author.Tests.{eqb-true, eqb-false}
 use lib.Dec.{T, eqb}
 use lib.ListN.{length}
 use Rattle.bytecode.specs.Code.{next_at, decode_at}
-use Rattle.bytecode.proofs.Choice.{if_yes, if_cases}
-use Rattle.bytecode.proofs.TestLaws.{T→true}
-use Rattle.model.specs.Limits.{has_blocks, entry_words, cache_words, longest_chain, most_stack_words}
+use Rattle.model.specs.Limits.{entry_words, cache_words, longest_chain, most_stack_words}
 use Rattle.model.specs.Objects.{Objects}
 use Rattle.model.specs.Method.{code_words, code_size}
 use Rattle.model.specs.Image.{Room}
@@ -18,22 +16,22 @@ use Rattle.model.proofs.Facts.{Right}
 use Rattle.model.proofs.Extends.{Extends, extends_refl, extends_trans}
 use Rattle.model.proofs.LookupLaws.{read_few}
 use Rattle.model.proofs.Unchanged.{walk_same}
-use Rattle.plain.specs.Registers.{idle, running, has_frames, Cause, not_understood, no_boolean, no_stack_room, no_block_room, home_gone, phase_of, last_phase}
-use Rattle.plain.specs.State.{Frame, Plain, is_block_of, objects}
+use Rattle.plain.specs.Registers.{idle, running, has_frames, Cause, not_understood, no_boolean, no_stack_room, phase_of}
+use Rattle.plain.specs.State.{Frame, Plain, objects}
 use Rattle.plain.specs.Step.{read_in, Looked, no_lookup, looked, Stepped, leads_to, halts, missing, step_frame, step}
 use Rattle.plain.specs.Calls.{Taken, taken, Ran, ran, stuck, counted, halted, onward, if_running, steps, largest_end, standing_end, reach_of, dictionaries_of}
 use Rattle.plain.specs.Flat.{frames_from}
 use Rattle.plain.specs.Cache.{filled, cache_fine}
 use Rattle.plain.specs.FlatCalls.{laid, stack_after, cache_after}
 use Rattle.plain.specs.RunLoop.{first_end, top_end}
-use Rattle.plain.proofs.FrameLaws.{FramesRight, head_right}
+use Rattle.plain.proofs.FrameLaws.{FrameRight, FramesRight}
 use Rattle.plain.proofs.LaidLaws.{laid_back, length_laid}
 use Rattle.plain.proofs.NowLaws.{now}
-use Rattle.plain.proofs.Preserve.{World, Shape, runs, ends, LookedRight, HaltsIn, Goes, executes}
+use Rattle.plain.proofs.Preserve.{World, Shape, runs, ends, LookedRight, Goes, executes}
 use Rattle.plain.proofs.StateLaws.{PlainRight, Stands, goes, rests, waits}
 use Rattle.plain.proofs.CacheLaws.{cache_filled, cache_kept, length_filled}
 use Rattle.plain.specs.CallLists.{Halted}
-use Rattle.plain.proofs.After.{After, Calm, kept_right}
+use Rattle.plain.proofs.After.{After, kept_right}
 use Rattle.plain.proofs.HaltLaws.{halts_for}
 
 -- The frames of a state stand in a stack.
@@ -94,10 +92,10 @@ reads_within o (looked s c m k) r = let a = r.1 in let b = read_few o s c in ome
 
 -- What is needed of all objects that a run meets
 abbrev pub Worlds : Room → Type 0
-Worlds room = (e : ℕ) (o : Objects) → Right e o → entry_words * o.n ≤ room.contents → o.b ≤ room.bodies → World (Calm e room) (After e room) e room o
+Worlds room = (e : ℕ) (o : Objects) → Right e o → entry_words * o.n ≤ room.contents → o.b ≤ room.bodies → World (After e room) e room o
 
 module _ (room : Room) (worlds : Worlds room) where
-  world : (p : Plain) → PlainRight room p → World (Calm p.registers.edition room) (After p.registers.edition room) p.registers.edition room (objects p)
+  world : (p : Plain) → PlainRight room p → World (After p.registers.edition room) p.registers.edition room (objects p)
   world p r = worlds p.registers.edition (objects p) r.image r.contents r.bodies
 
   -- one step
@@ -106,16 +104,20 @@ module _ (room : Room) (worlds : Worlds room) where
   unfolding step
   frame_step p r f = go p.frames refl f
     where
+      head_right : (f : Frame) (rest : List Frame) → FramesRight p.registers.edition (objects p) room.stack true p.registers.top (f ∷ rest)
+          → FrameRight p.registers.edition (objects p) true f
+      head_right f [] x = x.0
+      head_right f (g ∷ rest) x = x.0
+
       go : (fs : List Frame) → p.frames ≡ fs → FramesRight p.registers.edition (objects p) room.stack true p.registers.top fs
           → Goes (After p.registers.edition room) room p (elim fs as (λ _. Stepped) [ [] ↦ missing | f ∷ rest ↦ step_frame room p f rest ])
       go [] e x = absurd x
       go (f ∷ rest) e x =
           unfold step_frame in
-          executes (After p.registers.edition room) room p (Calm p.registers.edition room) (world p r)
-          (λ o' a. worlds p.registers.edition o' a.after.right a.after.contents a.after.bodies) f rest x e
+          executes (After p.registers.edition room) room p (world p r) (λ o' a. worlds p.registers.edition o' a.right a.contents a.bodies) f rest (head_right f rest x) x e
           (next_at (code_words (objects p) f.method) f.position)
           (decode_at (code_words (objects p) f.method) (code_size (objects p) f.method) f.position)
-          (now (objects p) (is_block_of f.mark rest) f (head_right p.registers.edition (objects p) room.stack true p.registers.top f rest x))
+          (now (objects p) f (head_right f rest x))
 
   pub step_goes : (p : Plain) → PlainRight room p → p.registers.phase ≡ running → Goes (After p.registers.edition room) room p (step room p)
   step_goes p r e = by_stands r.stands
@@ -131,23 +133,18 @@ module _ (room : Room) (worlds : Worlds room) where
   cause_least not_understood = omega arith
   cause_least no_boolean = omega arith
   cause_least no_stack_room = omega arith
-  cause_least no_block_room = omega arith
-  cause_least home_gone = omega arith
 
-  cause_most : (e : ℕ) (c : Cause) → HaltsIn e c → phase_of c ≤ last_phase e
-  unfolding last_phase
-  cause_most e not_understood h = if_cases (λ (k : ℕ). 3 ≤ k) (has_blocks e) 7 5 (λ q. omega arith) (λ q. omega arith)
-  cause_most e no_boolean h = if_cases (λ (k : ℕ). 4 ≤ k) (has_blocks e) 7 5 (λ q. omega arith) (λ q. omega arith)
-  cause_most e no_stack_room h = if_cases (λ (k : ℕ). 5 ≤ k) (has_blocks e) 7 5 (λ q. omega arith) (λ q. omega arith)
-  cause_most e no_block_room h = subst (λ (k : ℕ). 6 ≤ k) (sym (if_yes 7 5 (T→true (has_blocks e) h))) (omega arith)
-  cause_most e home_gone h = subst (λ (k : ℕ). 7 ≤ k) (sym (if_yes 7 5 (T→true (has_blocks e) h))) (omega arith)
+  cause_most : (c : Cause) → phase_of c ≤ 5
+  cause_most not_understood = omega arith
+  cause_most no_boolean = omega arith
+  cause_most no_stack_room = omega arith
 
-  halted_right : (p : Plain) → PlainRight room p → p.registers.phase ≡ running → (c : Cause) → HaltsIn p.registers.edition c → PlainRight room (halted p c)
-  halted_right p r e c h =
+  halted_right : (p : Plain) → PlainRight room p → p.registers.phase ≡ running → (c : Cause) → PlainRight room (halted p c)
+  halted_right p r e c =
       record { image = r.image; contents = r.contents; bodies = r.bodies; starts = r.starts; stands = by_stands r.stands }
     where
       by_stands : Stands room.stack p → Stands room.stack (halted p c)
-      by_stands (goes (runs a b f)) = waits (cause_least c) (cause_most p.registers.edition c h) refl f
+      by_stands (goes (runs a b f)) = waits (cause_least c) (cause_most c) refl f
       by_stands (goes (ends a b d f)) = absurd (omega arith)
       by_stands (rests a b d f) = absurd (omega arith)
       by_stands (waits a b d f) = absurd (omega arith)
@@ -252,7 +249,7 @@ module _ (room : Room) (worlds : Worlds room) where
           (again p₁ (laid stack p₁.registers.top p₁.frames) (filled cache l) r₁ (ls₁ ∙ ls) (lc₁ ∙ lc) (shape_stood p₁ stack ls g.0.shape)
           (cache_kept (objects p) (objects p₁) (walk_same d r.image) (filled cache l) (cache_filled (objects p) cache l lc g.1 c)))
       after_step (halts cause) x g e again =
-          none (suc n) p (halted p cause) stack cache r (halted_right p r e cause g) refl (λ q. s (ap has_frames e)) c
+          none (suc n) p (halted p cause) stack cache r (halted_right p r e cause) refl (λ q. s (ap has_frames e)) c
           (λ q. absurd (let h = cause_least cause in omega arith)) (λ a b. (cause, refl, halts_for room p cause x)) (λ i q. let h = cause_least cause in omega arith)
       after_step missing x g e again = absurd g
 

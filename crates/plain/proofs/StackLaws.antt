@@ -5,7 +5,7 @@ use mathlib.Core.Bool.{Bool, true, false}
 use mathlib.Core.List.{List, [], ◌∷◌}
 use mathlib.Core.Option.{Option, some, none}
 use native.Mathlib.Omega.{arith}
-use lib.Dec.{T, leb, ltb, eqb}
+use lib.Dec.{T, ltb, eqb}
 use lib.ListN.{length, drop}
 use Rattle.bytecode.specs.Test.{if◌then◌else◌}
 use Rattle.bytecode.proofs.Choice.{if_yes, if_no}
@@ -17,18 +17,18 @@ use Rattle.model.specs.declared.Computed.{Computed}
 use Rattle.model.specs.declared.Computed.TheVariants.{Word, Failed}
 use Rattle.model.specs.declared.Found.{Found}
 use Rattle.model.specs.declared.Found.TheVariants.{Method, Nothing}
-use Rattle.model.specs.Objects.{Objects, class_of, block_mark, is_block_of_of}
+use Rattle.model.specs.Objects.{Objects, class_of}
 use Rattle.model.specs.Method.{frame_size}
 use Rattle.model.specs.Lookup.{lookup}
-use Rattle.model.specs.Rules.{rule8, special_selector, is_same, is_class, is_value}
+use Rattle.model.specs.Rules.{rule8, special_selector, is_same, is_class}
 use Rattle.model.specs.Limits.{has_messages}
 use Rattle.model.specs.Word.{boolean_word, failure_selector}
 use Rattle.model.specs.Arithmetic.{arithmetic}
 use Rattle.model.specs.Image.{Room, buffers_fine, load_verdict}
 use Rattle.model.specs.Primitive.{message_word, has_message_room, has_room, make, new, new_with, perform, primitive}
-use Rattle.plain.specs.Registers.{running, not_understood, no_boolean, no_stack_room, no_block_room, home_gone, phase_of}
-use Rattle.plain.specs.State.{Frame, Plain, from_home, objects, new_frame, block_frame, fits_stack}
-use Rattle.plain.specs.Step.{Looked, looked_up, Stepped, leads_to, halts, missing, ◌>>=◌, provided, Activation, answered, entered, unfit, activate, framing, framed, activated, messaged, resent, failed, after_lookup, sends, or_sends, arithmetic_sends, valued, value_sends, special_sends, block_pushed, no_lookup, operand, without, pushed, popped, literal_of, above_home, tried_primitive, execute, step_frame, step}
+use Rattle.plain.specs.Registers.{running, not_understood, no_boolean, no_stack_room, phase_of}
+use Rattle.plain.specs.State.{Frame, Plain, objects, new_frame, fits_stack}
+use Rattle.plain.specs.Step.{Looked, looked_up, Stepped, leads_to, halts, missing, ◌>>=◌, Activation, answered, entered, unfit, activate, framed, activated, messaged, resent, failed, after_lookup, sends, or_sends, arithmetic_sends, special_sends, no_lookup, operand, without, pushed, popped, literal_of, above_home, tried_primitive, execute, step_frame, step}
 use Rattle.plain.specs.Calls.{loaded, Begun, begun, declined, begin_activated, begin_found, begin, taken, Ran, ran, stuck, counted, onward, if_running, steps, largest_end, standing_end, reach_of}
 use Rattle.plain.specs.Calls.{Call, begin_call, run_call, drop_call, forget_call, after_begin, after_run, run_if, call}
 use Rattle.plain.specs.Flat.{room_of}
@@ -47,8 +47,6 @@ Alike n k (leads_to p l) x = standing_end p ≤ k → x ≡ leads_to p l
 Alike n k (halts not_understood) x = x ≡ halts not_understood
 Alike n k (halts no_boolean) x = x ≡ halts no_boolean
 Alike n k (halts no_stack_room) x = k ≤ n → x ≡ halts no_stack_room
-Alike n k (halts no_block_room) x = x ≡ halts no_block_room
-Alike n k (halts home_gone) x = x ≡ halts home_gone
 Alike n k missing x = Unit {0}
 
 same : (n k : ℕ) (x : Stepped) → Alike n k x x
@@ -57,8 +55,6 @@ same n k (leads_to p l) = λ h. refl
 same n k (halts not_understood) = refl
 same n k (halts no_boolean) = refl
 same n k (halts no_stack_room) = λ h. refl
-same n k (halts no_block_room) = refl
-same n k (halts home_gone) = refl
 same n k missing = tt
 
 bound : {A : Type 0} (n k : ℕ) (r : Option A) (f g : A → Stepped) → ((a : A) → Alike n k (f a) (g a)) → Alike n k (r >>= f) (r >>= g)
@@ -104,23 +100,12 @@ module _ (room : Room) (k : ℕ) where
   activates e o m receiver arguments = refl
 
   -- the stack's length is asked for a new frame alone
-  framing_alike : (s : Plain) (f : Frame) (rest : List Frame) (g : Frame) (l : Looked)
-      → Alike room.stack k (framing room s f rest g.method g l) (framing other s f rest g.method g l)
-  unfolding standing_end
-  framing_alike s f rest g l =
-      let base : ℕ = s.registers.top + frame_size (objects s) f.method in
-      tested room.stack k base (frame_size (objects s) g.method) _ l (above (objects s) base g (f ∷ rest))
-
   framed_alike : (s : Plain) (f : Frame) (rest : List Frame) (m receiver : ℕ) (arguments : List ℕ) (l : Looked)
       → Alike room.stack k (framed room s f rest m receiver arguments l) (framed other s f rest m receiver arguments l)
-  unfolding framed new_frame
-  framed_alike s f rest m receiver arguments l = framing_alike s f rest (new_frame (objects s) s.registers.top m receiver arguments) l
-
-  valued_alike : (s : Plain) (f : Frame) (rest : List Frame) (block : ℕ) (arguments : List ℕ) (fs : List Frame)
-      → Alike room.stack k (valued room s f rest block arguments fs) (valued other s f rest block arguments fs)
-  unfolding block_frame
-  valued_alike s f rest block arguments [] = same room.stack k (halts home_gone)
-  valued_alike s f rest block arguments (h ∷ below) = framing_alike s f rest (block_frame (objects s) s.registers.top block h arguments) no_lookup
+  unfolding framed standing_end new_frame
+  framed_alike s f rest m receiver arguments l =
+      let base : ℕ = s.registers.top + frame_size (objects s) f.method in
+      tested room.stack k base (frame_size (objects s) m) _ l (above (objects s) base (new_frame (objects s) s.registers.top m receiver arguments) (f ∷ rest))
 
   activated_alike : (s : Plain) (f : Frame) (rest : List Frame) (m receiver : ℕ) (arguments : List ℕ) (l : Looked) (y y' : Stepped) → Alike room.stack k y y' → (x : Activation)
       → Alike room.stack k (activated room s f rest m receiver arguments l y x) (activated other s f rest m receiver arguments l y' x)
@@ -182,23 +167,6 @@ module _ (room : Room) (k : ℕ) where
       bound room.stack k (operand f 1) _ _ (λ a. bound room.stack k (operand f 0) _ _ (λ b. or_alike (arithmetic (tried_primitive i) a b) (λ w. pushed s f rest position (without f 2) w no_lookup) _ _
       (sends_alike s f rest position (class_of (objects s)) (special_selector (objects s) i) 1)))
 
-  value_alike : (s : Plain) (f : Frame) (rest : List Frame) (position i : ℕ)
-      → Alike room.stack k (value_sends room s f rest position i) (value_sends other s f rest position i)
-  unfolding value_sends
-  value_alike s f rest position i =
-      bound room.stack k (operand f (special_count i)) _ _ (λ receiver. choice_alike (is_block_of_of (objects s) (special_count i) receiver) _ _ _ _
-      (valued_alike s (popped f position (suc (special_count i))) rest receiver (drop (f.depth - special_count i) f.operands) (from_home (block_mark (objects s) receiver) (f ∷ rest)))
-      (sends_alike s f rest position (class_of (objects s)) (special_selector (objects s) i) (special_count i)))
-
-  block_alike : (s : Plain) (f : Frame) (rest : List Frame) (position count target : ℕ)
-      → Alike room.stack k (block_pushed room s f rest position count target) (block_pushed other s f rest position count target)
-  unfolding block_pushed has_room
-  block_alike s f rest position count target = same room.stack k (block_pushed room s f rest position count target)
-
-  provided_alike : (b : Bool) (x y : Stepped) → Alike room.stack k x y → Alike room.stack k (provided b x) (provided b y)
-  provided_alike true x y a = a
-  provided_alike false x y a = same room.stack k missing
-
   special_alike : (s : Plain) (f : Frame) (rest : List Frame) (position i : ℕ)
       → Alike room.stack k (special_sends room s f rest position i) (special_sends other s f rest position i)
   unfolding special_sends
@@ -207,7 +175,7 @@ module _ (room : Room) (k : ℕ) where
       (choice_alike (is_same i) _ _ _ _
       (same room.stack k (operand f 1 >>= λ a. operand f 0 >>= λ b. pushed s f rest position (without f 2) (boolean_word (eqb a b)) no_lookup))
       (choice_alike (is_class i) _ _ _ _ (same room.stack k (operand f 0 >>= λ a. pushed s f rest position (without f 1) (class_of (objects s) a) no_lookup))
-      (choice_alike (is_value i) _ _ _ _ (value_alike s f rest position i) (sends_alike s f rest position (class_of (objects s)) (special_selector (objects s) i) (special_count i)))))
+      (sends_alike s f rest position (class_of (objects s)) (special_selector (objects s) i) (special_count i))))
 
   execute_alike : (s : Plain) (f : Frame) (rest : List Frame) (position : ℕ) (i : Instruction) → Alike room.stack k (execute room s f rest position i) (execute other s f rest position i)
   unfolding execute
@@ -226,8 +194,6 @@ module _ (room : Room) (k : ℕ) where
   execute_alike s f rest position (I.Send l n) = bound room.stack k (literal_of (objects s) f.method l) _ _ (λ w. sends_alike s f rest position (class_of (objects s)) w n)
   execute_alike s f rest position (I.SuperSend l n) = bound room.stack k (literal_of (objects s) f.method l) _ _ (λ w. sends_alike s f rest position (above_home s f) w n)
   execute_alike s f rest position (I.SpecialSend j) = special_alike s f rest position j
-  execute_alike s f rest position (I.PushBlock n ahead back) = provided_alike (leb back (position + ahead)) _ _ (block_alike s f rest position n (position + ahead - back))
-  execute_alike s f rest position I.BlockReturn = same room.stack k (execute room s f rest position I.BlockReturn)
   execute_alike s f rest position I.Unused = same room.stack k (execute room s f rest position I.Unused)
 
   step_alike : (p : Plain) → Alike room.stack k (step room p) (step other p)
@@ -264,8 +230,6 @@ module _ (room : Room) (k : ℕ) where
       by_step again (halts not_understood) y a = λ h d. ap (onward (λ s'. steps other n s') p) a
       by_step again (halts no_boolean) y a = λ h d. ap (onward (λ s'. steps other n s') p) a
       by_step again (halts no_stack_room) y a = λ h d. ap (onward (λ s'. steps other n s') p) (a (d refl))
-      by_step again (halts no_block_room) y a = λ h d. ap (onward (λ s'. steps other n s') p) a
-      by_step again (halts home_gone) y a = λ h d. ap (onward (λ s'. steps other n s') p) a
       by_step again missing y a = tt
 
       by_phase : (b : Bool) → Again → RunAlike p (if_running (λ s'. steps room n s') room p b) (if_running (λ s'. steps other n s') other p b)

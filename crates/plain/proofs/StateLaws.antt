@@ -8,17 +8,17 @@ use borrow.Author.Tests.{eq-eqb, ne_eqb}
 use lib.Dec.{T, leb, eqb, leb→le, le→leb, eqb→eq}
 use lib.ListN.{length}
 use Rattle.bytecode.specs.Test.{if◌then◌else◌, all_of}
-use Rattle.bytecode.proofs.Choice.{if_yes, if_no, if_cases}
+use Rattle.bytecode.proofs.Choice.{if_yes, if_no}
 use Rattle.bytecode.proofs.TestLaws.{and_left, and_right, and_both, rule, rules, true→T}
-use Rattle.model.specs.Limits.{has_blocks, is_edition, entry_words}
+use Rattle.model.specs.Limits.{is_edition, entry_words}
 use Rattle.model.specs.Word.{is_valid}
 use Rattle.model.specs.Objects.{Objects}
 use Rattle.model.specs.Rules.{sizes_fine, rule8}
 use Rattle.model.specs.Image.{Room}
 use Rattle.model.proofs.Facts.{Right}
 use Rattle.plain.specs.Registers.{idle, finished, last_phase, has_frames}
-use Rattle.plain.specs.State.{Frame, Plain, is_empty, objects}
-use Rattle.plain.specs.Check.{image_rules, frames_fine, plain_rules, plain_fine}
+use Rattle.plain.specs.State.{Frame, Plain, objects}
+use Rattle.plain.specs.Check.{image_rules, frames_fine, is_empty, plain_rules, plain_fine}
 use Rattle.plain.proofs.FrameLaws.{FramesRight, frames_right, right_frames}
 use Rattle.plain.proofs.Preserve.{Shape, runs, ends}
 
@@ -26,7 +26,7 @@ use Rattle.plain.proofs.Preserve.{Shape, runs, ends}
 pub data Stands (stack : ℕ) (s : Plain) : Type 0 where
   goes : Shape stack s → Stands stack s
   rests : s.registers.phase ≡ idle → s.registers.value ≡ 0 → s.registers.top ≡ 0 → s.frames ≡ [] → Stands stack s
-  waits : 3 ≤ s.registers.phase → s.registers.phase ≤ last_phase s.registers.edition → s.registers.value ≡ 0 → FramesRight s.registers.edition (objects s) stack true s.registers.top s.frames
+  waits : 3 ≤ s.registers.phase → s.registers.phase ≤ last_phase → s.registers.value ≡ 0 → FramesRight s.registers.edition (objects s) stack true s.registers.top s.frames
       → Stands stack s
 
 -- A right state whose objects fit the buffers
@@ -91,29 +91,22 @@ module _ (stack : ℕ) (s : Plain) where
   of_none : s.registers.top ≡ 0 → s.frames ≡ [] → T (eqb s.registers.top 0 && is_empty s.frames)
   of_none a b = and_both (eqb s.registers.top 0) (is_empty s.frames) (eq→eqb s.registers.top 0 a) (empty_is s.frames b)
 
-  -- a halted state has frames
-  live : (p : ℕ) → has_frames (suc (suc (suc p))) ≡ true
-  live p = ap (λ (x : Bool). not (x || eqb (suc (suc (suc p))) finished)) (ne_eqb (suc (suc (suc p))) idle (λ q. omega arith)) ∙ ap not (ne_eqb (suc (suc (suc p))) finished (λ q. omega arith))
-
   -- by the phase
-  stands_by : (p : ℕ) → phase ≡ p → T (leb p (last_phase s.registers.edition)) → T (valueFine p) → T (framesFineAt p) → Stands stack s
+  stands_by : (p : ℕ) → phase ≡ p → T (leb p last_phase) → T (valueFine p) → T (framesFineAt p) → Stands stack s
   unfolding if◌then◌else◌
   stands_by zero e a v f = rests e (eqb→eq s.registers.value 0 v) (none_of f).0 (none_of f).1
   stands_by (suc zero) e a v f = goes (runs e (eqb→eq s.registers.value 0 v) (frames_right s.registers.edition (objects s) stack true s.registers.top s.frames f))
   stands_by (suc (suc zero)) e a v f = goes (ends e v (none_of f).0 (none_of f).1)
-  stands_by (suc (suc (suc p))) e a v f =
-      waits (omega arith) (let h = leb→le (suc (suc (suc p))) (last_phase s.registers.edition) a in omega arith)
-      (eqb→eq s.registers.value 0 (subst T (if_no (is_valid s.registers.n s.registers.value) (eqb s.registers.value 0) (ne_eqb (suc (suc (suc p))) finished (λ q. omega arith))) v))
-      (frames_right s.registers.edition (objects s) stack true s.registers.top s.frames
-      (subst T (if_yes (frames_fine s.registers.edition (objects s) stack true s.registers.top s.frames) (eqb s.registers.top 0 && is_empty s.frames) (live p)) f))
-
-  -- every edition has the phases to 5
-  early : (p : ℕ) → p ≤ 5 → T (leb p (last_phase s.registers.edition))
-  unfolding last_phase
-  early p h = le→leb p _ (if_cases (λ (k : ℕ). p ≤ k) (has_blocks s.registers.edition) 7 5 (λ e. omega arith) (λ e. omega arith))
+  stands_by (suc (suc (suc zero))) e a v f = waits (omega arith) (omega arith) (eqb→eq s.registers.value 0 v)
+      (frames_right s.registers.edition (objects s) stack true s.registers.top s.frames f)
+  stands_by (suc (suc (suc (suc zero)))) e a v f = waits (omega arith) (omega arith) (eqb→eq s.registers.value 0 v)
+      (frames_right s.registers.edition (objects s) stack true s.registers.top s.frames f)
+  stands_by (suc (suc (suc (suc (suc zero))))) e a v f = waits (omega arith) (omega arith) (eqb→eq s.registers.value 0 v)
+      (frames_right s.registers.edition (objects s) stack true s.registers.top s.frames f)
+  stands_by (suc (suc (suc (suc (suc (suc p)))))) e a v f = absurd (let h = leb→le (suc (suc (suc (suc (suc (suc p)))))) last_phase a in omega arith)
 
   record Fine (p : ℕ) : Type 0 where
-    most : T (leb p (last_phase s.registers.edition))
+    most : T (leb p last_phase)
     value : T (valueFine p)
     frames : T (framesFineAt p)
 
@@ -121,15 +114,15 @@ module _ (stack : ℕ) (s : Plain) where
   unfolding if◌then◌else◌
   fine_by zero e (goes (runs a v f)) = absurd (omega arith)
   fine_by zero e (goes (ends a v t f)) = absurd (omega arith)
-  fine_by zero e (rests a v t f) = record { most = early 0 (omega arith); value = eq→eqb s.registers.value 0 v; frames = of_none t f }
+  fine_by zero e (rests a v t f) = record { most = tt; value = eq→eqb s.registers.value 0 v; frames = of_none t f }
   fine_by zero e (waits a b v f) = absurd (omega arith)
   fine_by (suc zero) e (goes (runs a v f)) =
-      record { most = early 1 (omega arith); value = eq→eqb s.registers.value 0 v; frames = right_frames s.registers.edition (objects s) stack true s.registers.top s.frames f }
+      record { most = tt; value = eq→eqb s.registers.value 0 v; frames = right_frames s.registers.edition (objects s) stack true s.registers.top s.frames f }
   fine_by (suc zero) e (goes (ends a v t f)) = absurd (omega arith)
   fine_by (suc zero) e (rests a v t f) = absurd (omega arith)
   fine_by (suc zero) e (waits a b v f) = absurd (omega arith)
   fine_by (suc (suc zero)) e (goes (runs a v f)) = absurd (omega arith)
-  fine_by (suc (suc zero)) e (goes (ends a v t f)) = record { most = early 2 (omega arith); value = v; frames = of_none t f }
+  fine_by (suc (suc zero)) e (goes (ends a v t f)) = record { most = tt; value = v; frames = of_none t f }
   fine_by (suc (suc zero)) e (rests a v t f) = absurd (omega arith)
   fine_by (suc (suc zero)) e (waits a b v f) = absurd (omega arith)
   fine_by (suc (suc (suc p))) e (goes (runs a v f)) = absurd (omega arith)
@@ -137,7 +130,7 @@ module _ (stack : ℕ) (s : Plain) where
   fine_by (suc (suc (suc p))) e (rests a v t f) = absurd (omega arith)
   fine_by (suc (suc (suc p))) e (waits a b v f) =
       record {
-        most = le→leb (suc (suc (suc p))) (last_phase s.registers.edition) (omega arith);
+        most = le→leb (suc (suc (suc p))) last_phase (omega arith);
         value = not_two (eq→eqb s.registers.value 0 v);
         frames = framed p
             (right_frames s.registers.edition (objects s) stack true s.registers.top s.frames f);
@@ -148,6 +141,9 @@ module _ (stack : ℕ) (s : Plain) where
 
       framed : (p : ℕ) → T (frames_fine s.registers.edition (objects s) stack true s.registers.top s.frames) → T (framesFineAt (suc (suc (suc p))))
       framed p t = subst T (sym (if_yes (frames_fine s.registers.edition (objects s) stack true s.registers.top s.frames) (eqb s.registers.top 0 && is_empty s.frames) (live p))) t
+        where
+          live : (p : ℕ) → has_frames (suc (suc (suc p))) ≡ true
+          live p = ap (λ (x : Bool). not (x || eqb (suc (suc (suc p))) finished)) (ne_eqb (suc (suc (suc p))) idle (λ q. omega arith)) ∙ ap not (ne_eqb (suc (suc (suc p))) finished (λ q. omega arith))
 
   pub plain_stands : T (plain_fine stack s) → Stands stack s
   unfolding plain_fine plain_rules

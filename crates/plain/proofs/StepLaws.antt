@@ -1,6 +1,6 @@
 -- A step from a right state exists, and leads to a right state or halts: frames and operands.
 -- What is needed of the objects is taken as a record here; the model's laws give it.
-use Prim.Native.Nat.{ℕ, zero, suc, ◌+◌, ◌-◌, ◌*◌, ◌/◌, ◌≤◌, ◌<◌}
+use Prim.Native.Nat.{ℕ, zero, suc, ◌+◌, ◌-◌, ◌≤◌, ◌<◌}
 use mathlib.Core.Path.{◌≡◌, refl, sym, ap, ◌∙◌, subst}
 use mathlib.Core.Bool.{Bool, true, false}
 use mathlib.Core.List.{List, [], ◌∷◌, ◌++◌}
@@ -16,14 +16,12 @@ use Rattle.bytecode.proofs.TestLaws.{and_left, and_right, and_both, rule}
 use Rattle.model.specs.Word.{is_valid}
 use Rattle.model.specs.Objects.{Objects}
 use Rattle.model.specs.Method.{temporary_count, frame_words, frame_size, code_words, code_size}
-use Rattle.model.specs.Depth.{note_at, code_depth, operands_in, temporaries_in, rulesAt}
+use Rattle.model.specs.Depth.{note_at, rulesAt}
 use Rattle.model.specs.Rules.{method_table, allowed}
 use Rattle.model.proofs.DepthLaws.{spot}
-use Rattle.model.proofs.BlockLaws.{temporaries_in_lem}
-use Rattle.plain.specs.State.{Frame, is_block_of, moved_to, with_temporaries}
-use Rattle.plain.specs.Check.{shares_home}
+use Rattle.plain.specs.State.{Frame, moved_to, with_temporaries}
 use Rattle.plain.specs.Step.{operand, without}
-use Rattle.plain.proofs.FrameLaws.{own_count, alone_is, FrameRight, Fits, FramesRight, table_depth, note_is}
+use Rattle.plain.proofs.FrameLaws.{FrameRight, Fits, FramesRight, table_depth, note_is}
 
 -- ---- lists of valid words
 
@@ -74,84 +72,66 @@ valid_one n w v = and_both (is_valid n w) true v tt
 -- ---- one frame
 
 -- the note of a frame that was moved
-moved_note : (e : ℕ) (o : Objects) (is_top block : Bool) (f : Frame) (q : ℕ) (ops : List ℕ)
-    → note_at (method_table e o f.method) q ≡ suc (code_depth block (table_depth is_top (length ops)))
-    → note_at (method_table e o f.method) q ≡ Rattle.plain.specs.Check.note_of is_top block (moved_to f q ops)
-moved_note e o is_top block f q ops h = h ∙ sym (note_is is_top block (moved_to f q ops))
+moved_note : (e : ℕ) (o : Objects) (is_top : Bool) (f : Frame) (q : ℕ) (ops : List ℕ)
+    → note_at (method_table e o f.method) q ≡ suc (table_depth is_top (length ops)) → note_at (method_table e o f.method) q ≡ Rattle.plain.specs.Check.note_of is_top (moved_to f q ops)
+moved_note e o is_top f q ops h = h ∙ sym (note_is is_top (moved_to f q ops))
 
 -- a noted position has room for the operands of its depth
-pub has_word : (e : ℕ) (o : Objects) (block : Bool) (m p t d : ℕ) → note_at (method_table e o m) p ≡ suc (code_depth block (suc d)) → t ≡ own_count block (temporary_count o m) → T (ltb (t + d) (frame_words o m))
+pub has_word : (e : ℕ) (o : Objects) (m p d : ℕ) → note_at (method_table e o m) p ≡ suc (suc d) → T (ltb (temporary_count o m + d) (frame_words o m))
 unfolding rulesAt
-has_word e o block m p t d n l =
-    let k = rule (rulesAt (code_words o m) (code_size o m) (temporary_count o m) (frame_words o m) (allowed e o m) p (code_depth block (suc d))) (spot e o m p (code_depth block (suc d)) n).kept 3 in
-    let h = lib.Dec.leb→le (temporaries_in (temporary_count o m) (code_depth block (suc d)) + operands_in (code_depth block (suc d))) (frame_words o m) k in
-    lt→ltb (t + d) (frame_words o m) (let g = within_own block (temporary_count o m) (suc d) (frame_words o m) h l in omega arith)
-  where
-    within_own : (b : Bool) (c d w : ℕ) → temporaries_in c (code_depth b d) + operands_in (code_depth b d) ≤ w → t ≡ own_count b c → t + d ≤ w
-    within_own true c d w h l = omega (arith, temporaries_in_lem true c d)
-    within_own false c d w h l = omega (arith, temporaries_in_lem false c d)
-
--- The same frame but for position, depth, temporaries and operands
-pub record Alike (f f' : Frame) : Type 0 where
-  pub sender : f'.sender ≡ f.sender
-  pub method : f'.method ≡ f.method
-  pub mark : f'.mark ≡ f.mark
-  pub receiver : f'.receiver ≡ f.receiver
-
-pub moved_alike : (f : Frame) (q : ℕ) (ops : List ℕ) → Alike f (moved_to f q ops)
-moved_alike f q ops = record { sender = refl; method = refl; mark = refl; receiver = refl }
-
-pub alike_trans : {f f' f'' : Frame} → Alike f f' → Alike f' f'' → Alike f f''
-alike_trans a b = record { sender = b.sender ∙ a.sender; method = b.method ∙ a.method; mark = b.mark ∙ a.mark; receiver = b.receiver ∙ a.receiver }
+has_word e o m p d n =
+    let k = rule (rulesAt (code_words o m) (code_size o m) (temporary_count o m) (frame_words o m) (allowed e o m) p (suc d)) (spot e o m p (suc d) n).kept 3 in
+    let h = lib.Dec.leb→le (temporary_count o m + suc d) (frame_words o m) k in
+    lt→ltb (temporary_count o m + d) (frame_words o m) (omega arith)
 
 module _ {e : ℕ} (o : Objects) where
   -- a right frame at another noted position, with other operands
-  pub moved_right : (was is_top block : Bool) (f : Frame) → FrameRight e o was block f → (q : ℕ) (ops : List ℕ)
-      → note_at (method_table e o f.method) q ≡ suc (code_depth block (table_depth is_top (length ops))) → Valid o.n ops → FrameRight e o is_top block (moved_to f q ops)
-  moved_right was is_top block f r q ops h v =
+  pub moved_right : (was is_top : Bool) (f : Frame) → FrameRight e o was f → (q : ℕ) (ops : List ℕ)
+      → note_at (method_table e o f.method) q ≡ suc (table_depth is_top (length ops)) → Valid o.n ops → FrameRight e o is_top (moved_to f q ops)
+  moved_right was is_top f r q ops h v =
       record {
         is_method = r.is_method;
-        marks = r.marks;
+        unmarked = r.unmarked;
         receiver = r.receiver;
         chain = r.chain;
-        note = moved_note e o is_top block f q ops h;
-        temporaries = r.temporaries;
+        note = moved_note e o is_top f q ops h;
+        temporaries =
+            r.temporaries;
         depth = refl;
         valid_temporaries = r.valid_temporaries;
         valid_operands = v;
       }
 
   -- and with another temporary
-  pub stored_temporary_lem : (is_top block : Bool) (f : Frame) → FrameRight e o is_top block f → (i w : ℕ) → T (is_valid o.n w) → FrameRight e o is_top block (with_temporaries f (set f.temporaries i w))
-  stored_temporary_lem is_top block f r i w v =
+  pub stored_temporary_lem : (f : Frame) → FrameRight e o true f → (i w : ℕ) → T (is_valid o.n w) → FrameRight e o true (with_temporaries f (set f.temporaries i w))
+  stored_temporary_lem f r i w v =
       record {
         is_method = r.is_method;
-        marks = r.marks;
+        unmarked = r.unmarked;
         receiver = r.receiver;
         chain = r.chain;
-        note = r.note ∙ note_is is_top block f ∙ sym (note_is is_top block (with_temporaries f (set f.temporaries i w)));
+        note = r.note ∙ note_is true f
+            ∙ sym (note_is true (with_temporaries f (set f.temporaries i w)));
         temporaries = length-set f.temporaries i w ∙ r.temporaries;
         depth = r.depth;
         valid_temporaries = valid_set o.n i w f.temporaries v r.valid_temporaries;
         valid_operands = r.valid_operands;
       }
 
-  -- another frame of the same method, mark, receiver and sender in the place of the uppermost
-  pub new_top : (n : ℕ) (was is_top : Bool) (base : ℕ) (f f' : Frame) (rest : List Frame) → Alike f f'
-      → FrameRight e o is_top (is_block_of f.mark rest) f' → FramesRight e o n was base (f ∷ rest) → FramesRight e o n is_top base (f' ∷ rest)
-  new_top n was is_top base f f' [] a r fr =
-      (subst (λ (b : Bool). FrameRight e o is_top b f') (alone_is f.mark) r, subst (λ (k : ℕ). Fits n base (frame_size o k)) (sym a.method) fr.1, fr.2, a.sender ∙ fr.3)
-  new_top n was is_top base f f' (g ∷ rest) a r fr = (
-    subst (λ (k : ℕ). FrameRight e o is_top (is_block_of k (g ∷ rest)) f') (sym a.mark) r,
-    subst (λ (k : ℕ). Fits n base (frame_size o k)) (sym a.method) fr.1,
-    fr.2 ∙ ap (λ (k : ℕ). k + frame_size o g.method) (sym a.sender),
-    subst (λ (k : ℕ). FramesRight e o n false k (g ∷ rest)) (sym a.sender) fr.3,
-    subst (λ (k : ℕ). T (shares_home k f'.method f'.receiver (g ∷ rest))) (sym a.mark)
-        (subst (λ (k : ℕ). T (shares_home f.mark k f'.receiver (g ∷ rest))) (sym a.method)
-        (subst (λ (k : ℕ). T (shares_home f.mark f.method k (g ∷ rest))) (sym a.receiver) fr.4)),
+  -- another frame of the same method and sender in the place of the uppermost
+  pub new_top : (n : ℕ) (was is_top : Bool) (base : ℕ) (f f' : Frame) (rest : List Frame) → f'.sender ≡ f.sender → f'.method ≡ f.method
+      → FrameRight e o is_top f' → FramesRight e o n was base (f ∷ rest) → FramesRight e o n is_top base (f' ∷ rest)
+  new_top n was is_top base f f' [] s m r fr =
+      (r, subst (λ (k : ℕ). Fits n base (frame_size o k)) (sym m) fr.1, fr.2, s ∙ fr.3)
+  new_top n was is_top base f f' (g ∷ rest) s m r fr = (
+    r,
+    subst (λ (k : ℕ). Fits n base (frame_size o k)) (sym m) fr.1,
+    fr.2 ∙ ap (λ (k : ℕ). k + frame_size o g.method) (sym s),
+    subst
+        (λ (k : ℕ). FramesRight e o n false k (g ∷ rest)) (sym s) fr.3,
   )
 
-  module _ (is_top block : Bool) (f : Frame) (r : FrameRight e o is_top block f) where
+  module _ (f : Frame) (r : FrameRight e o true f) where
     -- an operand that is there, the operands without some, the arguments
     pub operand_finds : (k : ℕ) → k < f.depth → Finds o.n (operand f k)
     unfolding operand

@@ -1,6 +1,6 @@
 -- The model's laws give what a step needs of right objects.
-use Prim.Native.Nat.{ℕ, ◌+◌, ◌/◌, ◌%◌, ◌≤◌}
-use mathlib.Core.Path.{◌≡◌, sym, ap, ◌∙◌, subst}
+use Prim.Native.Nat.{ℕ, ◌+◌, ◌/◌}
+use mathlib.Core.Path.{sym, ap, ◌∙◌, subst}
 use mathlib.Core.Bool.{Bool, ◌&&◌}
 use mathlib.Core.List.{List, [], ◌∷◌}
 use native.Mathlib.Omega.{arith}
@@ -8,15 +8,14 @@ use lib.Dec.{T, ltb, ltb→lt, lt→ltb}
 use lib.ListN.{length}
 use Rattle.bytecode.specs.Test.{every}
 use Rattle.bytecode.proofs.TestLaws.{and_left, and_right, and_both}
-use Rattle.model.specs.Limits.{has_blocks, fields_kind, method_kind, block_kind, block_words_of, largest_integer}
+use Rattle.model.specs.Limits.{fields_kind, method_kind}
 use Rattle.model.specs.Word.{is_valid, object_number}
 use Rattle.model.specs.Objects.{Objects, class_of, is_kind, size}
 use Rattle.model.specs.Method.{home}
 use Rattle.model.specs.Depth.{note_at}
 use Rattle.model.specs.Lookup.{in_chain}
 use Rattle.model.specs.Image.{Room}
-use Rattle.model.specs.Rules.{starts_block}
-use Rattle.model.specs.Primitive.{store_word, has_room, block_made_of}
+use Rattle.model.specs.Primitive.{store_word}
 use Rattle.model.proofs.ChainLaws.{named}
 use Rattle.model.proofs.Facts.{Right, least, method_facts, failure_count_lem}
 use Rattle.model.proofs.Extends.{Extends, extends_refl, extends_trans, valid_grows, kind_kept, class_same, home_same, temporaries_same, frame_same}
@@ -26,23 +25,22 @@ use Rattle.model.proofs.StoreLaws.{stored_extends, stored_right}
 use Rattle.model.proofs.PrimitiveLaws.{ValidWord, arithmetic_valid, primitive_law}
 use Rattle.model.proofs.MessageLaws.{message_room, message_law}
 use Rattle.plain.specs.State.{Frame}
-use Rattle.model.proofs.BlockLaws.{NoNewBlocks, no_new_refl, no_new_trans, no_new_word, old_block, block_mark_same, block_method_same, block_facts, block_law, mark_largest}
-use Rattle.plain.proofs.FrameLaws.{MarkRight, unmarked, marked, own_count, FrameRight}
-use Rattle.plain.proofs.Preserve.{NewBlock}
-use Rattle.plain.proofs.After.{After, Calm}
+use Rattle.plain.proofs.FrameLaws.{FrameRight}
+use Rattle.plain.proofs.After.{After}
 use Rattle.plain.proofs.RunLaws.{Worlds}
 
 -- a right frame is right in later objects
-frame_kept : {e : ℕ} (o o' : Objects) → Right e o → Extends o o' → (b block : Bool) (f : Frame) → MarkRight o' f.mark f.method → FrameRight e o b block f → FrameRight e o' b block f
-frame_kept o o' r x b block f k g =
+frame_kept : {e : ℕ} (o o' : Objects) → Right e o → Extends o o' → (b : Bool) (f : Frame) → FrameRight e o b f → FrameRight e o' b f
+frame_kept o o' r x b f g =
     record {
       is_method = kind_kept x method_kind f.method g.is_method;
-      marks = k;
+      unmarked = g.unmarked;
       receiver = valid_grows x f.receiver g.receiver;
       chain =
           chain';
       note = ap (λ t. note_at t f.position) (table_same x r f.method g.is_method) ∙ g.note;
-      temporaries = g.temporaries ∙ ap (own_count block) (sym (temporaries_same x r f.method g.is_method));
+      temporaries = g.temporaries
+          ∙ sym (temporaries_same x r f.method g.is_method);
       depth = g.depth;
       valid_temporaries = grown f.temporaries g.valid_temporaries;
       valid_operands =
@@ -61,23 +59,14 @@ frame_kept o o' r x b block f k g =
         (subst (λ (c : ℕ). T (in_chain o' (home o f.method) c)) (sym (class_same x f.receiver g.receiver))
         (subst T (sym (chain_same x r (home o f.method) (class_of o f.receiver))) g.chain))
 
--- marks are right where no block is made
-marks_kept : {e : ℕ} (o o' : Objects) → Right e o → Extends o o' → NoNewBlocks o o' → (mark m : ℕ) → MarkRight o mark m → MarkRight o' mark m
-marks_kept o o' r x n mark m (unmarked z) = unmarked z
-marks_kept o o' r x n mark m (marked w k z all) =
-    marked w (kind_kept x block_kind w k) (block_mark_same x r w k ∙ z)
-    (λ v kv q. let old = old_block n x v kv in block_method_same x r v old ∙ all v old (sym (block_mark_same x r v old) ∙ q))
-
 pub worlds : (room : Room) → Worlds room
 unfolding store_word
 worlds room e o r c b =
     record {
       least = let l = least r in omega arith;
-      self = record { after = record { extends = extends_refl o; right = r; contents = c; bodies = b }; blocks = no_new_refl o };
-      later = λ o' a. a.after;
-      keeps = λ o' a x block f k g.
-          frame_kept o o' r a.extends x block f k g;
-      marks = λ o' a mark m k. marks_kept o o' r a.after.extends a.blocks mark m k;
+      self = record { extends = extends_refl o; right = r; contents = c; bodies = b };
+      keeps = λ o' a x f g.
+          frame_kept o o' r a.extends x f g;
       tables = λ o' a m t. table_same a.extends r m t;
       sizes = λ o' a m t. ap (λ (k : ℕ). 6 + k)
           (frame_same a.extends r m t);
@@ -96,43 +85,17 @@ worlds room e o r c b =
           m t).sound;
       computes = λ k v w x e. subst (ValidWord o) e (arithmetic_valid r k v w);
       stores = store;
-      trans = λ o' o'' x y.
-          record {
-            after = record { extends = extends_trans x.after.extends y.after.extends; right = y.after.right; contents = y.after.contents; bodies = y.after.bodies };
-            blocks = no_new_trans x.after.extends y.after.extends x.blocks y.blocks;
-          };
-      lookups = λ o' x s k. lookup_same x.after.extends r s k;
+      trans = λ o' o'' x y. record { extends = extends_trans x.extends y.extends; right = y.right; contents = y.contents; bodies = y.bodies };
+      lookups = λ o' x s k. lookup_same x.extends r s k;
       failure_count = failure_count_lem r;
       messages = λ t selector arguments v va h. let q = message_law r t room selector arguments v va (message_room room o (length arguments) h) in
-          (record { after = record { extends = q.extends; right = q.right; contents = q.contents c; bodies = q.bodies b }; blocks = q.blocks }, q.valid);
+          (record { extends = q.extends; right = q.right; contents = q.contents c; bodies = q.bodies b }, q.valid);
       performs = λ k n w arguments v o' vw va l p. let q =
-          primitive_law room k n w v arguments r l vw va p in (record { after = record { extends = q.extends; right = q.right; contents = q.contents c; bodies = q.bodies b }; blocks = q.blocks }, q.valid);
-      block_methods = λ w k. (block_facts r w k).method;
-      block_notes = λ w k. (block_facts r w k).note;
-      block_edition = λ w k. (block_facts r w k).edition;
-      block_marks = λ w k. let q = block_facts r w k in (q.odd, q.least, q.most, mark_largest o w k);
-      makes = makes;
+          primitive_law room k n w v arguments r l vw va p in (record { extends = q.extends; right = q.right; contents = q.contents c; bodies = q.bodies b }, q.valid);
     }
   where
-    store : (w i v : ℕ) → T (is_kind o fields_kind w && ltb i (size o (object_number w))) → T (is_valid o.n v) → Calm e room o (store_word o (object_number w) i v)
+    store : (w i v : ℕ) → T (is_kind o fields_kind w && ltb i (size o (object_number w))) → T (is_valid o.n v) → After e room o (store_word o (object_number w) i v)
     store w i v t u =
         let h = named o fields_kind w (and_left (is_kind o fields_kind w) (ltb i (size o (w / 2))) t) in
         let l = ltb→lt i (size o (w / 2)) (and_right (is_kind o fields_kind w) (ltb i (size o (w / 2))) t) in
-        record {
-          after = record { extends = stored_extends r (w / 2) i v h.least h.most h.kinds l; right = stored_right r (w / 2) i v h.least h.most h.kinds l u; contents = c; bodies = b };
-          blocks = no_new_word o (w / 2) i v;
-        }
-
-    makes : T (has_blocks e) → (mark start count m : ℕ) → T (has_room room o block_words_of) → T (is_kind o method_kind m) → T (starts_block e o m start count)
-        → mark % 2 ≡ 1 → 1 ≤ mark / 2 → mark / 2 ≤ largest_integer → NewBlock (After e room) o mark m (block_made_of o mark start count m)
-    makes t mark start count m h k st odd low high =
-        let q = block_law r t room mark start count m h k st odd low high in
-        record {
-          after = record { extends = q.extends; right = q.right; contents = q.contents c; bodies = q.bodies b };
-          valid = q.valid;
-          block = q.block;
-          marks = q.marks;
-          method = q.method;
-          old = λ v kv. (kind_kept q.extends block_kind v kv, block_mark_same q.extends r v kv, block_method_same q.extends r v kv);
-          only = q.only;
-        }
+        record { extends = stored_extends r (w / 2) i v h.least h.most h.kinds l; right = stored_right r (w / 2) i v h.least h.most h.kinds l u; contents = c; bodies = b }

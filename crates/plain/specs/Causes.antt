@@ -1,28 +1,27 @@
 -- Why a run halts (01, "Plain machine"): what stands at the top frame's position. A halt leaves the state before the bytecode, so its cause can be read
 -- from the state that it leaves.
-use Rattle.std.specs.Prelude.{ℕ, ◌+◌, ◌-◌, ◌≡◌, ◌⊎◌, ◌≢◌, Bool, true, false, ◌&&◌, List, [], ◌∷◌, length, drop}
+use Rattle.std.specs.Prelude.{ℕ, ◌+◌, ◌-◌, ◌≡◌, ◌⊎◌, ◌≢◌, Bool, true, false, List, [], ◌∷◌, length, drop}
 use Rattle.std.proofs.Math.Option.{some}
 use Rattle.bytecode.specs.Constant.{false_word, true_word}
 use Rattle.bytecode.specs.Code.{decode_at}
 use Rattle.bytecode.specs.Effect.{special_count}
 use Rattle.bytecode.specs.declared.Instruction.{Instruction}
-use Rattle.bytecode.specs.declared.Instruction.TheVariants.{Push, Store, PopStore, PushSelf, PushConstant, ReturnSelf, ReturnConstant, ReturnTop, Pop, Duplicate, Jump, JumpOn, Send, SuperSend, SpecialSend, PushBlock, BlockReturn, Unused}
+use Rattle.bytecode.specs.declared.Instruction.TheVariants.{Push, Store, PopStore, PushSelf, PushConstant, ReturnSelf, ReturnConstant, ReturnTop, Pop, Duplicate, Jump, JumpOn, Send, SuperSend, SpecialSend, Unused}
 use Rattle.model.specs.declared.Pointer.{Pointer}
 use Rattle.model.specs.declared.Found.TheVariants.{Method, Nothing}
-use Rattle.model.specs.Limits.{has_messages, block_words_of}
+use Rattle.model.specs.Limits.{has_messages}
 use Rattle.model.specs.Word.{failure_selector}
-use Rattle.model.specs.Objects.{Objects, class_of, superclass_word, block_mark, block_method, is_block_of_of}
+use Rattle.model.specs.Objects.{Objects, class_of, superclass_word}
 use Rattle.model.specs.Method.{home, code_words, code_size, frame_size}
 use Rattle.model.specs.Lookup.{lookup}
-use Rattle.model.specs.Rules.{special_selector, is_same, is_class, is_value}
+use Rattle.model.specs.Rules.{special_selector, is_same, is_class}
 use Rattle.model.specs.Image.{Room}
-use Rattle.model.specs.Primitive.{message_made, message_word, has_message_room, has_room}
-use Rattle.plain.specs.Registers.{Cause, not_understood, no_boolean, no_stack_room, no_block_room, home_gone}
-use Rattle.plain.specs.State.{Frame, Plain, objects, fits_stack, from_home}
-use Rattle.plain.specs.Step.{operand, literal_of, Activation, entered, unfit, activate, has_mark}
+use Rattle.model.specs.Primitive.{message_made, message_word, has_message_room}
+use Rattle.plain.specs.Registers.{Cause, not_understood, no_boolean, no_stack_room}
+use Rattle.plain.specs.State.{Frame, Plain, objects, fits_stack}
+use Rattle.plain.specs.Step.{operand, literal_of, Activation, entered, unfit, activate}
 
--- The instruction sends a selector with `count` arguments, and looks for the method from a class on. 198 (==) and 199 (class) send nothing, nor do 201 (value) and 202 (value:)
--- to a block of matching count.
+-- The instruction sends a selector with `count` arguments, and looks for the method from a class on. 198 (==) and 199 (class) send nothing.
 abbrev pub SendsOf : Objects → Frame → ℕ → ℕ → ℕ → ℕ → Instruction → Type 0
 SendsOf o f receiver selector class count (Send l n) =
     (literal_of o f.method l ≡ some selector) × (count ≡ n) × (class ≡ class_of o receiver)
@@ -30,7 +29,6 @@ SendsOf o f receiver selector class count (SuperSend l n) =
     (literal_of o f.method l ≡ some selector) × (count ≡ n) × (class ≡ superclass_word o (home o f.method))
 SendsOf o f receiver selector class count (SpecialSend k) =
     (selector ≡ special_selector o k) × (count ≡ special_count k) × (class ≡ class_of o receiver) × (is_same k ≡ false) × (is_class k ≡ false)
-    × (is_value k && is_block_of_of o count receiver ≡ false)
 SendsOf o f receiver selector class count (Push p) = ⊥
 SendsOf o f receiver selector class count (Store p) = ⊥
 SendsOf o f receiver selector class count (PopStore p) = ⊥
@@ -43,8 +41,6 @@ SendsOf o f receiver selector class count Pop = ⊥
 SendsOf o f receiver selector class count Duplicate = ⊥
 SendsOf o f receiver selector class count (Jump ahead back) = ⊥
 SendsOf o f receiver selector class count (JumpOn condition ahead) = ⊥
-SendsOf o f receiver selector class count (PushBlock n ahead back) = ⊥
-SendsOf o f receiver selector class count BlockReturn = ⊥
 SendsOf o f receiver selector class count Unused = ⊥
 
 -- The send that an instruction makes from a frame: the receiver lies below the arguments.
@@ -93,41 +89,20 @@ abbrev pub FitsNot : Room → Plain → Objects → Frame → ℕ → ℕ → Li
 FitsNot room p o f m receiver arguments =
     (activation_in room p o m receiver arguments ≡ entered) × (fits_stack room.stack (p.registers.top + frame_size o f.method) (frame_size o m) ≡ false)
 
--- 02, M-106: value is sent to a block that takes the arguments.
-pub record Valued (o : Objects) (f : Frame) (i : Instruction) : Type 0 where
-  pub special : ℕ
-  pub block : ℕ
-  pub is : i ≡ SpecialSend special
-  pub value : is_value special ≡ true
-  pub below : operand f (special_count special) ≡ some block
-  pub takes : is_block_of_of o (special_count special) block ≡ true
-
-abbrev pub IsPushBlock : Instruction → Type 0
-IsPushBlock i = (count ahead back : ℕ) × (i ≡ PushBlock count ahead back)
-
--- The home of a block stands: the frames from it down
-abbrev pub home_frames : (p : Plain) (f : Frame) {i : Instruction} → Valued (objects p) f i → List Frame → List Frame
-home_frames p f v rest = from_home (block_mark (objects p) v.block) (f ∷ rest)
-
 -- Phase 3: a send that fails, and whose message is not sent. Phase 4: a jump on a boolean whose operand is neither true nor false. Phase 5: a send that found a
--- method which needs a frame, and none fits behind the top one; or one that failed, whose message found such a method; or value sent to a block whose home stands. Phase 6: a block is to be
--- made, and there is no mark for it or no room. Phase 7: value sent to a block whose home does not stand.
-abbrev pub Because : Room → Plain → Frame → List Frame → Instruction → Cause → Type 0
-Because room p f rest i not_understood = (s : Sent (objects p) f i) × Fails room p f s × Unsent room p f s
-Because room p f rest i no_boolean = IsJump i × (w : ℕ) × (operand f 0 ≡ some w) × (w ≢ true_word) × (w ≢ false_word)
-Because room p f rest i no_stack_room =
-    ((s : Sent (objects p) f i)
+-- method which needs a frame, and none fits behind the top one; or one that failed, whose message found such a method.
+abbrev pub Because : Room → Plain → Frame → Instruction → Cause → Type 0
+Because room p f i not_understood = (s : Sent (objects p) f i) × Fails room p f s × Unsent room p f s
+Because room p f i no_boolean = IsJump i × (w : ℕ) × (operand f 0 ≡ some w) × (w ≢ true_word) × (w ≢ false_word)
+Because room p f i no_stack_room =
+    (s : Sent (objects p) f i)
     × (((m : Pointer) × (lookup (objects p) s.selector s.class ≡ Method m) × FitsNot room p (objects p) f m.0 s.receiver (arguments_of f s.count))
     ⊎ (Fails room p f s × (has_messages p.registers.edition ≡ true) × (has_message_room room (objects p) (length (arguments_of f s.count)) ≡ true)
     × (m : Pointer) × (lookup (objects p) failure_selector s.class ≡ Method m)
-    × FitsNot room p (with_message p f s) f m.0 s.receiver (message_word (objects p) ∷ []))))
-    ⊎ ((v : Valued (objects p) f i) × (home_frames p f v rest ≢ [])
-    × (fits_stack room.stack (p.registers.top + frame_size (objects p) f.method) (frame_size (objects p) (block_method (objects p) v.block)) ≡ false))
-Because room p f rest i no_block_room = IsPushBlock i × (has_mark (objects p) f && has_room room (objects p) block_words_of ≡ false)
-Because room p f rest i home_gone = (v : Valued (objects p) f i) × (home_frames p f v rest ≡ [])
+    × FitsNot room p (with_message p f s) f m.0 s.receiver (message_word (objects p) ∷ [])))
 
 -- The state stands before a bytecode that cannot be made, for this cause.
 abbrev pub HaltsFor : Room → Plain → Cause → List Frame → Type 0
 HaltsFor room p cause [] = ⊥
 HaltsFor room p cause (f ∷ rest) =
-    Because room p f rest (decode_at (code_words (objects p) f.method) (code_size (objects p) f.method) f.position) cause
+    Because room p f (decode_at (code_words (objects p) f.method) (code_size (objects p) f.method) f.position) cause

@@ -5,8 +5,7 @@ use Rattle.model.specs.Objects.{Objects, objects_at, part}
 use Rattle.model.specs.Method.{temporary_count}
 use Rattle.model.specs.Image.{Room}
 use Rattle.plain.specs.Registers.{Registers, has_frames}
-use Rattle.plain.specs.State.{Frame, Plain, is_block_of}
-use Rattle.bytecode.specs.Test.{if◌then◌else◌}
+use Rattle.plain.specs.State.{Frame, Plain}
 
 pub record Flat : Type 0 where
   pub registers : Registers
@@ -51,13 +50,8 @@ temporaries_start base = base + frame_header_words
 abbrev pub operands_start : Objects → ℕ → ℕ → ℕ
 operands_start o m base = temporaries_start base + temporary_count o m
 
--- The temporaries that stand in a frame of this mark and method: a block's frame, whose home is among the frames below it, has none (02, M-106).
-unfoldable pub own_temporaries : Objects → ℕ → ℕ → List Frame → ℕ
-own_temporaries o mark m below = if is_block_of mark below then 0 else temporary_count o m
-
--- The frame at a base; `below` are the frames below it.
-unfoldable pub frame_at : Objects → List ℕ → ℕ → List Frame → Frame
-frame_at o stack base below =
+unfoldable pub frame_at : Objects → List ℕ → ℕ → Frame
+frame_at o stack base =
     record {
       sender = frame_sender stack base;
       position = frame_position stack base;
@@ -65,8 +59,8 @@ frame_at o stack base below =
       method = frame_method stack base;
       mark = frame_mark stack base;
       receiver = frame_receiver stack base;
-      temporaries = part stack (temporaries_start base) (own_temporaries o (frame_mark stack base) (frame_method stack base) below);
-      operands = part stack (temporaries_start base + own_temporaries o (frame_mark stack base) (frame_method stack base) below) (frame_depth stack base);
+      temporaries = part stack (temporaries_start base) (temporary_count o (frame_method stack base));
+      operands = part stack (operands_start o (frame_method stack base) base) (frame_depth stack base);
     }
 
 -- The frames from the one at a base down to the bottom one, which is the one at base 0. Where the senders do not lead down to it, as check
@@ -78,8 +72,8 @@ unless_bottom (suc base) fs = fs
 unfoldable pub frames_from : ℕ → Objects → List ℕ → ℕ → List Frame
 frames_from zero o stack base = []
 frames_from (suc left) o stack base =
-    let rest : List Frame = unless_bottom base (frames_from left o stack (frame_sender stack base)) in
-    frame_at o stack base rest ∷ rest
+    let rest : List Frame = frames_from left o stack (frame_sender stack base) in
+    frame_at o stack base ∷ unless_bottom base rest
 
 abbrev pub if_frames : Bool → List Frame → List Frame
 if_frames true fs = fs

@@ -1,7 +1,5 @@
 -- The registers and the phases (01, "Plain machine" and "Calls").
 use Rattle.std.specs.Prelude.{ℕ, Bool, ◌||◌, not, eqb}
-use Rattle.bytecode.specs.Test.{if◌then◌else◌}
-use Rattle.model.specs.Limits.{has_blocks}
 
 pub record Registers : Type 0 where
   pub n : ℕ
@@ -27,25 +25,19 @@ abbrev pub finished : ℕ
 finished = 2
 
 -- Why a run halts before a bytecode, and the phase that says so. `not_understood` is a send that fails: no method is found, or by a super send one which cannot run
--- on its receiver (docs/DECISIONS.md, "Super sends to another receiver"), and its message is not sent. `no_block_room` is a block for which there is no room or no mark, `home_gone`
--- a block that is sent value and whose home frame does not stand (02, M-106). What each asks of the state is in specs/Causes.antt.
+-- on its receiver (docs/DECISIONS.md, "Super sends to another receiver"), and its message is not sent. What each asks of the state is in specs/Causes.antt.
 pub data Cause : Type 0 where
   not_understood : Cause
   no_boolean : Cause
   no_stack_room : Cause
-  no_block_room : Cause
-  home_gone : Cause
 
 abbrev pub phase_of : Cause → ℕ
 phase_of not_understood = 3
 phase_of no_boolean = 4
 phase_of no_stack_room = 5
-phase_of no_block_room = 6
-phase_of home_gone = 7
 
--- the last phase of an edition: blocks bring two
-unfoldable pub last_phase : ℕ → ℕ
-last_phase e = if has_blocks e then 7 else 5
+abbrev pub last_phase : ℕ
+last_phase = 5
 
 -- A state in phase 0 or 2 has no frames.
 abbrev pub has_frames : ℕ → Bool

@@ -1,13 +1,11 @@
 -- The loop of a run: what is left of it at each turn.
-use Rattle.std.specs.Prelude.{ℕ, ◌+◌, ◌-◌, ◌*◌, ◌≤◌, max, ◌≡◌, List, [], ◌∷◌, eqb}
-use Rattle.std.proofs.Math.Option.{Option, none, some}
-use Rattle.bytecode.specs.Test.{if◌then◌else◌}
+use Rattle.std.specs.Prelude.{ℕ, ◌+◌, ◌-◌, ◌*◌, ◌≤◌, max, ◌≡◌, List, [], ◌∷◌}
 use Rattle.model.specs.Limits.{longest_chain}
 use Rattle.model.specs.Objects.{Objects}
 use Rattle.model.specs.Method.{frame_size}
 use Rattle.model.specs.Image.{accepted}
 use Rattle.plain.specs.Registers.{running}
-use Rattle.plain.specs.State.{Frame, Plain, is_block_of, objects}
+use Rattle.plain.specs.State.{Frame, Plain, objects}
 use Rattle.plain.specs.Calls.{Ran, ran, stuck, steps, result, reach_of, dictionaries_of}
 use Rattle.plain.specs.Flat.{Flat, room_of, plain_of}
 use Rattle.plain.specs.Check.{check}
@@ -17,24 +15,6 @@ use Rattle.plain.specs.FlatCalls.{Given, gives, no_answer, with_plain, stack_aft
 abbrev pub first_end : Objects → ℕ → List Frame → ℕ
 first_end o base [] = 0
 first_end o base (f ∷ rest) = base + frame_size o f.method
-
--- 02, M-106: the base of the lowest frame of a mark, of frames the first of which is at `base`; and of the frame whose temporaries the first of them uses: its home's where it is a
--- block's, and its own
-abbrev pub or_at : Option ℕ → Option ℕ → Option ℕ
-or_at none x = x
-or_at (some base) x = some base
-
-abbrev pub base_or : ℕ → Option ℕ → ℕ
-base_or base none = base
-base_or base (some at) = at
-
-unfoldable pub home_among : ℕ → ℕ → List Frame → Option ℕ
-home_among mark base [] = none
-home_among mark base (f ∷ rest) = or_at (home_among mark f.sender rest) (if eqb f.mark mark then some base else none)
-
-unfoldable pub used_base : ℕ → List Frame → ℕ
-used_base base [] = base
-used_base base (f ∷ rest) = if is_block_of f.mark rest then base_or base (home_among f.mark f.sender rest) else base
 
 -- The end of the top frame: where the frames stand one on another, no other ends higher.
 unfoldable pub top_end : Plain → ℕ

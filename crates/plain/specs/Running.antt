@@ -1,19 +1,19 @@
 -- A handler that runs, in the lent buffers: what the functions of the interpreter ask of the buffers, and what they say of them.
-use Rattle.std.specs.Prelude.{ℕ, suc, ◌+◌, ◌*◌, ◌-◌, ◌≤◌, ◌≡◌, Bool, true, List, ◌∷◌, T, length, get_or, take, drop}
+use Rattle.std.specs.Prelude.{ℕ, suc, ◌+◌, ◌*◌, ◌-◌, ◌≤◌, ◌≡◌, Bool, true, List, T, length, get_or, take, drop}
 use Rattle.bytecode.specs.Code.{next_at, decode_at}
 use Rattle.bytecode.specs.declared.Instruction.{Instruction}
 use Rattle.model.specs.Limits.{entry_words, class_kind}
 use Rattle.model.specs.Word.{is_valid}
-use Rattle.model.specs.Objects.{objects_at, class_of, is_nil_or, block_mark, is_block_of_of}
+use Rattle.model.specs.Objects.{objects_at, class_of, is_nil_or}
 use Rattle.model.specs.Method.{home, code_words, code_size}
-use Rattle.model.specs.Depth.{note_at, code_depth}
+use Rattle.model.specs.Depth.{note_at}
 use Rattle.model.specs.Lookup.{found, lookup, in_chain}
 use Rattle.model.specs.Rules.{Right, takes_count, method_table}
 use Rattle.model.specs.Image.{Room}
 use Rattle.plain.specs.Registers.{Registers, running, finished}
-use Rattle.plain.specs.State.{Frame, Plain, is_block_of, from_home}
-use Rattle.plain.specs.Step.{Looked, no_lookup, read_in, Stepped, leads_to, after_lookup, failed, popped, valued, step}
-use Rattle.plain.specs.Flat.{frame_sender, frame_position, frame_depth, frame_method, frame_mark, temporaries_start, own_temporaries, frame_at, unless_bottom, frames_from}
+use Rattle.plain.specs.State.{Frame, Plain}
+use Rattle.plain.specs.Step.{Looked, no_lookup, read_in, Stepped, leads_to, after_lookup, failed, popped, step}
+use Rattle.plain.specs.Flat.{frame_sender, frame_position, frame_depth, frame_method, operands_start, frame_at, unless_bottom, frames_from}
 use Rattle.plain.specs.Check.{frames_fine}
 use Rattle.plain.specs.Cache.{filled}
 use Rattle.plain.specs.FlatCalls.{at_front, laid}
@@ -42,13 +42,13 @@ running_at e receiver selector n b top contents bodies stack =
       frames = frames_from (suc top) (objects_at n b contents bodies) stack top;
     }
 
--- The frames below the top one, and that itself
+-- The top frame, and the frames below it
+abbrev pub top_frame : ℕ → ℕ → ℕ → List ℕ → List ℕ → List ℕ → Frame
+top_frame n b top contents bodies stack = frame_at (objects_at n b contents bodies) stack top
+
 abbrev pub rest_frames : ℕ → ℕ → ℕ → List ℕ → List ℕ → List ℕ → List Frame
 rest_frames n b top contents bodies stack =
     unless_bottom top (frames_from top (objects_at n b contents bodies) stack (frame_sender stack top))
-
-abbrev pub top_frame : ℕ → ℕ → ℕ → List ℕ → List ℕ → List ℕ → Frame
-top_frame n b top contents bodies stack = frame_at (objects_at n b contents bodies) stack top (rest_frames n b top contents bodies stack)
 
 -- The lengths of the buffers
 abbrev pub room_at : List ℕ → List ℕ → List ℕ → List ℕ → Room
@@ -92,15 +92,10 @@ pub record Stays (contents bodies stack cache contents' bodies' stack' cache' : 
   pub frames : stack' ≡ stack
   pub cached : cache' ≡ cache
 
--- Where the operands of the top frame start
-abbrev pub top_operands : ℕ → ℕ → ℕ → List ℕ → List ℕ → List ℕ → ℕ
-top_operands n b top contents bodies stack =
-    temporaries_start top + own_temporaries (objects_at n b contents bodies) (frame_mark stack top) (frame_method stack top) (rest_frames n b top contents bodies stack)
-
 -- The receiver of a send with `count` arguments, a word of the stack
 abbrev pub sent_receiver : ℕ → ℕ → ℕ → List ℕ → List ℕ → List ℕ → ℕ → ℕ
 sent_receiver n b top contents bodies stack count =
-    get_or stack (top_operands n b top contents bodies stack + (frame_depth stack top - suc count)) 0
+    get_or stack (operands_start (objects_at n b contents bodies) (frame_method stack top) top + (frame_depth stack top - suc count)) 0
 
 -- and its arguments, the operands above it
 abbrev pub sent_arguments : ℕ → ℕ → ℕ → List ℕ → List ℕ → List ℕ → ℕ → List ℕ
@@ -111,8 +106,7 @@ sent_arguments n b top contents bodies stack count = drop ((top_frame n b top co
 pub record Sending (n b top : ℕ) (contents bodies stack : List ℕ) (selector count class position : ℕ) (sure : Bool) : Type 0 where
   pub runs : Runs n b top contents bodies stack
   pub needs : suc count ≤ frame_depth stack top
-  pub noted : note_at (method_table runs.edition (objects_at n b contents bodies) (frame_method stack top)) position
-      ≡ suc (code_depth (is_block_of (frame_mark stack top) (rest_frames n b top contents bodies stack)) (suc (frame_depth stack top - suc count)))
+  pub noted : note_at (method_table runs.edition (objects_at n b contents bodies) (frame_method stack top)) position ≡ suc (suc (frame_depth stack top - suc count))
   pub named : 1 ≤ selector
   pub valid : T (is_valid n selector)
   pub starts : T (is_nil_or (objects_at n b contents bodies) class_kind class)
@@ -120,24 +114,7 @@ pub record Sending (n b top : ℕ) (contents bodies stack : List ℕ) (selector 
   pub homes : sure ≡ true → (s m : ℕ) → lookup (objects_at n b contents bodies) s class ≡ found m
       → T (in_chain (objects_at n b contents bodies) (home (objects_at n b contents bodies) m) (class_of (objects_at n b contents bodies) (sent_receiver n b top contents bodies stack count)))
 
--- 02, M-106: value is about to be sent to a block that takes the arguments
-pub record Valuing (n b top : ℕ) (contents bodies stack : List ℕ) (block count position : ℕ) : Type 0 where
-  pub runs : Runs n b top contents bodies stack
-  pub needs : suc count ≤ frame_depth stack top
-  pub noted : note_at (method_table runs.edition (objects_at n b contents bodies) (frame_method stack top)) position
-      ≡ suc (code_depth (is_block_of (frame_mark stack top) (rest_frames n b top contents bodies stack)) (suc (frame_depth stack top - suc count)))
-  pub is : block ≡ sent_receiver n b top contents bodies stack count
-  pub takes : is_block_of_of (objects_at n b contents bodies) count block ≡ true
-
 -- and the step that it is
-abbrev pub value_step : Room → ℕ → ℕ → ℕ → ℕ → ℕ → ℕ → List ℕ → List ℕ → List ℕ → ℕ → ℕ → ℕ → Stepped
-value_step room e receiver selector n b top contents bodies stack block count position =
-    valued room (running_at e receiver selector n b top contents bodies stack)
-    (popped (top_frame n b top contents bodies stack) position (suc count)) (rest_frames n b top contents bodies stack) block
-    (sent_arguments n b top contents bodies stack count)
-    (from_home (block_mark (objects_at n b contents bodies) block) (top_frame n b top contents bodies stack ∷ rest_frames n b top contents bodies stack))
-
--- The step of a send
 abbrev pub send_step : Room → ℕ → ℕ → ℕ → ℕ → ℕ → ℕ → List ℕ → List ℕ → List ℕ → ℕ → ℕ → ℕ → ℕ → Stepped
 send_step room e receiver selector n b top contents bodies stack s count class position =
     after_lookup room (running_at e receiver selector n b top contents bodies stack)

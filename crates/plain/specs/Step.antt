@@ -1,5 +1,5 @@
 -- One bytecode of the plain machine (01, "Plain machine").
-use Rattle.std.specs.Prelude.{ℕ, suc, ◌+◌, ◌-◌, ◌*◌, Bool, true, false, ◌&&◌, ◌||◌, not, List, [], ◌∷◌, ◌++◌, leb, ltb, eqb, length, get_or, take, drop, set}
+use Rattle.std.specs.Prelude.{ℕ, suc, ◌+◌, ◌-◌, Bool, true, false, ◌&&◌, ◌||◌, List, [], ◌∷◌, ◌++◌, leb, ltb, eqb, length, get_or, take, drop, set}
 use Rattle.std.proofs.Math.Option.{Option, none, some}
 use Rattle.std.proofs.Math.ListN.{get_elem?}
 use Rattle.bytecode.specs.Test.{if◌then◌else◌}
@@ -9,22 +9,21 @@ use Rattle.bytecode.specs.Effect.{special_count}
 use Rattle.bytecode.specs.declared.Place.{Place}
 use Rattle.bytecode.specs.declared.Place.TheVariants.{Field, Temporary, Literal, LiteralVariable}
 use Rattle.bytecode.specs.declared.Instruction.{Instruction}
-use Rattle.bytecode.specs.declared.Instruction.TheVariants.{Push, Store, PopStore, PushSelf, PushConstant, ReturnSelf, ReturnConstant, ReturnTop, Pop, Duplicate, Jump, JumpOn, Send, SuperSend, SpecialSend, PushBlock, BlockReturn, Unused}
+use Rattle.bytecode.specs.declared.Instruction.TheVariants.{Push, Store, PopStore, PushSelf, PushConstant, ReturnSelf, ReturnConstant, ReturnTop, Pop, Duplicate, Jump, JumpOn, Send, SuperSend, SpecialSend, Unused}
 use Rattle.model.specs.declared.Found.{Found}
 use Rattle.model.specs.declared.Found.TheVariants.{Method, Nothing}
 use Rattle.model.specs.declared.Computed.{Computed}
 use Rattle.model.specs.declared.Computed.TheVariants.{Word, Failed}
-use Rattle.model.specs.Limits.{has_messages, fields_kind, receiver_flag, field_flag, primitive_flag, largest_integer, block_words_of}
+use Rattle.model.specs.Limits.{has_messages, fields_kind, receiver_flag, field_flag, primitive_flag}
 use Rattle.model.specs.Word.{boolean_word, object_number, failure_selector}
-use Rattle.model.specs.Objects.{Objects, class_of, size, body_word, superclass_word, is_kind, block_mark, block_method, is_block_of_of, largest_mark}
+use Rattle.model.specs.Objects.{Objects, class_of, size, body_word, superclass_word, is_kind}
 use Rattle.model.specs.Method.{home, flag, temporary_count, literal_count, literal, code_words, code_size, frame_words, frame_size, primitive_number, argument_count}
 use Rattle.model.specs.Lookup.{lookup, dictionaries_read, in_chain}
-use Rattle.model.specs.Rules.{special_selector, is_same, is_class, is_value}
+use Rattle.model.specs.Rules.{special_selector, is_same, is_class}
 use Rattle.model.specs.Image.{Room}
 use Rattle.model.specs.Arithmetic.{arithmetic}
-use Rattle.model.specs.Primitive.{Outcome, answers, fails, primitive, store_word, message_made, message_word, has_message_room, has_room, block_made_of, block_word}
-use Rattle.plain.specs.Registers.{running, finished, Cause, not_understood, no_boolean, no_stack_room, no_block_room, home_gone}
-use Rattle.plain.specs.State.{no_mark, from_home, is_block_of, temporaries_of, stored_at_home, block_frame, with_mark}
+use Rattle.model.specs.Primitive.{Outcome, answers, fails, primitive, store_word, message_made, message_word, has_message_room}
+use Rattle.plain.specs.Registers.{running, finished, Cause, not_understood, no_boolean, no_stack_room}
 use Rattle.plain.specs.State.{Frame, Plain, objects, with_objects, with_frames, moved_to, with_temporaries, new_frame, fits_stack}
 
 -- What a step looked up: nothing, or a selector and a class with the method found and the number of dictionaries read (02, M-105). The cache is filled by it.
@@ -79,33 +78,29 @@ on_top s f rest = with_frames s (f ∷ rest) running s.registers.top 0
 
 -- The frame has a word to push into, above so many operands.
 abbrev pub has_word_of : Objects → Frame → ℕ → Bool
-has_word_of o f depth = ltb (length f.temporaries + depth) (frame_words o f.method)
+has_word_of o f depth = ltb (temporary_count o f.method + depth) (frame_words o f.method)
 
 unfoldable pub pushed : Plain → Frame → List Frame → ℕ → List ℕ → ℕ → Looked → Stepped
 pushed s f rest position operands w l =
     provided (has_word_of (objects s) f (length operands)) (leads_to (on_top s (moved_to f position (operands ++ (w ∷ []))) rest) l)
 
--- The value of a place; `rest` are the frames below, in one of which a block's frame has its temporaries
-unfoldable pub read : Objects → Frame → List Frame → Place → Option ℕ
-read o f rest (Field i) = field_of o f.receiver i
-read o f rest (Temporary i) = get_elem? (temporaries_of f rest) i
-read o f rest (Literal i) = literal_of o f.method i
-read o f rest (LiteralVariable i) = elim (literal_of o f.method i) [ none ↦ none | some w ↦ field_of o w 1 ]
+-- The value of a place
+unfoldable pub read : Objects → Frame → Place → Option ℕ
+read o f (Field i) = field_of o f.receiver i
+read o f (Temporary i) = get_elem? f.temporaries i
+read o f (Literal i) = literal_of o f.method i
+read o f (LiteralVariable i) = elim (literal_of o f.method i) [ none ↦ none | some w ↦ field_of o w 1 ]
 
--- The state in which the top frame f has stored w in a place: field i of the word v, or one of its temporaries or its home's
+-- The state in which the top frame f has stored w in a place: field i of the word v, or one of its temporaries
 unfoldable pub stored_field : Plain → Frame → List Frame → ℕ → ℕ → ℕ → Stepped
 stored_field s f rest v i w =
     field_of (objects s) v i >>= λ old.
     leads_to (with_objects (on_top s f rest) (store_word (objects s) (object_number v) i w)) no_lookup
 
-unfoldable pub stored_temporary : Plain → Frame → List Frame → ℕ → ℕ → Plain
-stored_temporary s f rest i w =
-    if is_block_of f.mark rest then on_top s f (stored_at_home f.mark i w rest) else on_top s (with_temporaries f (set f.temporaries i w)) rest
-
 unfoldable pub stored : Plain → Frame → List Frame → Place → ℕ → Stepped
 stored s f rest (Field i) w = stored_field s f rest f.receiver i w
 stored s f rest (Temporary i) w =
-    get_elem? (temporaries_of f rest) i >>= λ old. leads_to (stored_temporary s f rest i w) no_lookup
+    get_elem? f.temporaries i >>= λ old. leads_to (on_top s (with_temporaries f (set f.temporaries i w)) rest) no_lookup
 stored s f rest (Literal i) w = missing
 stored s f rest (LiteralVariable i) w = literal_of (objects s) f.method i >>= λ v. stored_field s f rest v 1 w
 
@@ -115,14 +110,6 @@ returned s f [] w = leads_to (with_frames s [] finished 0 w) no_lookup
 returned s f (g ∷ rest) w =
     provided (has_word_of (objects s) g g.depth)
     (leads_to (with_frames s (moved_to g g.position (g.operands ++ (w ∷ [])) ∷ rest) running f.sender 0) no_lookup)
-
--- 120 to 124 return from the method: in a block's frame from its home, which leaves with all frames above it (02, M-106).
-abbrev pub returned_first : Plain → List Frame → ℕ → Stepped
-returned_first s [] w = missing
-returned_first s (h ∷ below) w = returned s h below w
-
-unfoldable pub returned_home : Plain → Frame → List Frame → ℕ → Stepped
-returned_home s f rest w = if is_block_of f.mark rest then returned_first s (from_home f.mark rest) w else returned s f rest w
 
 -- What a method does on a receiver and arguments: it answers without a frame, or runs in a new one; or the receiver is not one that it
 -- can run on, which only a super send can meet (docs/DECISIONS.md, "Super sends to another receiver").
@@ -152,15 +139,14 @@ activate e room o m receiver arguments =
     then primitive_answered o m receiver (primitive e room o (primitive_number o m) (argument_count o m) receiver arguments)
     else entering o m receiver
 
--- A new frame g, of method m, above the top one, f, whose receiver and arguments are popped; phase 5 where it does not fit
-abbrev pub framing : Room → Plain → Frame → List Frame → ℕ → Frame → Looked → Stepped
-framing room s f rest m g l =
-    if fits_stack room.stack (s.registers.top + frame_size (objects s) f.method) (frame_size (objects s) m)
-    then leads_to (with_frames s (g ∷ f ∷ rest) running (s.registers.top + frame_size (objects s) f.method) 0) l
-    else halts no_stack_room
-
+-- A new frame above the top one, f, whose receiver and arguments are popped; phase 5 where it does not fit
 unfoldable pub framed : Room → Plain → Frame → List Frame → ℕ → ℕ → List ℕ → Looked → Stepped
-framed room s f rest m receiver arguments l = framing room s f rest m (new_frame (objects s) s.registers.top m receiver arguments) l
+framed room s f rest m receiver arguments l =
+    if fits_stack room.stack (s.registers.top + frame_size (objects s) f.method) (frame_size (objects s) m)
+    then leads_to
+    (with_frames s (new_frame (objects s) s.registers.top m receiver arguments ∷ f ∷ rest) running
+    (s.registers.top + frame_size (objects s) f.method) 0) l
+    else halts no_stack_room
 
 -- The same step with the objects that a primitive left
 abbrev pub changed : Objects → Stepped → Stepped
@@ -234,20 +220,6 @@ arithmetic_sends room s f rest position k =
     (λ w. pushed s f rest position (without f 2) w no_lookup)
     (sends room s f rest position (class_of (objects s)) (special_selector (objects s) k) 1)
 
--- 02, M-106: value sent to a block of matching count; `fs` are the frames from its home down. Phase 7 where it does not stand, else phase 5 where no frame fits.
-abbrev pub valued : Room → Plain → Frame → List Frame → ℕ → List ℕ → List Frame → Stepped
-valued room s f rest block arguments [] = halts home_gone
-valued room s f rest block arguments (h ∷ below) =
-    framing room s f rest (block_method (objects s) block) (block_frame (objects s) s.registers.top block h arguments) no_lookup
-
--- 201 and 202: value with no or one argument. To anything else they are sends.
-unfoldable pub value_sends : Room → Plain → Frame → List Frame → ℕ → ℕ → Stepped
-value_sends room s f rest position k =
-    operand f (special_count k) >>= λ receiver.
-    if is_block_of_of (objects s) (special_count k) receiver
-    then valued room s (popped f position (suc (special_count k))) rest receiver (drop (f.depth - special_count k) f.operands) (from_home (block_mark (objects s) receiver) (f ∷ rest))
-    else sends room s f rest position (class_of (objects s)) (special_selector (objects s) k) (special_count k)
-
 -- Special send k: arithmetic first for 176–191; 198 (==) and 199 (class) never look up.
 unfoldable pub special_sends : Room → Plain → Frame → List Frame → ℕ → ℕ → Stepped
 special_sends room s f rest position k =
@@ -257,24 +229,7 @@ special_sends room s f rest position k =
     else
     if is_class k
     then (operand f 0 >>= λ a. pushed s f rest position (without f 1) (class_of (objects s) a) no_lookup)
-    else
-    if is_value k then value_sends room s f rest position k
     else sends room s f rest position (class_of (objects s)) (special_selector (objects s) k) (special_count k)
-
--- 02, M-106: the mark of a block that a frame makes, the word of an integer: the frame's own or, for its first block, one above the largest of any block, if there is one
-abbrev pub mark_of : Objects → Frame → ℕ
-mark_of o f = if eqb f.mark no_mark then 2 * suc (largest_mark o) + 1 else f.mark
-
-abbrev pub has_mark : Objects → Frame → Bool
-has_mark o f = not (eqb f.mark no_mark) || ltb (largest_mark o) largest_integer
-
--- A block whose code is at `position` is pushed, and control goes on as by a jump; phase 6 where there is no room for the block or no mark left.
-unfoldable pub block_pushed : Room → Plain → Frame → List Frame → ℕ → ℕ → ℕ → Stepped
-block_pushed room s f rest position count target =
-    if has_mark (objects s) f && has_room room (objects s) block_words_of
-    then changed (block_made_of (objects s) (mark_of (objects s) f) position count f.method)
-    (pushed s (with_mark f (mark_of (objects s) f)) rest target f.operands (block_word (objects s)) no_lookup)
-    else halts no_block_room
 
 -- A jump on a boolean pops it; phase 4 where it is neither.
 unfoldable pub jumps : Plain → Frame → List Frame → ℕ → Bool → ℕ → Stepped
@@ -286,14 +241,14 @@ jumps s f rest position condition ahead =
 
 -- One instruction, the next one at `position`
 unfoldable pub execute : Room → Plain → Frame → List Frame → ℕ → Instruction → Stepped
-execute room s f rest position (Push p) = read (objects s) f rest p >>= λ w. pushed s f rest position f.operands w no_lookup
+execute room s f rest position (Push p) = read (objects s) f p >>= λ w. pushed s f rest position f.operands w no_lookup
 execute room s f rest position (Store p) = operand f 0 >>= λ w. stored s (moved_to f position f.operands) rest p w
 execute room s f rest position (PopStore p) = operand f 0 >>= λ w. stored s (popped f position 1) rest p w
 execute room s f rest position PushSelf = pushed s f rest position f.operands f.receiver no_lookup
 execute room s f rest position (PushConstant w) = pushed s f rest position f.operands w no_lookup
-execute room s f rest position ReturnSelf = returned_home s f rest f.receiver
-execute room s f rest position (ReturnConstant w) = returned_home s f rest w
-execute room s f rest position ReturnTop = operand f 0 >>= λ w. returned_home s f rest w
+execute room s f rest position ReturnSelf = returned s f rest f.receiver
+execute room s f rest position (ReturnConstant w) = returned s f rest w
+execute room s f rest position ReturnTop = operand f 0 >>= λ w. returned s f rest w
 execute room s f rest position Pop = operand f 0 >>= λ w. leads_to (on_top s (popped f position 1) rest) no_lookup
 execute room s f rest position Duplicate = operand f 0 >>= λ w. pushed s f rest position f.operands w no_lookup
 execute room s f rest position (Jump ahead back) =
@@ -304,8 +259,6 @@ execute room s f rest position (Send l n) =
 execute room s f rest position (SuperSend l n) =
     literal_of (objects s) f.method l >>= λ w. sends room s f rest position (above_home s f) w n
 execute room s f rest position (SpecialSend k) = special_sends room s f rest position k
-execute room s f rest position (PushBlock n ahead back) = provided (leb back (position + ahead)) (block_pushed room s f rest position n (position + ahead - back))
-execute room s f rest position BlockReturn = operand f 0 >>= λ w. returned s f rest w
 execute room s f rest position Unused = missing
 
 -- The step of a state whose top frame is f: the instruction at its position

@@ -1,4 +1,4 @@
--- One more object at the end of the buffers (70, 71), an array and a message (02, M-104), a block (02, M-106).
+-- One more object at the end of the buffers (70, 71), an array and a message (02, M-104).
 use Prim.Native.Nat.{ℕ, suc, ◌+◌, ◌*◌, ◌/◌, ◌%◌, ◌≤◌, ◌<◌}
 use mathlib.Core.Path.{◌≡◌, refl, sym, ap, ap₂, ◌∙◌, subst}
 use mathlib.Core.Logic.{◌≢◌}
@@ -13,12 +13,12 @@ use Rattle.bytecode.specs.Constant.{nil_word}
 use Rattle.bytecode.proofs.Choice.{if_yes, if_no}
 use Rattle.model.specs.declared.Computed.{Computed}
 use Rattle.model.specs.declared.Computed.TheVariants.{Word, Failed}
-use Rattle.model.specs.Limits.{entry_words, largest_integer, fields_kind, bytes_kind, class_kind, fixed_form, indexed_form, bytes_form, message_fields, block_kind, block_words_of}
-use Rattle.model.specs.Word.{is_natural, pointer, message_class, array_class, block_class}
+use Rattle.model.specs.Limits.{entry_words, largest_integer, fields_kind, bytes_kind, class_kind, fixed_form, indexed_form, bytes_form, message_fields}
+use Rattle.model.specs.Word.{is_natural, pointer, message_class, array_class}
 use Rattle.model.specs.Objects.{Objects, objects_at, is_kind, field_count, form, at_front, part}
 use Rattle.model.specs.Image.{Room}
 use Rattle.model.specs.Rules.{Right}
-use Rattle.model.specs.Primitive.{Outcome, answers, fails, computed, appended, has_room, array_made, message_made, block_made_of, make, new, new_with}
+use Rattle.model.specs.Primitive.{Outcome, answers, fails, computed, appended, has_room, array_made, message_made, make, new, new_with}
 use Rattle.model.proofs.Parts.{length_part}
 use Rattle.model.proofs.Lent.{objects_eq, front_take, front_over}
 use Rattle.words.proofs.Runs.{behind}
@@ -122,20 +122,6 @@ two_words l b v w = ap (λ (k : ℕ). set (set l b v) k w) (next b)
   where
     next : (k : ℕ) → k + 1 ≡ suc k
     next k = omega arith
-
--- A block: its four words are written, then entered.
-pub four_words : (l : List ℕ) (b s t v w : ℕ) → set (set (set (set l b s) (b + 1) t) (b + 2) v) (b + 3) w ≡ sets l b (s ∷ t ∷ v ∷ w ∷ [])
-four_words l b s t v w =
-    let one : b + 1 ≡ suc b = omega arith in
-    let two : b + 2 ≡ suc (suc b) = omega arith in
-    let three : b + 3 ≡ suc (suc (suc b)) = omega arith in
-    λ i. set (set (set (set l b s) (one i) t) (two i) v) (three i) w
-
-pub stands_block : {o : Objects} {word : ℕ} {r : Done} {contents bodies contents' bodies' : List ℕ} (mark start count m : ℕ)
-    → Does o (answers word (appended o block_class block_kind block_words_of (mark ∷ start ∷ count ∷ m ∷ []))) r contents bodies contents' bodies'
-    → Stand (block_made_of o mark start count m) contents bodies contents' bodies'
-unfolding block_made_of
-stands_block mark start count m d = stand_of d
 
 -- and the message behind it
 module _ (n b count selector : ℕ) (contents bodies contents₁ bodies₁ contents' bodies' arguments : List ℕ) (room : MessageRoom n b count contents bodies) (long : length arguments ≡ count)

@@ -1,13 +1,13 @@
 // Primitives 60 to 62, 70, 71, 110 and 111. The definitions are model's specs/Primitive.antt; what fails changes nothing.
 ghost use Rattle.std.specs.Prelude.{◌≡◌, List, [], ◌∷◌, ℕ, ◌+◌, ◌*◌, ◌<◌, ◌≤◌, length, eqb};
-ghost use Rattle.model.specs.Limits.{entry_words, most_objects, most_body_words, fields_kind, message_fields, block_words_of};
+ghost use Rattle.model.specs.Limits.{entry_words, most_objects, most_body_words, fields_kind, message_fields};
 ghost use Rattle.model.specs.Objects.{objects_at, part};
 ghost use Rattle.model.specs.Rules.{IsRight};
-ghost use Rattle.model.specs.Primitive.{answers, has_elements, at, at_put, size_answer, appended, has_room, array_made, message_made, has_message_room, block_made_of, make, new, new_with, computed, perform, primitive_count, primitive};
+ghost use Rattle.model.specs.Primitive.{answers, has_elements, at, at_put, size_answer, appended, has_room, array_made, message_made, has_message_room, make, new, new_with, computed, perform, primitive_count, primitive};
 ghost use Rattle.model.specs.Word.{pointer, boolean_word, message_class};
 ghost use Rattle.primitives.specs.Outcomes.{room_for, done_with, Receives, Puts, Does, DoesAt, Stand, MessageRoom, no_elements, elements_of, index_of};
 
-use model::{CodePosition, Computed, Pointer, limits};
+use model::{Computed, Pointer, limits};
 
 const MOST_OBJECTS: usize = 2047;
 
@@ -20,9 +20,6 @@ const MOST_ELEMENTS: usize = 16383;
 
 // Words of a message.
 const MESSAGE_WORDS: usize = 2;
-
-// and of a block
-const BLOCK_BODY: usize = 4;
 
 // Forms
 const FIXED: usize = 0;
@@ -338,38 +335,6 @@ pub fn make_message(
         b + count,
         selector,
         (2 * (n + 1)) as u16,
-    );
-}
-
-// A block, where there is room for it: its mark, where its code starts, how many arguments it takes, its method.
-pub fn make_block(
-    contents: &mut [u16],
-    bodies: &mut [u16],
-    n: usize,
-    b: usize,
-    mark: u16,
-    start: CodePosition,
-    count: usize,
-    method: Pointer,
-)
-    requires { (n < most_objects) × (b + block_words_of ≤ most_body_words) × (entry_words * (n + 1) ≤ length contents.old) × (b + block_words_of ≤ length bodies.old)
-        × (start.0 < 65536) × (count < 65536) }
-    ensures { Stand (block_made_of (objects_at n b contents.old bodies.old) mark start.0 count method.0)
-        contents.old bodies.old contents.new bodies.new }
-{
-    let from = start.0;
-    bodies[b] = mark;
-    bodies[b + 1] = from as u16;
-    bodies[b + 2] = count as u16;
-    bodies[b + 3] = method.0;
-    append(
-        contents,
-        n,
-        b,
-        Pointer(limits::BLOCK_CLASS),
-        limits::BLOCK,
-        limits::BLOCK_WORDS,
-        BLOCK_BODY,
     );
 }
 

@@ -5,7 +5,7 @@ use mathlib.Core.Bool.{not}
 use mathlib.Core.List.{List}
 use native.Mathlib.Omega.{arith}
 use lib.Dec.{T}
-use Rattle.model.specs.Limits.{class_kind, class_words, list_kind, method_kind, block_kind, block_words_of, selectors_object, special_selectors, primitive_flag}
+use Rattle.model.specs.Limits.{class_kind, class_words, list_kind, method_kind, selectors_object, special_selectors, primitive_flag}
 use Rattle.model.specs.Word.{pointer, object_number}
 use Rattle.model.specs.Objects.{Objects, objects_at, kind, size, sized_in_bytes, body_words, is_kind}
 use Rattle.model.specs.Method.{flag, literal_count}
@@ -37,14 +37,6 @@ module _ {n b : ℕ} {contents bodies : List ℕ} (l : Laid n b contents bodies)
       let z = l.four (object_number c) q.least q.most k in
       let w = in_words o (object_number c) (λ e. omega arith) (λ e. omega arith) in
       kind_inside class_kind t (omega arith)
-
-  pub block_inside : {w i : ℕ} → T (is_kind o block_kind w) → i < block_words_of → Inside n b contents bodies w i
-  block_inside {w} {i} t s =
-      let q = named o block_kind w t in
-      let k = q.kinds in
-      let z = l.block (object_number w) q.least q.most k in
-      let x = in_words o (object_number w) (λ e. omega arith) (λ e. omega arith) in
-      kind_inside block_kind t (omega arith)
 
   -- fields and lists, whose size is in words
   pub word_inside : (k : ℕ) {w i : ℕ} → T (not (sized_in_bytes k)) → T (is_kind o k w) → i < size o (object_number w) → Inside n b contents bodies w i
@@ -83,5 +75,4 @@ right_laid {e} {n} {b} {contents} {bodies} r =
       most_words = most_words r;
       inside = inside r;
       four = λ k h g. (layout r k h g).four;
-      block = λ k h g. (layout r k h g).block;
     }

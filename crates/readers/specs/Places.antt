@@ -1,6 +1,6 @@
 -- Which entries and body words are inside the lent buffers. None of this asks for an edition.
 use Rattle.std.specs.Prelude.{ℕ, ◌+◌, ◌*◌, ◌≤◌, ◌<◌, ◌≡◌, List, length}
-use Rattle.model.specs.Limits.{entry_words, most_objects, most_body_words, class_kind, class_words, block_kind, block_words_of, selectors_object, primitive_flag}
+use Rattle.model.specs.Limits.{entry_words, most_objects, most_body_words, class_kind, class_words, selectors_object, primitive_flag}
 use Rattle.model.specs.Word.{object_number}
 use Rattle.model.specs.Method.{flag, literal_count}
 use Rattle.model.specs.Objects.{objects_at, kind, start, size, body_end}
@@ -26,7 +26,7 @@ pub record CountInside (n b : ℕ) (contents bodies : List ℕ) (m : ℕ) : Type
   pub extended : flag (objects_at n b contents bodies) m ≡ primitive_flag → Inside n b contents bodies m (literal_count (objects_at n b contents bodies) m)
 
 -- What the layout gives a reader: the buffers hold n objects and b body words, no more than an image can have; the objects with a fixed
--- number are there; each body is inside the b words, and a class has its four, and so has a block.
+-- number are there; each body is inside the b words, and a class has its four.
 pub record Laid (n b : ℕ) (contents bodies : List ℕ) : Type 0 where
   pub entries : entry_words * n ≤ length contents
   pub words : b ≤ length bodies
@@ -35,4 +35,3 @@ pub record Laid (n b : ℕ) (contents bodies : List ℕ) : Type 0 where
   pub most_words : b ≤ most_body_words
   pub inside : (k : ℕ) → 1 ≤ k → k ≤ n → body_end (objects_at n b contents bodies) k ≤ b
   pub four : (k : ℕ) → 1 ≤ k → k ≤ n → kind (objects_at n b contents bodies) k ≡ class_kind → size (objects_at n b contents bodies) k ≡ class_words
-  pub block : (k : ℕ) → 1 ≤ k → k ≤ n → kind (objects_at n b contents bodies) k ≡ block_kind → size (objects_at n b contents bodies) k ≡ block_words_of

@@ -1,6 +1,6 @@
 // What an edition has: model's specs/Limits.antt.
 ghost use Rattle.std.specs.Prelude.{◌≡◌};
-ghost use Rattle.model.specs.Limits.{is_edition, has_messages, has_blocks, least_objects, last_kind, last_form};
+ghost use Rattle.model.specs.Limits.{is_edition, has_messages, least_objects, last_kind, last_form};
 
 use model::limits;
 
@@ -17,19 +17,9 @@ pub fn has_messages(edition: u16) -> bool
     2 <= edition
 }
 
-// Whether code makes blocks.
-pub fn has_blocks(edition: u16) -> bool
-    ensures { result ≡ has_blocks edition }
-{
-    3 <= edition
-}
-
 pub fn least_objects(edition: u16) -> u16
     ensures { result ≡ least_objects edition }
 {
-    if has_blocks(edition) {
-        return 9;
-    }
     if has_messages(edition) {
         return 8;
     }
@@ -39,17 +29,11 @@ pub fn least_objects(edition: u16) -> u16
 pub fn last_kind(edition: u16) -> u16
     ensures { result ≡ last_kind edition }
 {
-    if has_blocks(edition) {
-        return limits::BLOCK;
-    }
     limits::METHOD
 }
 
 pub fn last_form(edition: u16) -> u16
     ensures { result ≡ last_form edition }
 {
-    if has_blocks(edition) {
-        return limits::OF_BLOCKS;
-    }
     limits::OTHER
 }

@@ -9,16 +9,16 @@ use borrow.Author.Tests.{eq-eqb, ne_eqb, lt-leb, le-leb, eqb-true}
 use lib.Dec.{eqb, leb, ltb}
 use Rattle.bytecode.specs.Test.{up_to, below, every, implies, all_of}
 use Rattle.bytecode.specs.Constant.{nil_word}
-use Rattle.bytecode.proofs.TestLaws.{true→T, T→true, and_left, and_right}
-use Rattle.model.specs.Limits.{has_messages, failure_selector_object, message_class_object, array_class_object, message_fields, fixed_form, indexed_form, has_blocks, block_class_object, block_form}
+use Rattle.bytecode.proofs.TestLaws.{true→T, T→true, and_right}
+use Rattle.model.specs.Limits.{has_messages, failure_selector_object, message_class_object, array_class_object, message_fields, fixed_form, indexed_form}
 use Rattle.model.specs.Limits.{bytes_kind, class_kind, list_kind, method_kind, other_form, integer_class_object, selectors_object, special_selectors, most_fields, longest_chain, last_form, bytes_form}
-use Rattle.model.specs.Word.{is_natural, pointer, integer_class, message_class, array_class, block_class}
+use Rattle.model.specs.Word.{is_natural, pointer, integer_class, message_class, array_class}
 use Rattle.model.specs.Objects.{Objects, objects_at, class_word, kind, size, body_of, is_kind, is_nil_or, superclass_word, dictionary_word, fields_word, form_word, field_count, form, pair_count, pair_selector, pair_method, entries_at}
 use Rattle.model.specs.Lookup.{ends_within}
-use Rattle.model.specs.Rules.{chain_fine, fits, entry_fine, pair_fine, dictionary_fine, class_rules, message_object_rules, block_object_rules, known_object_rules, object_fine, rule6}
+use Rattle.model.specs.Rules.{chain_fine, fits, entry_fine, pair_fine, dictionary_fine, class_rules, message_object_rules, known_object_rules, object_fine, rule6}
 use Rattle.model.proofs.Parts.{or_right}
 use Rattle.model.proofs.ChainLaws.{ends_class}
-use Rattle.rules.specs.Shape.{fits_form, numbers_fine, kinds_fine, selectors_fine, rises_fine, shape_rules, shape_fine, has_form, class_is}
+use Rattle.rules.specs.Shape.{fits_form, numbers_fine, kinds_fine, selectors_fine, rises_fine, shape_rules, shape_fine, class_is}
 use Rattle.readers.proofs.Loops.{stop, pass, and_true}
 use Rattle.readers.proofs.Names.{names_kind}
 
@@ -53,57 +53,48 @@ pub by_shapes : (e : ℕ) (o : Objects) → all_of (known_object_rules e o) ≡ 
 by_shapes e o t = shaped e o ∙ pass (all_of (known_object_rules e o)) (up_to o.n (shape_fine e o)) t
 
 -- the known objects
-known_order : (a b c d f k s e m w : Bool)
-    → (a && (b && (c && (d && (f && (k && (s && (e && (m && (w && true)))))))))) ≡ ((a && (b && (c && d))) && (f && ((k && (s && e)) && (m && w))))
-known_order false b c d f k s e m w = refl
-known_order true false c d f k s e m w = refl
-known_order true true false d f k s e m w = refl
-known_order true true true false f k s e m w = refl
-known_order true true true true false k s e m w = refl
-known_order true true true true true false s e m w = refl
-known_order true true true true true true false e m w = refl
-known_order true true true true true true true false m w = refl
-known_order true true true true true true true true m w = ap (λ (x : Bool). m && x) (and_true w)
+known_order : (a b c d f k s e m : Bool)
+    → (a && (b && (c && (d && (f && (k && (s && (e && (m && true))))))))) ≡ ((a && (b && (c && d))) && (f && ((k && (s && e)) && m)))
+known_order false b c d f k s e m = refl
+known_order true false c d f k s e m = refl
+known_order true true false d f k s e m = refl
+known_order true true true false f k s e m = refl
+known_order true true true true false k s e m = refl
+known_order true true true true true false s e m = refl
+known_order true true true true true true false e m = refl
+known_order true true true true true true true false m = refl
+known_order true true true true true true true true m = and_true m
 
 module _ (e : ℕ) (o : Objects) where
   abbrev M : Bool
   M = implies (has_messages e) (all_of (message_object_rules o))
 
-  abbrev B : Bool
-  B = implies (has_blocks e) (all_of (block_object_rules o))
-
   abbrev F : Bool
   F = eqb (form o integer_class) other_form
 
-  known_split : all_of (known_object_rules e o) ≡ (kinds_fine o && (F && (selectors_fine o && (M && B))))
+  known_split : all_of (known_object_rules e o) ≡ (kinds_fine o && (F && (selectors_fine o && M)))
   unfolding known_object_rules selectors_fine
   known_split =
       known_order (eqb (kind o 1) 0) (eqb (kind o 2) 0) (eqb (kind o 3) 0) (eqb (kind o 4) 2) F
-      (eqb (kind o selectors_object) list_kind) (eqb (size o selectors_object) special_selectors) (every (is_nil_or o bytes_kind) (body_of o selectors_object)) M B
+      (eqb (kind o selectors_object) list_kind) (eqb (size o selectors_object) special_selectors) (every (is_nil_or o bytes_kind) (body_of o selectors_object)) M
 
   pub no_kinds : kinds_fine o ≡ false → all_of (known_object_rules e o) ≡ false
-  no_kinds t = known_split ∙ stop (kinds_fine o) (F && (selectors_fine o && (M && B))) t
+  no_kinds t = known_split ∙ stop (kinds_fine o) (F && (selectors_fine o && M)) t
 
-  after_kinds : kinds_fine o ≡ true → all_of (known_object_rules e o) ≡ (F && (selectors_fine o && (M && B)))
-  after_kinds t = known_split ∙ pass (kinds_fine o) (F && (selectors_fine o && (M && B))) t
+  after_kinds : kinds_fine o ≡ true → all_of (known_object_rules e o) ≡ (F && (selectors_fine o && M))
+  after_kinds t = known_split ∙ pass (kinds_fine o) (F && (selectors_fine o && M)) t
 
   pub no_form : kinds_fine o ≡ true → form o integer_class ≢ other_form → all_of (known_object_rules e o) ≡ false
-  no_form t f = after_kinds t ∙ stop F (selectors_fine o && (M && B)) (ne_eqb (form o integer_class) other_form f)
+  no_form t f = after_kinds t ∙ stop F (selectors_fine o && M) (ne_eqb (form o integer_class) other_form f)
 
-  after_form : kinds_fine o ≡ true → form o integer_class ≡ other_form → all_of (known_object_rules e o) ≡ (selectors_fine o && (M && B))
-  after_form t f = after_kinds t ∙ pass F (selectors_fine o && (M && B)) (eq-eqb (form o integer_class) other_form f)
+  after_form : kinds_fine o ≡ true → form o integer_class ≡ other_form → all_of (known_object_rules e o) ≡ (selectors_fine o && M)
+  after_form t f = after_kinds t ∙ pass F (selectors_fine o && M) (eq-eqb (form o integer_class) other_form f)
 
   pub no_selectors : kinds_fine o ≡ true → form o integer_class ≡ other_form → selectors_fine o ≡ false → all_of (known_object_rules e o) ≡ false
-  no_selectors t f g = after_form t f ∙ stop (selectors_fine o) (M && B) g
+  no_selectors t f g = after_form t f ∙ stop (selectors_fine o) M g
 
-  after_selectors : kinds_fine o ≡ true → form o integer_class ≡ other_form → selectors_fine o ≡ true → all_of (known_object_rules e o) ≡ (M && B)
-  after_selectors t f g = after_form t f ∙ pass (selectors_fine o) (M && B) g
-
-  pub no_message_objects : kinds_fine o ≡ true → form o integer_class ≡ other_form → selectors_fine o ≡ true → M ≡ false → all_of (known_object_rules e o) ≡ false
-  no_message_objects t f g m = after_selectors t f g ∙ stop M B m
-
-  pub by_blocks : kinds_fine o ≡ true → form o integer_class ≡ other_form → selectors_fine o ≡ true → M ≡ true → all_of (known_object_rules e o) ≡ B
-  by_blocks t f g m = after_selectors t f g ∙ pass M B m
+  pub by_messages : kinds_fine o ≡ true → form o integer_class ≡ other_form → selectors_fine o ≡ true → all_of (known_object_rules e o) ≡ M
+  by_messages t f g = after_form t f ∙ pass (selectors_fine o) M g
 
 pub integer_class_kind : (o : Objects) → 5 ≤ o.n → kinds_fine o ≡ true → is_kind o class_kind integer_class ≡ true
 integer_class_kind o h e = names_kind o integer_class_object class_kind (omega arith) (omega arith) (last (eqb (kind o 1) 0) (eqb (kind o 2) 0) (eqb (kind o 3) 0) e)
@@ -127,28 +118,21 @@ unfolding selectors_fine
 selectors_words o h g = rw (eq-eqb (kind o selectors_object) list_kind h, eq-eqb (size o selectors_object) special_selectors g)
 
 -- a class with a fixed number
-pub no_class : (o : Objects) (k of : ℕ) → kind o k ≢ class_kind → false ≡ has_form o k of
-unfolding has_form
-no_class o k of h = rw (ne_eqb (kind o k) class_kind h)
+module _ (o : Objects) (k of fields : ℕ) where
+  pub no_class : kind o k ≢ class_kind → false ≡ class_is o k of fields
+  unfolding class_is
+  no_class h = rw (ne_eqb (kind o k) class_kind h)
 
-pub by_form : (o : Objects) (k of : ℕ) → kind o k ≡ class_kind → eqb (form o (pointer k)) of ≡ has_form o k of
-unfolding has_form
-by_form o k of h = rw (eq-eqb (kind o k) class_kind h)
+  pub other_form_lem : kind o k ≡ class_kind → form o (pointer k) ≢ of → false ≡ class_is o k of fields
+  unfolding class_is
+  other_form_lem h g = rw (eq-eqb (kind o k) class_kind h, ne_eqb (form o (pointer k)) of g)
 
-pub has_class : (o : Objects) (k of : ℕ) → has_form o k of ≡ true → kind o k ≡ class_kind
-unfolding has_form
-has_class o k of t = eqb-true (kind o k) class_kind (T→true (eqb (kind o k) class_kind) (and_left (eqb (kind o k) class_kind) (eqb (form o (pointer k)) of) (true→T t)))
-
-pub other_class : (o : Objects) (k of fields : ℕ) → has_form o k of ≡ false → false ≡ class_is o k of fields
-unfolding class_is
-other_class o k of fields t = rw t
-
-pub by_fields : (o : Objects) (k of fields : ℕ) → has_form o k of ≡ true → eqb (field_count o (pointer k)) fields ≡ class_is o k of fields
-unfolding class_is
-by_fields o k of fields t = rw t
+  pub by_fields : kind o k ≡ class_kind → form o (pointer k) ≡ of → eqb (field_count o (pointer k)) fields ≡ class_is o k of fields
+  unfolding class_is
+  by_fields h g = rw (eq-eqb (kind o k) class_kind h, eq-eqb (form o (pointer k)) of g)
 
 -- the objects of messages
-message_order : (s k f n l g m : Bool) → (s && (k && (f && (n && (l && (g && (m && true))))))) ≡ (s && (((k && f) && n) && ((l && g) && m)))
+message_order : (s k f n l g m : Bool) → (s && (k && (f && (n && (l && (g && (m && true))))))) ≡ (s && ((k && (f && n)) && (l && (g && m))))
 message_order false k f n l g m = refl
 message_order true false f n l g m = refl
 message_order true true false n l g m = refl
@@ -165,7 +149,7 @@ module _ (e : ℕ) (o : Objects) where
   A = class_is o array_class_object indexed_form 0
 
   message_split : all_of (message_object_rules o) ≡ (eqb (kind o failure_selector_object) bytes_kind && (C && A))
-  unfolding message_object_rules class_is has_form
+  unfolding message_object_rules class_is
   message_split =
       message_order (eqb (kind o 6) 1) (eqb (kind o 7) 2) (eqb (form o message_class) 0) (eqb (field_count o message_class) 2)
       (eqb (kind o 8) 2) (eqb (form o array_class) 1) (eqb (field_count o array_class) 0)
@@ -188,16 +172,6 @@ module _ (e : ℕ) (o : Objects) where
   pub by_array_class : has_messages e ≡ true → kind o failure_selector_object ≡ bytes_kind → C ≡ true → M e o ≡ A
   by_array_class h k c = after_selector h k ∙ pass C A c
 
--- the class of blocks
-pub no_blocks : (e : ℕ) (o : Objects) → has_blocks e ≡ false → B e o ≡ true
-no_blocks e o h = ap (λ (x : Bool). implies x (all_of (block_object_rules o))) h
-
-pub with_blocks : (e : ℕ) (o : Objects) → has_blocks e ≡ true → B e o ≡ has_form o block_class_object block_form
-unfolding block_object_rules has_form
-with_blocks e o h =
-    ap (λ (x : Bool). implies x (all_of (block_object_rules o))) h
-    ∙ ap (λ (x : Bool). eqb (kind o block_class_object) class_kind && x) (and_true (eqb (form o block_class) block_form))
-
 -- kinds do not depend on the bodies
 pub nil_or_entries : (n b : ℕ) (contents bodies : List ℕ) (k : ℕ) (ws : List ℕ) → every (is_nil_or (entries_at n contents) k) ws ≡ every (is_nil_or (objects_at n b contents bodies) k) ws
 unfolding is_kind
@@ -217,22 +191,22 @@ entry_yes e o k t = rw t
 module _ (e f g : ℕ) where
   pub no_fields_number : is_natural 255 f ≡ false → numbers_fine e f g ≡ false
   unfolding numbers_fine
-  no_fields_number t = stop (is_natural 255 f) (is_natural (last_form e) g && implies (leb 2 (g / 2)) (eqb (f / 2) 0)) t
+  no_fields_number t = stop (is_natural 255 f) (is_natural 3 g && implies (leb 2 (g / 2)) (eqb (f / 2) 0)) t
 
-  numbers : is_natural 255 f ≡ true → numbers_fine e f g ≡ (is_natural (last_form e) g && implies (leb 2 (g / 2)) (eqb (f / 2) 0))
+  numbers : is_natural 255 f ≡ true → numbers_fine e f g ≡ (is_natural 3 g && implies (leb 2 (g / 2)) (eqb (f / 2) 0))
   unfolding numbers_fine
-  numbers t = pass (is_natural 255 f) (is_natural (last_form e) g && implies (leb 2 (g / 2)) (eqb (f / 2) 0)) t
+  numbers t = pass (is_natural 255 f) (is_natural 3 g && implies (leb 2 (g / 2)) (eqb (f / 2) 0)) t
 
-  pub no_form_number : is_natural 255 f ≡ true → is_natural (last_form e) g ≡ false → numbers_fine e f g ≡ false
-  no_form_number t h = numbers t ∙ stop (is_natural (last_form e) g) (implies (leb 2 (g / 2)) (eqb (f / 2) 0)) h
+  pub no_form_number : is_natural 255 f ≡ true → is_natural 3 g ≡ false → numbers_fine e f g ≡ false
+  no_form_number t h = numbers t ∙ stop (is_natural 3 g) (implies (leb 2 (g / 2)) (eqb (f / 2) 0)) h
 
-  both_numbers : is_natural 255 f ≡ true → is_natural (last_form e) g ≡ true → numbers_fine e f g ≡ implies (leb 2 (g / 2)) (eqb (f / 2) 0)
-  both_numbers t h = numbers t ∙ pass (is_natural (last_form e) g) (implies (leb 2 (g / 2)) (eqb (f / 2) 0)) h
+  both_numbers : is_natural 255 f ≡ true → is_natural 3 g ≡ true → numbers_fine e f g ≡ implies (leb 2 (g / 2)) (eqb (f / 2) 0)
+  both_numbers t h = numbers t ∙ pass (is_natural 3 g) (implies (leb 2 (g / 2)) (eqb (f / 2) 0)) h
 
-  pub with_fields : is_natural 255 f ≡ true → is_natural (last_form e) g ≡ true → g / 2 < 2 → numbers_fine e f g ≡ true
+  pub with_fields : is_natural 255 f ≡ true → is_natural 3 g ≡ true → g / 2 < 2 → numbers_fine e f g ≡ true
   with_fields t h l = both_numbers t h ∙ ap (λ (x : Bool). implies x (eqb (f / 2) 0)) (lt-leb 2 (g / 2) l)
 
-  pub without_fields : is_natural 255 f ≡ true → is_natural (last_form e) g ≡ true → 2 ≤ g / 2 → numbers_fine e f g ≡ eqb (f / 2) 0
+  pub without_fields : is_natural 255 f ≡ true → is_natural 3 g ≡ true → 2 ≤ g / 2 → numbers_fine e f g ≡ eqb (f / 2) 0
   without_fields t h l = both_numbers t h ∙ ap (λ (x : Bool). implies x (eqb (f / 2) 0)) (le-leb 2 (g / 2) l)
 
 -- the superclass

@@ -2,24 +2,22 @@
 use Prim.Native.Nat.{ℕ, zero, suc, ◌+◌, ◌-◌, ◌/◌, ◌%◌, ◌≤◌}
 use mathlib.Core.Path.{◌≡◌, refl, sym, ap, ◌∙◌, subst}
 use mathlib.Core.Logic.{◌≢◌}
-use mathlib.Core.Bool.{Bool, true, false, ◌&&◌, ◌||◌, not}
+use mathlib.Core.Bool.{Bool, true, false}
 use mathlib.Core.List.{List}
 use native.Mathlib.Omega.{arith}
 use borrow.Author.Tests.{eq-eqb, ne_eqb}
-use lib.Dec.{eqb, leb, eqb→eq}
+use lib.Dec.{eqb, eqb→eq}
 use lib.ListN.{get_or}
-use Rattle.bytecode.specs.Test.{if◌then◌else◌, up_to, every, implies, all_of}
+use Rattle.bytecode.specs.Test.{if◌then◌else◌, up_to, every, all_of}
 use Rattle.bytecode.proofs.Choice.{if_yes, if_no}
 use Rattle.bytecode.proofs.TestLaws.{true→T, and_left, and_right, up_to_at}
-use Rattle.model.specs.Limits.{class_kind, class_words, block_kind, block_words_of, last_kind}
 use Rattle.model.specs.Word.{is_valid}
 use Rattle.model.specs.Objects.{Objects, objects_at, class_word, kind, start, size, sized_in_bytes, body_words, body_end, body_of}
-use Rattle.model.specs.Rules.{start_fine_of, padding_fine, layout_rules, holds_words, words_fine, rule4}
+use Rattle.model.specs.Rules.{start_fine_of, padding_fine, layout_rules, words_fine, rule4}
 use Rattle.model.proofs.Facts.{Layout, layout_facts, in_bytes, five_least}
 use Rattle.readers.specs.Places.{Laid}
 use Rattle.rules.specs.Lent.{Lent, start_of}
-use Rattle.rules.specs.Shape.{size_fine}
-use Rattle.readers.proofs.Loops.{UpBefore, up_all, up_no, and_true}
+use Rattle.readers.proofs.Loops.{UpBefore, up_all, up_no}
 
 -- where a body has to start
 pub start_fine : (o : Objects) (k : ℕ) → start_fine_of o k ≡ eqb (start o k) (start_of o k)
@@ -46,18 +44,6 @@ start_yes o k e = start_fine o k ∙ eq-eqb (start o k) (start_of o k) e
 
 pub start_no : (o : Objects) (k : ℕ) → start o k ≢ start_of o k → start_fine_of o k ≡ false
 start_no o k e = start_fine o k ∙ ne_eqb (start o k) (start_of o k) e
-
--- the rules of an object in the order in which they are tested
-pub layout_tests : (e : ℕ) (o : Objects) (k : ℕ) → all_of (layout_rules e o k) ≡ (leb (kind o k) (last_kind e) && (start_fine_of o k && (size_fine (kind o k) (size o k) && padding_fine o k)))
-unfolding layout_rules
-layout_tests e o k =
-    ap (λ (x : Bool). leb (kind o k) (last_kind e) && (start_fine_of o k && x))
-    (go (implies (eqb (kind o k) class_kind) (eqb (size o k) class_words)) (implies (eqb (kind o k) block_kind) (eqb (size o k) block_words_of)))
-  where
-    go : (a b : Bool) → (a && (b && (padding_fine o k && true))) ≡ ((a && b) && padding_fine o k)
-    go false b = refl
-    go true false = refl
-    go true true = and_true (padding_fine o k)
 
 -- padding
 pub padding_none : (o : Objects) (k : ℕ) → sized_in_bytes (kind o k) ≡ false → padding_fine o k ≡ true
@@ -88,7 +74,7 @@ laid_all e o k from h t s f =
     (ap (λ (x : ℕ). eqb x o.b) (s ∙ ap (start_of o) t ∙ start_next o o.n h))
 
 module _ (e : ℕ) (o : Objects) (laid : rule4 e o ≡ true) where
-  pub layout_at : (k : ℕ) → 1 ≤ k → k ≤ o.n → Layout e o k
+  pub layout_at : (k : ℕ) → 1 ≤ k → k ≤ o.n → Layout o k
   unfolding rule4
   layout_at k h g =
       layout_facts e o k (up_to_at o.n (λ k. all_of (layout_rules e o k)) (and_left (up_to o.n (λ k. all_of (layout_rules e o k))) (eqb (body_end o o.n) o.b) (true→T laid)) k h g)
@@ -129,7 +115,6 @@ layout_laid e n b contents bodies l t =
       most_words = l.most_words;
       inside = inside_at e o t;
       four = λ k h g. (layout_at e o t k h g).four;
-      block = λ k h g. (layout_at e o t k h g).block;
     }
 
 -- Rule 5 of an object
@@ -137,17 +122,10 @@ pub words_no : (o : Objects) (k : ℕ) → is_valid o.n (class_word o k) ≡ fal
 unfolding words_fine
 words_no o k e = rw e
 
-pub words_other : (o : Objects) (k : ℕ) → is_valid o.n (class_word o k) ≡ true → holds_words (kind o k) ≡ false → true ≡ words_fine o k
+pub words_bytes : (o : Objects) (k : ℕ) → is_valid o.n (class_word o k) ≡ true → sized_in_bytes (kind o k) ≡ true → true ≡ words_fine o k
 unfolding words_fine
-words_other o k e t = rw (e, t)
+words_bytes o k e t = rw (e, t)
 
-pub words_all : (o : Objects) (k : ℕ) → is_valid o.n (class_word o k) ≡ true → holds_words (kind o k) ≡ true → every (is_valid o.n) (body_of o k) ≡ words_fine o k
+pub words_all : (o : Objects) (k : ℕ) → is_valid o.n (class_word o k) ≡ true → sized_in_bytes (kind o k) ≡ false → every (is_valid o.n) (body_of o k) ≡ words_fine o k
 unfolding words_fine
 words_all o k e t = rw (e, t)
-
-pub words_sized : (k : ℕ) → holds_words k ≡ true → sized_in_bytes k ≡ false
-words_sized k t = go (sized_in_bytes k) (eqb k block_kind) t
-  where
-    go : (a b : Bool) → not (a || b) ≡ true → a ≡ false
-    go false b e = refl
-    go true b e = sym e

@@ -1,17 +1,12 @@
--- Rules 4 and 6 in the parts in which they are tested: the sizes of classes and blocks together, F and form of a class together, the kinds of the objects 1 to 4
--- together, a class with a fixed number.
+-- Rule 6 in the parts in which it is tested: F and form of a class together, the kinds of the objects 1 to 4 together, a class with a fixed number.
 use Rattle.std.specs.Prelude.{ℕ, ◌/◌, Bool, false, ◌&&◌, not, List, [], ◌∷◌, leb, eqb}
 use Rattle.bytecode.specs.Test.{if◌then◌else◌, implies, every, all_of}
 use Rattle.bytecode.specs.Constant.{nil_word}
-use Rattle.model.specs.Limits.{fields_kind, bytes_kind, class_kind, list_kind, method_kind, block_kind, fixed_form, indexed_form, bytes_form, other_form, block_form, class_words, block_words_of}
+use Rattle.model.specs.Limits.{fields_kind, bytes_kind, class_kind, list_kind, method_kind, fixed_form, indexed_form, bytes_form, other_form}
 use Rattle.model.specs.Limits.{last_form, most_fields, nil_object, false_object, true_object, integer_class_object, selectors_object, special_selectors}
 use Rattle.model.specs.Word.{is_natural, pointer}
 use Rattle.model.specs.Objects.{Objects, kind, size, body_of, is_kind, is_nil_or, superclass_word, dictionary_word, fields_word, form_word, field_count, form}
 use Rattle.model.specs.Rules.{entry_fine, dictionary_fine}
-
--- the size of a class or a block
-abbrev pub size_fine : ℕ → ℕ → Bool
-size_fine kind size = implies (eqb kind class_kind) (eqb size class_words) && implies (eqb kind block_kind) (eqb size block_words_of)
 
 -- whether an object of this kind and size fits a class of this form and F
 unfoldable pub fits_form : ℕ → ℕ → ℕ → ℕ → Bool
@@ -20,7 +15,6 @@ fits_form form fields kind size =
     if eqb form indexed_form then eqb kind fields_kind && leb fields size else
     if eqb form bytes_form then eqb kind bytes_kind else
     if eqb form other_form then leb class_kind kind && leb kind method_kind else
-    if eqb form block_form then eqb kind block_kind else
     false
 
 -- F and form of a class, given by their words
@@ -55,9 +49,6 @@ selectors_fine o =
     eqb (kind o selectors_object) list_kind
     && (eqb (size o selectors_object) special_selectors && every (is_nil_or o bytes_kind) (body_of o selectors_object))
 
--- object k is a class of this form, and has this F
-unfoldable pub has_form : Objects → ℕ → ℕ → Bool
-has_form o k of = eqb (kind o k) class_kind && eqb (form o (pointer k)) of
-
+-- object k is a class of this form and F
 unfoldable pub class_is : Objects → ℕ → ℕ → ℕ → Bool
-class_is o k of fields = has_form o k of && eqb (field_count o (pointer k)) fields
+class_is o k of fields = eqb (kind o k) class_kind && (eqb (form o (pointer k)) of && eqb (field_count o (pointer k)) fields)

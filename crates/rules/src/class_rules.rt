@@ -1,13 +1,13 @@
 // Rules 14 and 6 of an object, in words whose layout is right. specs/Shape.antt has the parts of rule 6.
 ghost use Rattle.std.specs.Prelude.{◌≡◌, true, ◌-◌, ◌*◌, ◌<◌, ◌≤◌, ltb, length};
 ghost use Rattle.bytecode.specs.Test.{up_to, below, every, implies, all_of};
-ghost use Rattle.model.specs.Limits.{has_messages, has_blocks, least_objects, entry_words, class_kind, list_kind, longest_chain};
+ghost use Rattle.model.specs.Limits.{has_messages, least_objects, entry_words, class_kind, list_kind, longest_chain};
 ghost use Rattle.model.specs.Word.{is_natural};
 ghost use Rattle.model.specs.Objects.{objects_at, is_kind, is_nil_or, superclass_word, pair_count, pair_selector, entries_at};
 ghost use Rattle.model.specs.Lookup.{ends_within};
-ghost use Rattle.model.specs.Rules.{chain_fine, entry_fine, pair_fine, dictionary_fine, message_object_rules, block_object_rules, known_object_rules};
+ghost use Rattle.model.specs.Rules.{chain_fine, entry_fine, pair_fine, dictionary_fine, message_object_rules, known_object_rules};
 ghost use Rattle.readers.specs.Places.{Laid};
-ghost use Rattle.rules.specs.Shape.{fits_form, numbers_fine, kinds_fine, selectors_fine, rises_fine, shape_rules, shape_fine, has_form, class_is};
+ghost use Rattle.rules.specs.Shape.{fits_form, numbers_fine, kinds_fine, selectors_fine, rises_fine, shape_rules, shape_fine, class_is};
 
 use model::{Pointer, limits};
 
@@ -35,9 +35,6 @@ fn fits_form(form: u16, fields: u16, of: u16, words: u16) -> bool
             return false;
         }
         return of <= limits::METHOD;
-    }
-    if form == limits::OF_BLOCKS {
-        return of == limits::BLOCK;
     }
     false
 }
@@ -71,7 +68,7 @@ fn is_natural(most: u16, w: u16) -> bool
     w / 2 <= most
 }
 
-// F is at most 255 and the form at most the edition's last; the forms from 2 on have F = 0.
+// F is at most 255 and the form at most 3; the forms 2 and 3 have F = 0.
 fn numbers_fine(edition: u16, fields: u16, form: u16) -> bool
     ensures { result ≡ numbers_fine edition fields form }
 {
@@ -288,19 +285,7 @@ fn selectors_fine(contents: &[u16], bodies: &[u16], n: usize, b: usize) -> bool
     nil_or_words(contents, n, limits::BYTES, &bodies[from..end])
 }
 
-// An object with a fixed number is a class of this form.
-fn has_form(contents: &[u16], bodies: &[u16], n: usize, b: usize, k: usize, form: u16) -> bool
-    requires { Laid n b contents.now bodies.now × (1 ≤ k) × (k ≤ n) }
-    ensures { result ≡ has_form (objects_at n b contents.now bodies.now) k form }
-{
-    if readers::kind(contents, n, k) != limits::CLASS {
-        return false;
-    }
-    let c = (2 * k) as u16;
-    readers::word_of(contents, bodies, n, b, Pointer(c), limits::FORM_WORD) / 2 == form
-}
-
-// An object with a fixed number is a class of this form and F.
+// A class with a fixed number has this form and F.
 fn class_is(
     contents: &[u16],
     bodies: &[u16],
@@ -313,11 +298,14 @@ fn class_is(
     requires { Laid n b contents.now bodies.now × (1 ≤ k) × (k ≤ n) }
     ensures { result ≡ class_is (objects_at n b contents.now bodies.now) k form fields }
 {
-    if !has_form(contents, bodies, n, b, k, form) {
+    if readers::kind(contents, n, k) != limits::CLASS {
         return false;
     }
-    let c = (2 * k) as u16;
-    readers::word_of(contents, bodies, n, b, Pointer(c), limits::FIELDS_WORD) / 2 == fields
+    let c = Pointer((2 * k) as u16);
+    if readers::word_of(contents, bodies, n, b, c, limits::FORM_WORD) / 2 != form {
+        return false;
+    }
+    readers::word_of(contents, bodies, n, b, c, limits::FIELDS_WORD) / 2 == fields
 }
 
 // The objects of messages, in editions that have them: 6 is a selector, 7 the class of messages, 8 that of arrays.
@@ -353,24 +341,6 @@ fn messages_fine(edition: u16, contents: &[u16], bodies: &[u16], n: usize, b: us
     )
 }
 
-// The class of blocks, in editions that have them.
-fn blocks_fine(edition: u16, contents: &[u16], bodies: &[u16], n: usize, b: usize) -> bool
-    requires { Laid n b contents.now bodies.now × (least_objects edition ≤ n) }
-    ensures { result ≡ implies (has_blocks edition) (all_of (block_object_rules (objects_at n b contents.now bodies.now))) }
-{
-    if !readers::edition::has_blocks(edition) {
-        return true;
-    }
-    has_form(
-        contents,
-        bodies,
-        n,
-        b,
-        limits::BLOCK_CLASS_OBJECT,
-        limits::OF_BLOCKS,
-    )
-}
-
 // The objects with a fixed number.
 pub fn known_fine(edition: u16, contents: &[u16], bodies: &[u16], n: usize, b: usize) -> bool
     requires { Laid n b contents.now bodies.now × (least_objects edition ≤ n) }
@@ -394,8 +364,5 @@ pub fn known_fine(edition: u16, contents: &[u16], bodies: &[u16], n: usize, b: u
     if !selectors_fine(contents, bodies, n, b) {
         return false;
     }
-    if !messages_fine(edition, contents, bodies, n, b) {
-        return false;
-    }
-    blocks_fine(edition, contents, bodies, n, b)
+    messages_fine(edition, contents, bodies, n, b)
 }

@@ -1,12 +1,11 @@
 // The image rules 4, 5, 14 and 6 over the lent words. The definitions are model's specs/Rules.antt.
-ghost use Rattle.std.specs.Prelude.{◌≡◌, ◌≤◌, length};
-ghost use Rattle.bytecode.specs.Test.{all_of};
-ghost use Rattle.model.specs.Limits.{least_objects};
+ghost use Rattle.std.specs.Prelude.{◌≡◌, ◌≤◌, eqb, length};
+ghost use Rattle.bytecode.specs.Test.{implies, all_of};
+ghost use Rattle.model.specs.Limits.{least_objects, class_kind, class_words};
 ghost use Rattle.model.specs.Objects.{objects_at};
-ghost use Rattle.model.specs.Rules.{padding_fine, layout_rules, holds_words, words_fine, rule4, rule5, rule14, rule6};
+ghost use Rattle.model.specs.Rules.{padding_fine, layout_rules, words_fine, rule4, rule5, rule14, rule6};
 ghost use Rattle.readers.specs.Places.{Entry, Laid};
 ghost use Rattle.rules.specs.Lent.{Lent, start_of};
-ghost use Rattle.rules.specs.Shape.{size_fine};
 
 use model::limits;
 
@@ -28,17 +27,14 @@ fn padding(contents: &[u16], bodies: &[u16], n: usize, b: usize, k: usize) -> bo
     readers::word_at(bodies, b, last) % 256 == 0
 }
 
-// A class has 4 words, and so has a block.
-fn size_fine(of: u16, words: u16) -> bool
-    ensures { result ≡ size_fine of words }
+// A class has 4 words.
+fn class_size(of: u16, words: u16) -> bool
+    ensures { result ≡ implies (eqb of class_kind) (eqb words class_words) }
 {
-    if of == limits::CLASS {
-        return words == limits::CLASS_WORDS;
+    if of != limits::CLASS {
+        return true;
     }
-    if of == limits::BLOCK {
-        return words == limits::BLOCK_WORDS;
-    }
-    true
+    words == limits::CLASS_WORDS
 }
 
 // The layout of one object: `from` is where the body before it ends.
@@ -61,7 +57,7 @@ fn object_layout(
     if readers::start(contents, n, k) as usize != from {
         return false;
     }
-    if !size_fine(of, readers::size(contents, n, k)) {
+    if !class_size(of, readers::size(contents, n, k)) {
         return false;
     }
     padding(contents, bodies, n, b, k)
@@ -84,17 +80,7 @@ pub fn layout(edition: u16, contents: &[u16], bodies: &[u16], n: usize, b: usize
     from == b
 }
 
-// Kinds whose words have to be valid.
-fn holds_words(of: u16) -> bool
-    ensures { result ≡ holds_words of }
-{
-    if readers::in_bytes(of) {
-        return false;
-    }
-    of != limits::BLOCK
-}
-
-// The class of object k, and the words of its body unless it is of bytes or a block.
+// The class of object k, and the words of its body unless they are bytes.
 fn object_words(contents: &[u16], bodies: &[u16], n: usize, b: usize, k: usize) -> bool
     requires { Laid n b contents.now bodies.now × ((1 ≤ k) × (k ≤ n)) }
     ensures { result ≡ words_fine (objects_at n b contents.now bodies.now) k }
@@ -102,7 +88,7 @@ fn object_words(contents: &[u16], bodies: &[u16], n: usize, b: usize, k: usize) 
     if !readers::is_valid(n, readers::class_word(contents, n, k)) {
         return false;
     }
-    if !holds_words(readers::kind(contents, n, k)) {
+    if readers::in_bytes(readers::kind(contents, n, k)) {
         return true;
     }
     let from = readers::start(contents, n, k) as usize;

@@ -9,18 +9,15 @@ use Rattle.model.specs.Image.{Room, accepted}
 use Rattle.model.specs.Objects.{objects_at}
 use Rattle.model.specs.Rules.{Right}
 use Rattle.model.proofs.Facts.{most, most_words}
-use Rattle.model.specs.Method.{temporary_count}
-use Rattle.model.proofs.Extends.{Extends, temporaries_same}
-use Rattle.plain.specs.State.{no_mark}
+use Rattle.model.proofs.Extends.{Extends}
 use Rattle.plain.specs.Step.{Stepped, step}
 use Rattle.plain.specs.Registers.{Registers}
-use Rattle.plain.specs.Flat.{Flat, flat, room_of, plain_of, frame_method, frame_mark}
+use Rattle.plain.specs.Flat.{Flat, flat, room_of, plain_of}
 use Rattle.plain.specs.Check.{check}
 use Rattle.plain.specs.Running.{Runs, running_with, finished_with, running_at, room_at, Made}
 use Rattle.plain.specs.RunLoop.{top_end, Turn}
 use Rattle.plain.proofs.FlatLaws.{FlatRight, check_right}
-use Rattle.plain.proofs.RunningLaws.{is_method, top_bounds}
-use Rattle.plain.proofs.OldEditions.{top_unmarked, plain_own, plain_home}
+use Rattle.plain.proofs.RunningLaws.{top_bounds}
 use Rattle.plain.proofs.MadeLaws.{made_as, running_is, running_runs}
 use Rattle.plain.proofs.LoopLaws.{top_end_is, turn_start, loop_out, loop_halts, loop_extends, loop_level, loop_next, loop_over, made_few}
 use Rattle.cache.specs.Caches.{Caches}
@@ -29,7 +26,7 @@ use Rattle.model.specs.declared.StackPosition.{StackPosition}
 use Rattle.frames.specs.declared.Active.{Active}
 use Rattle.frames.specs.declared.Message.{Message}
 use Rattle.frames.specs.Active.{written, moved_on, Stands, IsActive, Held, Onward, Leaving, frame_end}
-use Rattle.frames.proofs.ActiveLaws.{length_written, word_written, method_read, leaving, stands_onward, held_stands}
+use Rattle.frames.proofs.ActiveLaws.{length_written, leaving, stands_onward}
 use Rattle.interpreter.specs.declared.Advanced.{Advanced}
 use Rattle.sends.specs.Sends.{Halts}
 use Rattle.interpreter.specs.Advances.{AdvancedIs, step_of}
@@ -169,7 +166,7 @@ module _ (s₀ : Flat) (grant edition receiver selector n b top : ℕ) (contents
 
 pub record Loop (s₀ : Flat) (grant edition receiver selector n b : ℕ) (a : Active) (contents bodies stack cache : List ℕ) (left reach read : ℕ) : Type 0 where
   pub at : LoopAt s₀ grant edition receiver selector n b a.base.0 contents bodies (written a stack) cache (grant - left) reach read
-  pub stands : Stands n b contents bodies (written a stack) a
+  pub stands : Stands n b contents bodies stack a
   pub within : left ≤ grant
 
 pub loop_holds_it : {s₀ : Flat} {grant edition receiver selector n b top : ℕ} {contents bodies stack cache : List ℕ} {reach read : ℕ}
@@ -180,7 +177,7 @@ loop_holds_it {s₀} {grant} {edition} {receiver} {selector} {n} {b} {top} {cont
       at = subst (λ (c : ℕ). LoopAt s₀ grant edition receiver selector n b a.base.0 contents bodies (written a stack) cache c reach read) (none grant)
           (subst (λ (t : ℕ). LoopAt s₀ grant edition receiver selector n b t contents bodies (written a stack) cache 0 reach read) (sym h.base)
           (subst (λ (s : List ℕ). LoopAt s₀ grant edition receiver selector n b top contents bodies s cache 0 reach read) (sym h.same) l));
-      stands = held_stands h;
+      stands = h.stands;
       within = omega arith;
     }
   where
@@ -261,7 +258,7 @@ module _ {s₀ : Flat} {grant edition receiver selector n b : ℕ} {a : Active} 
 
     -- a frame is held, with one bytecode less to make
     holds : (n' b' : ℕ) (f : Active) (reach' read' : ℕ)
-        → LoopAt s₀ grant edition receiver selector n' b' f.base.0 contents' bodies' (written f stack') cache' (grant - left + 1) reach' read' → Stands n' b' contents' bodies' (written f stack') f
+        → LoopAt s₀ grant edition receiver selector n' b' f.base.0 contents' bodies' (written f stack') cache' (grant - left + 1) reach' read' → Stands n' b' contents' bodies' stack' f
         → Loop s₀ grant edition receiver selector n' b' f contents' bodies' stack' cache' (left - 1) reach' read'
     holds n' b' f reach' read' h s =
         record {
@@ -276,18 +273,12 @@ module _ {s₀ : Flat} {grant edition receiver selector n b : ℕ} {a : Active} 
         (written (moved_on a q e) stack') cache' → Onward a stack stack' e.0 → (reach' read' : ℕ) → reach' ≡ reach → read' ≡ read + d
         → Loop s₀ grant edition receiver selector n' b' (moved_on a q e) contents' bodies' stack' cache' (left - 1) reach' read'
     goes_on n' b' q e m w reach' read' g k =
-        let v' = written (moved_on a q e) stack' in
-        let base = a.base.0 in
-        let at' = level_at s₀ grant edition receiver selector n b base contents bodies v cache (grant - left) reach read l.at fewer contents' bodies' v' cache' n' b' base m refl reach' read' g k in
-        let x = extends_at s₀ grant edition receiver selector n b base contents bodies v cache (grant - left) reach read l.at fewer contents' bodies' v' cache' n' b' base m in
-        let r = loop_active.runs in
-        let mark : frame_mark v base ≡ no_mark = top_unmarked r in
-        let mark' : frame_mark v' base ≡ no_mark = top_unmarked (loop_runs s₀ grant edition receiver selector n' b' base contents' bodies' v' cache' (grant - left + 1) reach' read' at') in
-        let same : frame_method v' base ≡ frame_method v base = word_written (moved_on a q e) stack' (base + 3) (omega arith) ∙ w.method ∙ sym (method_read loop_active) in
-        let own = plain_own n' b' base contents' bodies' v' mark' ∙ ap (temporary_count (objects_at n' b' contents' bodies')) same
-        ∙ temporaries_same x r.right (frame_method v base) (is_method r) ∙ sym (plain_own n b base contents bodies v mark) in
-        holds n' b' (moved_on a q e) reach' read' at'
-        (stands_onward n' b' contents' bodies' loop_active x q e w own (plain_home v' base mark' ∙ sym (plain_home v base mark)))
+        holds n' b' (moved_on a q e) reach' read'
+        (level_at s₀ grant edition receiver selector n b a.base.0 contents bodies v cache (grant - left) reach read l.at fewer contents' bodies' (written (moved_on a q e) stack') cache' n' b'
+        a.base.0 m refl reach' read' g k)
+        (stands_onward n' b' contents' bodies' loop_active
+        (extends_at s₀ grant edition receiver selector n b a.base.0 contents bodies v cache (grant - left) reach read l.at fewer contents' bodies' (written (moved_on a q e) stack') cache' n' b'
+        a.base.0 m) q e w)
 
     pub loop_next_one : (q : CodePosition) (e : StackPosition) → y ≡ A.Next q e → Loop s₀ grant edition receiver selector n b (moved_on a q e) contents' bodies' stack' cache' (left - 1) reach read
     loop_next_one q e d =
@@ -316,7 +307,7 @@ module _ {s₀ : Flat} {grant edition receiver selector n b : ℕ} {a : Active} 
           holds n b f reach' read'
           (subst (λ (s : List ℕ). LoopAt s₀ grant edition receiver selector n b f.base.0 contents' bodies' s cache' (grant - left + 1) reach' read') (sym m.1.same)
           (other_at s₀ grant edition receiver selector n b a.base.0 contents bodies v cache (grant - left) reach read l.at fewer contents' bodies' stack' cache' n b f.base.0 m.0 reach' read'
-          (h ∙ ap (max reach) m.2) k)) (held_stands m.1)
+          (h ∙ ap (max reach) m.2) k)) m.1.stands
 
       pub entered_few : d ≤ longest_chain
       entered_few = reads_few was_entered.0

@@ -2,12 +2,11 @@
 use Prim.Native.Nat.{ℕ, suc, ◌+◌, ◌-◌, ◌≤◌, ◌<◌}
 use mathlib.Core.Path.{◌≡◌, refl, sym, ap, ap₂, ◌∙◌, subst}
 use mathlib.Core.Bool.{true, false}
-use mathlib.Core.List.{List, ◌++◌}
+use mathlib.Core.List.{List}
 use native.Mathlib.Omega.{arith}
 use lib.Dec.{T}
-use lib.ListN.{length, get_or, set, drop, replicate, length-set, length-drop}
-use lib.Seq.{sets, length-take-le}
-use Rattle.bytecode.specs.Constant.{nil_word}
+use lib.ListN.{length, get_or, set, length-set}
+use lib.Seq.{sets}
 use Rattle.bytecode.proofs.Choice.{if_yes, if_no}
 use Rattle.bytecode.proofs.TestLaws.{true→T}
 use Rattle.model.specs.Word.{is_valid}
@@ -19,9 +18,9 @@ use Rattle.model.specs.Image.{Room}
 use Rattle.model.proofs.LookupLaws.{read_few}
 use Rattle.plain.specs.Registers.{no_stack_room}
 use Rattle.plain.specs.Step.{looked, Stepped, Activation, entered, unfit, entering, activate}
-use Rattle.plain.specs.Flat.{frame_depth, frame_method}
+use Rattle.plain.specs.Flat.{frame_depth, frame_method, operands_start}
 use Rattle.plain.specs.Cache.{filled}
-use Rattle.plain.specs.Running.{running_with, room_at, top_operands, Made, Sending, sent_receiver, sent_arguments, send_step, failed_step}
+use Rattle.plain.specs.Running.{running_with, room_at, Made, Sending, sent_receiver, sent_arguments, send_step, failed_step}
 use Rattle.plain.proofs.FrameLaws.{fits}
 use Rattle.plain.proofs.RunningLaws.{top_bounds, is_method}
 use Rattle.plain.proofs.FramedLaws.{receiver_valid, arguments_here, found_method, found_arguments, found_fits, send_none, send_unfit, send_full, answered_made, entered_made}
@@ -30,7 +29,7 @@ use Rattle.frames.specs.declared.Active.{Active}
 use Rattle.frames.specs.declared.Message.{Message}
 use Rattle.frames.specs.Active.{written, IsActive, Onward, Held, frame_end}
 use Rattle.frames.proofs.ActiveLaws.{Ends, ends, length_written, word_written, part_written, method_read, depth_read, operands_read, moves_on, puts, put_method}
-use Rattle.frames.proofs.FreshLaws.{temporaries_long, new_method, new_held}
+use Rattle.frames.proofs.FreshLaws.{new_method, new_held}
 use Rattle.activation.specs.declared.Activated.{Activated}
 use Rattle.activation.specs.declared.Activated.TheVariants.{Answer, Frame, Unfit}
 use Rattle.activation.specs.Activating.{Activable, Answers, Leaves, ActivatedIs, Activates}
@@ -78,7 +77,7 @@ module _ {n b : ℕ} {contents bodies stack : List ℕ} {a : Active} {q : Messag
   pub sent_ends : Ends a stack
   sent_ends = ends r
 
-  place_is : place ≡ top_operands n b top contents bodies v + (frame_depth v top - suc count)
+  place_is : place ≡ operands_start o (frame_method v top) top + (frame_depth v top - suc count)
   place_is = let k = sent_needs in let e = ends r in let d = depth_read r in let f = operands_read r in omega arith
 
   receiver_read : get_or stack place 0 ≡ receiver
@@ -207,12 +206,12 @@ module _ {n b : ℕ} {contents bodies stack : List ℕ} {a : Active} {q : Messag
               }
 
           -- one that fits
-          module _ (f : Active) (temporaries end : ℕ) (z : y ≡ base.At f temporaries end) (near : q.next.0 < 65536) where
+          module _ (f : Active) (temporaries end : ℕ) (z : y ≡ base.At f temporaries end) where
             frame_at : FrameAt o (length v) top (frame_method v top) m receiver f temporaries end
             frame_at = subst (BaseIs o (length v) top (frame_method v top) m receiver) z base_is
 
-            pub enters_there : Enters stack top q.next.0 (place - a.operands.0) f.base.0 temporaries (place + 1) count
-            enters_there =
+            pub enters_there : q.next.0 < 65536 → Enters stack top q.next.0 (place - a.operands.0) f.base.0 temporaries (place + 1) count
+            enters_there l =
                 let t = top_bounds s.runs in
                 let g = ends r in
                 let k = sent_needs in
@@ -223,7 +222,7 @@ module _ {n b : ℕ} {contents bodies stack : List ℕ} {a : Active} {q : Messag
                 let ho = frame_at.holds in
                 let tf = found_fits s m e edition room (enters frame_at.chain) in
                 let fa = found_arguments s m e in
-                record { below = omega arith; least = omega arith; position = near; depth = omega arith; arguments = omega arith; fits = omega arith; few = omega arith; most = omega arith }
+                record { below = omega arith; least = omega arith; position = l; depth = omega arith; arguments = omega arith; fits = omega arith; few = omega arith; most = omega arith }
 
             -- the stack before the frame is written, with the top frame's words
             abbrev moved : List ℕ
@@ -232,18 +231,13 @@ module _ {n b : ℕ} {contents bodies stack : List ℕ} {a : Active} {q : Messag
             moved_is : moved ≡ set (set v (top + 1) q.next.0) (top + 2) (frame_depth v top - suc count)
             moved_is = moves_on a stack q.next (record { 0 = place }) ∙ ap (λ (t : ℕ). set (set v (top + 1) q.next.0) (top + 2) t) left_is
 
-            -- the words above the first six
-            abbrev tail : List ℕ
-            tail = part stack (place + 1) count ++ replicate (temporaries - length (part stack (place + 1) count)) nil_word
-
-            room_there : f.base.0 + (6 + length tail) ≤ length moved
+            room_there : f.base.0 + 6 ≤ length moved
             room_there =
-                let k = enters_there in
-                let w : length (part stack (place + 1) count) ≡ count = length-take-le count (drop (place + 1) stack) (let d = length-drop (place + 1) stack in let g = k.arguments in omega arith) in
-                let t = temporaries_long (part stack (place + 1) count) temporaries (let g = k.few in omega arith) in
+                let w = length_written a stack in
+                let ft = (fits (length v) (top + frame_size o (frame_method v top)) (frame_size o m) (true→T frame_at.fits)).inside in
+                let ab = frame_at.above in
                 let i = length-set stack (top + 1) q.next.0 in
                 let j = length-set (set stack (top + 1) q.next.0) (top + 2) (place - a.operands.0) in
-                let g = k.fits in
                 omega arith
 
             module _ (stack' cache' : List ℕ) (es : stack' ≡ sets moved f.base.0 (new_words top m (get_or stack place 0) temporaries (part stack (place + 1) count))) where
@@ -259,7 +253,7 @@ module _ {n b : ℕ} {contents bodies stack : List ℕ} {a : Active} {q : Messag
                   ∙ ap₂ (λ (c d : List ℕ). f.base.0 + frame_size (objects_at n b c d) (frame_method stack' f.base.0)) (sym leaves.entries) (sym leaves.words)
                 where
                   method : frame_method stack' f.base.0 ≡ m
-                  method = new_method n b contents bodies frame_at.fresh moved stack' top 0 (get_or stack place 0) tail es room_there
+                  method = new_method n b contents bodies frame_at.fresh moved stack' top (get_or stack place 0) temporaries (part stack (place + 1) count) es room_there
 
               pub made_frame : {d : ℕ} → d ≡ dictionaries_read o q.selector q.class.0 → cache' ≡ filled cache (looked q.selector q.class.0 m d) → (receiver₀ selector₀ : ℕ)
                   → Made (step cache edition receiver₀ selector₀) d (running_with edition receiver₀ selector₀ n b f.base.0) contents bodies v cache contents' bodies' stack' cache'

@@ -38,7 +38,7 @@ pub record FrameAt (o : Objects) (room top running m receiver : ℕ) (f : Active
   pub holds : temporaries ≡ temporary_count o m
   pub fits : fits_stack room (top + frame_size o running) (frame_size o m) ≡ true
   pub ends : end ≡ f.base.0 + frame_size o m
-  pub fresh : Fresh o m (temporary_count o m) 0 0 f.base.0 f
+  pub fresh : Fresh o m f
 
 pub record NoFrame (o : Objects) (room top running m receiver : ℕ) : Type 0 where
   pub chain : in_chain o (home o m) (class_of o receiver) ≡ true

@@ -140,7 +140,6 @@ fn new_frame(
     Base::At {
         frame: Active {
             base: base,
-            home: base,
             code: code.from,
             limit: code.end,
             operands: operands,

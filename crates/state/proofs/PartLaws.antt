@@ -34,17 +34,17 @@ use Rattle.plain.proofs.CheckParts.{imagePart, phasePart, valuePart, framesPart,
 use Rattle.state.specs.Parts.{registers_fine, standing_fine}
 
 -- ---- phase and value
-pub late_phase : (e n phase value l : ℕ) → l ≡ last_phase e → l < phase → false ≡ registers_fine e n phase value
+pub late_phase : (n phase value : ℕ) → 5 < phase → false ≡ registers_fine n phase value
 unfolding registers_fine
-late_phase e n phase value l q h = sym (ap (λ (x : Bool). x && (if eqb phase finished then is_valid n value else eqb value 0)) (lt-leb phase (last_phase e) (subst (λ (x : ℕ). x < phase) q h)))
+late_phase n phase value h = sym (ap (λ (x : Bool). x && (if eqb phase finished then is_valid n value else eqb value 0)) (lt-leb phase last_phase h))
 
-pub finished_value : (e n phase value l : ℕ) (r : Bool) → l ≡ last_phase e → phase ≤ l → phase ≡ 2 → r ≡ is_valid n value → r ≡ registers_fine e n phase value
+pub finished_value : (n phase value : ℕ) (r : Bool) → phase ≤ 5 → phase ≡ 2 → r ≡ is_valid n value → r ≡ registers_fine n phase value
 unfolding registers_fine
-finished_value e n phase value l r p h c q = q ∙ sym (ap₂ ◌&&◌ (le-leb phase (last_phase e) (subst (λ (x : ℕ). phase ≤ x) p h)) (if_yes _ _ (eq-eqb phase finished c)))
+finished_value n phase value r h e q = q ∙ sym (ap₂ ◌&&◌ (le-leb phase last_phase h) (if_yes _ _ (eq-eqb phase finished e)))
 
-pub other_value : (e n phase value l : ℕ) → l ≡ last_phase e → phase ≤ l → (phase ≡ 2 → ⊥) → eqb value 0 ≡ registers_fine e n phase value
+pub other_value : (n phase value : ℕ) → phase ≤ 5 → (phase ≡ 2 → ⊥) → eqb value 0 ≡ registers_fine n phase value
 unfolding registers_fine
-other_value e n phase value l p h c = sym (ap₂ ◌&&◌ (le-leb phase (last_phase e) (subst (λ (x : ℕ). phase ≤ x) p h)) (if_no _ _ (ne_eqb phase finished c)))
+other_value n phase value h e = sym (ap₂ ◌&&◌ (le-leb phase last_phase h) (if_no _ _ (ne_eqb phase finished e)))
 
 -- ---- frames
 no_frames : (phase : ℕ) → (phase ≡ 0) ⊎ (phase ≡ 2) → has_frames phase ≡ false
@@ -79,7 +79,7 @@ module _ (r : Registers) (contents bodies stack cache : List ℕ) where
   image_no : imagePart s ≡ false → false ≡ state_fine s
   image_no e = sym (parts ∙ ap (λ (x : Bool). x && (phasePart s && (valuePart s && (framesPart s && cachePart s)))) e)
 
-  pub registers_no : registers_fine edition r.n r.phase r.value ≡ false → false ≡ state_fine s
+  pub registers_no : registers_fine r.n r.phase r.value ≡ false → false ≡ state_fine s
   unfolding registers_fine
   registers_no e = sym (parts ∙ regroup (imagePart s) (phasePart s) (valuePart s) (framesPart s && cachePart s) e)
     where
@@ -141,7 +141,7 @@ module _ (r : Registers) (contents bodies stack cache : List ℕ) where
       pub all_noted : 2 * r.b ≤ length notes → Noted edition r.n r.b contents bodies notes
       all_noted h = record { right = rights; noted = j.noted zero; room = h }
 
-      module _ (regs : registers_fine edition r.n r.phase r.value ≡ true) where
+      module _ (regs : registers_fine r.n r.phase r.value ≡ true) where
         unpack : (a b c d : Bool) → a ≡ true → (b && c) ≡ true → (a && (b && (c && d))) ≡ d
         unpack true true true d p q = refl
         unpack true true false d p q = absurd (subst T (sym q) tt)

@@ -7,9 +7,9 @@ use Rattle.plain.specs.Registers.{finished, last_phase, has_frames}
 use Rattle.plain.specs.Flat.{frames_from}
 use Rattle.plain.specs.Check.{frames_fine}
 
--- Phase and value, in an edition
-unfoldable pub registers_fine : ℕ → ℕ → ℕ → ℕ → Bool
-registers_fine e n phase value = leb phase (last_phase e) && (if eqb phase finished then is_valid n value else eqb value 0)
+-- Phase and value
+unfoldable pub registers_fine : ℕ → ℕ → ℕ → Bool
+registers_fine n phase value = leb phase last_phase && (if eqb phase finished then is_valid n value else eqb value 0)
 
 -- The frames in an edition, or top 0 where there are none
 unfoldable pub standing_fine : ℕ → Objects → List ℕ → ℕ → ℕ → Bool

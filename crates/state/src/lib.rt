@@ -1,27 +1,16 @@
 // Parts of check's test of a state: phase and value, and the frames in the phases that have any.
 ghost use Rattle.std.specs.Prelude.{◌≡◌};
 ghost use Rattle.model.specs.Objects.{objects_at};
-ghost use Rattle.plain.specs.Registers.{last_phase};
 ghost use Rattle.checks.specs.Frame.{Noted};
 ghost use Rattle.state.specs.Parts.{registers_fine, standing_fine};
 
 use model::StackPosition;
 
-// The last phase of an edition: blocks bring two.
-fn last_phase(edition: u16) -> u16
-    ensures { result ≡ last_phase edition }
+// A phase from 0 to 5; a value that is valid in phase 2, else 0.
+pub fn registers_fine(n: usize, phase: u16, value: u16) -> bool
+    ensures { result ≡ registers_fine n phase value }
 {
-    if readers::edition::has_blocks(edition) {
-        return 7;
-    }
-    5
-}
-
-// A phase that the edition has; a value that is valid in phase 2, else 0.
-pub fn registers_fine(edition: u16, n: usize, phase: u16, value: u16) -> bool
-    ensures { result ≡ registers_fine edition n phase value }
-{
-    if last_phase(edition) < phase {
+    if 5 < phase {
         return false;
     }
     if phase == 2 {

@@ -7,7 +7,7 @@ use lib.ListN.{length, set, take, drop}
 use Rattle.bytecode.specs.Code.{byte_at, bytes_after, instruction_of, next_at}
 use Rattle.bytecode.specs.declared.Instruction.{Instruction}
 use Rattle.model.specs.Word.{object_number}
-use Rattle.model.specs.Objects.{Objects, objects_at, start, body_words}
+use Rattle.model.specs.Objects.{Objects, objects_at, body_words}
 use Rattle.model.specs.Method.{literal_count, code_words, code_size}
 use Rattle.model.proofs.Parts.{length_part}
 use Rattle.model.specs.declared.CodePosition.{CodePosition}
@@ -56,8 +56,8 @@ module _ {n b : ℕ} {contents bodies stack : List ℕ} {a : Active} (r : IsActi
   whole =
       let l = lends r in
       let k = length_part bodies a.code (a.limit - a.code) (let x = l.ordered in let y = l.inside in omega arith) in
-      let e = r.stands.code ∙ ap (λ (y : ℕ). start o (object_number y) + (2 + literal_count o y)) (method_read r) in
-      let f = r.stands.limit ∙ ap (λ (y : ℕ). start o (object_number y) + body_words o (object_number y)) (method_read r) in
+      let e = r.stands.code in
+      let f = r.stands.limit in
       let x = subst (λ (y : ℕ). next_at lent p ≤ code_size o y) (method_read r) (let u = next_inside r.runs in let z = next_read in omega arith) in
       let w = subst (λ (y : ℕ). code_size o y ≤ 2 * (body_words o (object_number y) - (2 + literal_count o y))) (method_read r) (coded r.runs).words in
       let s = code_small r in

@@ -8,18 +8,16 @@ use mathlib.Core.Option.{some}
 use native.Mathlib.Omega.{arith}
 use lib.Dec.{T, eqb}
 use lib.ListN.{length, get_or, set}
-use lib.Seq.{get_or-set_other}
-use Rattle.bytecode.specs.Test.{if◌then◌else◌}
 use Rattle.bytecode.specs.Effect.{special_count}
 use Rattle.bytecode.specs.declared.Place.{Place}
 use Rattle.bytecode.specs.declared.Place.TheVariants.{Field, Temporary, Literal, LiteralVariable}
 use Rattle.bytecode.specs.declared.Instruction.{Instruction}
-use Rattle.bytecode.specs.declared.Instruction.TheVariants.{Push, Store, PopStore, PushSelf, PushConstant, ReturnSelf, ReturnConstant, ReturnTop, Pop, Duplicate, Jump, JumpOn, Send, SuperSend, SpecialSend, PushBlock, BlockReturn, Unused}
+use Rattle.bytecode.specs.declared.Instruction.TheVariants.{Push, Store, PopStore, PushSelf, PushConstant, ReturnSelf, ReturnConstant, ReturnTop, Pop, Duplicate, Jump, JumpOn, Send, SuperSend, SpecialSend, Unused}
 use Rattle.model.specs.Limits.{entry_words, class_kind}
 use Rattle.model.specs.Word.{is_valid, object_number, boolean_word}
-use Rattle.model.specs.Objects.{Objects, objects_at, body_word, class_of, superclass_word, is_block_of_of}
+use Rattle.model.specs.Objects.{Objects, objects_at, body_word, class_of, superclass_word}
 use Rattle.model.specs.Method.{home, literal}
-use Rattle.model.specs.Rules.{IsRight, special_selector}
+use Rattle.model.specs.Rules.{special_selector}
 use Rattle.model.specs.Arithmetic.{arithmetic}
 use Rattle.model.specs.Primitive.{store_word}
 use Rattle.model.specs.Image.{Room}
@@ -31,25 +29,24 @@ use Rattle.plain.specs.Registers.{no_boolean}
 use Rattle.plain.specs.Step.{Stepped, read, tried_primitive}
 use Rattle.plain.specs.Flat.{frame_method, frame_receiver}
 use Rattle.plain.specs.FlatCalls.{at_front}
-use Rattle.plain.specs.Running.{At, Runs, sent_receiver, top_frame, rest_frames}
+use Rattle.plain.specs.Running.{top_frame}
 use Rattle.readers.specs.Places.{Inside}
 use Rattle.objects.specs.Lent.{Holds}
 use Rattle.objects.proofs.Buffers.{contents_room}
 use Rattle.frames.specs.declared.Active.{Active}
-use Rattle.plain.proofs.BlockSteps.{home_bounds}
-use Rattle.frames.specs.Active.{written, IsActive, moved_on, Onward}
-use Rattle.frames.proofs.ActiveLaws.{active_method, length_written, word_apart, puts_apart, temporary_apart, word_written, moves_on, puts, put_method, Ends, ends, method_read, depth_read, receiver_read}
+use Rattle.frames.specs.Active.{written, moved_on, Onward}
+use Rattle.frames.proofs.ActiveLaws.{active_method, length_written, word_written, moves_on, puts, put_method, Ends, ends, method_read, receiver_read}
 use Rattle.steps.specs.declared.Event.{Event}
-use Rattle.steps.specs.declared.Event.TheVariants.{Next, Return, ReturnFromBlock, Value, Block, Halt}
-use Rattle.steps.specs.Events.{StepIs, Becomes, Doing, Computing, Pushing, Pushed, left_by, Storing, StoringAt, Values, Sends, BlockAt, here_of, Says}
+use Rattle.steps.specs.declared.Event.TheVariants.{Next, Return, Halt}
+use Rattle.steps.specs.Events.{StepIs, Becomes, Doing, Computing, Pushing, Pushed, left_by, Storing, StoringAt, Sends, here_of, Says}
 use Rattle.steps.proofs.HereLaws.{bounds, operand_valid}
 use Rattle.steps.proofs.MoveLaws.{Answers, same_two, same_three}
 use Rattle.steps.proofs.ActiveLaws.{here, says_moved, says_answered, says_pushed}
-use Rattle.steps.proofs.PlaceLaws.{ReadsLiteral, literal_there, own_inside, own_read, temporary_below, temporary_inside, temporary_read, literal_below, literal_read, variable_below, variable_inside, variable_read, push_place, store_place, store_writable, store_needs}
+use Rattle.steps.proofs.PlaceLaws.{ReadsLiteral, literal_there, own_inside, own_read, temporary_inside, temporary_read, literal_below, literal_read, variable_below, variable_inside, variable_read, push_place, store_place, store_writable, store_needs}
 use Rattle.steps.proofs.StoreLaws.{store_field, store_temporary, store_variable}
-use Rattle.steps.proofs.SayLaws.{push_room, push_says, self_room, self_says, constant_room, constant_says, duplicate_needs, duplicate_room, duplicate_says, pop_needs, pop_says, jump_back, jump_says, on_needs, on_small, on_jumps, on_stays, on_halts, self_returns, constant_returns, top_needs, top_returns, block_needs, block_returns, block_back, unused_never}
-use Rattle.steps.proofs.SendLaws.{place_of, sent_depth, sent_valid, sent_says, send_below, send_sends, super_below, super_needs, holds_home, super_says}
-use Rattle.steps.proofs.SpecialLaws.{value_depth, value_sent, value_valued, value_steps, special_small, selector_inside, special_needs, special_sends_lem, arithmetic_two, arithmetic_says, arithmetic_sends_lem, same_says, class_says}
+use Rattle.steps.proofs.SayLaws.{push_room, push_says, self_room, self_says, constant_room, constant_says, duplicate_needs, duplicate_room, duplicate_says, pop_needs, pop_says, jump_back, jump_says, on_needs, on_small, on_jumps, on_stays, on_halts, self_returns, constant_returns, top_needs, top_returns, unused_never}
+use Rattle.steps.proofs.SendLaws.{sent_depth, sent_valid, sent_says, send_below, send_sends, super_below, super_needs, holds_home, super_says}
+use Rattle.steps.proofs.SpecialLaws.{special_small, selector_inside, special_needs, special_sends_lem, arithmetic_two, arithmetic_says, arithmetic_sends_lem, same_says, class_says}
 use Rattle.steps.specs.declared.Event.TheVariants as E
 use Rattle.steps.proofs.SpecialLaws as S
 
@@ -57,10 +54,6 @@ use Rattle.steps.proofs.SpecialLaws as S
 stays : {n b : ℕ} {contents bodies stack : List ℕ} {a : Active} {x : Room → ℕ → ℕ → ℕ → Stepped} → StepIs n b a.base.0 contents bodies (written a stack) x
     → Becomes n b contents a bodies stack bodies stack x
 stays e = record { words = refl; frames = refl; steps = e }
-
--- the frame whose temporaries it uses is inside the stack
-pub home_low : {n b : ℕ} {contents bodies stack : List ℕ} {a : Active} → IsActive n b contents bodies stack a → a.home.0 < 65536
-home_low r = let h = r.stands.home in let k = (home_bounds r.runs).most in omega arith
 
 -- The instruction by another name
 pub told : {n b : ℕ} {contents bodies stack : List ℕ} {a : Active} {next : ℕ} {i : Instruction} → Doing n b contents bodies stack a next i → (j : Instruction) → i ≡ j
@@ -91,13 +84,13 @@ module _ {n b : ℕ} {contents bodies stack : List ℕ} {a : Active} {next : ℕ
   pub push_pushing : Pushing stack a
   push_pushing = room_of d (push_room (here d))
 
-  pub push_done : (w : ℕ) (stack' : List ℕ) (r : Event) → read (objects_at n b contents bodies) (top_frame n b a.base.0 contents bodies (written a stack)) (rest_frames n b a.base.0 contents bodies (written a stack)) p ≡ some w
+  pub push_done : (w : ℕ) (stack' : List ℕ) (r : Event) → read (objects_at n b contents bodies) (top_frame n b a.base.0 contents bodies (written a stack)) p ≡ some w
       → Pushed stack a next w stack' r → Says n b contents a bodies stack bodies stack' r
   push_done w stack' r e q = says_pushed d w stack' r q (λ s x. push_says (here d) w s e x)
 
 abbrev ReadIs : ℕ → ℕ → List ℕ → List ℕ → List ℕ → Active → Place → ℕ → Type 0
 ReadIs n b contents bodies stack a p w =
-    read (objects_at n b contents bodies) (top_frame n b a.base.0 contents bodies (written a stack)) (rest_frames n b a.base.0 contents bodies (written a stack)) p ≡ some w
+    read (objects_at n b contents bodies) (top_frame n b a.base.0 contents bodies (written a stack)) p ≡ some w
 
 module _ {n b : ℕ} {contents bodies stack : List ℕ} {a : Active} {next j : ℕ} where
   pub field_there : Doing n b contents bodies stack a next (Push (Field j)) → Inside n b contents bodies (frame_receiver stack a.base.0) j
@@ -109,19 +102,16 @@ module _ {n b : ℕ} {contents bodies stack : List ℕ} {a : Active} {next j : �
   field_reads d w e =
       own_read d.active.runs j w (push_place (here d)) (e ∙ ap (λ (x : ℕ). body_word (objects_at n b contents bodies) (object_number x) j) (sym (receiver_read d.active)))
 
-  pub temporary_there : Doing n b contents bodies stack a next (Push (Temporary j)) → (a.home.0 + 6 + j < length stack) × (a.home.0 + 6 + j < 65536)
+  pub temporary_there : Doing n b contents bodies stack a next (Push (Temporary j)) → (a.base.0 + 6 + j < length stack) × (a.base.0 + 6 + j < 65536)
   temporary_there d =
       let l = length_written a stack in
-      let h = d.active.stands.home in
       let x = temporary_inside d.active.runs j (push_place (here d)) in
-      (omega arith, omega arith)
+      (omega arith, x.1)
 
-  pub temporary_reads : Doing n b contents bodies stack a next (Push (Temporary j)) → (at : ℕ) → at ≡ a.home.0 + 6 + j → ReadIs n b contents bodies stack a (Temporary j) (get_or stack at 0)
+  pub temporary_reads : Doing n b contents bodies stack a next (Push (Temporary j)) → (at : ℕ) → at ≡ a.base.0 + 6 + j → ReadIs n b contents bodies stack a (Temporary j) (get_or stack at 0)
   temporary_reads d at e =
-      let h = d.active.stands.home in
-      let x = temporary_apart d.active j (temporary_below d.active.runs j (push_place (here d))) in
-      temporary_read d.active.runs j (push_place (here d)) ∙ ap (λ (i : ℕ). some (get_or (written a stack) (i + 6 + j) 0)) (sym h)
-      ∙ ap some (word_apart a stack (a.home.0 + 6 + j) x.0 x.1) ∙ ap (λ (i : ℕ). some (get_or stack i 0)) (sym e)
+      temporary_read d.active.runs j (push_place (here d)) ∙ ap some (word_written a stack (a.base.0 + 6 + j) (omega arith))
+      ∙ ap (λ (i : ℕ). some (get_or stack i 0)) (sym e)
 
   pub literal_lies : Doing n b contents bodies stack a next (Push (Literal j)) → ReadsLiteral n b contents bodies (frame_method stack a.base.0) j
   literal_lies d = literal_there (here d) j (literal_below d.active.runs j (push_place (here d)))
@@ -198,25 +188,21 @@ module _ {n b : ℕ} {contents bodies stack : List ℕ} {a : Active} {next j end
         onward z,
       )
 
-  pub temporary_room : Storing n b contents bodies stack a next (Temporary j) end → (a.home.0 + 6 + j < length stack) × (a.home.0 + 6 + j < 65536)
+  pub temporary_room : Storing n b contents bodies stack a next (Temporary j) end → (a.base.0 + 6 + j < length stack) × (a.base.0 + 6 + j < 65536)
   temporary_room z =
       let l = length_written a stack in
-      let h = z.doing.active.stands.home in
       let x = temporary_inside z.doing.active.runs j (store_place (store_at z)) in
-      (omega arith, omega arith)
+      (omega arith, x.1)
 
-  pub temporary_stored : (z : Storing n b contents bodies stack a next (Temporary j) end) (at to : ℕ) (stack' : List ℕ) → at ≡ a.end.0 - 1 → to ≡ a.home.0 + 6 + j
+  pub temporary_stored : (z : Storing n b contents bodies stack a next (Temporary j) end) (at to : ℕ) (stack' : List ℕ) → at ≡ a.end.0 - 1 → to ≡ a.base.0 + 6 + j
       → stack' ≡ set stack to (get_or stack at 0) → Says n b contents a bodies stack bodies stack' (Next (record { 0 = next }) (record { 0 = end }))
   temporary_stored z at to stack' p g e =
       let v = written a stack in
-      let r = z.doing.active in
-      let x = temporary_apart r j (temporary_below r.runs j (store_place (store_at z))) in
       subst (λ (l : List ℕ). Says n b contents a bodies stack bodies l (Next (record { 0 = next }) (record { 0 = end })))
       (sym (e ∙ ap (λ (i : ℕ). set stack i (get_or stack at 0)) g)) (
-        store_temporary (store_at z) (written (moved_on a (record { 0 = next }) (record { 0 = end })) (set stack (a.home.0 + 6 + j) (get_or stack at 0)))
-            (puts_apart a stack (a.home.0 + 6 + j) (get_or stack at 0) x.0 x.1 (record { 0 = next }) (record { 0 = end })
-            ∙ same_three v (ap (λ (i : ℕ). i + 6 + j) r.stands.home) (sym (top_read z at p)) refl refl refl refl),
-        record { method = get_or-set_other stack (a.home.0 + 6 + j) (a.base.0 + 3) (get_or stack at 0) 0 (λ q. x.2 (sym q)); above = store_above z },
+        store_temporary (store_at z) (written (moved_on a (record { 0 = next }) (record { 0 = end })) (set stack (a.base.0 + 6 + j) (get_or stack at 0)))
+            (puts a stack (a.base.0 + 6 + j) (get_or stack at 0) (omega arith) (record { 0 = next }) (record { 0 = end }) ∙ same_three v refl (sym (top_read z at p)) refl refl refl refl),
+        record { method = put_method a stack (a.base.0 + 6 + j) (get_or stack at 0) (omega arith) (omega arith); above = store_above z },
       )
 
   pub literal_never : Storing n b contents bodies stack a next (Literal j) end → ⊥
@@ -358,24 +344,6 @@ module _ {n b : ℕ} {contents bodies stack : List ℕ} {a : Active} {next : ℕ
   pub top_returned : (d : Doing n b contents bodies stack a next ReturnTop) (at : ℕ) → at ≡ a.end.0 - 1 → Says n b contents a bodies stack bodies stack (Return (get_or stack at 0))
   top_returned d at p = subst (λ (w : ℕ). Says n b contents a bodies stack bodies stack (Return w)) (operand_read d 0 at (top_one d) p) (stays (top_returns (here d)))
 
-  pub block_one : Doing n b contents bodies stack a next BlockReturn → 1 ≤ a.end.0 - a.operands.0
-  block_one d = block_needs (here d)
-
-  pub block_returned : (d : Doing n b contents bodies stack a next BlockReturn) (at : ℕ) → at ≡ a.end.0 - 1 → Says n b contents a bodies stack bodies stack (ReturnFromBlock (get_or stack at 0))
-  block_returned d at p = subst (λ (w : ℕ). Says n b contents a bodies stack bodies stack (ReturnFromBlock w)) (operand_read d 0 at (block_one d) p) (stays (block_returns (here d)))
-
-  -- a block to be pushed
-  pub next_low : {i : Instruction} → Doing n b contents bodies stack a next i → next < 65536
-  next_low d = (bounds (here d)).next
-
-  pub block_jumps : {count ahead back : ℕ} → Doing n b contents bodies stack a next (PushBlock count ahead back) → back ≤ next + ahead
-  block_jumps d = block_back (here d)
-
-  pub block_says : {count ahead back : ℕ} (d : Doing n b contents bodies stack a next (PushBlock count ahead back)) (count' target : ℕ) → count' ≡ count → target ≡ next + ahead - back
-      → Says n b contents a bodies stack bodies stack (Block count' (record { 0 = next }) (record { 0 = target }))
-  block_says {count} {ahead} {back} d count' target c t =
-      (record { ahead = ahead; back = back; at = subst (λ (k : ℕ). At n b a.base.0 contents bodies (written a stack) next (PushBlock k ahead back)) (sym c) d.at; lands = t }, refl, refl)
-
   pub never : Doing n b contents bodies stack a next Unused → ⊥
   never d = unused_never (here d)
 
@@ -485,50 +453,8 @@ module _ {n b : ℕ} {contents bodies stack : List ℕ} {a : Active} {next k : �
       says_answered d 1 w last (record { 0 = next }) t stack' s refl p (omega arith) o
       (λ l r. class_says (here d) e w l (c ∙ ap (class_of (objects_at n b contents bodies)) (sym (operand_read d 0 last special_one p))) r)
 
-  pub special_done : (s count : ℕ) → 16 ≤ k → k ≢ 22 → k ≢ 23 → k ≢ 25 → k ≢ 26 → s ≡ special_selector (objects_at n b contents bodies) k → count ≡ special_count k → Sends n b contents bodies stack a next s count
-  special_done s count g p q u v e c = record { active = d.active; sends = special_sends_lem (here d) s count g p q u v e c }
-
--- value takes none or one
-pub value_none : {k : ℕ} → k ≡ 25 → 0 ≡ special_count k
-unfolding special_count if◌then◌else◌
-value_none e = sym (ap special_count e)
-
-pub value_one : {k : ℕ} → k ≡ 26 → 1 ≡ special_count k
-unfolding special_count if◌then◌else◌
-value_one e = sym (ap special_count e)
-
--- value
-module _ {n b : ℕ} {contents bodies stack : List ℕ} {a : Active} {next k count : ℕ} (z : Values n b contents bodies stack a next k count) where
-  value_runs : Runs n b a.base.0 contents bodies (written a stack)
-  value_runs = z.doing.active.runs
-
-  pub value_right : IsRight (objects_at n b contents bodies)
-  value_right = (value_runs.edition, value_runs.right)
-
-  pub value_there : suc count ≤ a.end.0 - a.operands.0
-  value_there = let x = value_depth (here z.doing) z.value count z.counts in let y = depth_read z.doing.active in omega arith
-
-  -- the receiver
-  receiver_there : (at : ℕ) → at ≡ a.end.0 - 1 - count → get_or stack at 0 ≡ sent_receiver n b a.base.0 contents bodies (written a stack) count
-  receiver_there at e =
-      let k = ends z.doing.active in
-      let l = value_there in
-      sym (word_written a stack at (omega arith))
-      ∙ place_of (here z.doing) count at (value_depth (here z.doing) z.value count z.counts) (omega arith)
-
-  pub value_done : (at w : ℕ) → at ≡ a.end.0 - 1 - count → w ≡ get_or stack at 0 → is_block_of_of (objects_at n b contents bodies) count w ≡ true
-      → Says n b contents a bodies stack bodies stack (Value (record { 0 = w }) count (record { 0 = next }))
-  value_done at w e q t = (
-    value_valued (here z.doing) z.value count w z.counts (q ∙ receiver_there at e) t,
-    record { words = refl; frames = refl; steps = value_steps (here z.doing) z.value count w z.counts (q ∙ receiver_there at e) t },
-  )
-
-  pub value_sent_there : (at s : ℕ) → at ≡ a.end.0 - 1 - count → s ≡ special_selector (objects_at n b contents bodies) k → is_block_of_of (objects_at n b contents bodies) count (get_or stack at 0) ≡ false
-      → Sends n b contents bodies stack a next s count
-  value_sent_there at s e q t = record { active = z.doing.active; sends = value_sent (here z.doing) z.value s count (get_or stack at 0) q z.counts (receiver_there at e) t }
-
-  pub value_inside : Inside n b contents bodies 10 k
-  value_inside = S.selector_inside (here z.doing)
+  pub special_done : (s count : ℕ) → 16 ≤ k → k ≢ 22 → k ≢ 23 → s ≡ special_selector (objects_at n b contents bodies) k → count ≡ special_count k → Sends n b contents bodies stack a next s count
+  special_done s count g p q e c = record { active = d.active; sends = special_sends_lem (here d) s count g p q e c }
 
 module _ {n b : ℕ} {contents bodies stack : List ℕ} {a : Active} {next k : ℕ} {x : Computed} (z : Computing n b contents bodies stack a next k x) where
   pub computing_two : 2 ≤ a.end.0 - a.operands.0

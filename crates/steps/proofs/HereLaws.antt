@@ -17,7 +17,7 @@ use Rattle.model.proofs.Facts.{inside}
 use Rattle.plain.specs.State.{Frame}
 use Rattle.plain.specs.Step.{operand}
 use Rattle.plain.specs.Flat.{frame_at}
-use Rattle.plain.specs.Running.{top_frame, rest_frames}
+use Rattle.plain.specs.Running.{top_frame}
 use Rattle.plain.proofs.RunningLaws.{top_right, top_bounds}
 use Rattle.plain.proofs.WriteLaws.{operand_here}
 use Rattle.frames.proofs.Standing.{coded, next_inside}
@@ -66,7 +66,7 @@ module _ {n b top : ℕ} {contents bodies stack : List ℕ} {h : Here} {i : Inst
       let y = a.is_operands in
       if_yes (get_elem? fₐ.operands (fₐ.depth - suc k)) none (lt-ltb k fₐ.depth (omega arith))
       ∙ element_is fₐ.operands (fₐ.depth - suc k) (omega arith)
-      ∙ ap some (sym (operand_here oₐ stack top fₐ (rest_frames n b top contents bodies stack) true refl r (fₐ.depth - suc k) (omega arith)))
+      ∙ ap some (sym (operand_here oₐ stack top fₐ true refl r (fₐ.depth - suc k) (omega arith)))
       ∙ ap (λ (x : ℕ). some (get_or stack x 0)) (omega arith)
 
   pub operand_valid : (k at : ℕ) → k < h.depth → at ≡ h.operands + (h.depth - suc k) → T (is_valid n (get_or stack at 0))
@@ -76,5 +76,5 @@ module _ {n b top : ℕ} {contents bodies stack : List ℕ} {h : Here} {i : Inst
       let d = r.depth in
       let z = a.is_depth in
       let y = a.is_operands in
-      subst (λ (x : ℕ). T (is_valid n x)) (sym (operand_here oₐ stack top fₐ (rest_frames n b top contents bodies stack) true refl r (fₐ.depth - suc k) (omega arith)) ∙ ap (λ (x : ℕ). get_or stack x 0) (omega arith))
+      subst (λ (x : ℕ). T (is_valid n x)) (sym (operand_here oₐ stack top fₐ true refl r (fₐ.depth - suc k) (omega arith)) ∙ ap (λ (x : ℕ). get_or stack x 0) (omega arith))
       (every_at (is_valid n) fₐ.operands r.valid_operands (fₐ.depth - suc k) (omega arith))

@@ -10,23 +10,19 @@ use lib.Seq.{take_all}
 use Rattle.bytecode.specs.declared.Instruction.{Instruction}
 use Rattle.model.specs.Objects.{Objects, objects_at}
 use Rattle.model.specs.Method.{temporary_count, frame_words}
-use Rattle.model.specs.Depth.{note_at, code_depth}
-use Rattle.bytecode.specs.declared.Place.TheVariants.{Temporary}
+use Rattle.model.specs.Depth.{note_at}
 use Rattle.model.specs.Rules.{method_table}
 use Rattle.model.specs.Primitive.{store_word}
 use Rattle.model.specs.Image.{Room}
-use Rattle.plain.specs.State.{Frame, Plain, is_block_of, moved_to, with_objects}
-use Rattle.plain.specs.Step.{Stepped, leads_to, no_lookup, provided, on_top, has_word_of, pushed, stored, without, popped, execute}
-use Rattle.plain.specs.Flat.{frame_method, frame_mark, own_temporaries, frame_at}
+use Rattle.plain.specs.State.{Frame, Plain, moved_to, with_temporaries, with_objects}
+use Rattle.plain.specs.Step.{Stepped, leads_to, no_lookup, provided, on_top, has_word_of, pushed, without, popped, execute}
+use Rattle.plain.specs.Flat.{frame_method, frame_at}
 use Rattle.plain.specs.FlatCalls.{laid, at_front}
 use Rattle.plain.specs.Running.{Moved, running_at, top_frame, rest_frames}
 use Rattle.plain.proofs.FrameLaws.{FrameRight}
 use Rattle.plain.proofs.StepLaws.{has_word, without_length}
-use Rattle.plain.proofs.LaidLaws.{own_temporaries_lem, own_length}
-use Rattle.plain.proofs.RunningLaws.{own_at, stood, all_right, top_right, top_bounds, step_is}
-use Rattle.plain.proofs.HomeWords.{home_base}
-use Rattle.plain.proofs.BlockSteps.{temporary_moves}
-use Rattle.plain.proofs.WriteLaws.{moved_writes, pushed_writes}
+use Rattle.plain.proofs.RunningLaws.{stood, all_right, top_right, top_bounds, method_is, step_is}
+use Rattle.plain.proofs.WriteLaws.{moved_writes, pushed_writes, temporary_writes}
 use Rattle.objects.proofs.Buffers.{bodies_room, front_same}
 use Rattle.steps.specs.Events.{Here, HereAt, answered}
 use Rattle.steps.proofs.HereLaws.{bounds}
@@ -93,18 +89,14 @@ module _ {n b top : ℕ} {contents bodies stack : List ℕ} {h : Here} {i : Inst
         frames = l;
       }
 
-  -- whether the frame is a block's
-  abbrev block : Bool
-  block = is_block_of (frame_mark stack top) rest
-
-  abbrev right : FrameRight a.at.runs.edition o true (is_block_of f.mark rest) f
+  abbrev right : FrameRight a.at.runs.edition o true f
   right = top_right a.at.runs
 
   pub depth_of : f.depth ≡ h.depth
   unfolding frame_at
   depth_of = sym a.is_depth
 
-  first_of : top + (6 + own_temporaries o f.mark f.method rest) ≡ h.operands
+  first_of : top + (6 + temporary_count o f.method) ≡ h.operands
   unfolding frame_at
   first_of = let x = a.is_operands in omega arith
 
@@ -139,21 +131,23 @@ module _ {n b top : ℕ} {contents bodies stack : List ℕ} {h : Here} {i : Inst
       moves_storing (moved_to f q (take k f.operands)) (set (set stack (top + 1) q) (top + 2) k) bodies' v j w e
       (sym (moved_writes a.at.runs.edition o stack top (suc top) f rest (all_right a.at.runs) (stood a.at.runs) q k (let y = depth_of in omega arith))) x
 
-  -- It moves on with the first k operands, and a temporary is stored, its own or its home's.
+  -- It moves on with the first k operands, and a temporary is stored.
   pub goes_temporary : (q k j w : ℕ) → k ≤ h.depth → j < temporary_count o (frame_method stack top)
-      → Does (λ s room. stored s (moved_to f q (take k f.operands)) rest (Temporary j) w)
-      → Moved n b top contents bodies stack bodies (set (set (set stack (home_base stack top + 6 + j) w) (top + 1) q) (top + 2) k)
-  goes_temporary q k j w l t e edition receiver selector room =
-      temporary_moves a.at.runs q k j w (let y = a.is_depth in omega arith) t edition receiver selector room
-      (step_is a.at edition receiver selector room ∙ e edition receiver selector room)
+      → Does (λ s room. leads_to (on_top s (with_temporaries (moved_to f q (take k f.operands)) (set f.temporaries j w)) rest) no_lookup)
+      → Moved n b top contents bodies stack bodies (set (set (set stack (top + 6 + j) w) (top + 1) q) (top + 2) k)
+  goes_temporary q k j w l t e =
+      moves (with_temporaries (moved_to f q (take k f.operands)) (set f.temporaries j w)) (set (set (set stack (top + 6 + j) w) (top + 1) q) (top + 2) k) e
+      (same_three stack (omega arith) refl refl refl refl refl
+      ∙ sym (temporary_writes a.at.runs.edition o stack top (suc top) f rest (all_right a.at.runs) (stood a.at.runs) q k j w (let y = depth_of in omega arith)
+      (subst (λ (x : ℕ). j < temporary_count o x) (sym (method_is a.at.runs)) t)))
 
   -- A word in the place of the `taken` uppermost operands
-  room_for : (taken : ℕ) → note_at (method_table a.at.runs.edition o (frame_method stack top)) h.next ≡ suc (code_depth block (suc (h.depth - taken)))
-      → own_at n b top contents bodies stack + (h.depth - taken) < frame_words o (frame_method stack top)
-  room_for taken e = ltb→lt (own_at n b top contents bodies stack + (h.depth - taken)) (frame_words o (frame_method stack top))
-      (has_word a.at.runs.edition o block (frame_method stack top) h.next (own_at n b top contents bodies stack) (h.depth - taken) e (own_temporaries_lem o (frame_mark stack top) (frame_method stack top) rest))
+  room_for : (taken : ℕ) → note_at (method_table a.at.runs.edition o (frame_method stack top)) h.next ≡ suc (suc (h.depth - taken)) → temporary_count o (frame_method stack top) +
+      (h.depth - taken) < frame_words o (frame_method stack top)
+  room_for taken e = ltb→lt (temporary_count o (frame_method stack top) + (h.depth - taken)) (frame_words o (frame_method stack top))
+      (has_word a.at.runs.edition o (frame_method stack top) h.next (h.depth - taken) e)
 
-  pub answer_room : (taken : ℕ) → taken ≤ h.depth → note_at (method_table a.at.runs.edition o (frame_method stack top)) h.next ≡ suc (code_depth block (suc (h.depth - taken))) → Answers top stack h taken
+  pub answer_room : (taken : ℕ) → taken ≤ h.depth → note_at (method_table a.at.runs.edition o (frame_method stack top)) h.next ≡ suc (suc (h.depth - taken)) → Answers top stack h taken
   answer_room taken l e =
       let w = room_for taken e in
       let t = top_bounds a.at.runs in
@@ -161,10 +155,10 @@ module _ {n b top : ℕ} {contents bodies stack : List ℕ} {h : Here} {i : Inst
       let k = bounds a in
       (omega arith, l, omega arith, omega arith, omega arith, omega arith)
 
-  pub answers : (taken w : ℕ) → taken ≤ h.depth → note_at (method_table a.at.runs.edition o (frame_method stack top)) h.next ≡ suc (code_depth block (suc (h.depth - taken)))
+  pub answers : (taken w : ℕ) → taken ≤ h.depth → note_at (method_table a.at.runs.edition o (frame_method stack top)) h.next ≡ suc (suc (h.depth - taken))
       → Does (λ s room. pushed s f rest h.next (without f taken) w no_lookup)
       → Moved n b top contents bodies stack bodies (answered stack top h taken w)
-  unfolding pushed frame_at
+  unfolding pushed
   answers taken w l e d =
       moves (moved_to f h.next (without f taken ++ (w ∷ []))) (answered stack top h taken w)
       (λ edition receiver selector room. d edition receiver selector room ∙ provided_holds (has_word_of o f (length (without f taken)))
@@ -172,17 +166,18 @@ module _ {n b top : ℕ} {contents bodies stack : List ℕ} {h : Here} {i : Inst
       (same_three stack (let x = first_of in let y = depth_of in omega arith) refl refl refl refl (let y = depth_of in omega arith)
       ∙ sym (pushed_writes a.at.runs.edition o stack top (suc top) f rest (all_right a.at.runs) (stood a.at.runs) h.next (f.depth - taken) w (omega arith) room))
     where
-      room : own_temporaries o f.mark f.method rest + (f.depth - taken) < frame_words o f.method
-      room = let x = room_for taken e in let y = depth_of in omega arith
+      room : temporary_count o f.method + (f.depth - taken) < frame_words o f.method
+      room =
+          subst (λ (x : ℕ). temporary_count o x + (f.depth - taken) < frame_words o x) (sym (method_is a.at.runs))
+          (let x = room_for taken e in let y = depth_of in omega arith)
 
       has : T (has_word_of o f (length (without f taken)))
       has =
-          let z = without_length o true (is_block_of f.mark rest) f right taken (let y = depth_of in omega arith) in
-          let l = own_length o true f rest right in
-          lib.Dec.lt→ltb (length f.temporaries + length (without f taken)) (frame_words o f.method) (let y = room in omega arith)
+          let z = without_length o f right taken (let y = depth_of in omega arith) in
+          lib.Dec.lt→ltb (temporary_count o f.method + length (without f taken)) (frame_words o f.method) (let y = room in omega arith)
 
   -- the same with nothing taken
-  pub pushes : (w : ℕ) → note_at (method_table a.at.runs.edition o (frame_method stack top)) h.next ≡ suc (code_depth block (suc (h.depth - 0)))
+  pub pushes : (w : ℕ) → note_at (method_table a.at.runs.edition o (frame_method stack top)) h.next ≡ suc (suc (h.depth - 0))
       → Does (λ s room. pushed s f rest h.next f.operands w no_lookup)
       → Moved n b top contents bodies stack bodies (answered stack top h 0 w)
   pushes w e d =

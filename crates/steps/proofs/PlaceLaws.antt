@@ -28,8 +28,7 @@ use Rattle.plain.specs.Flat.{frame_method, frame_receiver, frame_at}
 use Rattle.plain.specs.FlatCalls.{at_front}
 use Rattle.plain.specs.Running.{Runs, Moved, running_at, top_frame, rest_frames}
 use Rattle.plain.proofs.RunningLaws.{top_right, top_bounds, method_is, receiver_is, now_is}
-use Rattle.plain.proofs.HomeWords.{home_base}
-use Rattle.plain.proofs.BlockSteps.{home_bounds, temporary_found}
+use Rattle.plain.proofs.WriteLaws.{temporary_here}
 use Rattle.readers.specs.Places.{Inside}
 use Rattle.objects.specs.Lent.{Holds}
 use Rattle.objects.proofs.Bodies.{field_inside}
@@ -49,9 +48,6 @@ module _ {n b top : ℕ} {contents bodies stack : List ℕ} (r : Runs n b top co
 
   abbrev f : Frame
   f = top_frame n b top contents bodies stack
-
-  abbrev rest : List Frame
-  rest = rest_frames n b top contents bodies stack
 
   abbrev m : ℕ
   m = frame_method stack top
@@ -75,7 +71,7 @@ module _ {n b top : ℕ} {contents bodies stack : List ℕ} (r : Runs n b top co
   pub own_inside : (j : ℕ) → T (place_fine o m (Field j)) → Inside n b contents bodies (frame_receiver stack top) j
   own_inside j t = field_inner (own_field j t)
 
-  pub own_read : (j w : ℕ) → T (place_fine o m (Field j)) → w ≡ body_word o (object_number (frame_receiver stack top)) j → read o f rest (Field j) ≡ some w
+  pub own_read : (j w : ℕ) → T (place_fine o m (Field j)) → w ≡ body_word o (object_number (frame_receiver stack top)) j → read o f (Field j) ≡ some w
   unfolding read
   own_read j w t e = ap (λ (x : ℕ). field_of o x j) (receiver_is r) ∙ field_is (own_field j t) ∙ ap some (sym e)
 
@@ -83,12 +79,20 @@ module _ {n b top : ℕ} {contents bodies stack : List ℕ} (r : Runs n b top co
   unfolding place_fine
   temporary_below j t = ltb→lt j (temporary_count o m) t
 
-  pub temporary_inside : (j : ℕ) → T (place_fine o m (Temporary j)) → (home_base stack top + 6 + j < length stack) × (home_base stack top + 6 + j < 65536)
-  temporary_inside j t = let k = home_bounds r in let l = temporary_below j t in (omega arith, omega arith)
+  pub temporary_inside : (j : ℕ) → T (place_fine o m (Temporary j)) → (top + 6 + j < length stack) × (top + 6 + j < 65536)
+  temporary_inside j t = let k = top_bounds r in let l = temporary_below j t in (omega arith, omega arith)
 
-  pub temporary_read : (j : ℕ) → T (place_fine o m (Temporary j)) → read o f rest (Temporary j) ≡ some (get_or stack (home_base stack top + 6 + j) 0)
+  pub temporary_at : (j : ℕ) → T (place_fine o m (Temporary j)) → get_elem? f.temporaries j ≡ some (get_or stack (top + 6 + j) 0)
+  unfolding frame_at
+  temporary_at j t =
+      let x = top_right r in
+      let l = temporary_below j t in
+      let z = x.temporaries in
+      element_is f.temporaries j (omega arith) ∙ ap some (sym (temporary_here o stack top f true refl x j l)) ∙ ap (λ (k : ℕ). some (get_or stack k 0)) (omega arith)
+
+  pub temporary_read : (j : ℕ) → T (place_fine o m (Temporary j)) → read o f (Temporary j) ≡ some (get_or stack (top + 6 + j) 0)
   unfolding read
-  temporary_read j t = temporary_found r j (temporary_below j t)
+  temporary_read j t = temporary_at j t
 
   pub literal_below : (j : ℕ) → T (place_fine o m (Literal j)) → j < literal_count o m
   unfolding place_fine
@@ -100,7 +104,7 @@ module _ {n b top : ℕ} {contents bodies stack : List ℕ} (r : Runs n b top co
       ap (λ (x : ℕ). if ltb j (literal_count o x) then some (literal o x j) else none) (method_is r)
       ∙ if_yes _ _ (T→true (ltb j (literal_count o m)) (lt→ltb j (literal_count o m) t)) ∙ ap some (ap (λ (x : ℕ). literal o x j) (sym q) ∙ sym e)
 
-  pub literal_read : (j w m' : ℕ) → m' ≡ m → T (place_fine o m (Literal j)) → w ≡ literal o m' j → read o f rest (Literal j) ≡ some w
+  pub literal_read : (j w m' : ℕ) → m' ≡ m → T (place_fine o m (Literal j)) → w ≡ literal o m' j → read o f (Literal j) ≡ some w
   unfolding read
   literal_read j w m' q t e = literal_at j w m' q (literal_below j t) e
 
@@ -124,7 +128,7 @@ module _ {n b top : ℕ} {contents bodies stack : List ℕ} (r : Runs n b top co
   pub variable_inside : (j v m' : ℕ) → m' ≡ m → T (place_fine o m (LiteralVariable j)) → v ≡ literal o m' j → Inside n b contents bodies v 1
   variable_inside j v m' q t e = field_inner (variable_field j v m' q t e)
 
-  pub variable_read : (j v w m' : ℕ) → m' ≡ m → T (place_fine o m (LiteralVariable j)) → v ≡ literal o m' j → w ≡ body_word o (object_number v) 1 → read o f rest (LiteralVariable j) ≡ some w
+  pub variable_read : (j v w m' : ℕ) → m' ≡ m → T (place_fine o m (LiteralVariable j)) → v ≡ literal o m' j → w ≡ body_word o (object_number v) 1 → read o f (LiteralVariable j) ≡ some w
   unfolding read
   variable_read j v w m' q t e d =
       ap (λ (z : Option ℕ). elim z as (λ _. Option ℕ) [ none ↦ none | some x ↦ field_of o x 1 ]) (literal_at j v m' q (variable_below j t) e)
@@ -145,8 +149,8 @@ pub literal_there : {n b top : ℕ} {contents bodies stack : List ℕ} {h : Here
 literal_there {n} {b} {contents = contents} {bodies = bodies} a j l =
     (holds_method a.at.runs _ a.is_method, subst (λ (x : ℕ). j < literal_count (objects_at n b contents bodies) x) (sym a.is_method) l)
 
-pub read_as : (o : Objects) (f : Frame) (rest : List Frame) {p p' : Place} {w : ℕ} → p ≡ p' → read o f rest p' ≡ some w → read o f rest p ≡ some w
-read_as o f rest e q = ap (read o f rest) e ∙ q
+pub read_as : (o : Objects) (f : Frame) {p p' : Place} {w : ℕ} → p ≡ p' → read o f p' ≡ some w → read o f p ≡ some w
+read_as o f e q = ap (read o f) e ∙ q
 
 -- A store of the top operand
 module _ {n b top : ℕ} {contents bodies stack : List ℕ} {h : Here} {p : Place} {left : ℕ} (z : StoringAt n b top contents bodies stack h p left) where

@@ -1,5 +1,5 @@
 -- What each bytecode is to the run loop.
-use Prim.Native.Nat.{ℕ, suc, ◌+◌, ◌-◌, ◌*◌, ◌≤◌, ◌<◌}
+use Prim.Native.Nat.{ℕ, suc, ◌+◌, ◌-◌, ◌≤◌, ◌<◌}
 use mathlib.Core.Path.{◌≡◌, refl, sym, ap, ap₂, ◌∙◌, subst}
 use mathlib.Core.Bool.{Bool, true, false, ◌||◌}
 use mathlib.Core.Logic.{◌⊎◌, inl, inr}
@@ -14,19 +14,19 @@ use Rattle.bytecode.specs.Constant.{true_word, false_word}
 use Rattle.bytecode.specs.Effect.{need, leaves, usable, successors}
 use Rattle.bytecode.specs.declared.Place.{Place}
 use Rattle.bytecode.specs.declared.Instruction.{Instruction}
-use Rattle.bytecode.specs.declared.Instruction.TheVariants.{Push, PushSelf, PushConstant, ReturnSelf, ReturnConstant, ReturnTop, Pop, Duplicate, Jump, JumpOn, PushBlock, BlockReturn, Unused}
+use Rattle.bytecode.specs.declared.Instruction.TheVariants.{Push, PushSelf, PushConstant, ReturnSelf, ReturnConstant, ReturnTop, Pop, Duplicate, Jump, JumpOn, Unused}
 use Rattle.bytecode.proofs.Choice.{if_yes, if_no}
 use Rattle.model.specs.Word.{boolean_word}
 use Rattle.model.specs.Objects.{Objects, objects_at}
-use Rattle.model.specs.Depth.{note_at, code_depth, number_after, leaves_at}
+use Rattle.model.specs.Depth.{note_at}
 use Rattle.model.specs.Rules.{method_table}
 use Rattle.model.specs.Image.{Room}
 use Rattle.plain.specs.Registers.{no_boolean}
-use Rattle.plain.specs.State.{Frame, Plain, is_block_of}
-use Rattle.plain.specs.Step.{Stepped, leads_to, halts, no_lookup, ◌>>=◌, popped, on_top, pushed, read, returned, returned_home, jumps, execute}
-use Rattle.plain.specs.Flat.{frame_depth, frame_method, frame_mark, frame_receiver, frame_at}
+use Rattle.plain.specs.State.{Frame, Plain}
+use Rattle.plain.specs.Step.{Stepped, leads_to, halts, no_lookup, ◌>>=◌, popped, on_top, pushed, read, returned, jumps, execute}
+use Rattle.plain.specs.Flat.{frame_method, frame_receiver, frame_at}
 use Rattle.plain.specs.Running.{Moved, running_at, top_frame, rest_frames}
-use Rattle.plain.proofs.NowLaws.{Now, number_after_lem}
+use Rattle.plain.proofs.NowLaws.{Now}
 use Rattle.plain.proofs.RunningLaws.{receiver_is, step_is, now_is}
 use Rattle.steps.specs.Events.{Here, HereAt, answered, StepIs, step_at}
 use Rattle.steps.proofs.HereLaws.{operand_is}
@@ -45,29 +45,19 @@ module _ {n b top : ℕ} {contents bodies stack : List ℕ} {h : Here} {i : Inst
   abbrev m : ℕ
   m = frame_method stack top
 
-  -- whether the frame is a block's
-  abbrev block : Bool
-  block = is_block_of (frame_mark stack top) (rest_frames n b top contents bodies stack)
-
-  abbrev now : Now a.at.runs.edition o (is_block_of f.mark (rest_frames n b top contents bodies stack)) f h.next i
+  abbrev now : Now a.at.runs.edition o f h.next i
   now = now_is a.at
 
-  -- it leaves every successor the same
-  abbrev Alike : Type 0
-  Alike = (q d : ℕ) → leaves_at h.next i q d ≡ number_after i d
-
-  pub noted : (q : ℕ) → Alike → Memᴰ q (successors h.next i) → note_at (method_table a.at.runs.edition o m) q ≡ suc (code_depth block (h.depth - need i + leaves i))
+  pub noted : (q : ℕ) → Memᴰ q (successors h.next i) → note_at (method_table a.at.runs.edition o m) q ≡ suc (h.depth - need i + leaves i)
   unfolding frame_at
-  noted q k t =
-      now.goes q t ∙ ap suc (k q (code_depth block (frame_depth stack top)) ∙ number_after_lem block (frame_depth stack top) (need i) (leaves i) now.needs)
-      ∙ ap (λ (d : ℕ). suc (code_depth block (d - need i + leaves i))) (depth_of a)
+  noted q t = now.goes q t ∙ ap (λ (d : ℕ). suc (d - need i + leaves i)) (depth_of a)
 
   pub needed : need i ≤ h.depth
   needed = let x = now.needs in let y = depth_of a in omega arith
 
   -- an instruction that leaves one operand more than it needs
-  one_more : Alike → Memᴰ h.next (successors h.next i) → leaves i ≡ suc (need i) → note_at (method_table a.at.runs.edition o m) h.next ≡ suc (code_depth block (suc (h.depth - 0)))
-  one_more k t e = noted h.next k t ∙ ap (λ (d : ℕ). suc (code_depth block d)) (let x = needed in omega arith)
+  one_more : Memᴰ h.next (successors h.next i) → leaves i ≡ suc (need i) → note_at (method_table a.at.runs.edition o m) h.next ≡ suc (suc (h.depth - 0))
+  one_more t e = noted h.next t ∙ ap suc (let x = needed in omega arith)
 
   done : (x : Plain → Room → Stepped) → Does a x → (edition receiver selector : ℕ) (room : Room) → step_at room edition receiver selector n b top contents bodies stack ≡ x
       (running_at edition receiver selector n b top contents bodies stack) room
@@ -77,62 +67,62 @@ abbrev Returns : ℕ → ℕ → ℕ → List ℕ → List ℕ → List ℕ → 
 Returns n b top contents bodies stack w =
     StepIs n b top contents bodies stack
     (λ room edition receiver selector.
-    returned_home (running_at edition receiver selector n b top contents bodies stack) (top_frame n b top contents bodies stack) (rest_frames n b top contents bodies stack) w)
+    returned (running_at edition receiver selector n b top contents bodies stack) (top_frame n b top contents bodies stack) (rest_frames n b top contents bodies stack) w)
 
 -- ---- pushes, by the word that is pushed
 
 module _ {n b top : ℕ} {contents bodies stack : List ℕ} {h : Here} where
   pub push_room : {p : Place} → HereAt n b top contents bodies stack h (Push p) → Answers top stack h 0
-  unfolding successors need leaves leaves_at
-  push_room a = answer_room a 0 (omega arith) (one_more a (λ q d. refl) (Memᴰ.head refl) refl)
+  unfolding successors need leaves
+  push_room a = answer_room a 0 (omega arith) (one_more a (Memᴰ.head refl) refl)
 
   pub push_says : {p : Place} (a : HereAt n b top contents bodies stack h (Push p)) (w : ℕ) (stack' : List ℕ)
-      → read (objects_at n b contents bodies) (top_frame n b top contents bodies stack) (rest_frames n b top contents bodies stack) p ≡ some w
+      → read (objects_at n b contents bodies) (top_frame n b top contents bodies stack) p ≡ some w
       → stack' ≡ answered stack top h 0 w → Moved n b top contents bodies stack bodies stack'
-  unfolding execute successors need leaves leaves_at
+  unfolding execute successors need leaves
   push_says a w stack' e q =
       subst (λ (l : List ℕ). Moved n b top contents bodies stack bodies l) (sym q)
-      (pushes a w (one_more a (λ q d. refl) (Memᴰ.head refl) refl)
+      (pushes a w (one_more a (Memᴰ.head refl) refl)
       (λ edition receiver selector room. ap (λ (x : Option ℕ). x >>= λ y. pushed (running_at edition receiver selector n b top contents bodies stack)
       (top_frame n b top contents bodies stack) (rest_frames n b top contents bodies stack) h.next (top_frame n b top contents bodies stack).operands y no_lookup) e))
 
   pub self_room : HereAt n b top contents bodies stack h PushSelf → Answers top stack h 0
-  unfolding successors need leaves leaves_at
-  self_room a = answer_room a 0 (omega arith) (one_more a (λ q d. refl) (Memᴰ.head refl) refl)
+  unfolding successors need leaves
+  self_room a = answer_room a 0 (omega arith) (one_more a (Memᴰ.head refl) refl)
 
   pub self_says : (a : HereAt n b top contents bodies stack h PushSelf) (stack' : List ℕ)
       → stack' ≡ answered stack top h 0 (frame_receiver stack top) → Moved n b top contents bodies stack bodies stack'
-  unfolding execute successors need leaves leaves_at
+  unfolding execute successors need leaves
   self_says a stack' q =
       subst (λ (l : List ℕ). Moved n b top contents bodies stack bodies l) (sym q)
-      (pushes a (frame_receiver stack top) (one_more a (λ q d. refl) (Memᴰ.head refl) refl)
+      (pushes a (frame_receiver stack top) (one_more a (Memᴰ.head refl) refl)
       (λ edition receiver selector room. ap (λ (x : ℕ). pushed (running_at edition receiver selector n b top contents bodies stack) (top_frame n b top contents bodies stack)
       (rest_frames n b top contents bodies stack) h.next (top_frame n b top contents bodies stack).operands x no_lookup) (receiver_is a.at.runs)))
 
   pub constant_room : {w : ℕ} → HereAt n b top contents bodies stack h (PushConstant w) → Answers top stack h 0
-  unfolding successors need leaves leaves_at
-  constant_room a = answer_room a 0 (omega arith) (one_more a (λ q d. refl) (Memᴰ.head refl) refl)
+  unfolding successors need leaves
+  constant_room a = answer_room a 0 (omega arith) (one_more a (Memᴰ.head refl) refl)
 
   pub constant_says : {w : ℕ} (a : HereAt n b top contents bodies stack h (PushConstant w)) (stack' : List ℕ)
       → stack' ≡ answered stack top h 0 w → Moved n b top contents bodies stack bodies stack'
-  unfolding execute successors need leaves leaves_at
+  unfolding execute successors need leaves
   constant_says {w} a stack' q = subst (λ (l : List ℕ). Moved n b top contents bodies stack bodies l) (sym q)
-      (pushes a w (one_more a (λ q d. refl) (Memᴰ.head refl) refl) (λ edition receiver selector room. refl))
+      (pushes a w (one_more a (Memᴰ.head refl) refl) (λ edition receiver selector room. refl))
 
   pub duplicate_needs : HereAt n b top contents bodies stack h Duplicate → 1 ≤ h.depth
   unfolding need
   duplicate_needs a = needed a
 
   pub duplicate_room : HereAt n b top contents bodies stack h Duplicate → Answers top stack h 0
-  unfolding successors need leaves leaves_at
-  duplicate_room a = answer_room a 0 (omega arith) (one_more a (λ q d. refl) (Memᴰ.head refl) refl)
+  unfolding successors need leaves
+  duplicate_room a = answer_room a 0 (omega arith) (one_more a (Memᴰ.head refl) refl)
 
   pub duplicate_says : (a : HereAt n b top contents bodies stack h Duplicate) (stack' : List ℕ)
       → stack' ≡ answered stack top h 0 (get_or stack (h.operands + (h.depth - 1)) 0) → Moved n b top contents bodies stack bodies stack'
-  unfolding execute successors need leaves leaves_at
+  unfolding execute successors need leaves
   duplicate_says a stack' q =
       subst (λ (l : List ℕ). Moved n b top contents bodies stack bodies l) (sym q)
-      (pushes a (get_or stack (h.operands + (h.depth - 1)) 0) (one_more a (λ q d. refl) (Memᴰ.head refl) refl)
+      (pushes a (get_or stack (h.operands + (h.depth - 1)) 0) (one_more a (Memᴰ.head refl) refl)
       (λ edition receiver selector room. ap (λ (x : Option ℕ). x >>= λ y. pushed (running_at edition receiver selector n b top contents bodies stack)
       (top_frame n b top contents bodies stack) (rest_frames n b top contents bodies stack) h.next (top_frame n b top contents bodies stack).operands y
       no_lookup) (operand_is a 0 (h.operands + (h.depth - 1)) (duplicate_needs a) refl)))
@@ -172,10 +162,8 @@ module _ {n b top : ℕ} {contents bodies stack : List ℕ} {h : Here} where
     on_needs = needed a
 
     pub on_small : h.next + ahead < 65536
-    unfolding successors need leaves leaves_at
-    on_small =
-        noted_small a.at.runs (h.next + ahead) (code_depth (is_block_of (frame_mark stack top) (rest_frames n b top contents bodies stack)) (h.depth - 1 + 0))
-        (noted a (h.next + ahead) (λ q d. refl) (Memᴰ.tail (Memᴰ.head refl)))
+    unfolding successors need leaves
+    on_small = noted_small a.at.runs (h.next + ahead) (h.depth - 1 + 0) (noted a (h.next + ahead) (Memᴰ.tail (Memᴰ.head refl)))
 
     abbrev tested : ℕ
     tested = get_or stack (h.operands + (h.depth - 1)) 0
@@ -225,7 +213,7 @@ module _ {n b top : ℕ} {contents bodies stack : List ℕ} {h : Here} where
   unfolding execute
   self_returns a =
       λ edition receiver selector room. step_is a.at edition receiver selector room
-      ∙ ap (λ (x : ℕ). returned_home (running_at edition receiver selector n b top contents bodies stack) (top_frame n b top contents bodies stack)
+      ∙ ap (λ (x : ℕ). returned (running_at edition receiver selector n b top contents bodies stack) (top_frame n b top contents bodies stack)
       (rest_frames n b top contents bodies stack) x) (receiver_is a.at.runs)
 
   pub constant_returns : {w : ℕ} → HereAt n b top contents bodies stack h (ReturnConstant w) → Returns n b top contents bodies stack w
@@ -240,29 +228,8 @@ module _ {n b top : ℕ} {contents bodies stack : List ℕ} {h : Here} where
   unfolding execute
   top_returns a =
       λ edition receiver selector room. step_is a.at edition receiver selector room
-      ∙ ap (λ (x : Option ℕ). x >>= λ y. returned_home (running_at edition receiver selector n b top contents bodies stack) (top_frame n b top contents bodies stack)
-      (rest_frames n b top contents bodies stack) y) (operand_is a 0 (h.operands + (h.depth - 1)) (top_needs a) refl)
-
-  pub block_needs : HereAt n b top contents bodies stack h BlockReturn → 1 ≤ h.depth
-  unfolding need
-  block_needs a = needed a
-
-  -- 125 returns to the sender of value
-  pub block_returns : HereAt n b top contents bodies stack h BlockReturn
-      → StepIs n b top contents bodies stack
-      (λ room edition receiver selector.
-      returned (running_at edition receiver selector n b top contents bodies stack) (top_frame n b top contents bodies stack) (rest_frames n b top contents bodies stack)
-      (get_or stack (h.operands + (h.depth - 1)) 0))
-  unfolding execute
-  block_returns a =
-      λ edition receiver selector room. step_is a.at edition receiver selector room
       ∙ ap (λ (x : Option ℕ). x >>= λ y. returned (running_at edition receiver selector n b top contents bodies stack) (top_frame n b top contents bodies stack)
-      (rest_frames n b top contents bodies stack) y) (operand_is a 0 (h.operands + (h.depth - 1)) (block_needs a) refl)
-
-  -- where the jump of a pushed block goes
-  pub block_back : {count ahead back : ℕ} → HereAt n b top contents bodies stack h (PushBlock count ahead back) → back ≤ h.next + ahead
-  unfolding usable
-  block_back {count} {ahead} {back} a = leb→le back (h.next + ahead) (now_is a.at).usable
+      (rest_frames n b top contents bodies stack) y) (operand_is a 0 (h.operands + (h.depth - 1)) (top_needs a) refl)
 
   pub unused_never : HereAt n b top contents bodies stack h Unused → ⊥
   unfolding usable

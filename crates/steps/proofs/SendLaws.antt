@@ -19,16 +19,16 @@ use Rattle.model.specs.Limits.{bytes_kind, class_kind}
 use Rattle.model.specs.Word.{is_valid}
 use Rattle.model.specs.Objects.{Objects, objects_at, is_kind, is_nil_or, class_of, superclass_word}
 use Rattle.model.specs.Method.{home, literal_count, literal}
-use Rattle.model.specs.Depth.{note_at, code_depth, leaves_at}
+use Rattle.model.specs.Depth.{note_at}
 use Rattle.model.specs.Lookup.{found, lookup, in_chain}
 use Rattle.model.specs.Rules.{allowed, send_fine, takes_count, method_table}
 use Rattle.model.specs.Image.{Room}
 use Rattle.model.proofs.Facts.{Valid, odd, names, valid_cases, least, class_facts, method_facts}
 use Rattle.model.proofs.SendFacts.{lookup_facts, class_kind_lem, selector_takes, selector_valid}
-use Rattle.plain.specs.State.{is_block_of, Frame}
+use Rattle.plain.specs.State.{Frame}
 use Rattle.plain.specs.Step.{◌>>=◌, operand, popped, sends, after_lookup, execute}
-use Rattle.plain.specs.Flat.{frame_depth, frame_method, frame_receiver, frame_at, frame_mark}
-use Rattle.plain.specs.Running.{top_operands, Sending, send_step, sent_receiver, running_at, top_frame, rest_frames}
+use Rattle.plain.specs.Flat.{frame_depth, frame_method, frame_receiver, operands_start, frame_at}
+use Rattle.plain.specs.Running.{Sending, send_step, sent_receiver, running_at, top_frame, rest_frames}
 use Rattle.plain.proofs.RunningLaws.{top_right, is_method, method_is, step_is, now_is}
 use Rattle.objects.specs.Lent.{Holds}
 use Rattle.model.proofs.Parts.{or_right}
@@ -70,11 +70,11 @@ module _ {n b top : ℕ} {contents bodies stack : List ℕ} {h : Here} {i : Inst
 
   receiver_valid : (count : ℕ) → suc count ≤ frame_depth stack top → T (is_valid n (own count))
   receiver_valid count l =
-      operand_valid a count (top_operands n b top contents bodies stack + (frame_depth stack top - suc count)) (let y = a.is_depth in omega arith) (let x = a.is_operands in let y = a.is_depth in omega arith)
+      operand_valid a count (operands_start o m top + (frame_depth stack top - suc count)) (let y = a.is_depth in omega arith) (let x = a.is_operands in let y = a.is_depth in omega arith)
 
   receiver_found : (count : ℕ) → suc count ≤ frame_depth stack top → operand f count ≡ some (own count)
   receiver_found count l =
-      operand_is a count (top_operands n b top contents bodies stack + (frame_depth stack top - suc count)) (let y = a.is_depth in omega arith) (let x = a.is_operands in let y = a.is_depth in omega arith)
+      operand_is a count (operands_start o m top + (frame_depth stack top - suc count)) (let y = a.is_depth in omega arith) (let x = a.is_operands in let y = a.is_depth in omega arith)
 
   becomes_send : (from : ℕ → ℕ) (s count class : ℕ) → suc count ≤ frame_depth stack top → class ≡ from (own count)
       → ((edition receiver selector : ℕ) (room : Room) → step_at room edition receiver selector n b top contents bodies stack ≡ sends room
@@ -137,10 +137,9 @@ module _ {n b top : ℕ} {contents bodies stack : List ℕ} {h : Here} {l k : �
   unfolding need
   send_needs = let x = needed a in omega arith
 
-  send_noted : note_at (method_table a.at.runs.edition (objects_at n b contents bodies) (frame_method stack top)) h.next
-      ≡ suc (code_depth (is_block_of (frame_mark stack top) (rest_frames n b top contents bodies stack)) (h.depth - (1 + k) + 1))
-  unfolding successors need leaves leaves_at
-  send_noted = noted a h.next (λ q d. refl) (Memᴰ.head refl)
+  send_noted : note_at (method_table a.at.runs.edition (objects_at n b contents bodies) (frame_method stack top)) h.next ≡ suc (h.depth - (1 + k) + 1)
+  unfolding successors need leaves
+  send_noted = noted a h.next (Memᴰ.head refl)
 
   pub send_sends : (s : ℕ) → s ≡ literal (objects_at n b contents bodies) h.method l → SendsAt n b top contents bodies stack h s k
   unfolding execute
@@ -149,7 +148,7 @@ module _ {n b top : ℕ} {contents bodies stack : List ℕ} {h : Here} {l k : �
         instruction = Send l k;
         here = a;
         needs = let x = send_needs in let y = a.is_depth in omega arith;
-        noted = send_noted ∙ ap (λ (d : ℕ). suc (code_depth (is_block_of (frame_mark stack top) (rest_frames n b top contents bodies stack)) d)) (let y = a.is_depth in omega arith);
+        noted = send_noted ∙ ap suc (let y = a.is_depth in omega arith);
         fine = subst (λ (x : ℕ). T (send_fine (objects_at n b contents bodies) x k))
             (sym (e ∙ ap (λ (x : ℕ). literal (objects_at n b contents bodies) x l) a.is_method))
             (and_right (ltb l (literal_count (objects_at n b contents bodies) (frame_method stack top))) _ send_allowed);
@@ -176,10 +175,9 @@ module _ {n b top : ℕ} {contents bodies stack : List ℕ} {h : Here} {l k : �
   unfolding need
   super_needs = let x = needed a in omega arith
 
-  super_noted : note_at (method_table a.at.runs.edition (objects_at n b contents bodies) (frame_method stack top)) h.next
-      ≡ suc (code_depth (is_block_of (frame_mark stack top) (rest_frames n b top contents bodies stack)) (h.depth - (1 + k) + 1))
-  unfolding successors need leaves leaves_at
-  super_noted = noted a h.next (λ q d. refl) (Memᴰ.head refl)
+  super_noted : note_at (method_table a.at.runs.edition (objects_at n b contents bodies) (frame_method stack top)) h.next ≡ suc (h.depth - (1 + k) + 1)
+  unfolding successors need leaves
+  super_noted = noted a h.next (Memᴰ.head refl)
 
   super_depth : suc k ≤ frame_depth stack top
   super_depth = let x = super_needs in let y = a.is_depth in omega arith
@@ -215,7 +213,7 @@ module _ {n b top : ℕ} {contents bodies stack : List ℕ} {h : Here} {l k : �
     record {
       runs = a.at.runs;
       needs = super_depth;
-      noted = super_noted ∙ ap (λ (d : ℕ). suc (code_depth (is_block_of (frame_mark stack top) (rest_frames n b top contents bodies stack)) d)) (let y = a.is_depth in omega arith);
+      noted = super_noted ∙ ap suc (let y = a.is_depth in omega arith);
       named = selector_named (objects_at n b contents bodies) s k (let l = least a.at.runs.right in omega arith) fine;
       valid = selector_valid (objects_at n b contents bodies) s k (let l = least a.at.runs.right in omega arith) fine;
       starts = subst (λ (x : ℕ). T (is_nil_or (objects_at n b contents bodies) class_kind x)) (sym same)

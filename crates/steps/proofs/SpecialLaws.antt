@@ -1,8 +1,8 @@
 -- Special sends: arithmetic, == and class, and those that are sent.
 use Prim.Native.Nat.{ℕ, suc, ◌+◌, ◌-◌, ◌≤◌, ◌<◌}
-use mathlib.Core.Path.{◌≡◌, refl, sym, ap, ap₂, ◌∙◌, subst}
+use mathlib.Core.Path.{◌≡◌, refl, sym, ap, ◌∙◌, subst}
 use mathlib.Core.Bool.{Bool, true, false, ◌||◌}
-use mathlib.Core.Logic.{◌⊎◌, inl, inr, ◌≢◌}
+use mathlib.Core.Logic.{◌≢◌}
 use mathlib.Core.List.Memᴰ
 use mathlib.Core.List.{List, [], ◌∷◌}
 use mathlib.Core.Option.{Option, some}
@@ -18,21 +18,20 @@ use Rattle.bytecode.proofs.TestLaws.{below_at}
 use Rattle.model.specs.declared.Computed.{Computed}
 use Rattle.model.specs.declared.Computed.TheVariants.{Word, Failed}
 use Rattle.model.specs.Word.{boolean_word}
-use Rattle.model.specs.Objects.{Objects, objects_at, class_of, is_block_of_of}
+use Rattle.model.specs.Objects.{Objects, objects_at, class_of}
 use Rattle.model.specs.Method.{code_words, code_size}
-use Rattle.model.specs.Depth.{note_at, code_depth, leaves_at}
-use Rattle.model.specs.Rules.{allowed, send_fine, method_table, special_selector, is_same, is_class, is_value}
+use Rattle.model.specs.Depth.{note_at}
+use Rattle.model.specs.Rules.{allowed, send_fine, method_table, special_selector, is_same, is_class}
 use Rattle.model.specs.Arithmetic.{arithmetic}
 use Rattle.model.proofs.Unchanged.{Small, small_at}
-use Rattle.plain.specs.State.{Frame, Plain, is_block_of}
-use Rattle.plain.specs.Step.{Stepped, no_lookup, ◌>>=◌, operand, without, pushed, sends, tried_primitive, or_sends, arithmetic_sends, value_sends, special_sends, execute}
-use Rattle.plain.specs.Flat.{frame_depth, frame_method, frame_mark, frame_position}
-use Rattle.plain.specs.Running.{Moved, Valuing, value_step, sent_receiver, running_at, top_frame, rest_frames}
-use Rattle.plain.proofs.BlockSteps.{value_is, value_sends_lem}
+use Rattle.plain.specs.State.{Frame, Plain}
+use Rattle.plain.specs.Step.{Stepped, no_lookup, ◌>>=◌, operand, without, pushed, sends, tried_primitive, or_sends, arithmetic_sends, special_sends, execute}
+use Rattle.plain.specs.Flat.{frame_method, frame_position}
+use Rattle.plain.specs.Running.{Moved, running_at, top_frame, rest_frames}
 use Rattle.plain.proofs.RunningLaws.{step_is, now_is}
 use Rattle.readers.specs.Places.{Inside}
 use Rattle.objects.proofs.Bodies.{special_inside}
-use Rattle.steps.specs.Events.{Here, HereAt, answered, SendsAt, StepIs}
+use Rattle.steps.specs.Events.{Here, HereAt, answered, SendsAt}
 use Rattle.steps.proofs.HereLaws.{operand_is}
 use Rattle.steps.proofs.MoveLaws.{Does, answers}
 use Rattle.steps.proofs.SayLaws.{noted, needed}
@@ -74,10 +73,6 @@ module _ {n b top : ℕ} {contents bodies stack : List ℕ} {h : Here} {k : ℕ}
   abbrev rest : List Frame
   rest = rest_frames n b top contents bodies stack
 
-  -- whether the frame is a block's
-  abbrev block : Bool
-  block = is_block_of (frame_mark stack top) rest
-
   abbrev at : ℕ → ℕ → ℕ → Plain
   at edition receiver selector = running_at edition receiver selector n b top contents bodies stack
 
@@ -105,12 +100,12 @@ module _ {n b top : ℕ} {contents bodies stack : List ℕ} {h : Here} {k : ℕ}
   pub special_needs : 1 ≤ h.depth
   special_needs = let x = special_depth in omega arith
 
-  special_noted : note_at (method_table a.at.runs.edition o (frame_method stack top)) h.next ≡ suc (code_depth block (h.depth - (1 + special_count k) + 1))
-  unfolding successors need leaves leaves_at
-  special_noted = noted a h.next (λ q d. refl) (Memᴰ.head refl)
+  special_noted : note_at (method_table a.at.runs.edition o (frame_method stack top)) h.next ≡ suc (h.depth - (1 + special_count k) + 1)
+  unfolding successors need leaves
+  special_noted = noted a h.next (Memᴰ.head refl)
 
-  noted_as : (c : ℕ) → special_count k ≡ c → note_at (method_table a.at.runs.edition o (frame_method stack top)) h.next ≡ suc (code_depth block (suc (h.depth - suc c)))
-  noted_as c e = special_noted ∙ ap (λ (d : ℕ). suc (code_depth block d)) (omega arith)
+  noted_as : (c : ℕ) → special_count k ≡ c → note_at (method_table a.at.runs.edition o (frame_method stack top)) h.next ≡ suc (suc (h.depth - suc c))
+  noted_as c e = special_noted ∙ ap suc (omega arith)
 
   sent_when : (s count : ℕ) → s ≡ special_selector o k → count ≡ special_count k → k ≢ 22 → k ≢ 23
       → Does a (λ p room. sends room p f rest h.next (class_of o) (special_selector o k) (special_count k)) → SendsAt n b top contents bodies stack h s count
@@ -119,7 +114,7 @@ module _ {n b top : ℕ} {contents bodies stack : List ℕ} {h : Here} {k : ℕ}
         instruction = SpecialSend k;
         here = a;
         needs = let x = special_depth in let y = a.is_depth in omega arith;
-        noted = noted_as count (sym c) ∙ ap (λ (x : ℕ). suc (code_depth block (suc (x - suc count)))) a.is_depth;
+        noted = noted_as count (sym c) ∙ ap (λ (x : ℕ). suc (suc (x - suc count))) a.is_depth;
         fine = subst (λ (x : ℕ). T (send_fine o x count)) (sym e) (subst (λ (x : ℕ). T (send_fine o (special_selector o k) x)) (sym c)
             (neither (is_same k) (is_class k) (send_fine o (special_selector o k) (special_count k)) (ne_eqb k 22 p) (ne_eqb k 23 q) rule_of));
         steps = λ edition receiver selector room. step_is a.at edition receiver selector room ∙ d edition receiver selector room
@@ -127,72 +122,10 @@ module _ {n b top : ℕ} {contents bodies stack : List ℕ} {h : Here} {k : ℕ}
             ∙ ap (λ (x : ℕ). sends room (at edition receiver selector) f rest h.next (class_of o) s x) (sym c);
       }
 
-  pub special_sends_lem : (s count : ℕ) → 16 ≤ k → k ≢ 22 → k ≢ 23 → k ≢ 25 → k ≢ 26 → s ≡ special_selector o k → count ≡ special_count k → SendsAt n b top contents bodies stack h s count
+  pub special_sends_lem : (s count : ℕ) → 16 ≤ k → k ≢ 22 → k ≢ 23 → s ≡ special_selector o k → count ≡ special_count k → SendsAt n b top contents bodies stack h s count
   unfolding execute special_sends
-  special_sends_lem s count g p q u v e c =
-      sent_when s count e c p q (λ edition receiver selector room. if_ge k 16 _ _ g ∙ if_no _ _ (ne_eqb k 22 p) ∙ if_no _ _ (ne_eqb k 23 q)
-      ∙ if_no _ _ (ap₂ (λ (x y : Bool). x || y) (ne_eqb k 25 u) (ne_eqb k 26 v)))
-
-  -- 201 and 202: what value is sent to
-  module _ (value : (k ≡ 25) ⊎ (k ≡ 26)) where
-    is_value_lem : is_value k ≡ true
-    is_value_lem = by value
-      where
-        by : (k ≡ 25) ⊎ (k ≡ 26) → is_value k ≡ true
-        by (inl e) = ap (λ (x : Bool). x || eqb k 26) (eq-eqb k 25 e)
-        by (inr e) = ap (λ (x : Bool). eqb k 25 || x) (eq-eqb k 26 e) ∙ or_true (eqb k 25)
-          where
-            or_true : (x : Bool) → (x || true) ≡ true
-            or_true true = refl
-            or_true false = refl
-
-    other : (j : ℕ) → j < 25 → k ≢ j
-    other j l e = by value
-      where
-        by : (k ≡ 25) ⊎ (k ≡ 26) → ⊥
-        by (inl q) = omega arith
-        by (inr q) = omega arith
-
-    large : 16 ≤ k
-    large = by value
-      where
-        by : (k ≡ 25) ⊎ (k ≡ 26) → 16 ≤ k
-        by (inl q) = omega arith
-        by (inr q) = omega arith
-
-    values : Does a (λ p room. value_sends room p f rest h.next k)
-    unfolding execute special_sends
-    values edition receiver selector room =
-        if_ge k 16 _ _ large ∙ if_no _ _ (ne_eqb k 22 (other 22 (omega arith))) ∙ if_no _ _ (ne_eqb k 23 (other 23 (omega arith))) ∙ if_yes _ _ is_value_lem
-
-    pub value_depth : (count : ℕ) → count ≡ special_count k → suc count ≤ frame_depth stack top
-    value_depth count c = let x = special_depth in let y = a.is_depth in omega arith
-
-    pub value_sent : (s count w : ℕ) → s ≡ special_selector o k → count ≡ special_count k → w ≡ sent_receiver n b top contents bodies stack count → is_block_of_of o count w ≡ false
-        → SendsAt n b top contents bodies stack h s count
-    value_sent s count w e c q z =
-        sent_when s count e c (other 22 (omega arith)) (other 23 (omega arith))
-        (λ edition receiver selector room. values edition receiver selector room
-        ∙ value_sends_lem a.at.runs count h.next (value_depth count c) room edition receiver selector k (sym c) (ap (is_block_of_of o count) (sym q) ∙ z)
-        ∙ ap (λ (x : ℕ). sends room (at edition receiver selector) f rest h.next (class_of o) (special_selector o k) x) c)
-
-    pub value_valued : (count w : ℕ) → count ≡ special_count k → w ≡ sent_receiver n b top contents bodies stack count → is_block_of_of o count w ≡ true
-        → Valuing n b top contents bodies stack w count h.next
-    value_valued count w c q z =
-        record {
-          runs = a.at.runs;
-          needs = value_depth count c;
-          noted = noted_as count (sym c) ∙ ap (λ (x : ℕ). suc (code_depth block (suc (x - suc count)))) a.is_depth;
-          is = q;
-          takes = z;
-        }
-
-    pub value_steps : (count w : ℕ) → count ≡ special_count k → w ≡ sent_receiver n b top contents bodies stack count → is_block_of_of o count w ≡ true
-        → StepIs n b top contents bodies stack (λ room edition receiver selector. value_step room edition receiver selector n b top contents bodies stack w count h.next)
-    value_steps count w c q z edition receiver selector room =
-        step_is a.at edition receiver selector room ∙ values edition receiver selector room
-        ∙ value_is a.at.runs count h.next (value_depth count c) room edition receiver selector k (sym c) (ap (is_block_of_of o count) (sym q) ∙ z)
-        ∙ ap (λ (x : ℕ). value_step room edition receiver selector n b top contents bodies stack x count h.next) (sym q)
+  special_sends_lem s count g p q e c =
+      sent_when s count e c p q (λ edition receiver selector room. if_ge k 16 _ _ g ∙ if_no _ _ (ne_eqb k 22 p) ∙ if_no _ _ (ne_eqb k 23 q))
 
   -- the two uppermost operands
   module _ (two : 2 ≤ h.depth) where
@@ -210,7 +143,7 @@ module _ {n b top : ℕ} {contents bodies stack : List ℕ} {h : Here} {k : ℕ}
     pub arithmetic_two : 2 ≤ h.depth
     arithmetic_two = let x = special_depth in let y = special_one k small in omega arith
 
-    arithmetic_noted : note_at (method_table a.at.runs.edition o (frame_method stack top)) h.next ≡ suc (code_depth block (suc (h.depth - 2)))
+    arithmetic_noted : note_at (method_table a.at.runs.edition o (frame_method stack top)) h.next ≡ suc (suc (h.depth - 2))
     arithmetic_noted = noted_as 1 (special_one k small)
 
     computes : (t : ℕ) (x : Computed) → t ≡ tried_primitive k → x ≡ arithmetic t under last
@@ -243,7 +176,7 @@ module _ {n b top : ℕ} {contents bodies stack : List ℕ} {h : Here} {k : ℕ}
     pub same_two : 2 ≤ h.depth
     same_two = let x = special_depth in let y = same_count in omega arith
 
-    same_noted : note_at (method_table a.at.runs.edition o (frame_method stack top)) h.next ≡ suc (code_depth block (suc (h.depth - 2)))
+    same_noted : note_at (method_table a.at.runs.edition o (frame_method stack top)) h.next ≡ suc (suc (h.depth - 2))
     same_noted = noted_as 1 same_count
 
     pub same_says : (w : ℕ) (stack' : List ℕ) → w ≡ boolean_word (eqb under last)
@@ -257,7 +190,7 @@ module _ {n b top : ℕ} {contents bodies stack : List ℕ} {h : Here} {k : ℕ}
 
   -- 199
   module _ (class : k ≡ 23) where
-    class_noted : note_at (method_table a.at.runs.edition o (frame_method stack top)) h.next ≡ suc (code_depth block (suc (h.depth - 1)))
+    class_noted : note_at (method_table a.at.runs.edition o (frame_method stack top)) h.next ≡ suc (suc (h.depth - 1))
     class_noted = noted_as 0 (ap special_count class ∙ special_class)
 
     pub class_says : (w : ℕ) (stack' : List ℕ) → w ≡ class_of o last

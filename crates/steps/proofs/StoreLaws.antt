@@ -15,10 +15,9 @@ use Rattle.plain.specs.Flat.{frame_receiver}
 use Rattle.plain.specs.FlatCalls.{at_front}
 use Rattle.plain.specs.Running.{Moved, running_at, top_frame, rest_frames}
 use Rattle.plain.proofs.RunningLaws.{receiver_is}
-use Rattle.plain.proofs.HomeWords.{home_base}
 use Rattle.steps.specs.Events.{Here, StoringAt}
 use Rattle.steps.proofs.MoveLaws.{goes_temporary}
-use Rattle.steps.proofs.PlaceLaws.{own_field, temporary_below, literal_at, variable_below, variable_field, store_runs, store_place, store_left, stores, stores_in}
+use Rattle.steps.proofs.PlaceLaws.{own_field, temporary_below, temporary_at, literal_at, variable_below, variable_field, store_runs, store_place, store_left, stores, stores_in}
 
 module _ {n b top : ℕ} {contents bodies stack : List ℕ} {h : Here} {left : ℕ} where
   pub store_field : {j : ℕ} (z : StoringAt n b top contents bodies stack h (Field j) left) (bodies' stack' : List ℕ)
@@ -33,10 +32,16 @@ module _ {n b top : ℕ} {contents bodies stack : List ℕ} {h : Here} {left : �
       (rest_frames n b top contents bodies stack) x j (get_or stack (h.operands + (h.depth - 1)) 0)) (receiver_is (store_runs z))) e)
 
   pub store_temporary : {j : ℕ} (z : StoringAt n b top contents bodies stack h (Temporary j) left) (stack' : List ℕ)
-      → stack' ≡ set (set (set stack (home_base stack top + 6 + j) (get_or stack (h.operands + (h.depth - 1)) 0)) (top + 1) h.next) (top + 2) left → Moved n b top contents bodies stack bodies stack'
+      → stack' ≡ set (set (set stack (top + 6 + j) (get_or stack (h.operands + (h.depth - 1)) 0)) (top + 1) h.next) (top + 2) left → Moved n b top contents bodies stack bodies stack'
+  unfolding stored
   store_temporary {j} z stack' q =
       subst (λ (l : List ℕ). Moved n b top contents bodies stack bodies l) (sym q)
-      (goes_temporary z.here h.next left j (get_or stack (h.operands + (h.depth - 1)) 0) (store_left z) (temporary_below (store_runs z) j (store_place z)) (stores z))
+      (goes_temporary z.here h.next left j (get_or stack (h.operands + (h.depth - 1)) 0) (store_left z) (temporary_below (store_runs z) j (store_place z))
+      (λ edition receiver selector room. stores z edition receiver selector room
+      ∙ ap (λ (x : Option ℕ). x >>= λ old. leads_to (on_top (running_at edition receiver selector n b top contents bodies stack)
+      (with_temporaries (moved_to (top_frame n b top contents bodies stack) h.next (take left (top_frame n b top contents bodies stack).operands))
+      (set (top_frame n b top contents bodies stack).temporaries j (get_or stack (h.operands + (h.depth - 1)) 0))) (rest_frames n b top contents bodies stack))
+      no_lookup) (temporary_at (store_runs z) j (store_place z))))
 
   pub store_variable : {j : ℕ} (z : StoringAt n b top contents bodies stack h (LiteralVariable j) left) (v : ℕ) (bodies' stack' : List ℕ)
       → v ≡ literal (objects_at n b contents bodies) h.method j → bodies' ≡ at_front (store_word (objects_at n b contents bodies) (object_number v) 1

@@ -1,24 +1,22 @@
 -- What a bytecode is to the run loop.
-use Rattle.std.specs.Prelude.{ℕ, suc, ◌+◌, ◌-◌, ◌≤◌, ◌<◌, ◌≡◌, ◌⊎◌, Bool, true, false, List, T, length, get_or, set}
-use Rattle.bytecode.specs.Effect.{special_count}
+use Rattle.std.specs.Prelude.{ℕ, suc, ◌+◌, ◌-◌, ◌≤◌, ◌<◌, ◌≡◌, Bool, true, false, List, T, length, get_or, set}
 use Rattle.bytecode.specs.declared.Place.{Place}
 use Rattle.bytecode.specs.declared.Instruction.{Instruction}
-use Rattle.bytecode.specs.declared.Instruction.TheVariants.{Store, PopStore, SpecialSend, PushBlock}
+use Rattle.bytecode.specs.declared.Instruction.TheVariants.{Store, PopStore, SpecialSend}
 use Rattle.model.specs.Objects.{objects_at, class_of}
-use Rattle.model.specs.Depth.{note_at, code_depth}
+use Rattle.model.specs.Depth.{note_at}
 use Rattle.model.specs.Rules.{send_fine, method_table}
 use Rattle.model.specs.Image.{Room}
 use Rattle.model.specs.Arithmetic.{arithmetic}
 use Rattle.model.specs.declared.Computed.{Computed}
 use Rattle.plain.specs.Registers.{Cause, phase_of}
-use Rattle.plain.specs.State.{is_block_of}
-use Rattle.plain.specs.Step.{Stepped, halts, returned, returned_home, sends, step, tried_primitive}
-use Rattle.plain.specs.Flat.{frame_depth, frame_method, frame_mark}
-use Rattle.plain.specs.Running.{At, Moved, Sending, send_step, Valuing, value_step, running_at, top_frame, rest_frames, top_operands}
+use Rattle.plain.specs.Step.{Stepped, halts, returned, sends, step, tried_primitive}
+use Rattle.plain.specs.Flat.{frame_depth, frame_method, operands_start}
+use Rattle.plain.specs.Running.{At, Moved, Sending, send_step, running_at, top_frame, rest_frames}
 use Rattle.frames.specs.declared.Active.{Active}
 use Rattle.frames.specs.Active.{written, moved_on, Onward, IsActive}
 use Rattle.steps.specs.declared.Event.{Event}
-use Rattle.steps.specs.declared.Event.TheVariants.{Next, Send, Return, ReturnFromBlock, Value, Block, Halt}
+use Rattle.steps.specs.declared.Event.TheVariants.{Next, Send, Return, Halt}
 
 -- A running frame about to do an instruction, in the numbers that the laws speak of: its method, its first operand, how many there are, and
 -- the position behind the instruction
@@ -31,7 +29,7 @@ pub record Here : Type 0 where
 pub record HereAt (n b top : ℕ) (contents bodies stack : List ℕ) (h : Here) (i : Instruction) : Type 0 where
   pub at : At n b top contents bodies stack h.next i
   pub is_method : h.method ≡ frame_method stack top
-  pub is_operands : h.operands ≡ top_operands n b top contents bodies stack
+  pub is_operands : h.operands ≡ operands_start (objects_at n b contents bodies) (frame_method stack top) top
   pub is_depth : h.depth ≡ frame_depth stack top
 
 -- The frame that the loop holds and its instruction, with the position behind it
@@ -80,8 +78,7 @@ pub record SendsAt (n b top : ℕ) (contents bodies stack : List ℕ) (h : Here)
   pub instruction : Instruction
   pub here : HereAt n b top contents bodies stack h instruction
   pub needs : suc count ≤ frame_depth stack top
-  pub noted : note_at (method_table here.at.runs.edition (objects_at n b contents bodies) (frame_method stack top)) h.next
-      ≡ suc (code_depth (is_block_of (frame_mark stack top) (rest_frames n b top contents bodies stack)) (suc (frame_depth stack top - suc count)))
+  pub noted : note_at (method_table here.at.runs.edition (objects_at n b contents bodies) (frame_method stack top)) h.next ≡ suc (suc (frame_depth stack top - suc count))
   pub fine : T (send_fine (objects_at n b contents bodies) s count)
   pub steps : (edition receiver selector : ℕ) (room : Room)
       → step_at room edition receiver selector n b top contents bodies stack
@@ -93,12 +90,6 @@ pub record Computing (n b : ℕ) (contents bodies stack : List ℕ) (a : Active)
   pub doing : Doing n b contents bodies stack a next (SpecialSend k)
   pub small : k < 16
   pub computed : x ≡ arithmetic (tried_primitive k) (get_or stack (a.end.0 - 2) 0) (get_or stack (a.end.0 - 1) 0)
-
--- 176 plus k is value, with so many arguments.
-pub record Values (n b : ℕ) (contents bodies stack : List ℕ) (a : Active) (next k count : ℕ) : Type 0 where
-  pub doing : Doing n b contents bodies stack a next (SpecialSend k)
-  pub value : (k ≡ 25) ⊎ (k ≡ 26)
-  pub counts : count ≡ special_count k
 
 -- The numbers of the frame that the loop holds
 abbrev pub here_of : List ℕ → Active → ℕ → Here
@@ -125,15 +116,7 @@ pub record Halting (n b : ℕ) (contents : List ℕ) (a : Active) (bodies stack 
   pub phase : k ≡ phase_of cause
   pub becomes : Becomes n b contents a bodies stack bodies' stack' (λ room edition receiver selector. halts cause)
 
--- A block is about to be pushed, whose code is at `next`, and control goes on at `target`.
-pub record BlockAt (n b top : ℕ) (contents bodies stack : List ℕ) (count next target : ℕ) : Type 0 where
-  pub ahead : ℕ
-  pub back : ℕ
-  pub at : At n b top contents bodies stack next (PushBlock count ahead back)
-  pub lands : target ≡ next + ahead - back
-
--- What an event says: the bytecode is done, or it is a send that is to be made, or a return of a word, from the method or from a block, or value sent to a block, or a block to be
--- pushed, or it halts.
+-- What an event says: the bytecode is done, or it is a send that is to be made, or a return of a word, or it halts.
 abbrev pub Says : ℕ → ℕ → List ℕ → Active → List ℕ → List ℕ → List ℕ → List ℕ → Event → Type 0
 Says n b contents a bodies stack bodies' stack' (Next q e) =
     Moved n b a.base.0 contents bodies (written a stack) bodies' (written (moved_on a q e) stack')
@@ -146,17 +129,6 @@ Says n b contents a bodies stack bodies' stack' (Send m) =
 Says n b contents a bodies stack bodies' stack' (Return w) =
     Becomes n b contents a bodies stack bodies' stack'
     (λ room edition receiver selector.
-    returned_home (running_at edition receiver selector n b a.base.0 contents bodies (written a stack))
-    (top_frame n b a.base.0 contents bodies (written a stack)) (rest_frames n b a.base.0 contents bodies (written a stack)) w)
-Says n b contents a bodies stack bodies' stack' (ReturnFromBlock w) =
-    Becomes n b contents a bodies stack bodies' stack'
-    (λ room edition receiver selector.
     returned (running_at edition receiver selector n b a.base.0 contents bodies (written a stack))
     (top_frame n b a.base.0 contents bodies (written a stack)) (rest_frames n b a.base.0 contents bodies (written a stack)) w)
-Says n b contents a bodies stack bodies' stack' (Value block count next) =
-    Valuing n b a.base.0 contents bodies (written a stack) block.0 count next.0
-    × Becomes n b contents a bodies stack bodies' stack'
-    (λ room edition receiver selector. value_step room edition receiver selector n b a.base.0 contents bodies (written a stack) block.0 count next.0)
-Says n b contents a bodies stack bodies' stack' (Block count next target) =
-    BlockAt n b a.base.0 contents bodies (written a stack) count next.0 target.0 × (bodies' ≡ bodies) × (stack' ≡ stack)
 Says n b contents a bodies stack bodies' stack' (Halt k) = Halting n b contents a bodies stack bodies' stack' k

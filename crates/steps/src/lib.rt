@@ -6,17 +6,16 @@ ghost use Rattle.bytecode.specs.declared.Instruction.TheVariants.{Push, JumpOn, 
 ghost use Rattle.model.specs.Objects.{objects_at};
 ghost use Rattle.model.specs.Word.{boolean_word};
 ghost use Rattle.plain.specs.Step.{read};
-ghost use Rattle.plain.specs.Running.{top_frame, rest_frames};
+ghost use Rattle.plain.specs.Running.{top_frame};
 ghost use Rattle.frames.specs.Active.{written, IsActive};
-ghost use Rattle.steps.specs.Events.{Doing, Computing, Pushing, Pushed, Storing, Values, Sends, Says};
+ghost use Rattle.steps.specs.Events.{Doing, Computing, Pushing, Pushed, Storing, Sends, Says};
 
 use bytecode::{Decoded, Instruction, Place};
 use frames::{Active, Message};
 use model::{CodePosition, Computed, Pointer, StackPosition, limits};
 
 // What a bytecode is to the run loop: the frame goes on, at another position and with operands up to another end; or a send is to be made, or
-// a return of a word, from the method or from a block; or value is sent to a block that takes the arguments; or a block is to be pushed, whose code is at `next`, before a jump; or it
-// halts, with the phase that says why.
+// a return of a word; or it halts, with the phase that says why.
 #[derive(Drop)]
 pub enum Event {
     Next {
@@ -25,17 +24,6 @@ pub enum Event {
     },
     Send(Message),
     Return(u16),
-    ReturnFromBlock(u16),
-    Value {
-        block: Pointer,
-        count: usize,
-        next: CodePosition,
-    },
-    Block {
-        count: usize,
-        next: CodePosition,
-        target: CodePosition,
-    },
     Halt(u16),
 }
 
@@ -70,8 +58,7 @@ fn read(
 ) -> u16
     requires { Doing n b contents.now bodies.now stack.now active next.0 (Push place) }
     ensures { read (objects_at n b contents.now bodies.now)
-        (top_frame n b active.base.0 contents.now bodies.now (written active stack.now))
-        (rest_frames n b active.base.0 contents.now bodies.now (written active stack.now)) place
+        (top_frame n b active.base.0 contents.now bodies.now (written active stack.now)) place
         ≡ some result }
 {
     let base = active.base.0;
@@ -81,7 +68,7 @@ fn read(
             readers::word_of(contents, bodies, n, b, Pointer(receiver), i)
         }
         Place::Temporary(i) => {
-            let at = frames::first_temporary(active.home) + i;
+            let at = frames::first_temporary(active.base) + i;
             stack[at]
         }
         Place::Literal(i) => {
@@ -150,7 +137,7 @@ fn store(
             objects::store_word(contents, bodies, n, b, Pointer(receiver), i, w);
         }
         Place::Temporary(i) => {
-            let to = frames::first_temporary(active.home) + i;
+            let to = frames::first_temporary(active.base) + i;
             stack[to] = w;
         }
         // no reached store goes to a literal
@@ -431,41 +418,6 @@ fn special_count(k: u8) -> usize
     table[i] as usize
 }
 
-// 201 and 202: value, with no or one argument, to a block that takes as many; to anything else a send.
-fn value_send(
-    contents: &[u16],
-    bodies: &[u16],
-    stack: &[u16],
-    n: usize,
-    b: usize,
-    active: Active,
-    next: CodePosition,
-    k: u8,
-    count: usize,
-) -> Event
-    requires { Values n b contents.now bodies.now stack.now active next.0 k count }
-    ensures { Says n b contents.now active bodies.now stack.now bodies.now stack.now result }
-{
-    let at = active.end.0 - 1 - count;
-    let receiver = stack[at];
-    if objects::is_block(contents, bodies, n, b, receiver, count) {
-        return Event::Value {
-            block: Pointer(receiver),
-            count: count,
-            next: next,
-        };
-    }
-    let s = readers::word_of(
-        contents,
-        bodies,
-        n,
-        b,
-        Pointer(limits::SELECTORS),
-        k as usize,
-    );
-    sent(contents, bodies, stack, n, b, active, next, s, count)
-}
-
 // 192 to 207: 198 and 199 send nothing.
 fn special_send(
     contents: &[u16],
@@ -497,12 +449,6 @@ fn special_send(
             position: next,
             end: StackPosition(end),
         };
-    }
-    if k == 25 {
-        return value_send(contents, bodies, stack, n, b, active, next, k, 0);
-    }
-    if k == 26 {
-        return value_send(contents, bodies, stack, n, b, active, next, k, 1);
     }
     let s = readers::word_of(
         contents,
@@ -591,19 +537,6 @@ pub fn step(
                 return arithmetic_send(contents, bodies, stack, n, b, active, next, k);
             }
             special_send(contents, bodies, stack, n, b, active, next, k)
-        }
-        Instruction::PushBlock {
-            arguments,
-            ahead,
-            back,
-        } => Event::Block {
-            count: arguments as usize,
-            next: next,
-            target: CodePosition(next.0 + ahead as usize - back as usize),
-        },
-        Instruction::BlockReturn => {
-            let at = active.end.0 - 1;
-            Event::ReturnFromBlock(stack[at])
         }
         // never reached
         Instruction::Unused => Event::Halt(limits::NO_BOOLEAN),

@@ -1,11 +1,9 @@
 //! Cases: random lists of calls, made on both machines and compared after each.
 
-use crate::blocks::{self, Blocks};
 use crate::climbs::{self, Climbing};
 use crate::damage::*;
 use crate::draft::*;
 use crate::elements;
-use crate::frames::*;
 use crate::generate;
 use crate::laws::*;
 use crate::lookups;
@@ -13,12 +11,16 @@ use crate::messages;
 use crate::random::Random;
 use crate::report::Report;
 use crate::sides::*;
-use apart::calls::{self, CACHE_WORDS, EDITION, PHASE, TOP};
-use apart::machine::{MOST_STACK, NO_BLOCK_ROOM, NO_HOME, RUNNING};
+use apart::calls::{CACHE_WORDS, EDITION, PHASE, TOP};
+use apart::machine::{MOST_STACK, RUNNING};
 use apart::objects::*;
 use apart::play::ANSWER_WORDS;
 use apart::rules::{judge, World};
 use apart::words::*;
+
+/// Words of a frame.
+const SMALL: usize = 18;
+const LARGE: usize = 38;
 
 /// Both machines with the calls made so far.
 pub struct Pair<'a> {
@@ -41,10 +43,9 @@ impl<'a> Pair<'a> {
         self.calls.push(call);
         let call = self.calls.last().unwrap();
         let before = matches!(call, Call::Run(_) | Call::Play { .. }).then(|| self.theirs.clone());
-        let phase = self.ours.registers[PHASE];
         let ours = plain(call, &mut self.ours, &mut self.report.counts);
         let theirs = library(call, &mut self.theirs);
-        self.report.note(call, phase, &ours, &self.ours);
+        self.report.note(call, &ours, &self.ours);
         if let Call::Lookups(all) = call {
             if let Some(what) = lookups::difference(all, &mut self.ours, &self.theirs, &mut self.report.counts) {
                 return Err(what);
@@ -52,13 +53,6 @@ impl<'a> Pair<'a> {
         }
         if let Some(what) = difference(&ours, &theirs, &self.ours, &self.theirs) {
             return Err(what);
-        }
-        // What a call leaves is right, so that the next one finds it so.
-        let leaves = matches!(call, Call::Load(_) | Call::Begin { .. } | Call::Run(_) | Call::Drop | Call::Forget | Call::Play { .. });
-        if leaves && ours.number == 0 && self.ours.registers[EDITION] >= WITH_BLOCKS {
-            if let Err(refusal) = calls::check(&self.ours.lent()) {
-                return Err(format!("the call is accepted on both, but check refuses what it leaves: {refusal}"));
-            }
         }
         let before = match before {
             Some(before) => before,
@@ -115,54 +109,47 @@ const ELEMENTS: usize = 90;
 const MESSAGES: usize = 76;
 /// Of one whose sends climb.
 const CLIMBS: usize = 72;
-/// Of one whose handlers make blocks, and how many kinds there are.
-const BLOCKS: usize = 100;
-const KINDS: usize = 122;
 
 /// One case; what differs, with the pair that shows it.
 pub fn case(random: &mut Random, report: &mut Report) -> Result<(), (Buffers, Vec<Call>, String)> {
-    let kind = random.below(KINDS);
+    let kind = random.below(100);
     let fails = (MESSAGES..ELEMENTS).contains(&kind);
     let climbs = (CLIMBS..MESSAGES).contains(&kind);
-    let with_blocks = (BLOCKS..KINDS).contains(&kind);
     let mut draft = match kind {
         0..=9 => noisy(random),
         _ if fails || climbs => {
-            let edition = random.pick(&[1, 2, 2, 2, 2, 2, 3]);
+            let edition = random.pick(&[1, 2, 2, 2, 2, 2]);
             generate::of_edition(random, edition, true)
         }
-        BLOCKS.. => generate::of_edition(random, 3, true),
         _ => generate::draft(random),
     };
     if fails || random.percent(8) && messages::is_able(&draft) {
         messages::add(random, &mut draft);
     }
     if (ELEMENTS..WIDE).contains(&kind) || random.percent(12) {
-        let large = (ELEMENTS..BLOCKS).contains(&kind) && random.percent(25);
+        let large = kind >= ELEMENTS && random.percent(25);
         elements::add(random, &mut draft, large);
     }
-    let handlers = (with_blocks || draft.edition == 3 && random.percent(8)).then(|| blocks::add(random, &mut draft));
     match kind {
-        96..=99 => fill(random, &mut draft),
+        96.. => fill(random, &mut draft),
         WIDE => lookups::widen(random, &mut draft),
         _ if fails && random.percent(20) => fill(random, &mut draft),
-        BLOCKS.. if random.percent(20) => blocks::fill(random, &mut draft),
         _ => {}
     }
     let climbing = climbs.then(|| climbs::add(random, &mut draft));
-    let tall = kind == 95 && random.percent(40) || fails && random.percent(3) || with_blocks && random.percent(2);
+    let tall = kind == 95 && random.percent(40) || fails && random.percent(3);
     let deep = kind == 95 && !tall && random.percent(50) && recurse(random, &mut draft);
     let image = draft.image();
     let mut buffers = buffers(random, &image);
     // Damage can make an image longer, and handlers make objects.
-    if (10..40).contains(&kind) && random.percent(80) || fails || climbs || with_blocks {
+    if (10..40).contains(&kind) && random.percent(80) || fails || climbs {
         let more = random.pick(&[600, 600, 600, 8_000]);
         for buffer in 0..2 {
             buffers.lengths[buffer] += more;
             buffers.words[buffer].extend((0..more).map(|_| random.word()));
         }
     }
-    if fails || with_blocks {
+    if fails {
         buffers.lengths[2] = buffers.lengths[2].max(1_024);
         buffers.words[2].resize(buffers.lengths[2] + GUARD, NIL);
     }
@@ -173,7 +160,6 @@ pub fn case(random: &mut Random, report: &mut Report) -> Result<(), (Buffers, Ve
     let mut pair = Pair::new(buffers, report);
     let compared = match kind {
         _ if fails => messages_case(random, &mut pair, image),
-        _ if with_blocks => blocks_case(random, &mut pair, image, &handlers.unwrap()),
         _ if climbing.is_some() => climbs_case(random, &mut pair, image, &climbing.unwrap()),
         _ if tall => tall_case(random, &mut pair, image),
         _ if deep => deep_case(random, &mut pair, &draft),
@@ -181,7 +167,7 @@ pub fn case(random: &mut Random, report: &mut Report) -> Result<(), (Buffers, Ve
         10..=39 => damaged_case(random, &mut pair, &draft),
         WIDE => wide_case(random, &mut pair, image),
         ELEMENTS..=93 => elements_case(random, &mut pair, image),
-        40..=49 | 97..=99 => primitive_case(random, &mut pair, image),
+        40..=49 | 97.. => primitive_case(random, &mut pair, image),
         _ => list_case(random, &mut pair, image),
     };
     compared.map_err(|what| (pair.first, pair.calls, what))
@@ -198,8 +184,6 @@ fn recurse(random: &mut Random, draft: &mut Draft) -> bool {
     if methods.is_empty() || !flags.clone().any(|flag| [0, 5, 6].contains(&flag)) {
         return false;
     }
-    // Theirs would not be right any more.
-    blocks::without_blocks(draft);
     for method in methods {
         let made = draft.objects[method as usize / 2 - 1].clone();
         draft.put_method(method, made.class, vec![large | 3, made.body[1], selector], &[112, 208, 124]);
@@ -241,6 +225,40 @@ fn tall_case(random: &mut Random, pair: &mut Pair, image: Vec<u8>) -> Compared<(
         pair.make(Call::Drop)?;
     }
     Ok(())
+}
+
+fn right_frames(random: &mut Random, world: &World, is_top: bool) -> Vec<Vec<u16>> {
+    (0..100).map(|_| made_up_frame(random, world, is_top)).filter(|frame| right(world, frame, is_top)).collect()
+}
+
+/// Right frames of both sizes, of which the last ends at 65,536 or a little below.
+fn tall(random: &mut Random, world: &World) -> Option<Vec<Vec<u16>>> {
+    let tops = right_frames(random, world, true);
+    if tops.is_empty() {
+        return None;
+    }
+    let top = tops[random.below(tops.len())].clone();
+    let less = 2 * random.below(100);
+    let end = MOST_STACK - random.pick(&[0, 0, SMALL, LARGE, less]);
+    tall_below(random, world, top, end)
+}
+
+/// Right frames of both sizes with this one on top, which ends there.
+fn tall_below(random: &mut Random, world: &World, top: Vec<u16>, end: usize) -> Option<Vec<Vec<u16>>> {
+    let (small, large): (Vec<Vec<u16>>, Vec<Vec<u16>>) = right_frames(random, world, false).into_iter().partition(|frame| frame.len() == SMALL);
+    if small.is_empty() || large.is_empty() {
+        return None;
+    }
+    let room = end - top.len();
+    let fitting: Vec<usize> = (0..=room / LARGE).filter(|count| (room - LARGE * count) % SMALL == 0).collect();
+    let count = random.pick(&fitting);
+    let mut frames = vec![];
+    for (count, from) in [(count, large), ((room - LARGE * count) / SMALL, small)] {
+        frames.extend((0..count).map(|_| from[random.below(from.len())].clone()));
+    }
+    random.shuffle(&mut frames);
+    frames.push(top);
+    Some(frames)
 }
 
 /// An image in which some methods have random code, sound or not.
@@ -381,9 +399,7 @@ fn messages_case(random: &mut Random, pair: &mut Pair, image: Vec<u8>) -> Compar
         let end = messages::tall_end(random);
         let tall = if most[2] >= MOST_STACK { tall_below(random, &world, handler.frame(&world), end) } else { None };
         match tall {
-            Some(frames) => {
-                stand(pair, frames, RUNNING)?;
-            }
+            Some(frames) => stand(pair, frames, RUNNING)?,
             None if random.percent(10) => {
                 let calls: Vec<Call> = (0..random.from(1, 6)).flat_map(|_| [handler.begin(), run(random), Call::Drop]).collect();
                 pair.make(play(random, &calls))?;
@@ -457,175 +473,6 @@ fn climbs_case(random: &mut Random, pair: &mut Pair, image: Vec<u8>, climbing: &
     Ok(())
 }
 
-/// Handlers that make blocks, on buffers that just have room for them and their frames, or just not; frames with marks that no run made.
-fn blocks_case(random: &mut Random, pair: &mut Pair, image: Vec<u8>, handlers: &Blocks) -> Compared<()> {
-    pair.make(Call::Load(image))?;
-    let most = pair.ours.lengths;
-    for _ in 0..random.from(4, 10) {
-        if random.percent(60) {
-            settle(random, pair)?;
-        }
-        let world = match pair.world() {
-            Some(world) => world,
-            None => return Ok(()),
-        };
-        let begin = block_message(random, &world, handlers);
-        match random.below(12) {
-            0 | 1 => {
-                forged_frames(random, pair)?;
-                continue;
-            }
-            2 if most[2] < MOST_STACK => {
-                let calls: Vec<Call> =
-                    (0..random.from(1, 6)).flat_map(|_| [block_message(random, &world, handlers), run(random), run_or_drop(random)]).collect();
-                pair.make(play(random, &calls))?;
-                continue;
-            }
-            3 => {
-                spoiled_blocks(random, pair)?;
-                continue;
-            }
-            4 => {
-                let call = any_call(random, pair);
-                pair.make(call)?;
-                continue;
-            }
-            _ => {}
-        }
-        let end = blocks::tall_end(random);
-        let tall = if most[2] >= MOST_STACK { first_frame(&world, &begin).and_then(|top| tall_below(random, &world, top, end)) } else { None };
-        if let Some(frames) = tall {
-            stand(pair, frames, RUNNING)?;
-        } else {
-            pair.make(begin)?;
-        }
-        if most[2] < MOST_STACK && pair.ours.registers[PHASE] == RUNNING {
-            let registers = pair.ours.registers.map(|register| register as usize);
-            let top = pair.ours.words[2].get(registers[TOP] + 3).copied().unwrap_or(0);
-            if world.objects.has_kind(top, METHOD) {
-                let end = registers[TOP] + 6 + world.method(top).room();
-                let lengths = blocks::lengths(random, [registers[0], registers[1], end], most);
-                pair.make(Call::Lengths(lengths))?;
-            }
-        }
-        for _ in 0..random.from(1, 3) {
-            let call = run(random);
-            pair.make(call)?;
-        }
-        pair.make(Call::Lengths(most))?;
-        match random.below(12) {
-            0 => saved_and_loaded(random, pair)?,
-            1 | 2 => forged_frames(random, pair)?,
-            3 => other_edition(random, pair)?,
-            4 => {
-                let call = to_last(random, pair);
-                pair.make(call)?;
-            }
-            _ => {}
-        }
-    }
-    pair.make(Call::Check)?;
-    Ok(())
-}
-
-/// A begin of one of the handlers, with a block, an integer or nil where it takes an argument; now and then of a block.
-fn block_message(random: &mut Random, world: &World, handlers: &Blocks) -> Call {
-    let blocks: Vec<u16> = world.objects.blocks().map(|(number, _)| pointer(number)).collect();
-    let (selector, count) = random.pick(&handlers.handlers);
-    let argument = match random.below(6) {
-        0 | 1 if !blocks.is_empty() => random.pick(&blocks),
-        2 | 3 => NIL,
-        _ => word(random.from(0, 3) as i64).unwrap(),
-    };
-    if !blocks.is_empty() && random.percent(4) {
-        let receiver = random.pick(&blocks);
-        return message_to(random, world, receiver).unwrap_or(Call::Check);
-    }
-    Call::Begin { receiver: handlers.receiver, selector, arguments: vec![argument; count] }
-}
-
-/// The frame that a begin makes, of which no bytecode was made.
-fn first_frame(world: &World, begin: &Call) -> Option<Vec<u16>> {
-    let (receiver, selector, arguments) = match begin {
-        Call::Begin { receiver, selector, arguments } => (*receiver, *selector, arguments),
-        _ => return None,
-    };
-    let found = world.objects.lookup(world.objects.class_of(receiver), selector)?.method;
-    let method = world.method(found);
-    if [5, 6].contains(&method.flag) || method.arguments != arguments.len() {
-        return None;
-    }
-    let mut frame = vec![0, 0, 0, found, 0, receiver];
-    frame.extend(arguments);
-    frame.resize(6 + method.room(), NIL);
-    Some(frame)
-}
-
-/// Frames with marks written into the stack, check, a call or two.
-fn forged_frames(random: &mut Random, pair: &mut Pair) -> Compared<()> {
-    let world = match pair.world() {
-        Some(world) => world,
-        None => return Ok(()),
-    };
-    let frames = match forged(random, &world) {
-        Some(frames) if frames.concat().len() <= pair.ours.lengths[2] => frames,
-        _ => return Ok(()),
-    };
-    let phase = random.pick(&[1, 1, 1, 1, 1, 1, 3, 4, 5, 6, 7]);
-    let number = stand(pair, frames.clone(), phase)?;
-    pair.report.counts.events_met(blocks::FORGED, forged_met(&world, &frames, phase, number));
-    for _ in 0..random.from(1, 3) {
-        let call = if random.percent(60) { run(random) } else { any_call(random, pair) };
-        pair.make(call)?;
-    }
-    if pair.make(Call::Check)?.number != 0 {
-        set_registers(pair, [0, 0, 0])?;
-    }
-    Ok(())
-}
-
-/// Those of `FORGED` that frames show, by what check said.
-fn forged_met(world: &World, frames: &[Vec<u16>], phase: u16, number: u32) -> [bool; blocks::FORGED.len()] {
-    let (accepted, refused) = (number == 0, number == 11);
-    let marks: Vec<u16> = frames.iter().map(|frame| frame[4]).collect();
-    let mut all: Vec<u16> = marks.iter().copied().filter(|mark| *mark != 0).collect();
-    all.sort_unstable();
-    all.dedup();
-    let count = |mark: u16| marks.iter().filter(|other| **other == mark).count();
-    let home = |mark: u16| marks.iter().position(|other| *other == mark).unwrap_or(0);
-    let last = |mark: u16| marks.iter().rposition(|other| *other == mark).unwrap_or(0);
-    let any = |wanted: &dyn Fn(u16) -> bool| all.iter().any(|mark| wanted(*mark));
-    let methods = |mark: u16| {
-        let mut methods: Vec<u16> = world.objects.blocks().filter(|(_, block)| block.mark == mark).map(|(_, block)| block.method).collect();
-        methods.sort_unstable();
-        methods.dedup();
-        methods.len()
-    };
-    let is_kept = |frame: &Vec<u16>| blocks::is_kept_from_blocks(world.edition, world.method(frame[3]));
-    [
-        accepted && any(&|mark| count(mark) == 1),
-        accepted && any(&|mark| marks.get(home(mark) + 1) == Some(&mark)),
-        accepted && any(&|mark| count(mark) > 1 && last(mark) - home(mark) + 1 > count(mark)),
-        accepted && any(&|mark| count(mark) > 2),
-        accepted && all.len() > 1,
-        accepted && any(&|mark| marks[..home(mark)].contains(&0)),
-        accepted && any(&|_| true) && (3..6).contains(&phase),
-        accepted && any(&|_| true) && phase == NO_BLOCK_ROOM,
-        accepted && any(&|_| true) && phase == NO_HOME,
-        refused && any(&|mark| methods(mark) > 1),
-        refused && frames.iter().any(is_kept),
-        refused && world.edition < WITH_BLOCKS && phase > 5,
-    ]
-}
-
-/// Words of blocks or of their class changed in a state, a call or two, and the old words again.
-fn spoiled_blocks(random: &mut Random, pair: &mut Pair) -> Compared<()> {
-    match pair.world().filter(|world| world.edition >= WITH_BLOCKS).and_then(|world| blocks::spoiled_words(random, &world)) {
-        Some((buffer, index, words)) => spoiled_words(random, pair, buffer, index, words),
-        None => Ok(()),
-    }
-}
-
 /// An entry of the cache written from outside, check, a call or two, and the old words again.
 fn written_cache(random: &mut Random, pair: &mut Pair) -> Compared<()> {
     let found = pair.world().and_then(|world| climbs::written(random, &world.objects, &pair.ours.words[3][..CACHE_WORDS]));
@@ -649,25 +496,24 @@ fn written_cache(random: &mut Random, pair: &mut Pair) -> Compared<()> {
 /// A begin of the object that was made last.
 fn to_last(random: &mut Random, pair: &Pair) -> Call {
     let receiver = pointer(pair.ours.registers[0].clamp(1, 2_047) as usize);
-    pair.world().and_then(|world| message_to(random, &world, receiver)).unwrap_or(Call::Check)
-}
-
-/// A begin of what the class of an object has itself.
-fn message_to(random: &mut Random, world: &World, receiver: u16) -> Option<Call> {
-    let class = world.objects.class(world.objects.class_of(receiver))?;
-    let pairs = world.objects.get(class.dictionary).map_or(vec![], |list| list.body.clone());
+    let world = match pair.world() {
+        Some(world) => world,
+        None => return Call::Check,
+    };
+    let class = world.objects.class(world.objects.class_of(receiver));
+    let pairs = class.and_then(|class| world.objects.get(class.dictionary)).map_or(vec![], |list| list.body.clone());
     if pairs.is_empty() {
-        return None;
+        return Call::Check;
     }
     let at = 2 * random.below(pairs.len() / 2);
     let arguments = (0..world.method(pairs[at + 1]).arguments).map(|_| argument(random, world.objects.list.len())).collect();
-    Some(Call::Begin { receiver, selector: pairs[at], arguments })
+    Call::Begin { receiver, selector: pairs[at], arguments }
 }
 
 /// The state as one of another edition, for a run, and then again as it was.
 fn other_edition(random: &mut Random, pair: &mut Pair) -> Compared<()> {
-    let (old, was_right) = (pair.ours.registers[EDITION], pair.world());
-    let new = random.pick(&[1, 2, 1, 2, 1, 2, 0, 3, 3, 4, 256, 65_535]);
+    let old = pair.ours.registers[EDITION];
+    let new = random.pick(&[1, 2, 1, 2, 1, 2, 0, 3, 4, 256, 65_535]);
     pair.make(Call::Write { buffer: 4, index: EDITION, words: vec![new] })?;
     let number = pair.make(Call::Check)?.number;
     let call = run(random);
@@ -675,18 +521,10 @@ fn other_edition(random: &mut Random, pair: &mut Pair) -> Compared<()> {
     let shown = [
         old == 2 && new == 1 && number == 0,
         old == 1 && new == 2 && number == 0,
-        !(1..=LAST_EDITION).contains(&new) && number == 11,
+        !(1..3).contains(&new) && number == 11,
         old == 2 && new == 1 && ran,
     ];
     pair.report.counts.events_met(messages::STATES, shown);
-    let (refused, has_blocks) = (number == 11, was_right.map_or(false, |world| world.objects.blocks().next().is_some()));
-    let shown = [
-        old == 3 && new == 2 && refused && has_blocks,
-        old == 3 && new == 2 && refused && !has_blocks,
-        old == 2 && new == 3 && refused,
-        old == 3 && new == 4 && refused,
-    ];
-    pair.report.counts.events_met(blocks::STATES, shown);
     pair.make(Call::Write { buffer: 4, index: EDITION, words: vec![old] })?;
     Ok(())
 }
@@ -839,7 +677,6 @@ fn calls(random: &mut Random, pair: &mut Pair, most: usize) -> Compared<()> {
             0 | 1 => spoiled(random, pair)?,
             2 if random.percent(30) => shortened(random, pair)?,
             4 | 5 if random.percent(50) => made_up(random, pair)?,
-            5 if random.percent(30) => forged_frames(random, pair)?,
             3 if random.percent(30) => saved_and_loaded(random, pair)?,
             6 => look_up(random, pair)?,
             _ => {
@@ -920,6 +757,17 @@ fn run(random: &mut Random) -> Call {
         _ if random.percent(25) => (65_536 * random.from(1, 2) + random.below(4)) as u32,
         _ => 500,
     })
+}
+
+pub fn argument(random: &mut Random, n: usize) -> u16 {
+    match random.below(8) {
+        0..=2 => word(random.from(0, 12) as i64 - 3).unwrap(),
+        3 => word(random.from(0, 32_767) as i64 - 16_384).unwrap(),
+        4 => word(random.pick(&[-16_384, 16_383, 255, 256, 16_382, 128, 127, -128, 1000])).unwrap(),
+        // The last objects are those that were made, or are large.
+        5 => pointer(n - random.below(3)),
+        _ => pointer(random.from(1, n)),
+    }
 }
 
 /// A begin, most often of a method that is there.
@@ -1035,7 +883,6 @@ fn spoiled(random: &mut Random, pair: &mut Pair) -> Compared<()> {
     match random.below(20) {
         0 | 1 => return spoiled_fields(random, pair),
         2 => return spoiled_messages(random, pair),
-        6 | 7 => return spoiled_blocks(random, pair),
         3 => return other_edition(random, pair),
         4 | 5 => return written_cache(random, pair),
         _ => {}
@@ -1114,9 +961,7 @@ fn made_up(random: &mut Random, pair: &mut Pair) -> Compared<()> {
     if frames.concat().len() > pair.ours.lengths[2] {
         return Ok(());
     }
-    let phase = random.pick(&[1, 1, 1, 1, 3, 4, 5, 6, 7]);
-    let number = stand(pair, frames.clone(), phase)?;
-    pair.report.counts.events_met(blocks::FORGED, forged_met(&world, &frames, phase, number));
+    stand(pair, frames, random.pick(&[1, 1, 1, 3, 4, 5]))?;
     for _ in 0..random.from(1, 3) {
         let call = any_call(random, pair);
         pair.make(call)?;
@@ -1133,12 +978,57 @@ fn set_registers(pair: &mut Pair, words: [u16; 3]) -> Compared<()> {
     Ok(())
 }
 
-/// Writes frames, the bottom one first, each with the sender that it has there; what check says.
-fn stand(pair: &mut Pair, frames: Vec<Vec<u16>>, phase: u16) -> Compared<u32> {
-    let (words, top) = flat(frames);
+/// Writes frames, the bottom one first, each with the sender that it has there.
+fn stand(pair: &mut Pair, frames: Vec<Vec<u16>>, phase: u16) -> Compared<()> {
+    let (mut words, mut top): (Vec<u16>, u16) = (vec![], 0);
+    for mut frame in frames {
+        frame[0] = top;
+        top = words.len() as u16;
+        words.extend(frame);
+    }
     pair.make(Call::Write { buffer: 2, index: 0, words })?;
     set_registers(pair, [phase, top, 0])?;
-    Ok(pair.make(Call::Check)?.number)
+    pair.make(Call::Check)?;
+    Ok(())
+}
+
+/// Whether a made-up frame has a position of its method's table, its depth, and a receiver that can run it.
+fn right(world: &World, frame: &[u16], is_top: bool) -> bool {
+    let method = world.method(frame[3]);
+    let reached = method.table.as_ref().and_then(|table| table.get(frame[1] as usize).copied().flatten());
+    reached == Some(frame[2] as usize + if is_top { 0 } else { 1 }) && world.objects.in_chain(frame[5], method.home)
+}
+
+fn made_up_frame(random: &mut Random, world: &World, is_top: bool) -> Vec<u16> {
+    let objects = &world.objects;
+    let n = objects.list.len();
+    let methods: Vec<u16> = (1..=n).map(pointer).filter(|word| objects.has_kind(*word, METHOD)).collect();
+    let mut chosen = random.pick(&methods);
+    for _ in 0..if random.percent(40) { 10 } else { 0 } {
+        if [5, 6].contains(&world.method(chosen).flag) {
+            break;
+        }
+        chosen = random.pick(&methods);
+    }
+    let method = world.method(chosen);
+    let mut receiver = argument(random, n);
+    for _ in 0..60 {
+        if objects.in_chain(receiver, method.home) {
+            break;
+        }
+        receiver = argument(random, n);
+    }
+    let table = method.table.clone().unwrap_or_default();
+    let wanted = |depth: &Option<usize>| depth.map_or(false, |depth| is_top || depth > 0);
+    let reached: Vec<usize> = (0..table.len()).filter(|position| wanted(&table[*position])).collect();
+    let (mut position, mut depth) = (0, 0);
+    if !reached.is_empty() {
+        position = random.pick(&reached);
+        depth = table[position].unwrap() - if is_top { 0 } else { 1 };
+    }
+    let mut frame = vec![0, position as u16, depth as u16, chosen, 0, receiver];
+    frame.extend((0..method.room()).map(|_| argument(random, n)));
+    frame
 }
 
 /// A word of the same buffer in place of another.

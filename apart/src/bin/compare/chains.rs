@@ -31,7 +31,7 @@ pub fn met(image: &[u8], number: u32) -> [bool; CHAINS.len()] {
         _ => return met,
     };
     let words: Vec<u16> = image[10..].chunks(2).map(|pair| u16::from_be_bytes([pair[0], pair[1]])).collect();
-    let objects = match rules::layout(header.edition, &words[..4 * header.n], &words[4 * header.n..]) {
+    let objects = match rules::layout(&words[..4 * header.n], &words[4 * header.n..]) {
         Ok(objects) => objects,
         Err(_) => return met,
     };

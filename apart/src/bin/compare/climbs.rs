@@ -1,6 +1,7 @@
 //! Sends that climb: a chain with methods of each kind at chosen heights, and handlers of its lowest class that send them in every way.
 
 use crate::draft::*;
+use crate::elements::{header, understand};
 use crate::generate;
 use crate::messages;
 use crate::random::Random;
@@ -106,17 +107,17 @@ fn put_under(draft: &mut Draft, class: u16, selector: u16, words: Vec<u16>, code
 
 /// A method that answers by its flag, by a primitive, or gets a frame, with a primitive that fails or without.
 fn put_target(random: &mut Random, draft: &mut Draft, bytes: u16, class: u16, height: usize) -> Target {
-    let primitive = |number: u16, arguments: usize| vec![method_header(7, arguments, 2), class, (arguments << 9) as u16 | number << 1 | 1, NIL];
+    let primitive = |number: u16, arguments: usize| vec![header(7, arguments, 2), class, (arguments << 9) as u16 | number << 1 | 1, NIL];
     let (arguments, words) = match random.below(10) {
-        0 | 1 => (0, vec![method_header(5, 0, 0), class]),
-        2 | 3 => (0, vec![method_header(6, 0, 0), class]),
+        0 | 1 => (0, vec![header(5, 0, 0), class]),
+        2 | 3 => (0, vec![header(6, 0, 0), class]),
         // class and == answer; size and at: fail on what has no elements.
         4 => (0, primitive(111, 0)),
         5 => (1, primitive(110, 1)),
         6 => (0, primitive(62, 0)),
         7 => (1, primitive(60, 1)),
-        8 => (0, vec![method_header(0, 0, 0), class]),
-        _ => (1, vec![method_header(1, 1, 0), class]),
+        8 => (0, vec![header(0, 0, 0), class]),
+        _ => (1, vec![header(1, 1, 0), class]),
     };
     let selector = put(draft, bytes, class, words, &[120]);
     Target { selector, arguments, height, special: None }
@@ -138,8 +139,8 @@ fn put_specials(random: &mut Random, draft: &mut Draft, targets: &mut [Target]) 
 /// == answers false, at: fails, and without a primitive there is a frame too.
 fn put_under_6(random: &mut Random, draft: &mut Draft, class: u16) {
     let words = match random.below(3) {
-        0 => vec![method_header(1, 1, 0), class],
-        kind => vec![method_header(7, 1, 2), class, 1 << 9 | [110, 60][kind - 1] << 1 | 1, NIL],
+        0 => vec![header(1, 1, 0), class],
+        kind => vec![header(7, 1, 2), class, 1 << 9 | [110, 60][kind - 1] << 1 | 1, NIL],
     };
     put_under(draft, class, DOES_NOT_UNDERSTAND, words, &[16, 124]);
 }
@@ -161,7 +162,7 @@ fn put_handler(random: &mut Random, draft: &mut Draft, bytes: u16, class: u16, t
         }
     }
     code.push(120);
-    let mut words = vec![method_header(0, 0, literals.len()), class];
+    let mut words = vec![header(0, 0, literals.len()), class];
     words.extend(literals);
     put(draft, bytes, class, words, &code)
 }
@@ -191,7 +192,7 @@ fn put_loop(draft: &mut Draft, bytes: u16, class: u16, selector: u16, sends: usi
     code.push(135);
     let back = 1_024 - (code.len() + 2);
     code.extend([160 + (back / 256) as u8, (back % 256) as u8]);
-    put(draft, bytes, class, vec![method_header(0, 0, 1), class, selector], &code)
+    put(draft, bytes, class, vec![header(0, 0, 1), class, selector], &code)
 }
 
 /// Four words for the cache, where they go, and which of `WRITTEN` they are.
@@ -243,7 +244,7 @@ pub fn beyond_32_bits() -> Option<String> {
     let bytes = draft.objects[draft.selector as usize / 2 - 1].class;
     let classes = chain(&mut draft, MOST_CHAIN);
     let (low, top) = (classes[0], classes[MOST_CHAIN - 1]);
-    let climbing = put(&mut draft, bytes, top, vec![method_header(5, 0, 0), top], &[]);
+    let climbing = put(&mut draft, bytes, top, vec![header(5, 0, 0), top], &[]);
     let selector = put_loop(&mut draft, bytes, low, climbing, SENDS);
     let receiver = draft.add(low, FIELDS, vec![NIL]);
     let lengths = [8_188, 24_000, 18, CACHE_WORDS];

@@ -1,6 +1,5 @@
 //! Images with something wrong in them: a rule broken by design, or a word, byte or length changed at random.
 
-use crate::blocks;
 use crate::chains;
 use crate::draft::*;
 use crate::messages;
@@ -44,8 +43,7 @@ fn of_kind(random: &mut Random, draft: &Draft, kind: u16) -> usize {
 
 fn spoil_draft(random: &mut Random, draft: &mut Draft) {
     let n = draft.objects.len();
-    let parts = if draft.edition >= WITH_BLOCKS { 28 } else { 17 };
-    match random.below(parts) {
+    match random.below(17) {
         0..=2 => spoil_class(random, draft),
         3..=6 => spoil_method(random, draft),
         7 => spoil_dictionary(random, draft),
@@ -70,15 +68,13 @@ fn spoil_draft(random: &mut Random, draft: &mut Draft) {
         }
         13 | 14 if messages::is_able(draft) => messages::swap(random, draft),
         15 if messages::is_able(draft) => messages::other_count(random, draft),
-        15 => draft.edition = random.pick(&[0, 1, 2, 3, 4, 4, 256, 65_535]),
-        17..=25 => blocks::spoil(random, draft),
-        26 | 27 => blocks::wrong_code(random, draft),
+        15 => draft.edition = random.pick(&[0, 1, 2, 3, 3, 4, 256, 65_535]),
         _ => {
             let index = random.below(n);
             let made = &mut draft.objects[index];
             match random.below(3) {
                 0 => made.class = other_word(random, made.class, n),
-                1 => made.kind = random.below(7) as u16,
+                1 => made.kind = random.below(6) as u16,
                 _ if !made.body.is_empty() => {
                     let at = random.below(made.body.len());
                     made.body[at] = other_word(random, made.body[at], n);
@@ -108,7 +104,7 @@ fn spoil_class(random: &mut Random, draft: &mut Draft) {
         0 => body[0] = class,
         1 => body[1] = list,
         2 => body[2] = word(random.pick(&[0, 1, 2, 3, 255, 256, -1])).unwrap(),
-        3 => body[3] = word(random.pick(&[0, 1, 2, 3, 4, 5, -1])).unwrap(),
+        3 => body[3] = word(random.pick(&[0, 1, 2, 3, 4, -1])).unwrap(),
         4 => body[0] = NIL,
         _ => {
             let at = random.below(4);
@@ -261,8 +257,8 @@ fn spoil_image(random: &mut Random, image: &mut Vec<u8>, n: usize) {
 /// N, B or the edition out of range, with the length that the header tells.
 fn header_out_of_range(random: &mut Random, image: &mut Vec<u8>) {
     match random.below(4) {
-        0 => put(image, 0, random.pick(&[0, 1, 2, 3, 4, 256, 512])),
-        1 => put(image, 1, random.pick(&[0, 1, 4, 5, 7, 7, 8, 8, 9, 2_047, 2_048, 65_535])),
+        0 => put(image, 0, random.pick(&[0, 1, 2, 3, 3, 256, 512])),
+        1 => put(image, 1, random.pick(&[0, 1, 4, 5, 7, 7, 8, 8, 2_047, 2_048, 65_535])),
         _ => put(image, 2, random.pick(&[0, 24_000, 24_001, 65_535])),
     }
     image.resize(10 + 8 * get(image, 1) as usize + 2 * get(image, 2) as usize, 0);

@@ -65,23 +65,3 @@ impl Draft {
         words.iter().flat_map(|word| word.to_be_bytes()).collect()
     }
 }
-
-/// Puts a method into the dictionary of a class that has none under the selector.
-pub fn understand(draft: &mut Draft, class: u16, selector: u16, words: Vec<u16>, code: &[u8]) {
-    let list = draft.objects[class as usize / 2 - 1].body[1] as usize / 2 - 1;
-    let meta = draft.objects[class as usize / 2 - 1].class;
-    let at = match draft.objects[list].body.chunks(2).position(|pair| pair[0] >= selector) {
-        Some(at) if draft.objects[list].body[2 * at] == selector => return,
-        Some(at) => 2 * at,
-        None => draft.objects[list].body.len(),
-    };
-    let method = draft.add(meta, METHOD, vec![]);
-    draft.put_method(method, meta, words, code);
-    let dictionary = &mut draft.objects[list];
-    dictionary.body.splice(at..at, [selector, method]);
-    dictionary.size = dictionary.body.len();
-}
-
-pub fn method_header(flag: usize, temporaries: usize, literals: usize) -> u16 {
-    (flag << 13 | temporaries << 8 | literals << 1 | 1) as u16
-}

@@ -1,9 +1,9 @@
 //! Elements behind named fields: classes of form 1 with few and many fields, objects of them with no, one and several elements, methods with the primitives
 //! 60 to 62, handlers that use these, and calls with indices that matter.
 
+use crate::cases::argument;
 use crate::chains;
 use crate::draft::*;
-use crate::frames::argument;
 use crate::random::Random;
 use crate::sides::Call;
 use apart::objects::*;
@@ -109,13 +109,33 @@ fn put_object(random: &mut Random, draft: &mut Draft, class: u16, size: usize) {
     draft.add(class, FIELDS, body);
 }
 
+/// Puts a method into the dictionary of a class that has none under the selector.
+pub fn understand(draft: &mut Draft, class: u16, selector: u16, words: Vec<u16>, code: &[u8]) {
+    let list = draft.objects[class as usize / 2 - 1].body[1] as usize / 2 - 1;
+    let meta = draft.objects[class as usize / 2 - 1].class;
+    let at = match draft.objects[list].body.chunks(2).position(|pair| pair[0] >= selector) {
+        Some(at) if draft.objects[list].body[2 * at] == selector => return,
+        Some(at) => 2 * at,
+        None => draft.objects[list].body.len(),
+    };
+    let method = draft.add(meta, METHOD, vec![]);
+    draft.put_method(method, meta, words, code);
+    let dictionary = &mut draft.objects[list];
+    dictionary.body.splice(at..at, [selector, method]);
+    dictionary.size = dictionary.body.len();
+}
+
+pub fn header(flag: usize, temporaries: usize, literals: usize) -> u16 {
+    (flag << 13 | temporaries << 8 | literals << 1 | 1) as u16
+}
+
 /// Methods with the primitives, each so often in percent; their code is for a failure.
 fn put_accessors(random: &mut Random, draft: &mut Draft, added: &Added, class: u16, chance: usize) {
     for ((_, primitive, arguments), selector) in ACCESSORS.into_iter().zip(added.selectors) {
         if random.percent(chance) {
             let extension = (arguments as u16) << 9 | primitive << 1 | 1;
             let code = if arguments > 0 && random.percent(50) { vec![16, 124] } else { vec![random.pick(&[120, 121, 122, 123])] };
-            understand(draft, class, selector, vec![method_header(7, arguments, 2), class, extension, NIL], &code);
+            understand(draft, class, selector, vec![header(7, arguments, 2), class, extension, NIL], &code);
         }
     }
 }
@@ -124,10 +144,10 @@ fn put_methods(random: &mut Random, draft: &mut Draft, added: &Added, class: u16
     put_accessors(random, draft, added, class, if is_first { 95 } else { 30 });
     if fields > 0 {
         let field = random.below(fields.min(32));
-        understand(draft, class, added.field, vec![method_header(6, field, 0), class], &[]);
+        understand(draft, class, added.field, vec![header(6, field, 0), class], &[]);
     }
     if is_first || random.percent(70) {
-        let mut words = vec![method_header(1, 2, 3), class];
+        let mut words = vec![header(1, 2, 3), class];
         words.extend(added.selectors);
         let code = handler(random, fields, !is_first);
         understand(draft, class, added.handler, words, &code);

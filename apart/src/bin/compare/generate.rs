@@ -2,9 +2,8 @@
 
 use crate::draft::Draft;
 use crate::random::Random;
-use apart::code::*;
+use apart::code::special_arguments;
 use apart::objects::*;
-use apart::rules;
 use apart::words::*;
 
 struct PlannedClass {
@@ -17,7 +16,6 @@ struct PlannedClass {
 
 /// What there is to speak of when code is written.
 struct Plan {
-    edition: u16,
     /// From the root down, so many of the classes make a chain, each below the one before. 0 where there is no long chain.
     deep: usize,
     classes: Vec<PlannedClass>,
@@ -51,31 +49,6 @@ fn number(n: i64) -> u16 {
 /// Which of the selectors is object 6 where objects 6 to 8 are those for messages.
 const UNDER_6: usize = 2;
 
-/// The first objects that an image has, beside what every image has: object 6 and the classes behind it.
-struct First {
-    with_messages: bool,
-    with_blocks: bool,
-}
-
-impl First {
-    fn classes(&self) -> &'static [u16] {
-        match (self.with_messages, self.with_blocks) {
-            (_, true) => &[MESSAGE_CLASS, ARRAY_CLASS, BLOCK_CLASS],
-            (true, false) => &[MESSAGE_CLASS, ARRAY_CLASS],
-            _ => &[],
-        }
-    }
-
-    /// The first number that is free.
-    fn free(&self) -> usize {
-        if self.with_messages {
-            7 + self.classes().len()
-        } else {
-            6
-        }
-    }
-}
-
 /// Hands out object numbers after the first ones, in random order.
 struct Numbers {
     free: Vec<u16>,
@@ -87,23 +60,22 @@ impl Numbers {
     }
 }
 
-/// A valid image; in some a chain has as many classes as it can have, or one less. About a third are of edition 2, and as many of edition 3; of the others
-/// some have objects 6 to 8 as these have.
+/// A valid image; in some a chain has as many classes as it can have, or one less. About half are of edition 2; of the others some have objects 6 to 8 as
+/// these have.
 pub fn draft(random: &mut Random) -> Draft {
-    let with_messages = random.percent(72);
-    let edition = if with_messages { random.pick(&[1, 2, 2, 2, 2, 3, 3, 3, 3]) } else { 1 };
+    let with_messages = random.percent(62);
+    let edition = if with_messages && random.percent(82) { 2 } else { 1 };
     of_edition(random, edition, with_messages)
 }
 
 /// `with_messages`: objects 6 to 8 are those for messages.
 pub fn of_edition(random: &mut Random, edition: u16, with_messages: bool) -> Draft {
-    let first = First { with_messages, with_blocks: edition >= WITH_BLOCKS };
     let deep = if random.percent(8) { random.pick(&[MOST_CHAIN, MOST_CHAIN, MOST_CHAIN - 1]) } else { 0 };
     let class_count = if deep > 0 { ROOT + deep + random.below(3) } else { random.from(5, 11) };
-    let class_count = class_count + first.classes().len();
+    let class_count = class_count + if with_messages { 2 } else { 0 };
     let selector_count = random.from(8, 15);
     let instance_count = random.from(5, 14);
-    let (plan, dictionaries, loose, count, mut numbers) = plan(random, deep, class_count, selector_count, instance_count, &first, edition);
+    let (plan, dictionaries, loose, count, mut numbers) = plan(random, deep, class_count, selector_count, instance_count, with_messages);
     let mut draft = Draft { edition, objects: vec![Default::default(); count], receiver: 0, selector: 0 };
     put_instances(random, &plan, &mut draft);
     put_classes(random, &plan, &mut draft, &dictionaries);
@@ -125,64 +97,7 @@ pub fn of_edition(random: &mut Random, edition: u16, with_messages: bool) -> Dra
     }
     draft.receiver = if deep > 0 { plan.instances[3].0 } else { any_word(random, &plan) };
     draft.selector = random.pick(&plan.selectors).0;
-    if first.with_blocks && random.percent(85) {
-        let count = random.from(1, 5);
-        put_blocks(random, &mut draft, count);
-    }
     draft
-}
-
-/// The instructions that methods of an image reach, with the method and the position behind. None where the image is not right.
-pub fn instructions(draft: &Draft) -> Vec<(u16, Instruction, usize)> {
-    let image = draft.image();
-    let words: Vec<u16> = image[10..].chunks(2).map(|pair| u16::from_be_bytes([pair[0], pair[1]])).collect();
-    let (contents, bodies) = words.split_at(4 * draft.objects.len());
-    let world = match rules::judge(draft.edition, contents, bodies) {
-        Ok(world) => world,
-        Err(_) => return vec![],
-    };
-    let mut found = vec![];
-    for (index, method) in world.methods.iter().enumerate().filter_map(|(index, method)| Some((index, method.as_ref()?))) {
-        let table = method.table.as_deref().unwrap_or(&[]);
-        let reached = (0..table.len()).filter(|position| table[*position].is_some()).filter_map(|position| decode(method, position));
-        found.extend(reached.map(|(instruction, next)| (pointer(index + 1), instruction, next)));
-    }
-    found
-}
-
-/// Adds blocks whose homes do not stand, most of which fields, elements and literal variables name; their pointers.
-pub fn put_blocks(random: &mut Random, draft: &mut Draft, count: usize) -> Vec<u16> {
-    let made = instructions(draft).into_iter().filter_map(|(method, instruction, start)| match instruction {
-        Instruction::PushBlock { arguments, .. } => Some((method, start as u16, arguments as u16)),
-        _ => None,
-    });
-    let made: Vec<(u16, u16, u16)> = made.collect();
-    if made.is_empty() {
-        return vec![];
-    }
-    let form_4 = |index: &usize| draft.objects[*index].kind == CLASS && draft.objects[*index].body[3] == number(4);
-    let classes: Vec<u16> = (0..draft.objects.len()).filter(form_4).map(|index| pointer(index + 1)).collect();
-    let mut blocks = vec![];
-    for _ in 0..count {
-        let (method, start, arguments) = random.pick(&made);
-        // One mark may stand in several, of one method or not.
-        let mark = match random.below(20) {
-            0 => random.pick(&[MOST_MARK - 1, MOST_MARK]),
-            1 => random.from(1, MOST_MARK as usize) as i64,
-            _ => random.from(1, 4) as i64,
-        };
-        let class = if random.percent(50) { BLOCK_CLASS } else { random.pick(&classes) };
-        let block = draft.add(class, BLOCK, vec![number(mark), start, arguments, method]);
-        blocks.push(block);
-        let with_words = |index: &usize| draft.objects[*index].kind == FIELDS && draft.objects[*index].size > 0;
-        let holders: Vec<usize> = (0..draft.objects.len()).filter(with_words).collect();
-        if !holders.is_empty() && random.percent(85) {
-            let body = &mut draft.objects[random.pick(&holders)].body;
-            let at = random.below(body.len());
-            body[at] = block;
-        }
-    }
-    blocks
 }
 
 type Dictionaries = Vec<Vec<(u16, u16)>>;
@@ -193,10 +108,8 @@ fn plan(
     class_count: usize,
     selector_count: usize,
     instance_count: usize,
-    first: &First,
-    edition: u16,
+    with_messages: bool,
 ) -> (Plan, Dictionaries, Vec<u16>, usize, Numbers) {
-    let with_messages = first.with_messages;
     // Which class has methods under which selectors: the root under most, so that sends find something.
     let mut has: Vec<Vec<bool>> = (0..class_count).map(|class| (0..selector_count).map(|_| random.percent(chance(deep, class))).collect()).collect();
     if with_messages {
@@ -210,10 +123,11 @@ fn plan(
     let (loose_count, unknown_count) = (random.below(3), if with_messages { 2 } else { 0 });
     let others = instance_count + method_count + loose_count + unknown_count + random.below(3);
     let count = 5 + (class_count - 1) + class_count + selector_count + others;
-    let mut free: Vec<u16> = (first.free()..=count).map(pointer).collect();
+    let first = if with_messages { 9 } else { 6 };
+    let mut free: Vec<u16> = (first..=count).map(pointer).collect();
     random.shuffle(&mut free);
     let mut numbers = Numbers { free };
-    let classes = plan_classes(random, deep, class_count, first, &mut numbers);
+    let classes = plan_classes(random, deep, class_count, with_messages, &mut numbers);
     const COUNTS: [usize; 15] = [0, 0, 1, 1, 2, 1, 0, 1, 2, 3, 4, 1, 5, 9, 0];
     let selector = |index: usize| if with_messages && index == UNDER_6 { DOES_NOT_UNDERSTAND } else { numbers.take() };
     let selectors: Vec<(u16, usize)> = (0..selector_count).map(selector).zip(COUNTS).collect();
@@ -227,7 +141,7 @@ fn plan(
         })
         .collect();
     let loose = (0..loose_count).map(|_| numbers.take()).collect();
-    let mut plan = Plan { edition, deep, classes, selectors, unknown, specials: vec![], instances: vec![], variables: vec![] };
+    let mut plan = Plan { deep, classes, selectors, unknown, specials: vec![], instances: vec![], variables: vec![] };
     plan_instances(random, &mut plan, instance_count, &mut numbers);
     plan.specials = specials(random, &plan);
     (plan, dictionaries, loose, count, numbers)
@@ -249,12 +163,14 @@ fn fields_of(classes: &[PlannedClass], pointer: u16) -> usize {
     classes.iter().find(|class| class.pointer == pointer).map_or(0, |class| class.fields)
 }
 
-fn plan_classes(random: &mut Random, deep: usize, count: usize, first: &First, numbers: &mut Numbers) -> Vec<PlannedClass> {
+fn plan_classes(random: &mut Random, deep: usize, count: usize, with_messages: bool, numbers: &mut Numbers) -> Vec<PlannedClass> {
     let root_fields = if random.percent(88) { 0 } else { 2 };
     let mut pointers = vec![INTEGER_CLASS];
-    let numbered = count - first.classes().len();
+    let numbered = if with_messages { count - 2 } else { count };
     pointers.extend((1..numbered).map(|_| numbers.take()));
-    pointers.extend(first.classes());
+    if with_messages {
+        pointers.extend([MESSAGE_CLASS, ARRAY_CLASS]);
+    }
     let mut classes: Vec<PlannedClass> = vec![];
     for (index, &own) in pointers.iter().enumerate() {
         let (superclass, form) = match index {
@@ -265,23 +181,14 @@ fn plan_classes(random: &mut Random, deep: usize, count: usize, first: &First, n
             ROOT => (NIL, random.pick(&[0, 0, 1])),
             _ if index >= numbered => {
                 let above = if own == MESSAGE_CLASS || root_fields == 0 { random.pick(&[NIL, pointers[ROOT], pointers[ROOT]]) } else { NIL };
-                let form = match own {
-                    MESSAGE_CLASS => 0,
-                    ARRAY_CLASS => 1,
-                    _ => 4,
-                };
-                (above, form)
+                (above, if own == MESSAGE_CLASS { 0 } else { 1 })
             }
             _ if index < ROOT + deep => (pointers[index - 1], random.pick(&[0, 0, 1])),
             _ => {
                 // The lowest class of a long chain is the superclass of none.
                 let last = if deep > 0 { ROOT + deep - 2 } else { index - 1 };
                 let above = pointers[random.from(ROOT, last)];
-                let forms: &[u16] = match (fields_of(&classes, above), first.with_blocks) {
-                    (0, false) => &[0, 0, 1, 1, 2, 3],
-                    (0, true) => &[0, 0, 1, 1, 2, 3, 4],
-                    _ => &[0, 1],
-                };
+                let forms: &[u16] = if fields_of(&classes, above) == 0 { &[0, 0, 1, 1, 2, 3] } else { &[0, 1] };
                 (above, random.pick(forms))
             }
         };
@@ -434,8 +341,7 @@ fn put_method(random: &mut Random, plan: &Plan, draft: &mut Draft, class: usize,
         _ if plan.deep > 0 && class == plan.lowest() => 60,
         _ => 25,
     };
-    let blocks = if plan.edition >= WITH_BLOCKS { coder_blocks(random) } else { 0 };
-    let mut coder = Coder { random, plan, fields: home.fields, super_sends, temporaries, room, blocks, in_block: false, literals: vec![] };
+    let mut coder = Coder { random, plan, fields: home.fields, super_sends, temporaries, room, literals: vec![] };
     let free = (flag == 5 || flag == 6) && coder.random.percent(70);
     let code = if free || temporaries > coder.room { coder.noise(12) } else { coder.method_code() };
     let mut literals = coder.literals;
@@ -450,11 +356,6 @@ fn put_method(random: &mut Random, plan: &Plan, draft: &mut Draft, class: usize,
     draft.put_method(method, plan.classes[METACLASS].pointer, words, &code);
 }
 
-/// How often code pushes blocks, in percent.
-fn coder_blocks(random: &mut Random) -> usize {
-    random.pick(&[0, 10, 10, 20, 40])
-}
-
 /// Writes code piece by piece. All jumps are relative, so a piece can stand anywhere; each says at which depth it starts.
 struct Coder<'a> {
     random: &'a mut Random,
@@ -464,10 +365,6 @@ struct Coder<'a> {
     super_sends: usize,
     temporaries: usize,
     room: usize,
-    /// How many of the expressions are pushes of blocks, in percent.
-    blocks: usize,
-    /// Whether the code is a block's.
-    in_block: bool,
     literals: Vec<u16>,
 }
 
@@ -477,8 +374,7 @@ impl Coder<'_> {
     }
 
     fn has_room(&self, depth: usize, more: usize) -> bool {
-        let temporaries = if self.in_block { 0 } else { self.temporaries };
-        temporaries + depth + more <= self.room
+        self.temporaries + depth + more <= self.room
     }
 
     /// The index of a literal; two stay free for an extension.
@@ -514,13 +410,8 @@ impl Coder<'_> {
         code
     }
 
-    /// A return, which nothing follows; from a block most often to the sender of value.
+    /// A return, which nothing follows.
     fn returning(&mut self, depth: usize) -> Vec<u8> {
-        if self.in_block && self.has_room(depth, 1) && self.random.percent(75) {
-            let mut code = if depth > 0 && self.random.percent(30) { vec![] } else { self.expression(depth, 1) };
-            code.push(125);
-            return code;
-        }
         if self.random.percent(40) || !self.has_room(depth, 1) {
             return vec![self.random.from(120, 123) as u8];
         }
@@ -533,9 +424,6 @@ impl Coder<'_> {
     fn statement(&mut self, depth: usize, fuel: usize) -> Vec<u8> {
         if fuel == 0 || !self.has_room(depth, 2) {
             return vec![];
-        }
-        if self.random.percent(self.blocks / 2) {
-            return self.block_statement(depth, fuel);
         }
         match self.random.below(12) {
             0..=4 => self.assignment(depth, fuel),
@@ -696,9 +584,6 @@ impl Coder<'_> {
         if fuel == 0 || !self.has_room(depth, 3) {
             return self.simple(depth);
         }
-        if self.random.percent(self.blocks) {
-            return self.block_expression(depth, fuel);
-        }
         match self.random.below(12) {
             0..=3 => self.sending(depth, fuel),
             4 | 5 => self.calculation(depth, fuel),
@@ -727,102 +612,6 @@ impl Coder<'_> {
             }
             _ => self.simple(depth),
         }
-    }
-
-    /// A push of a block with its code, and the jump over it; in some bytes behind that nothing reaches.
-    fn block(&mut self, arguments: usize, fuel: usize) -> Vec<u8> {
-        let outside = std::mem::replace(&mut self.in_block, true);
-        let mut body = vec![];
-        let mut depth = arguments;
-        if depth == 0 && self.random.percent(5) {
-            // A jump of 0: what follows is the code of the inner block too.
-            body.extend([137, 118, 200, 164, 0]);
-            depth = 1;
-        }
-        for _ in 0..self.random.below(3) {
-            body.extend(self.statement(depth, fuel.saturating_sub(1)));
-        }
-        body.extend(self.returning(depth));
-        if self.random.percent(10) {
-            body.extend(self.noise(5));
-        }
-        self.in_block = outside;
-        if body.len() > 900 {
-            body = vec![115, 125];
-        }
-        let mut code = push_of_block(arguments, body.len() as i32);
-        code.extend(body);
-        code
-    }
-
-    /// A block, or its value, with the count that it takes or another.
-    fn block_expression(&mut self, depth: usize, fuel: usize) -> Vec<u8> {
-        let arguments = self.random.below(2);
-        let mut code = self.block(arguments, fuel);
-        let sent = if self.random.percent(6) { 1 - arguments } else { arguments };
-        match self.random.below(10) {
-            0..=2 => {}
-            // Kept, so that it can be sent value later.
-            3 | 4 => {
-                if let Some(place) = self.place_to_store() {
-                    code.extend([129, place]);
-                }
-            }
-            _ => code.extend(self.value_of(depth, sent, fuel)),
-        }
-        code
-    }
-
-    /// The value of what is on top.
-    fn value_of(&mut self, depth: usize, arguments: usize, fuel: usize) -> Vec<u8> {
-        let mut code = if arguments == 1 { self.expression(depth + 1, fuel - 1) } else { vec![] };
-        code.push(201 + arguments as u8);
-        code
-    }
-
-    /// A block into a place; the value of a place; or a block that is reached in a less usual way.
-    fn block_statement(&mut self, depth: usize, fuel: usize) -> Vec<u8> {
-        let arguments = self.random.below(2);
-        match self.random.below(10) {
-            0..=3 => {
-                let mut code = self.block(arguments, fuel - 1);
-                let place = self.place_to_store();
-                code.extend(place.map_or(vec![135], |place| self.pop_into(place)));
-                code
-            }
-            4..=7 if self.has_room(depth, 3) => {
-                let mut code = self.simple(depth);
-                code.extend(self.value_of(depth, arguments, fuel));
-                code.push(135);
-                code
-            }
-            8 => {
-                // The jump leads back, to what pops the block.
-                let block = self.block(arguments, fuel - 1);
-                let mut code = vec![146, 135];
-                code.extend(self.jump_long(block.len()));
-                code.extend(push_of_block(arguments, -8));
-                code.extend(&block[PUSH_BLOCK_BYTES..]);
-                code
-            }
-            _ if self.has_room(depth, 3) => {
-                // A jump into the five bytes, and one to the first.
-                let block = self.block(arguments, fuel - 1);
-                let (pushed, over) = self.random.pick(&[(1, 0), (2, 1), (1, 2)]);
-                let mut code = self.condition(depth, 0);
-                code.push(152 + pushed as u8);
-                code.extend(vec![112; pushed]);
-                code.push(144 + over);
-                code.extend(block);
-                code.push(135);
-                code
-            }
-            _ => vec![],
-        }
-    }
-
-    fn jump_long(&mut self, distance: usize) -> Vec<u8> {
-        vec![164 + (distance / 256) as u8, (distance % 256) as u8]
     }
 
     fn simple(&mut self, depth: usize) -> Vec<u8> {
@@ -880,8 +669,7 @@ impl Coder<'_> {
     /// A selector and a count: one that is known, or, where there is room, any count under one that nobody has.
     fn sent(&mut self, depth: usize) -> (u16, usize) {
         let (selector, arguments) = self.random.pick(&self.plan.selectors);
-        let temporaries = if self.in_block { 0 } else { self.temporaries };
-        let (nothing, left) = (self.plan.unknown.is_empty(), (self.room - temporaries).saturating_sub(depth + 1));
+        let (nothing, left) = (self.plan.unknown.is_empty(), (self.room - self.temporaries).saturating_sub(depth + 1));
         if nothing {
             return (if self.random.percent(2) { NIL } else { selector }, arguments);
         }
@@ -935,9 +723,4 @@ impl Coder<'_> {
         code.push(176 + special as u8);
         code
     }
-}
-
-/// The five bytes of a push of a block with a jump.
-pub fn push_of_block(arguments: usize, distance: i32) -> Vec<u8> {
-    vec![137, 117 + arguments as u8, 200, (164 + distance.div_euclid(256)) as u8, distance.rem_euclid(256) as u8]
 }

@@ -20,15 +20,8 @@ pub const CUTS: [&str; 5] = [
 /// How a stack can be a word too short.
 pub const SHORT: [&str; 2] = ["a word less than reach: a frame that stood at the start is cut", "a word less than reach: a frame does not fit"];
 
-/// The most bytecodes of a run that is cut after each.
-const SINGLY: u32 = 60;
-
-/// A grant in two to five parts, small ones and empty ones among them; or in as many as it has bytecodes.
+/// A grant in two to five parts, small ones and empty ones among them.
 fn parts(random: &mut Random, grant: u32) -> Vec<u32> {
-    // One at a time: then the state is judged after each bytecode.
-    if (1..=SINGLY).contains(&grant) && random.percent(30) {
-        return vec![1; grant as usize];
-    }
     let mut left = grant;
     let mut parts = vec![];
     for _ in 0..random.from(1, 4) {

@@ -3,7 +3,7 @@
 use crate::draft::*;
 use crate::random::Random;
 use crate::sides::*;
-use apart::calls::{self, Registers, EDITION};
+use apart::calls::{self, Registers};
 use apart::counts::Counts;
 use apart::objects::*;
 use apart::words::*;
@@ -112,8 +112,7 @@ pub fn difference(all: &[Sought], ours: &mut Buffers, theirs: &Buffers, counts: 
     for sought in all {
         counts.event("lookup: made on both");
         counts.events_met(LOOKUPS, met(objects, *sought));
-        let is_later = is_later(theirs.registers[EDITION]);
-        let (ours, theirs) = (plain(objects.ok(), *sought), if is_later { plain(objects.ok(), *sought) } else { library(theirs, *sought) });
+        let (ours, theirs) = (plain(objects.ok(), *sought), library(theirs, *sought));
         if ours != theirs {
             let (ours, theirs) = (ours.text(), theirs.text());
             return Some(format!("lookup of word {} from word {}: plain {ours}; library {theirs}", sought.selector, sought.class));

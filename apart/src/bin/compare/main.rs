@@ -1,13 +1,11 @@
 //! Makes the same random calls on the plain machine and on the proved library, and compares answers, registers and every word of every buffer.
 
-mod blocks;
 mod cases;
 mod chains;
 mod climbs;
 mod damage;
 mod draft;
 mod elements;
-mod frames;
 mod generate;
 mod laws;
 mod lookups;
@@ -28,7 +26,7 @@ use std::process::exit;
 use std::time::{Duration, Instant};
 
 const SEED: u64 = 80;
-const CASES: u64 = 13_000;
+const CASES: u64 = 10_000;
 
 const HELP: &str = "usage: compare [SEED [SECONDS]]
        compare SEED --case NUMBER
@@ -37,9 +35,8 @@ Makes the same calls on the machine written apart and on the proved library, and
 contents, bodies, stack and cache, the bytes that save writes, and the answers of play. What play comes to has also to be what the library's
 single calls come to. A run in parts has to come to the same, with the largest reach of the parts and their sums of dictionaries added up, and so
 has a run on a stack of reach words; on a word less it must not. In between lookups are made on both: what is found, and how many dictionaries and
-pairs of these are read. From edition 3 on check has to accept what each call leaves. Where the library has no such edition yet, the machine written
-apart is in its place. Without SECONDS it makes a fixed number of cases and asks that all of the machine was covered; with SECONDS it goes on for so
-long. A difference is printed with the calls that show it, its image is written to target/apart/difference.image, and the status is 1.
+pairs of these are read. Without SECONDS it makes a fixed number of cases and asks that all of the machine was covered; with SECONDS it goes on
+for so long. A difference is printed with the calls that show it, its image is written to target/apart/difference.image, and the status is 1.
 --case makes one case again.";
 
 enum Extent {

@@ -1,8 +1,9 @@
 //! Failed sends, in images whose objects 6 to 8 are those for messages: classes with and without a method under object 6, handlers that fail in each way, and
 //! buffers that just have room for what is made, or just not.
 
+use crate::cases::argument;
 use crate::draft::*;
-use crate::frames::argument;
+use crate::elements::{header, understand};
 use crate::random::Random;
 use crate::sides::Call;
 use apart::code::*;
@@ -19,7 +20,7 @@ pub const IMAGES: [&str; 19] = [
     "load: edition 2 accepted, a list that is no dictionary has object 6 and a method of another count",
     "load: edition 1 accepted, objects 6 to 8 not those for messages",
     "load: edition 1 accepted, a method of another count under object 6",
-    "load: edition 4, else right",
+    "load: edition 3, else right",
     "load: edition 2, 7 objects",
     "load: edition 2, 8 objects, not refused 2",
     "load: in edition 2 alone object 6 is no byte object",
@@ -68,7 +69,7 @@ pub fn met(image: &[u8], refusal: Option<Refusal>) -> [bool; IMAGES.len()] {
         _ => return met,
     };
     let words: Vec<u16> = image[10..].chunks(2).map(|pair| u16::from_be_bytes([pair[0], pair[1]])).collect();
-    let judged = |edition: u16| if header.n < 9 { None } else { judge(edition, &words[..4 * header.n], &words[4 * header.n..]).ok() };
+    let judged = |edition: u16| if header.n < 5 { None } else { judge(edition, &words[..4 * header.n], &words[4 * header.n..]).ok() };
     match (header.edition, refusal) {
         (1, None) => {
             if let Some(world) = judged(1) {
@@ -83,7 +84,7 @@ pub fn met(image: &[u8], refusal: Option<Refusal>) -> [bool; IMAGES.len()] {
                 met[2] = holds_6(&world);
             }
         }
-        (4, Some(_)) => met[5] = judged(2).is_some() || judged(3).is_some(),
+        (3, Some(_)) => met[5] = judged(2).is_some(),
         (2, Some(refusal)) => {
             met[6] = header.n == 7;
             met[7] = header.n == 8 && refusal.number != 2;
@@ -173,7 +174,7 @@ pub fn add(random: &mut Random, draft: &mut Draft) {
     let root = class(draft, NIL, 0);
     // == answers also where a frame would need another home.
     if random.percent(8) {
-        understand(draft, middle, DOES_NOT_UNDERSTAND, vec![method_header(7, 1, 2), middle, 1 << 9 | 110 << 1 | 1, NIL], &[120]);
+        understand(draft, middle, DOES_NOT_UNDERSTAND, vec![header(7, 1, 2), middle, 1 << 9 | 110 << 1 | 1, NIL], &[120]);
     }
     // Which have a method under object 6.
     for (class, chance) in [(top, 80), (middle, 20), (low, 35), (other, 40), (root, 50), (MESSAGE_CLASS, 60), (ARRAY_CLASS, 60), (INTEGER_CLASS, 60)]
@@ -193,7 +194,7 @@ pub fn add(random: &mut Random, draft: &mut Draft) {
     if random.percent(20) {
         // No dictionary, so what the method takes does not matter.
         let method = draft.add(meta, METHOD, vec![]);
-        draft.put_method(method, meta, vec![method_header(2, 2, 0), low], &[120]);
+        draft.put_method(method, meta, vec![header(2, 2, 0), low], &[120]);
         draft.add(meta, LIST, vec![DOES_NOT_UNDERSTAND, method]);
     }
 }
@@ -201,13 +202,13 @@ pub fn add(random: &mut Random, draft: &mut Draft) {
 /// Methods of messages and arrays.
 fn put_uses(draft: &mut Draft, added: &Added) {
     let [first, second, both, at, at_put, size] = added.uses;
-    understand(draft, MESSAGE_CLASS, first, vec![method_header(6, 0, 0), MESSAGE_CLASS], &[]);
-    understand(draft, MESSAGE_CLASS, second, vec![method_header(6, 1, 0), MESSAGE_CLASS], &[]);
+    understand(draft, MESSAGE_CLASS, first, vec![header(6, 0, 0), MESSAGE_CLASS], &[]);
+    understand(draft, MESSAGE_CLASS, second, vec![header(6, 1, 0), MESSAGE_CLASS], &[]);
     // Stores the array in both fields, answers the selector.
-    understand(draft, MESSAGE_CLASS, both, vec![method_header(0, 0, 0), MESSAGE_CLASS], &[0, 1, 96, 124]);
+    understand(draft, MESSAGE_CLASS, both, vec![header(0, 0, 0), MESSAGE_CLASS], &[0, 1, 96, 124]);
     for (selector, primitive, arguments) in [(at, 60, 1), (at_put, 61, 2), (size, 62, 0)] {
         let extension = (arguments << 9 | primitive << 1 | 1) as u16;
-        understand(draft, ARRAY_CLASS, selector, vec![method_header(7, arguments, 2), ARRAY_CLASS, extension, NIL], &[120]);
+        understand(draft, ARRAY_CLASS, selector, vec![header(7, arguments, 2), ARRAY_CLASS, extension, NIL], &[120]);
     }
 }
 
@@ -238,7 +239,7 @@ fn put_under_6(random: &mut Random, draft: &mut Draft, added: &Added, class: u16
         let primitive = random.pick(&[110, 110, 110, 1, 3, 9, 17, 60, 60, 61, 62, 70, 71, 71, 111, 0, 18, 255]);
         literals.extend([1 << 9 | primitive << 1 | 1, NIL]);
     }
-    let mut words = vec![method_header(flag, temporaries, literals.len()) | (large as u16) << 7, class];
+    let mut words = vec![header(flag, temporaries, literals.len()) | (large as u16) << 7, class];
     words.extend(literals);
     understand(draft, class, DOES_NOT_UNDERSTAND, words, &code);
 }
@@ -246,11 +247,11 @@ fn put_under_6(random: &mut Random, draft: &mut Draft, added: &Added, class: u16
 /// What super sends of handlers find: field 1, a method that needs a frame, and a primitive that fails, or answers now and then.
 fn put_above(random: &mut Random, draft: &mut Draft, added: &Added, class: u16) {
     let [(field, _), (frame, of_frame), (failing, of_failing)] = added.above;
-    understand(draft, class, field, vec![method_header(6, 1, 0), class], &[]);
-    understand(draft, class, frame, vec![method_header(of_frame, of_frame, 0), class], &[120]);
+    understand(draft, class, field, vec![header(6, 1, 0), class], &[]);
+    understand(draft, class, frame, vec![header(of_frame, of_frame, 0), class], &[120]);
     let primitive = random.pick(&[[62, 62, 70], [60, 1, 71], [61, 61, 61]][of_failing]);
     let extension = (of_failing << 9) as u16 | primitive << 1 | 1;
-    understand(draft, class, failing, vec![method_header(7, of_failing, 2), class, extension, NIL], &[120]);
+    understand(draft, class, failing, vec![header(7, of_failing, 2), class, extension, NIL], &[120]);
 }
 
 /// A handler whose send fails, most often to the handler's argument, or self where it has none.
@@ -292,7 +293,7 @@ fn put_handler(random: &mut Random, draft: &mut Draft, added: &Added, bytes: u16
         Sent::Plain => code.extend([132, count as u8, 0]),
     }
     code.push(124);
-    let words = vec![method_header(own_count, temporaries, 1) | (large as u16) << 7, home, selector];
+    let words = vec![header(own_count, temporaries, 1) | (large as u16) << 7, home, selector];
     understand(draft, home, own, words, &code);
 }
 
@@ -327,9 +328,9 @@ impl Handler {
 }
 
 /// The count of the send before the return, in code without jumps.
-fn sent_last(method: &Method) -> Option<usize> {
+fn sent_last(code: &[u8]) -> Option<usize> {
     let (mut at, mut last) = (0, None);
-    while let Some((instruction, next)) = decode(method, at).filter(|(_, next)| *next < method.code.len()) {
+    while let Some((instruction, next)) = decode(code, at).filter(|(_, next)| *next < code.len()) {
         (at, last) = (next, Some(instruction));
     }
     match last? {
@@ -348,7 +349,7 @@ pub fn handler(random: &mut Random, world: &World) -> Option<Handler> {
     let is_handler = |method: &Method| method.flag < 2 && method.literals.len() == 1 && method.code.ends_with(&[124]);
     let found: Vec<(u16, u16, usize)> = pairs
         .filter(|pair| is_handler(world.method(pair[1])))
-        .filter_map(|pair| Some((pair[0], pair[1], sent_last(world.method(pair[1]))?)))
+        .filter_map(|pair| Some((pair[0], pair[1], sent_last(&world.method(pair[1]).code)?)))
         .collect();
     if found.is_empty() {
         return None;
@@ -417,7 +418,6 @@ fn exchange(draft: &mut Draft, one: u16, other: u16) {
         let words = match made.kind {
             FIELDS | CLASS | LIST => 0..made.body.len(),
             METHOD => 1..(2 + (made.body[0] >> 1 & 63) as usize).min(made.body.len()),
-            BLOCK => 3..made.body.len(),
             _ => 0..0,
         };
         made.body[words].iter_mut().for_each(|word| *word = exchanged(*word));
@@ -454,10 +454,10 @@ pub fn other_count(random: &mut Random, draft: &mut Draft) {
         let method = draft.objects[list].body[at + 1];
         let made = draft.objects[method as usize / 2 - 1].clone();
         let words = match shape {
-            0 if count == 0 => vec![method_header(5, 3, 0), made.body[1]],
-            1 if count == 0 && with_fields.contains(&class) => vec![method_header(6, 0, 0), made.body[1]],
-            2 if count < 5 => vec![method_header(count, count, 0), made.body[1]],
-            _ => vec![method_header(7, count, 2), made.body[1], (count << 9 | 110 << 1 | 1) as u16, NIL],
+            0 if count == 0 => vec![header(5, 3, 0), made.body[1]],
+            1 if count == 0 && with_fields.contains(&class) => vec![header(6, 0, 0), made.body[1]],
+            2 if count < 5 => vec![header(count, count, 0), made.body[1]],
+            _ => vec![header(7, count, 2), made.body[1], (count << 9 | 110 << 1 | 1) as u16, NIL],
         };
         draft.put_method(method, made.class, words, &[120]);
     }

@@ -1,6 +1,5 @@
 //! What was covered.
 
-use crate::blocks::{self, CALLS_ON, FORGED};
 use crate::chains::{self, CHAINS};
 use crate::climbs::{OTHER_CACHES, WRITTEN};
 use crate::elements::MOVED;
@@ -9,16 +8,13 @@ use crate::lookups::LOOKUPS;
 use crate::messages::{self, IMAGES, REASONS, STATES};
 use crate::sides::*;
 use apart::accesses::{self, NAMES, NO_BYTES, OTHERS, RECEIVERS, SHOWN, THEN};
-use apart::blocks as made;
-use apart::calls::*;
+use apart::calls::{NUMBER_ALONE, OTHER_LOOKUP, OTHER_NUMBER};
 use apart::climbs::{self, CACHED, CAME, FOUND_6, NUMBERS, ON_THE_WAY, SENT, SUMS};
 use apart::counts::{Counts, REACHES, SENDS, SUPER_SENDS};
-use apart::machine::{NO_BLOCK_ROOM, NO_HOME};
 use apart::messages as failures;
-use apart::objects::BLOCK;
 use apart::play::{ANSWER_WORDS, ENDS};
 use apart::refusal::Place;
-use apart::rules::{CIRCLE, TOO_FEW_FOR_BLOCKS, TOO_LONG};
+use apart::rules::{CIRCLE, TOO_LONG};
 use std::collections::BTreeMap;
 use std::ops::Range;
 
@@ -37,25 +33,6 @@ pub struct Report {
     listed_phases: Tally,
     /// By call and those of the lengths of a cache for which it was refused.
     caches: Tally,
-}
-
-/// Those of `CALLS_ON` that an accepted call shows.
-fn called_on(call: &Call, phase: u16, after: &Buffers) -> [bool; CALLS_ON.len()] {
-    let is_block = |word: u16| word % 2 == 0 && word != 0 && after.words[0].get(2 * word as usize - 3) == Some(&BLOCK);
-    let (receiver, arguments) = match call {
-        Call::Begin { receiver, arguments, .. } => (Some(*receiver), &arguments[..]),
-        _ => (None, &[][..]),
-    };
-    let (begun, dropped, saved) = (receiver.is_some(), *call == Call::Drop, matches!(call, Call::Save(_)));
-    [
-        begun && phase == NO_BLOCK_ROOM,
-        begun && phase == NO_HOME,
-        dropped && phase == NO_BLOCK_ROOM,
-        dropped && phase == NO_HOME,
-        saved && (phase == NO_BLOCK_ROOM || phase == NO_HOME),
-        receiver.map_or(false, is_block),
-        arguments.iter().any(|word| is_block(*word)),
-    ]
 }
 
 /// How often each number came, by call.
@@ -77,7 +54,7 @@ const POSSIBLE: [&[u32]; 8] = [
 const LISTED: Range<usize> = 1..5;
 
 /// Ranges of bytecodes, by their first and last.
-const RANGES: [(usize, usize); 30] = [
+const RANGES: [(usize, usize); 28] = [
     (0, 15),
     (16, 31),
     (32, 63),
@@ -87,7 +64,6 @@ const RANGES: [(usize, usize); 30] = [
     (112, 119),
     (120, 123),
     (124, 124),
-    (125, 125),
     (128, 128),
     (129, 129),
     (130, 130),
@@ -97,7 +73,6 @@ const RANGES: [(usize, usize); 30] = [
     (134, 134),
     (135, 135),
     (136, 136),
-    (137, 137),
     (144, 151),
     (152, 159),
     (160, 163),
@@ -130,15 +105,11 @@ fn print_tally(tally: &Tally, calls: Range<usize>) {
 }
 
 impl Report {
-    /// A call that was made on a state in this phase.
-    pub fn note(&mut self, call: &Call, phase: u16, outcome: &Outcome, after: &Buffers) {
+    pub fn note(&mut self, call: &Call, outcome: &Outcome, after: &Buffers) {
         let index = match call.index() {
             Some(index) => index,
             None => return,
         };
-        if outcome.number == 0 {
-            self.counts.events_met(CALLS_ON, called_on(call, phase, after));
-        }
         count(&mut self.answers, index, outcome.number);
         if let Some(refusal) = outcome.refusal {
             *self.reasons.entry((refusal.number, refusal.why)).or_insert(0) += 1;
@@ -151,7 +122,6 @@ impl Report {
             self.counts.message = None;
             self.counts.events_met(CHAINS, chains::met(image, outcome.number));
             self.counts.events_met(IMAGES, messages::met(image, outcome.refusal));
-            self.counts.events_met(blocks::IMAGES, blocks::met(image, outcome.refusal));
         }
         if let (0, Call::Begin { receiver, .. }) = (outcome.number, call) {
             self.counts.message_used(*receiver, failures::BEGUN);
@@ -187,7 +157,7 @@ impl Report {
             let numbers = unmet(&self.listed_answers, index, POSSIBLE[index]).filter(|number| ![3, 11].contains(*number));
             missing.extend(numbers.map(|number| format!("{} in a list answering {number}", CALLS[index])));
         }
-        let halts_too = &[1, 2, 3, 4, 5, 6, 7][..];
+        let halts_too = &[1, 2, 3, 4, 5][..];
         for (tally, call, phases, place) in
             [(&self.phases, 1, &[1, 2][..], ""), (&self.phases, 2, halts_too, ""), (&self.listed_phases, 2, halts_too, " in a list")]
         {
@@ -198,12 +168,7 @@ impl Report {
             missing.extend(unmet(&self.caches, call, &others).map(|length| format!("{name} with a cache of {length} words")));
         }
         let of_states = REASONS.iter().map(|(_, why)| *why).chain([OTHER_LOOKUP, OTHER_NUMBER, NUMBER_ALONE]).map(|why| (11, why));
-        let of_frames = [NO_SUCH_MARK, BLOCK_OF_OTHER_METHOD, FRAME_OF_OTHER_METHOD, FRAME_OF_OTHER_RECEIVER];
-        let of_sorts = [HOME_IN_BLOCK_CODE, BLOCK_IN_METHOD_CODE, NO_MARK_IN_BLOCK_CODE];
-        let of_blocks = blocks::REASONS.iter().map(|(_, why)| *why).filter(|why| *why != TOO_FEW_FOR_BLOCKS);
-        let of_states = of_states.chain(of_frames.into_iter().chain(of_sorts).chain(of_blocks).map(|why| (11, why)));
-        let reasons = [(14, TOO_LONG), (14, CIRCLE), (11, TOO_LONG), (11, CIRCLE)].into_iter().chain(REASONS).chain(blocks::REASONS);
-        for reason in reasons.chain(of_states) {
+        for reason in [(14, TOO_LONG), (14, CIRCLE), (11, TOO_LONG), (11, CIRCLE)].into_iter().chain(REASONS).chain(of_states) {
             if !self.reasons.contains_key(&reason) {
                 missing.push(format!("refusal {} by {}", reason.0, reason.1));
             }
@@ -211,8 +176,6 @@ impl Report {
         let events = ENDS.iter().chain(&REACHES).chain(&CUTS).chain(&SHORT).chain(&CHAINS).chain(&LOOKUPS).chain(&SENDS).chain(&SUPER_SENDS);
         let events = events.chain(&THEN).chain(&NO_BYTES).chain(&MOVED).chain(&IMAGES).chain(&STATES).chain(&failures::THEN);
         let events = events.chain(failures::SHOWN.iter().map(|(name, _)| name)).chain(&SUMS).chain(&ON_THE_WAY).chain(&WRITTEN);
-        let events = events.chain(&blocks::IMAGES).chain(&FORGED).chain(&CALLS_ON).chain(&blocks::STATES).chain(&made::FROM_HOME).chain(&made::USED);
-        let events = events.chain(made::PUSHES.iter().map(|(name, _)| name)).chain(made::VALUES.iter().map(|(name, _)| name));
         missing.extend(events.filter(|event| !self.counts.events.contains_key(*event)).map(|event| event.to_string()));
         for (cause, end) in (0..failures::CAUSES.len()).flat_map(|cause| (0..failures::ENDS.len()).map(move |end| (cause, end))) {
             if failures::possible(cause, end) && self.counts.failures[cause][end] == 0 {
@@ -220,7 +183,6 @@ impl Report {
             }
         }
         missing.extend(self.climbs().into_iter().filter(|(_, count)| *count == 0).map(|(what, _)| what));
-        missing.extend(self.blocks().into_iter().filter(|(_, count)| *count == 0).map(|(what, _)| what));
         for (primitive, name) in NAMES.iter().enumerate() {
             let found = &self.counts.accesses;
             for (receiver, shown) in (0..RECEIVERS.len()).flat_map(|receiver| (0..SHOWN.len()).map(move |shown| (receiver, shown))) {
@@ -231,7 +193,7 @@ impl Report {
             let others = OTHERS.iter().zip(found.others[primitive]).filter(|(_, count)| *count == 0);
             missing.extend(others.map(|(other, _)| format!("{name} on {other}")));
         }
-        for byte in (0..256).filter(|byte| !(126..128).contains(byte) && !(138..144).contains(byte)) {
+        for byte in (0..256).filter(|byte| !(125..128).contains(byte) && !(137..144).contains(byte)) {
             if self.counts.bytecodes[byte] == 0 {
                 missing.push(format!("bytecode {byte}"));
             }
@@ -273,10 +235,6 @@ impl Report {
         for (what, count) in self.climbs() {
             println!("  {what}: {count}");
         }
-        println!("blocks:");
-        for (what, count) in self.blocks() {
-            println!("  {what}: {count}");
-        }
         println!("caches of other lengths, refused:");
         print_tally(&self.caches, 0..CALLS.len());
         println!("events:");
@@ -306,33 +264,6 @@ impl Report {
                 let what = format!("{}: {}, {}", failures::CAUSES[cause], FOUND_6[first], CACHED[cached]);
                 all.push((what, found.messages[cause][first][cached]));
             }
-        }
-        all
-    }
-
-    /// What pushes of blocks, values and returns can meet, with how often they did.
-    fn blocks(&self) -> Vec<(String, u64)> {
-        let found = &self.counts.blocks;
-        let each = |first: usize, second: usize| (0..first).flat_map(move |one| (0..second).map(move |other| (one, other)));
-        let mut all = vec![];
-        for (by, came) in each(made::PUSHED_BY.len(), made::MADE.len()).filter(|(by, came)| made::can_be_made(*by, *came)) {
-            for count in 0..2 {
-                all.push((format!("{} pushes a block of {count}: {}", made::PUSHED_BY[by], made::MADE[came]), found.pushes[by][count][came]));
-            }
-        }
-        for (by, came) in each(made::SENT_BY.len(), made::VALUED.len()).filter(|(by, came)| made::can_be_valued(*by, *came)) {
-            for count in 0..2 {
-                all.push((format!("{} sends value to a block of {count}: {}", made::SENT_BY[by], made::VALUED[came]), found.values[by][count][came]));
-            }
-        }
-        for (receiver, came) in each(made::RECEIVERS.len(), made::SENT.len()) {
-            for count in 0..2 {
-                let what = format!("{} to {}: {}", 201 + count, made::RECEIVERS[receiver], made::SENT[came]);
-                all.push((what, found.sends[receiver][count][came]));
-            }
-        }
-        for (byte, to) in each(found.returns.len(), made::RETURNED_TO.len()).filter(|(byte, to)| made::can_return(120 + byte, *to)) {
-            all.push((format!("{} in a block: {}", 120 + byte, made::RETURNED_TO[to]), found.returns[byte][to]));
         }
         all
     }

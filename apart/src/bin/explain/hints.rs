@@ -36,9 +36,8 @@ fn header(bytes: &[u8]) -> Option<String> {
 /// Objects 4 and 5 are a class and a list, so swapped entries have at least two such kinds.
 fn entries(image: &Image) -> Option<String> {
     let kinds = image.contents.chunks_exact(4).map(|entry| entry[1]);
-    let (all, swapped) = (image.contents.len() / 4, kinds.filter(|kind| [256, 512, 768, 1024, 1280].contains(kind)).count());
-    let text =
-        format!("the entries look byte-swapped: {swapped} of {all} kinds are 256, 512, 768, 1024 or 1280, which are 1 to 5 read low byte first");
+    let (all, swapped) = (image.contents.len() / 4, kinds.filter(|kind| [256, 512, 768, 1024].contains(kind)).count());
+    let text = format!("the entries look byte-swapped: {swapped} of {all} kinds are 256, 512, 768 or 1024, which are 1 to 4 read low byte first");
     (swapped >= 2).then(|| text + "; words stand high byte first")
 }
 
@@ -47,11 +46,11 @@ fn padding(word: u16) -> Option<String> {
     (word < 256).then(|| text.to_string())
 }
 
-/// Forms 0 to 4 are the words 1, 3, 5, 7 and 9; with their bytes swapped these are even, so they are no integers.
+/// Forms 0 to 3 are the words 1, 3, 5 and 7; with their bytes swapped these are even, so they are no integers.
 fn bodies(image: &Image) -> Option<String> {
     let classes = (1..=image.contents.len() / 4).filter(|number| image.of_kind(*number, CLASS));
     let forms: Vec<Option<u16>> = classes.map(|number| image.word(number, 3)).collect();
-    let swapped = |form: &Option<u16>| form.map_or(false, |form| [256, 768, 1280, 1792, 2304].contains(&form));
-    let text = "the bodies look byte-swapped: the form of each class is an integer from 0 to 4 read low byte first; words stand high byte first";
+    let swapped = |form: &Option<u16>| form.map_or(false, |form| [256, 768, 1280, 1792].contains(&form));
+    let text = "the bodies look byte-swapped: the form of each class is an integer from 0 to 3 read low byte first; words stand high byte first";
     (!forms.is_empty() && forms.iter().all(swapped)).then(|| text.to_string())
 }

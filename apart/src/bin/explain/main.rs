@@ -1,22 +1,9 @@
 //! Says what an image holds, or why load refuses it and where.
 
-#[cfg(test)]
-#[allow(dead_code)]
-#[path = "../compare/draft.rs"]
-mod draft;
-#[cfg(test)]
-#[allow(dead_code)]
-#[path = "../compare/generate.rs"]
-mod generate;
 mod hints;
-#[cfg(test)]
-#[allow(dead_code)]
-#[path = "../compare/random.rs"]
-mod random;
 mod report;
 mod selectors;
 
-use apart::objects::LIBRARY_EDITIONS;
 use std::io::{Read, Write};
 
 const HELP: &str = "\
@@ -28,7 +15,6 @@ words that look byte-swapped a hint. Code is in the words of examples/assemble, 
 The line of a chain ends with the number of its classes, each of which has a dictionary, and of the pairs in all of these: no lookup from the class reads more.
 An object whose elements come behind named fields is shown with both, the elements counted as at: counts them.
 From edition 2 on object 6 is the selector that is sent with a message where a send fails; a line has the classes with a method under it.
-Edition 3 has blocks; the library does not take it yet. The code of a block is indented under the code that makes it; a block among the objects is shown with its mark, start, count and method.
 Nothing in an image has a name but selectors, so a class is known by its object number.
 The status is 0 if all images are right, 1 if one is refused, 2 if one cannot be read.
 ";
@@ -61,11 +47,9 @@ fn main() {
         match read(name) {
             Ok(bytes) => {
                 let (number, text) = report::explain(&bytes);
-                let later = report::is_later(&bytes);
-                status = status.max((number != 0 || later) as i32);
+                status = status.max((number != 0) as i32);
                 let parted = if index > 0 { "\n" } else { "" };
-                let library = format!("the library has no edition above {LIBRARY_EDITIONS} yet and refuses it by 2; by the rules of its edition it is\n");
-                print(&format!("{parted}{name}: {}{text}", if later { &library } else { "" }));
+                print(&format!("{parted}{name}: {text}"));
             }
             Err(error) => {
                 status = 2;
@@ -78,7 +62,7 @@ fn main() {
 
 #[cfg(test)]
 mod tests {
-    use crate::{generate, random, report};
+    use crate::report;
     use apart::calls::{self, Lent, CACHE_WORDS};
     use apart::{image::Image, listing, rules};
 
@@ -95,11 +79,9 @@ mod tests {
         }
     }
 
-    /// The images that are damaged: the adder, a small one with blocks, and every 10th that EXPLAIN_IMAGES names.
+    /// The images that are damaged: the adder, and every 10th that EXPLAIN_IMAGES names.
     fn seeds() -> Vec<Vec<u8>> {
         let mut seeds = vec![ADDER.to_vec()];
-        let with_blocks = (0..20).map(|stream| generate::of_edition(&mut random::Random::new(80, stream), 3, true).image());
-        seeds.extend(with_blocks.min_by_key(Vec::len));
         if let Ok(directory) = std::env::var("EXPLAIN_IMAGES") {
             let mut paths: Vec<_> = std::fs::read_dir(directory).unwrap().map(|entry| entry.unwrap().path()).collect();
             paths.retain(|path| path.extension().map_or(false, |extension| extension == "image"));
@@ -147,7 +129,7 @@ mod tests {
         }
         for _ in 0..2_000 {
             let n = random.below(12);
-            let mut bytes = vec![0, 1 + random.below(3) as u8, 0, n as u8, 0, random.below(60) as u8];
+            let mut bytes = vec![0, 1 + random.below(2) as u8, 0, n as u8, 0, random.below(60) as u8];
             let rest = 4 + 8 * n + 2 * bytes[5] as usize;
             bytes.extend((0..rest).map(|_| if random.below(2) == 0 { 0 } else { random.below(256) as u8 }));
             explained(&bytes);
@@ -168,13 +150,13 @@ mod tests {
                 Err(_) => continue,
             };
             for method in world.methods.iter().flatten() {
-                let (table, reached) = match (&method.table, listing::walk(method)) {
+                let (table, reached) = match (&method.table, listing::walk(&method.code)) {
                     (Some(table), reached) => (table, reached),
                     _ => continue,
                 };
-                for (position, way) in table.iter().enumerate() {
-                    let walked = reached.get(&(position as i64)).map(|here| here.ways.clone());
-                    assert_eq!(walked, way.map(|way| vec![way]));
+                for (position, depth) in table.iter().enumerate() {
+                    let walked = reached.get(&(position as i64)).map(|here| here.depths.clone());
+                    assert_eq!(walked, depth.map(|depth| vec![depth]));
                 }
             }
         }

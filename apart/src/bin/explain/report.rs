@@ -1,8 +1,8 @@
 //! What is said of an image.
 
 use crate::{hints, selectors};
-use apart::code::{decode, Instruction};
-use apart::image::{Image, FORMS};
+use apart::code::decode;
+use apart::image::{Image, FORMS, KINDS};
 use apart::listing::{listing, sent, walk};
 use apart::objects::*;
 use apart::refusal::{Faults, Place, Refusal};
@@ -12,20 +12,18 @@ use apart::words::*;
 /// By their numbers, in load's order.
 const RULES: [(u32, &str); 9] = [
     (1, "the length is 10 + 8N + 2B bytes"),
-    (2, "the edition is 1 or 2 (or 3, which the library does not take yet), N is 5 to 2047 (from 8 in edition 2, from 9 in edition 3), B is at most 24000"),
+    (2, "the edition is 1 or 2, N is 5 to 2047 (from 8 in edition 2), B is at most 24000"),
     (3, "the lent buffers are long enough"),
-    (4, "the layout: kinds are 0 to 4, from edition 3 on 0 to 5, each body starts where the one before ends, a class and a block have 4 words, padding is zero, the last body ends at B"),
+    (4, "the layout: kinds are 0 to 4, each body starts where the one before ends, a class has 4 words, padding is zero, the last body ends at B"),
     (5, "the classes of entries and the words of fields, classes and lists are valid: odd, or twice the number of an object"),
     (14, "the chain of each class, itself counted, has at most 24 classes"),
-    (6, "entries' classes, class bodies, dictionaries and objects 1 to 5; from edition 2 on also objects 6 (bytes), 7 (a class of form 0 with F 2) and 8 (a class of form 1 with F 0), from edition 3 on 9 (a class of form 4)"),
-    (7, "methods: header, home, literals, counts of arguments (one under object 6 from edition 2 on), and code with a depth table; blocks: a mark from 1, and start and count of block code in their method"),
+    (6, "entries' classes, class bodies, dictionaries and objects 1 to 5; in edition 2 also objects 6 (bytes), 7 (a class of form 0 with F 2) and 8 (a class of form 1 with F 0)"),
+    (7, "methods: header, home, literals, counts of arguments (one under object 6 in edition 2), and code with a depth table"),
     (8, "the start receiver is a valid word, the start selector has kind 1"),
 ];
 
 /// How many classes are said that have a method under object 6.
 const MOST_UNDER_6: usize = 8;
-/// How many blocks of a method are said.
-const MOST_BLOCKS: usize = 8;
 /// How many faults are said after the first.
 const MOST_OTHERS: usize = 10;
 /// How many classes of a chain are said: where it is too long, and in the line of another fault.
@@ -52,11 +50,6 @@ pub fn explain(bytes: &[u8]) -> (u32, String) {
     }
 }
 
-/// Whether the image is of an edition that the library does not have yet.
-pub fn is_later(bytes: &[u8]) -> bool {
-    rules::header(bytes).map_or(false, |header| LIBRARY_EDITIONS < header.edition && header.edition <= LAST_EDITION)
-}
-
 pub fn judge(header: &Header, image: &Image) -> Result<World, Faults> {
     rules::ranges(header.edition, header.n, header.b)?;
     let world = rules::judge(header.edition, &image.contents, &image.bodies)?;
@@ -80,7 +73,6 @@ fn refused(faults: &Faults, bytes: &[u8], image: &Image) -> String {
         Place::Body(number, index) if image.of_kind(number, LIST) && first.number == 7 => {
             format!("object: {}\n{}", image.shown(number), under(image, image.word(number, index & !1).unwrap_or(0)))
         }
-        Place::Body(number, index) if image.of_kind(number, BLOCK) => format!("object: {}\n{}", image.shown(number), blocks_of(image, number, index)),
         Place::Body(number, _) => format!("object: {}\n", image.shown(number)),
         Place::Code(number, position) => code_refused(image, number, position),
         _ => String::new(),
@@ -122,7 +114,7 @@ fn found(fault: &Refusal, bytes: &[u8], image: &Image, most: usize) -> String {
         Place::HeaderWord(index) => image.found(header(index)),
         Place::Entry(number, index) => {
             let entry = image.entry(number).unwrap_or([0; 4]);
-            let (word, kind) = (entry[index], image.kind_name(entry[1]).unwrap_or("no kind"));
+            let (word, kind) = (entry[index], KINDS.get(entry[1] as usize).unwrap_or(&"no kind"));
             match index {
                 0 => image.found(word),
                 1 => format!("{word}, {kind}"),
@@ -137,9 +129,6 @@ fn found(fault: &Refusal, bytes: &[u8], image: &Image, most: usize) -> String {
             if image.of_kind(number, METHOD) && index == 0 {
                 let (flag, temporaries, large, literals, tag) = (word >> 13, word >> 8 & 31, word >> 7 & 1, word >> 1 & 63, word & 1);
                 return format!("word {word}: flag {flag}, T {temporaries}, large {large}, L {literals}, tag {tag}");
-            }
-            if image.of_kind(number, BLOCK) && [1, 2].contains(&index) {
-                return format!("the number {word}");
             }
             // A word with padding is two bytes.
             if fault.number == 4 {
@@ -161,7 +150,6 @@ fn instances(image: &Image, class: u16) -> String {
         0 => format!("kind 0 (fields) with exactly {words}"),
         1 => format!("kind 0 (fields) with at least {words}"),
         2 => "kind 1 (bytes)".to_string(),
-        4 => "kind 5 (block)".to_string(),
         _ => "kind 2, 3 or 4 (class, list or method)".to_string(),
     };
     format!("class {number} has form {} and F {}: {asked}", integer(form), integer(fields))
@@ -169,46 +157,16 @@ fn instances(image: &Image, class: u16) -> String {
 
 /// The bytecode at a position, its depths and where it is reached from.
 fn reached(image: &Image, number: usize, position: usize) -> String {
-    let method = match image.method(number) {
-        Some(method) => method,
-        None => return "no bytecode".to_string(),
-    };
-    let mut out = method.code.get(position).map_or("no bytecode".to_string(), |byte| format!("bytecode {byte}"));
-    if let Some(here) = walk(&method).get(&(position as i64)) {
+    let code = image.method(number).map_or(vec![], |method| method.code);
+    let mut out = code.get(position).map_or("no bytecode".to_string(), |byte| format!("bytecode {byte}"));
+    if let Some(here) = walk(&code).get(&(position as i64)) {
         let list = |numbers: &[usize]| numbers.iter().map(usize::to_string).collect::<Vec<_>>().join(" and ");
-        out += &format!(", depth {}", list(&here.depths()));
-        out += match (here.has_two_sorts(), here.level) {
-            (true, _) => ", as method code and as block code",
-            (false, 0) => "",
-            _ => ", in a block",
-        };
+        out += &format!(", depth {}", list(&here.depths));
         if !here.from.is_empty() {
             out += &format!(", reached from {}", list(&here.from));
         }
     }
     out
-}
-
-/// The blocks that the method of a block makes, where its start or count is wrong.
-fn blocks_of(image: &Image, number: usize, index: usize) -> String {
-    let word = image.word(number, 3).filter(|_| [1, 2].contains(&index));
-    let (word, method) = match word.and_then(|word| Some((word, image.method(word as usize / 2)?))) {
-        Some(found) => found,
-        None => return String::new(),
-    };
-    let positions = walk(&method).into_keys().filter_map(|position| usize::try_from(position).ok());
-    let made = positions.filter_map(|position| match decode(&method, position)? {
-        (Instruction::PushBlock { arguments, .. }, start) => Some(format!("start {start} with count {arguments}")),
-        _ => None,
-    });
-    let (made, others) =
-        (made.take(MOST_BLOCKS + 1).collect::<Vec<_>>(), if method.flag == 5 || method.flag == 6 { ", whose code never runs" } else { "" });
-    let shown = match made.len() {
-        0 => "none".to_string(),
-        more if more > MOST_BLOCKS => format!("{}, ...", made[..MOST_BLOCKS].join(", ")),
-        _ => made.join(", "),
-    };
-    format!("blocks of {}{others}: {shown}\n", image.name(word))
 }
 
 /// Where a body ends, as its entry tells; 0 before the first.
@@ -238,7 +196,7 @@ fn code_refused(image: &Image, number: usize, position: usize) -> String {
         None => return String::new(),
     };
     let mut out = format!("object: {}\n", method_head(image, &method));
-    if let Some((selector, count)) = decode(&method, position).and_then(|(instruction, _)| sent(image, &method, instruction)) {
+    if let Some((selector, count)) = decode(&method.code, position).and_then(|(instruction, _)| sent(image, &method, instruction)) {
         out += &format!("sent: {} with {count}\n{}", image.name(selector), under(image, selector));
     }
     let mut lines = listing(image, &method);
@@ -276,12 +234,6 @@ fn right(header: &Header, image: &Image, world: &World) -> String {
     };
     if header.edition >= WITH_MESSAGES {
         out += &failed_sends(image);
-    }
-    if header.edition >= WITH_BLOCKS {
-        out += &match (world.objects.blocks().count(), world.objects.largest_mark()) {
-            (0, _) => "blocks: none are in the image\n".to_string(),
-            (count, mark) => format!("blocks: {count} in the image, whose homes do not stand; the largest mark is {mark}, of at most {MOST_MARK}\n"),
-        };
     }
     let length = |number: &usize| world.objects.chain(pointer(*number)).take(MOST_CHAIN).count();
     // Of several the first.

@@ -47,8 +47,8 @@ fn uses<'a>(header: &Header, image: &'a Image) -> Uses<'a> {
             Some(method) if method.flag != 5 && method.flag != 6 => method,
             _ => continue,
         };
-        for position in walk(&method).into_keys().filter_map(|position| usize::try_from(position).ok()) {
-            let instruction = match decode(&method, position) {
+        for position in walk(&method.code).into_keys().filter_map(|position| usize::try_from(position).ok()) {
+            let instruction = match decode(&method.code, position) {
                 Some((instruction @ (Instruction::Send { .. } | Instruction::SuperSend { .. }), _)) => instruction,
                 _ => continue,
             };

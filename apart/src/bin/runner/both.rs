@@ -11,11 +11,11 @@ use crate::trace::Trace;
 use apart::calls::{self, CACHE_WORDS, EDITION, PHASE, VALUE};
 use apart::counts::Counts;
 use apart::machine::*;
-use apart::objects::{Objects, LIBRARY_EDITIONS};
+use apart::objects::Objects;
 use apart::refusal::Refusal;
 use apart::rules::World;
 
-pub const PHASES: [&str; 8] = ["idle", "running", "finished", "not understood", "no boolean", "no stack room", "no block room", "no home"];
+pub const PHASES: [&str; 6] = ["idle", "running", "finished", "not understood", "no boolean", "no stack room"];
 
 const REFUSALS: [&str; 15] = [
     "",
@@ -168,9 +168,6 @@ impl<'a> Both<'a> {
         })?;
         if let Ok((world, _)) = self.opened() {
             self.names = Names::new(world.edition, &world.objects, names);
-            if is_later(world.edition) {
-                self.out.line(&format!("the library has no edition above {LIBRARY_EDITIONS}: all is made on the plain machine alone"));
-            }
         }
         Ok(loaded.number == 0)
     }

@@ -71,8 +71,9 @@ impl Climbs {
 
 impl Watch for Climbs {
     fn before(&mut self, machine: &Machine) {
-        self.next = match asked(&machine.world, &machine.frames, machine.room) {
-            Asked::Lookup(lookup) => lookup.counted().map(|(selector, found)| Sends { selector, class: lookup.start, found, times: 0 }),
+        let asked = machine.frames.last().map(|frame| asked(&machine.world, frame, machine.room));
+        self.next = match asked {
+            Some(Asked::Lookup(lookup)) => lookup.counted().map(|(selector, found)| Sends { selector, class: lookup.start, found, times: 0 }),
             _ => None,
         };
     }

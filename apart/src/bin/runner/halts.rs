@@ -15,25 +15,7 @@ pub fn cause(names: &Names, world: &World, frames: &[Frame], phase: u16, [conten
         Some(frame) => frame,
         None => return String::new(),
     };
-    let base = frame.base + 6 + world.method(frame.method).room();
-    let framed = |method: u16| {
-        let needed = 6 + world.method(method).room();
-        let of_use = if stack > MOST_STACK { format!(", of which {MOST_STACK} are of use") } else { String::new() };
-        format!("  frame: {needed} words at {base}, so {} in all; the stack has {stack}{of_use}\n", base + needed)
-    };
-    match (phase, asked(world, frames, Room { contents, bodies })) {
-        (_, Asked::PushBlock(pushed)) => {
-            let arguments = if pushed.count == 1 { "one argument" } else { "no arguments" };
-            format!("  block: of {arguments}, starts at {}\n  room: {}\n", pushed.start, no_room(&pushed))
-        }
-        (_, Asked::Value(valued)) => {
-            let (mark, lack) = (names.name(valued.block.mark), if phase == NO_STACK_ROOM { framed(valued.block.method) } else { String::new() });
-            let home = match valued.home {
-                Some(home) => format!("frame {home}, with mark {mark}"),
-                None => format!("no frame with mark {mark} stands"),
-            };
-            format!("  receiver: {}\n  home: {home}\n{lack}", names.name(valued.word))
-        }
+    match (phase, asked(world, frame, Room { contents, bodies })) {
         (NO_BOOLEAN, _) => format!("  operand: {}, neither true nor false\n", frame.operands.last().map_or(String::new(), |word| names.name(*word))),
         (_, Asked::Lookup(lookup)) => {
             let mut out = format!("  selector: {}\n  receiver: {}\n", names.name(lookup.selector), with_class(names, world, lookup.receiver));
@@ -45,9 +27,12 @@ pub fn cause(names: &Names, world: &World, frames: &[Frame], phase: u16, [conten
             if let Some(message) = &lookup.message {
                 out += &format!("  object 6: {}\n", message_halted(names, world, &lookup, message));
             }
-            let found = lookup.message.as_ref().map_or(lookup.found, |message| message.found);
-            if let (NO_STACK_ROOM, Some(found)) = (phase, found) {
-                out += &framed(found.method);
+            let framed = lookup.message.as_ref().map_or(lookup.found, |message| message.found);
+            if let (NO_STACK_ROOM, Some(found)) = (phase, framed) {
+                let base = frame.base + 6 + world.method(frame.method).room();
+                let needed = 6 + world.method(found.method).room();
+                let of_use = if stack > MOST_STACK { format!(", of which {MOST_STACK} are of use") } else { String::new() };
+                out += &format!("  frame: {needed} words at {base}, so {} in all; the stack has {stack}{of_use}\n", base + needed);
             }
             out
         }
@@ -101,7 +86,7 @@ fn found(names: &Names, world: &World, lookup: &Lookup) -> String {
 pub fn frames_shown(names: &Names, world: &World, frames: &[Frame], most: usize) -> String {
     let mut out = String::new();
     let mut left_out = 0;
-    for index in (0..frames.len()).rev() {
+    for (index, frame) in frames.iter().enumerate().rev() {
         if frames.len() - index > most && index != 0 {
             left_out += 1;
             continue;
@@ -109,28 +94,20 @@ pub fn frames_shown(names: &Names, world: &World, frames: &[Frame], most: usize)
         if left_out > 0 {
             out += &format!("  {left_out} more\n");
         }
-        out += &shown(names, world, frames, index);
+        out += &shown(names, world, frame, index, index + 1 == frames.len());
     }
     out
 }
 
-fn shown(names: &Names, world: &World, frames: &[Frame], index: usize) -> String {
-    let (frame, is_top) = (&frames[index], index + 1 == frames.len());
+fn shown(names: &Names, world: &World, frame: &Frame, index: usize, is_top: bool) -> String {
     let method = world.method(frame.method);
     let at = match waiting(method, frame.position) {
         Some(at) if !is_top => format!("in the send at {at}: {}; goes on at {}", words(names, method, at), frame.position),
         _ if is_top => format!("before {}: {}", frame.position, words(names, method, frame.position)),
         _ => format!("goes on at {}: {}", frame.position, words(names, method, frame.position)),
     };
-    let (whose, home) = match home_below(frames, index) {
-        Some(home) => ("a block of ", format!(", home frame {home}")),
-        None => ("", String::new()),
-    };
-    let mut out = format!("  frame {index} at {}, {whose}{}{home}, {at}\n", frame.base, names.name(frame.method));
+    let mut out = format!("  frame {index} at {}, {}, {at}\n", frame.base, names.name(frame.method));
     out += &format!("    receiver: {}\n", names.name(frame.receiver));
-    if frame.mark != 0 {
-        out += &format!("    mark: {}\n", names.name(frame.mark));
-    }
     let (arguments, others) = frame.temporaries.split_at(method.arguments.min(frame.temporaries.len()));
     if !arguments.is_empty() {
         out += &format!("    arguments: {}\n", names.list(arguments));
@@ -150,8 +127,9 @@ fn waiting(method: &Method, goes_on: usize) -> Option<usize> {
     let is_send =
         |instruction: Instruction| matches!(instruction, Instruction::Send { .. } | Instruction::SuperSend { .. } | Instruction::Special(_));
     let reached = (goes_on.saturating_sub(3)..goes_on).filter(|position| table.get(*position).copied().flatten().is_some());
-    let sends: Vec<usize> =
-        reached.filter(|position| decode(method, *position).map_or(false, |(instruction, next)| next == goes_on && is_send(instruction))).collect();
+    let sends: Vec<usize> = reached
+        .filter(|position| decode(&method.code, *position).map_or(false, |(instruction, next)| next == goes_on && is_send(instruction)))
+        .collect();
     match sends[..] {
         [position] => Some(position),
         _ => None,

@@ -3,8 +3,8 @@
 use crate::names::Names;
 use apart::code::*;
 use apart::listing::instruction_words;
-use apart::machine::{home_of, Failure, Frame};
-use apart::objects::*;
+use apart::machine::{Failure, Frame};
+use apart::objects::{Found, Method, Objects, BYTES, FIELDS, MOST_BODY_WORDS, MOST_OBJECTS, WITH_MESSAGES};
 use apart::primitives::*;
 use apart::rules::World;
 use apart::words::*;
@@ -64,55 +64,16 @@ pub enum Asked {
     Lookup(Lookup),
     /// A special send that its primitive answers.
     Primitive(u16),
-    PushBlock(Pushed),
-    Value(Valued),
     /// No send, or one that looks nothing up.
     Nothing,
 }
 
-/// A block that is to be made.
-pub struct Pushed {
-    pub start: usize,
-    pub count: usize,
-    /// That of its frame, or the one that it gets; none where the last one was given.
-    pub mark: Option<u16>,
-    pub is_first: bool,
-    /// Why it finds no room.
-    pub lack: Option<String>,
-}
-
-/// A block that is sent value or value:, with as many arguments as it takes.
-pub struct Valued {
-    pub block: Block,
-    pub word: u16,
-    /// The index of the home, where it stands.
-    pub home: Option<usize>,
-}
-
-/// The home of a frame that is in block code.
-pub fn home_below(frames: &[Frame], index: usize) -> Option<usize> {
-    home_of(frames, frames[index].mark).filter(|home| *home != index)
-}
-
-/// What the top frame asks for.
-pub fn asked(world: &World, frames: &[Frame], room: Room) -> Asked {
-    let frame = match frames.last() {
-        Some(frame) => frame,
-        None => return Asked::Nothing,
-    };
+pub fn asked(world: &World, frame: &Frame, room: Room) -> Asked {
     let method = world.method(frame.method);
-    let (instruction, next) = match decode(method, frame.position) {
-        Some(found) => found,
+    let instruction = match decode(&method.code, frame.position) {
+        Some((instruction, _)) => instruction,
         None => return Asked::Nothing,
     };
-    if let Instruction::PushBlock { arguments, .. } = instruction {
-        let mark = if frame.mark == 0 { world.objects.next_mark() } else { Some(frame.mark) };
-        let lack = lack(&world.objects, room, 1, BLOCK_WORDS, "it");
-        return Asked::PushBlock(Pushed { start: next, count: arguments, mark, is_first: frame.mark == 0, lack });
-    }
-    if let Some(valued) = valued(world, frames, frame, instruction) {
-        return Asked::Value(valued);
-    }
     let (selector, count, is_super) = match instruction {
         Instruction::Send { arguments, literal } => (method.literals.get(literal).copied(), arguments, false),
         Instruction::SuperSend { arguments, literal } => (method.literals.get(literal).copied(), arguments, true),
@@ -146,30 +107,6 @@ pub fn asked(world: &World, frames: &[Frame], room: Room) -> Asked {
     Asked::Lookup(Lookup { selector, receiver, arguments, start, is_super, found, read, failure, message })
 }
 
-/// The receiver of value or value:, where it is a block of that count.
-fn valued(world: &World, frames: &[Frame], frame: &Frame, instruction: Instruction) -> Option<Valued> {
-    let count = match instruction {
-        Instruction::Special(special) => BLOCK_VALUES.iter().position(|value| *value == special)?,
-        _ => return None,
-    };
-    let word = *frame.operands.get(frame.operands.len().checked_sub(count + 1)?)?;
-    let block = world.objects.block(word).filter(|block| block.count == count)?;
-    Some(Valued { block, word, home: home_of(frames, block.mark) })
-}
-
-/// Why so many objects with so many words find no room; `what` makes them.
-fn lack(objects: &Objects, room: Room, more: usize, words: usize, what: &str) -> Option<String> {
-    let (n, b) = (objects.list.len() + more, objects.body_total() + words);
-    let (makes, needs) = if more == 1 { ("makes", "needs") } else { ("make", "need") };
-    let lacks = [
-        format!("{what} {makes} {n} objects, and {MOST_OBJECTS} are the most"),
-        format!("{what} {makes} {b} body words, and {MOST_BODY_WORDS} are the most"),
-        format!("{what} {needs} contents of {} words, and there are {}", 4 * n, room.contents),
-        format!("{what} {needs} bodies of {b} words, and there are {}", room.bodies),
-    ];
-    lacking(objects, room, more, words).iter().zip(lacks).find(|(lacks, _)| **lacks).map(|(_, text)| text)
-}
-
 /// Why a method that was found is none for a receiver.
 fn unfit(world: &World, found: u16, receiver: u16, arguments: &[u16], room: Room) -> Option<Failure> {
     let method = world.method(found);
@@ -194,7 +131,14 @@ fn unfit(world: &World, found: u16, receiver: u16, arguments: &[u16], room: Room
 fn message_lookup(world: &World, start: u16, receiver: u16, count: usize, room: Room) -> MessageLookup {
     let (objects, words) = (&world.objects, count + MESSAGE_WORDS);
     let found = objects.lookup(start, DOES_NOT_UNDERSTAND);
-    let lack = lack(objects, room, 2, words, "they");
+    let (n, b) = (objects.list.len() + 2, objects.body_total() + words);
+    let lacks = [
+        format!("they make {n} objects, and {MOST_OBJECTS} are the most"),
+        format!("they make {b} body words, and {MOST_BODY_WORDS} are the most"),
+        format!("they need contents of {} words, and there are {}", 4 * n, room.contents),
+        format!("they need bodies of {b} words, and there are {}", room.bodies),
+    ];
+    let lack = lacking(objects, room, 2, words).iter().zip(lacks).find(|(lacks, _)| **lacks).map(|(_, text)| text);
     // Of the primitives only == can answer with a message.
     let answers = |found: u16| world.method(found).flag == 7 && world.method(found).primitive == 110;
     let fits = |method: u16| answers(method) || objects.in_chain(receiver, world.method(method).home);
@@ -208,15 +152,6 @@ pub fn unfit_words(names: &Names, method: &Method, failure: Option<Failure>) -> 
         Failure::NoMethod => None,
         Failure::Field => Some(format!("it answers field {}, which the receiver has not", method.temporaries)),
         Failure::Home => Some(format!("its home, {}, is not in the receiver's class chain", names.name(method.home))),
-    }
-}
-
-/// Why no block can be made, in words.
-pub fn no_room(pushed: &Pushed) -> String {
-    match (&pushed.lack, pushed.mark) {
-        (Some(lack), _) => lack.clone(),
-        (None, None) => format!("its frame has no mark, and the last one, {MOST_MARK}, was given"),
-        (None, Some(_)) => String::new(),
     }
 }
 

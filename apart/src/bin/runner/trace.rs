@@ -127,7 +127,7 @@ impl<'a> Trace<'a> {
     fn outcome(&self, machine: &Machine, made: &Made) -> String {
         let top = match (made, machine.frames.last()) {
             (Made::Goes, Some(top)) => top,
-            (Made::Finishes(value), _) => return format!("{}finished, {}", self.left(machine), self.names.name(*value)),
+            (Made::Finishes(value), _) => return format!("finished, {}", self.names.name(*value)),
             _ => return String::new(),
         };
         let answer = top.operands.last().copied();
@@ -138,57 +138,14 @@ impl<'a> Trace<'a> {
         };
         match (&self.before.asked, self.before.instruction) {
             (Some(Asked::Lookup(lookup)), _) => self.looked_up(machine, lookup, after),
-            (Some(Asked::PushBlock(pushed)), _) => self.pushed(pushed, answer_name),
-            (Some(Asked::Value(valued)), _) => {
-                format!("{}: a frame of {} words at {}", self.valued(machine, valued), self.words_of(machine, valued), top.base)
-            }
             (Some(Asked::Primitive(number)), _) => format!("primitive {number} answers {answer_name}"),
             (_, Some(Instruction::Special(_))) => format!("answers {answer_name}"),
-            (_, Some(Instruction::ReturnTop | Instruction::ReturnSelf | Instruction::ReturnWord(_) | Instruction::ReturnFromBlock)) => {
-                let to = code_name(self.names, &machine.frames, machine.frames.len() - 1);
-                format!("{}answers {answer_name} to {to} at {}", self.left(machine), top.position)
+            (_, Some(Instruction::ReturnTop | Instruction::ReturnSelf | Instruction::ReturnWord(_))) => {
+                format!("answers {answer_name} to {} at {}", self.names.method(top.method), top.position)
             }
             (_, Some(Instruction::JumpOn(..))) => format!("goes on at {}", top.position),
             _ => String::new(),
         }
-    }
-}
-
-impl Trace<'_> {
-    /// A block that was made, with the mark that its frame has.
-    fn pushed(&self, pushed: &Pushed, block: String) -> String {
-        let mark = pushed.mark.map_or(String::new(), |mark| self.names.name(mark));
-        format!("pushes {block}, {} {mark}", if pushed.is_first { "the first of its frame, which gets mark" } else { "with mark" })
-    }
-
-    fn words_of(&self, machine: &Machine, valued: &Valued) -> usize {
-        6 + machine.world.method(valued.block.method).room()
-    }
-
-    /// A block that is sent value, and its home.
-    fn valued(&self, machine: &Machine, valued: &Valued) -> String {
-        let home = match valued.home {
-            Some(home) => format!("whose home is frame {home} at {}", machine.frames[home].base),
-            None => format!("whose home, with mark {}, does not stand", self.names.name(valued.block.mark)),
-        };
-        format!("the value of {}, {home}", self.names.name(valued.word))
-    }
-
-    /// How many frames a return from home took away, where that is not one.
-    fn left(&self, machine: &Machine) -> String {
-        match self.before.frames - machine.frames.len() {
-            1 => String::new(),
-            left => format!("from its home, {left} frames leave, "),
-        }
-    }
-}
-
-/// The method of a frame; in block code that of its home.
-fn code_name(names: &Names, frames: &[Frame], index: usize) -> String {
-    let name = names.method(frames[index].method);
-    match home_below(frames, index) {
-        Some(_) => format!("[] in {name}"),
-        None => name,
     }
 }
 
@@ -201,15 +158,15 @@ impl Watch for Trace<'_> {
         self.refresh(machine);
         let method = machine.world.method(frame.method);
         let indent = "  ".repeat((machine.frames.len() - 1).min(MOST_INDENT));
-        let (name, position) = (code_name(self.names, &machine.frames, machine.frames.len() - 1), frame.position);
+        let (name, position) = (self.names.method(frame.method), frame.position);
         let (words, operands) = (words(self.names, method, position), self.names.list(&frame.operands));
         self.line = format!("{:>7}  {indent}{name}  {position}  {words}  [{operands}]", self.made + 1);
-        let asked = asked(&machine.world, &machine.frames, machine.room);
+        let asked = asked(&machine.world, frame, machine.room);
         let (cached, message_cached) = match &asked {
             Asked::Lookup(lookup) => (machine.cached(lookup.selector, lookup.start), machine.cached(DOES_NOT_UNDERSTAND, lookup.start)),
             _ => (false, false),
         };
-        let instruction = decode(method, position).map(|(instruction, _)| instruction);
+        let instruction = decode(&method.code, position).map(|(instruction, _)| instruction);
         self.before = Before { frames: machine.frames.len(), instruction, asked: Some(asked), cached, message_cached };
     }
 
@@ -224,10 +181,6 @@ impl Watch for Trace<'_> {
             (Err(phase), Some(Asked::Lookup(lookup))) => {
                 format!("{}: halts, {}", self.looked_up(machine, lookup, After::Halt), PHASES[*phase as usize])
             }
-            (Err(phase), Some(Asked::PushBlock(pushed))) => {
-                format!("no room for the block ({}): halts, {}", no_room(pushed), PHASES[*phase as usize])
-            }
-            (Err(phase), Some(Asked::Value(valued))) => format!("{}: halts, {}", self.valued(machine, valued), PHASES[*phase as usize]),
             (Err(phase), _) => format!("halts, {}", PHASES[*phase as usize]),
         };
         let line = std::mem::take(&mut self.line);

@@ -60,11 +60,7 @@ unfolding constant_of if◌then◌else◌
 returns-13 c = rw c.match.keys13
 
 returns-14 : tie.Need-returns-14
-unfolding constant_of if◌then◌else◌
-returns-14 c = rw c.match.keys14
-
-returns-15 : tie.Need-returns-15
-returns-15 c = sym (constant_unused _ (past 112 14 _ c.before.requires c.match.rest))
+returns-14 c = sym (constant_unused _ (past 112 13 _ c.before.requires c.match.rest))
 
 pub constant-spec : {M : Type 1} → statement M
 constant-spec =
@@ -83,5 +79,4 @@ constant-spec =
     returns-11
     returns-12
     returns-13
-    returns-14
-    returns-15)
+    returns-14)

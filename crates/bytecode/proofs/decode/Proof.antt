@@ -2,7 +2,7 @@
 use mathlib.Core.Path.{sym, ap, ◌∙◌}
 use native.Mathlib.Omega.{arith}
 use Rattle.bytecode.specs.Code.{jump_of}
-use Rattle.bytecode.proofs.CodeLaws.{length_low, length_plain, length_middle, length_jump, length_send, is_extended, is_jump, is_send}
+use Rattle.bytecode.proofs.CodeLaws.{length_low, length_middle, length_jump, length_send, is_extended, is_jump, is_send}
 use Rattle.bytecode.proofs.DecodeLaws.{decode_outside, cut, decoded}
 use borrow.Author.Rules.{rules}
 use Rattle.bytecode.proofs.decode.Statement.{statement}
@@ -35,38 +35,31 @@ extended-at-requires c κs = search rules
 returns-4 : tie.Need-returns-4
 returns-4 c = search rules
 
-push-block-at-requires : tie.Need-push-block-at-requires
-push-block-at-requires c κs = let at_byte = c.before.before.before.before in (omega arith, sym at_byte.byte.ensures ∙ c.if5.true)
+pop-or-duplicate-requires : tie.Need-pop-or-duplicate-requires
+pop-or-duplicate-requires c κs = search rules
 
 returns-5 : tie.Need-returns-5
-returns-5 c = search rules
-
-pop-or-duplicate-requires : tie.Need-pop-or-duplicate-requires
-pop-or-duplicate-requires c κs = (c.before.before.if4.false, c.before.if5.false)
-
-returns-6 : tie.Need-returns-6
-returns-6 c =
-    let at_byte = c.before.before.before.before.before.before in
+returns-5 c =
+    let at_byte = c.before.before.before.before.before in
     c.pop-or-duplicate.ensures _
-    ∙ sym (is_extended _ _ (omega arith) c.before.if6.true)
-    ∙ decoded _ _ at_byte.byte.ensures _ (omega (arith, length_plain _ c.before.before.before.if4.false (omega arith) c.before.before.if5.false))
+    ∙ sym (is_extended _ _ (omega arith) c.before.if5.true) ∙ decoded _ _ at_byte.byte.ensures _ (omega (arith, length_middle _ c.before.before.if4.false (omega arith)))
 
 near-requires : tie.Need-near-requires
 near-requires c κs = search rules
 
+returns-6 : tie.Need-returns-6
+returns-6 c =
+    let at_byte = c.before.before.before.before.before.before in
+    c.near.ensures _
+    ∙ sym (is_jump _ _ c.before.before.if5.false (omega arith)) ∙ decoded _ _ at_byte.byte.ensures _ (omega (arith, length_middle _ (omega arith) c.before.if6.true))
+
+sub-if7 : tie.Need-overflow-sub-if7
+sub-if7 c = search rules
+
 returns-7 : tie.Need-returns-7
 returns-7 c =
-    let at_byte = c.before.before.before.before.before.before.before in
-    c.near.ensures _
-    ∙ sym (is_jump _ _ c.before.before.if6.false (omega arith)) ∙ decoded _ _ at_byte.byte.ensures _ (omega (arith, length_middle _ (omega arith) c.before.if7.true))
-
-sub-if8 : tie.Need-overflow-sub-if8
-sub-if8 c = search rules
-
-returns-8 : tie.Need-returns-8
-returns-8 c =
-    let at_byte = c.before.before.before.before.before.before.before in
-    cut _ _ at_byte.byte.ensures _ (omega (arith, length_jump _ (omega arith) c.before.if7.false (omega arith)))
+    let at_byte = c.before.before.before.before.before.before in
+    cut _ _ at_byte.byte.ensures _ (omega (arith, length_jump _ (omega arith) c.before.if6.false (omega arith)))
 
 byte-after-requires : tie.Need-byte-after-requires
 byte-after-requires c κs = search rules
@@ -74,12 +67,12 @@ byte-after-requires c κs = search rules
 far-requires : tie.Need-far-requires
 far-requires c κs = search rules
 
-returns-9 : tie.Need-returns-9
-returns-9 c =
-    let at_byte = c.before.before.before.before.before.before.before.before.before in
+returns-8 : tie.Need-returns-8
+returns-8 c =
+    let at_byte = c.before.before.before.before.before.before.before.before in
     c.far.ensures ∙ ap (jump_of _) c.before.byte-after.ensures
     ∙ sym (is_jump _ _ (omega arith) (omega arith))
-    ∙ decoded _ _ at_byte.byte.ensures _ (omega (arith, length_jump _ (omega arith) c.before.before.before.if7.false (omega arith)))
+    ∙ decoded _ _ at_byte.byte.ensures _ (omega (arith, length_jump _ (omega arith) c.before.before.before.if6.false (omega arith)))
 
 pub decode-spec : {M : Type 1} → statement M
 decode-spec =
@@ -93,14 +86,12 @@ decode-spec =
     returns-3
     extended-at-requires
     returns-4
-    push-block-at-requires
-    returns-5
     pop-or-duplicate-requires
-    returns-6
+    returns-5
     near-requires
+    returns-6
+    sub-if7
     returns-7
-    sub-if8
-    returns-8
     byte-after-requires
     far-requires
-    returns-9)
+    returns-8)

@@ -17,8 +17,8 @@ fetch-requires c κs = first_there _ _ c.before.requires.0
 kind-requires : tie.Need-kind-requires
 kind-requires c κs = search rules
 
-cast-t16 : tie.Need-overflow-cast-t16
-cast-t16 c = search rules
+cast-t13 : tie.Need-overflow-cast-t13
+cast-t13 c = search rules
 
 add-ends : tie.Need-overflow-add-ends
 add-ends c = search rules
@@ -26,8 +26,8 @@ add-ends c = search rules
 ends-requires : tie.Need-ends-requires
 ends-requires c κs = search rules
 
-cast-t21 : tie.Need-overflow-cast-t21
-cast-t21 c = search rules
+cast-t18 : tie.Need-overflow-cast-t18
+cast-t18 c = search rules
 
 add-ends-2 : tie.Need-overflow-add-ends-2
 add-ends-2 c = search rules
@@ -35,8 +35,8 @@ add-ends-2 c = search rules
 ends-requires-2 : tie.Need-ends-requires-2
 ends-requires-2 c κs = search rules
 
-cast-t26 : tie.Need-overflow-cast-t26
-cast-t26 c = search rules
+cast-t23 : tie.Need-overflow-cast-t23
+cast-t23 c = search rules
 
 add-ends-3 : tie.Need-overflow-add-ends-3
 add-ends-3 c = search rules
@@ -44,8 +44,8 @@ add-ends-3 c = search rules
 ends-requires-3 : tie.Need-ends-requires-3
 ends-requires-3 c κs = search rules
 
-cast-t31 : tie.Need-overflow-cast-t31
-cast-t31 c = search rules
+cast-t28 : tie.Need-overflow-cast-t28
+cast-t28 c = search rules
 
 add-ends-4 : tie.Need-overflow-add-ends-4
 add-ends-4 c = search rules
@@ -53,8 +53,8 @@ add-ends-4 c = search rules
 ends-requires-4 : tie.Need-ends-requires-4
 ends-requires-4 c κs = search rules
 
-cast-t36 : tie.Need-overflow-cast-t36
-cast-t36 c = search rules
+cast-t33 : tie.Need-overflow-cast-t33
+cast-t33 c = search rules
 
 add-ends-5 : tie.Need-overflow-add-ends-5
 add-ends-5 c = search rules
@@ -62,8 +62,8 @@ add-ends-5 c = search rules
 ends-requires-5 : tie.Need-ends-requires-5
 ends-requires-5 c κs = search rules
 
-cast-t41 : tie.Need-overflow-cast-t41
-cast-t41 c = search rules
+cast-t38 : tie.Need-overflow-cast-t38
+cast-t38 c = search rules
 
 add-ends-6 : tie.Need-overflow-add-ends-6
 add-ends-6 c = search rules
@@ -155,21 +155,31 @@ add-ends-20 c = search rules
 ends-requires-20 : tie.Need-ends-requires-20
 ends-requires-20 c κs = search rules
 
+add-fetch : tie.Need-overflow-add-fetch
+add-fetch c = search rules
+
+fetch-requires-2 : tie.Need-fetch-requires-2
+unfolding length_of if◌then◌else◌
+fetch-requires-2 c κs = further_extended _ _ c.before.before.fetch.ensures c.before.kind.ensures c.match.keys21 1 tt tt c.before.before.before.before.requires.0
+
+place-of-requires : tie.Need-place-of-requires
+place-of-requires c κs = search rules
+
 add-ends-21 : tie.Need-overflow-add-ends-21
 add-ends-21 c = search rules
 
 ends-requires-21 : tie.Need-ends-requires-21
 ends-requires-21 c κs = search rules
 
-add-fetch : tie.Need-overflow-add-fetch
-add-fetch c = search rules
+add-fetch-2 : tie.Need-overflow-add-fetch-2
+add-fetch-2 c = search rules
 
-fetch-requires-2 : tie.Need-fetch-requires-2
+fetch-requires-3 : tie.Need-fetch-requires-3
 unfolding length_of if◌then◌else◌
-fetch-requires-2 c κs = further_extended _ _ c.before.before.fetch.ensures c.before.kind.ensures c.match.keys22 1 tt tt c.before.before.before.before.requires.0
+fetch-requires-3 c κs = further_extended _ _ c.before.before.fetch.ensures c.before.kind.ensures c.match.keys22 1 tt tt c.before.before.before.before.requires.0
 
-place-of-requires : tie.Need-place-of-requires
-place-of-requires c κs = search rules
+place-of-requires-2 : tie.Need-place-of-requires-2
+place-of-requires-2 c κs = search rules
 
 add-ends-22 : tie.Need-overflow-add-ends-22
 add-ends-22 c = search rules
@@ -177,15 +187,15 @@ add-ends-22 c = search rules
 ends-requires-22 : tie.Need-ends-requires-22
 ends-requires-22 c κs = search rules
 
-add-fetch-2 : tie.Need-overflow-add-fetch-2
-add-fetch-2 c = search rules
+add-fetch-3 : tie.Need-overflow-add-fetch-3
+add-fetch-3 c = search rules
 
-fetch-requires-3 : tie.Need-fetch-requires-3
+fetch-requires-4 : tie.Need-fetch-requires-4
 unfolding length_of if◌then◌else◌
-fetch-requires-3 c κs = further_extended _ _ c.before.before.fetch.ensures c.before.kind.ensures c.match.keys23 1 tt tt c.before.before.before.before.requires.0
+fetch-requires-4 c κs = further_extended _ _ c.before.before.fetch.ensures c.before.kind.ensures c.match.keys23 1 tt tt c.before.before.before.before.requires.0
 
-place-of-requires-2 : tie.Need-place-of-requires-2
-place-of-requires-2 c κs = search rules
+place-of-requires-3 : tie.Need-place-of-requires-3
+place-of-requires-3 c κs = search rules
 
 add-ends-23 : tie.Need-overflow-add-ends-23
 add-ends-23 c = search rules
@@ -193,15 +203,12 @@ add-ends-23 c = search rules
 ends-requires-23 : tie.Need-ends-requires-23
 ends-requires-23 c κs = search rules
 
-add-fetch-3 : tie.Need-overflow-add-fetch-3
-add-fetch-3 c = search rules
+add-fetch-4 : tie.Need-overflow-add-fetch-4
+add-fetch-4 c = search rules
 
-fetch-requires-4 : tie.Need-fetch-requires-4
+fetch-requires-5 : tie.Need-fetch-requires-5
 unfolding length_of if◌then◌else◌
-fetch-requires-4 c κs = further_extended _ _ c.before.before.fetch.ensures c.before.kind.ensures c.match.keys24 1 tt tt c.before.before.before.before.requires.0
-
-place-of-requires-3 : tie.Need-place-of-requires-3
-place-of-requires-3 c κs = search rules
+fetch-requires-5 c κs = further_extended _ _ c.before.before.fetch.ensures c.before.kind.ensures c.match.keys24 1 tt tt c.before.before.before.before.requires.0
 
 add-ends-24 : tie.Need-overflow-add-ends-24
 add-ends-24 c = search rules
@@ -209,25 +216,12 @@ add-ends-24 c = search rules
 ends-requires-24 : tie.Need-ends-requires-24
 ends-requires-24 c κs = search rules
 
-add-fetch-4 : tie.Need-overflow-add-fetch-4
-add-fetch-4 c = search rules
-
-fetch-requires-5 : tie.Need-fetch-requires-5
-unfolding length_of if◌then◌else◌
-fetch-requires-5 c κs = further_extended _ _ c.before.before.fetch.ensures c.before.kind.ensures c.match.keys25 1 tt tt c.before.before.before.before.requires.0
-
-add-ends-25 : tie.Need-overflow-add-ends-25
-add-ends-25 c = search rules
-
-ends-requires-25 : tie.Need-ends-requires-25
-ends-requires-25 c κs = search rules
-
 add-fetch-5 : tie.Need-overflow-add-fetch-5
 add-fetch-5 c = search rules
 
 fetch-requires-6 : tie.Need-fetch-requires-6
 unfolding length_of if◌then◌else◌
-fetch-requires-6 c κs = further_extended _ _ c.before.before.fetch.ensures c.before.kind.ensures c.match.keys26 1 tt tt c.before.before.before.before.requires.0
+fetch-requires-6 c κs = further_extended _ _ c.before.before.fetch.ensures c.before.kind.ensures c.match.keys25 1 tt tt c.before.before.before.before.requires.0
 
 add-fetch-6 : tie.Need-overflow-add-fetch-6
 add-fetch-6 c = search rules
@@ -236,8 +230,21 @@ fetch-requires-7 : tie.Need-fetch-requires-7
 unfolding length_of if◌then◌else◌
 fetch-requires-7 c κs =
     let arm = c.before in
-    further_extended _ _ arm.before.before.fetch.ensures arm.before.kind.ensures arm.match.keys26 2 tt tt
+    further_extended _ _ arm.before.before.fetch.ensures arm.before.kind.ensures arm.match.keys25 2 tt tt
     arm.before.before.before.before.requires.0
+
+add-ends-25 : tie.Need-overflow-add-ends-25
+add-ends-25 c = search rules
+
+ends-requires-25 : tie.Need-ends-requires-25
+ends-requires-25 c κs = search rules
+
+add-fetch-7 : tie.Need-overflow-add-fetch-7
+add-fetch-7 c = search rules
+
+fetch-requires-8 : tie.Need-fetch-requires-8
+unfolding length_of if◌then◌else◌
+fetch-requires-8 c κs = further_extended _ _ c.before.before.fetch.ensures c.before.kind.ensures c.match.keys26 1 tt tt c.before.before.before.before.requires.0
 
 add-ends-26 : tie.Need-overflow-add-ends-26
 add-ends-26 c = search rules
@@ -245,25 +252,12 @@ add-ends-26 c = search rules
 ends-requires-26 : tie.Need-ends-requires-26
 ends-requires-26 c κs = search rules
 
-add-fetch-7 : tie.Need-overflow-add-fetch-7
-add-fetch-7 c = search rules
-
-fetch-requires-8 : tie.Need-fetch-requires-8
-unfolding length_of if◌then◌else◌
-fetch-requires-8 c κs = further_extended _ _ c.before.before.fetch.ensures c.before.kind.ensures c.match.keys27 1 tt tt c.before.before.before.before.requires.0
-
-add-ends-27 : tie.Need-overflow-add-ends-27
-add-ends-27 c = search rules
-
-ends-requires-27 : tie.Need-ends-requires-27
-ends-requires-27 c κs = search rules
-
 add-fetch-8 : tie.Need-overflow-add-fetch-8
 add-fetch-8 c = search rules
 
 fetch-requires-9 : tie.Need-fetch-requires-9
 unfolding length_of if◌then◌else◌
-fetch-requires-9 c κs = further_extended _ _ c.before.before.fetch.ensures c.before.kind.ensures c.match.keys28 1 tt tt c.before.before.before.before.requires.0
+fetch-requires-9 c κs = further_extended _ _ c.before.before.fetch.ensures c.before.kind.ensures c.match.keys27 1 tt tt c.before.before.before.before.requires.0
 
 add-fetch-9 : tie.Need-overflow-add-fetch-9
 add-fetch-9 c = search rules
@@ -272,8 +266,14 @@ fetch-requires-10 : tie.Need-fetch-requires-10
 unfolding length_of if◌then◌else◌
 fetch-requires-10 c κs =
     let arm = c.before in
-    further_extended _ _ arm.before.before.fetch.ensures arm.before.kind.ensures arm.match.keys28 2 tt tt
+    further_extended _ _ arm.before.before.fetch.ensures arm.before.kind.ensures arm.match.keys27 2 tt tt
     arm.before.before.before.before.requires.0
+
+add-ends-27 : tie.Need-overflow-add-ends-27
+add-ends-27 c = search rules
+
+ends-requires-27 : tie.Need-ends-requires-27
+ends-requires-27 c κs = search rules
 
 add-ends-28 : tie.Need-overflow-add-ends-28
 add-ends-28 c = search rules
@@ -293,45 +293,11 @@ add-ends-30 c = search rules
 ends-requires-30 : tie.Need-ends-requires-30
 ends-requires-30 c κs = search rules
 
-add-fetch-10 : tie.Need-overflow-add-fetch-10
-add-fetch-10 c = search rules
+cast-t104 : tie.Need-overflow-cast-t104
+cast-t104 c = search rules
 
-fetch-requires-11 : tie.Need-fetch-requires-11
-unfolding length_of if◌then◌else◌
-fetch-requires-11 c κs = further_extended _ _ c.before.before.fetch.ensures c.before.kind.ensures c.match.keys31 1 tt tt c.before.before.before.before.requires.0
-
-add-fetch-11 : tie.Need-overflow-add-fetch-11
-add-fetch-11 c = search rules
-
-fetch-requires-12 : tie.Need-fetch-requires-12
-unfolding length_of if◌then◌else◌
-fetch-requires-12 c κs =
-    let arm = c.before in
-    further_extended _ _ arm.before.before.fetch.ensures arm.before.kind.ensures arm.match.keys31 2 tt tt
-    arm.before.before.before.before.requires.0
-
-add-fetch-12 : tie.Need-overflow-add-fetch-12
-add-fetch-12 c = search rules
-
-fetch-requires-13 : tie.Need-fetch-requires-13
-unfolding length_of if◌then◌else◌
-fetch-requires-13 c κs =
-    let arm = c.before.before in
-    further_extended _ _ arm.before.before.fetch.ensures arm.before.kind.ensures arm.match.keys31 3 tt tt
-    arm.before.before.before.before.requires.0
-
-add-fetch-13 : tie.Need-overflow-add-fetch-13
-add-fetch-13 c = search rules
-
-fetch-requires-14 : tie.Need-fetch-requires-14
-unfolding length_of if◌then◌else◌
-fetch-requires-14 c κs =
-    let arm = c.before.before.before in
-    further_extended _ _ arm.before.before.fetch.ensures arm.before.kind.ensures arm.match.keys31 4 tt tt
-    arm.before.before.before.before.requires.0
-
-push-block-requires : tie.Need-push-block-requires
-push-block-requires c κs = search rules
+add-t105 : tie.Need-overflow-add-t105
+add-t105 c = search rules
 
 add-ends-31 : tie.Need-overflow-add-ends-31
 add-ends-31 c = search rules
@@ -339,23 +305,29 @@ add-ends-31 c = search rules
 ends-requires-31 : tie.Need-ends-requires-31
 ends-requires-31 c κs = search rules
 
+cast-t109 : tie.Need-overflow-cast-t109
+cast-t109 c = search rules
+
+add-t110 : tie.Need-overflow-add-t110
+add-t110 c = search rules
+
 add-ends-32 : tie.Need-overflow-add-ends-32
 add-ends-32 c = search rules
 
 ends-requires-32 : tie.Need-ends-requires-32
 ends-requires-32 c κs = search rules
 
-cast-t113 : tie.Need-overflow-cast-t113
-cast-t113 c = search rules
+cast-t114 : tie.Need-overflow-cast-t114
+cast-t114 c = search rules
 
-add-t114 : tie.Need-overflow-add-t114
-add-t114 c = search rules
+mul-t115 : tie.Need-overflow-mul-t115
+mul-t115 c = search rules
 
-add-ends-33 : tie.Need-overflow-add-ends-33
-add-ends-33 c = search rules
+add-fetch-10 : tie.Need-overflow-add-fetch-10
+add-fetch-10 c = search rules
 
-ends-requires-33 : tie.Need-ends-requires-33
-ends-requires-33 c κs = search rules
+fetch-requires-11 : tie.Need-fetch-requires-11
+fetch-requires-11 c κs = further_jump _ _ c.before.before.fetch.ensures c.before.kind.ensures c.match.keys33 tt c.before.before.before.before.requires.0
 
 cast-t118 : tie.Need-overflow-cast-t118
 cast-t118 c = search rules
@@ -363,11 +335,11 @@ cast-t118 c = search rules
 add-t119 : tie.Need-overflow-add-t119
 add-t119 c = search rules
 
-add-ends-34 : tie.Need-overflow-add-ends-34
-add-ends-34 c = search rules
+add-ends-33 : tie.Need-overflow-add-ends-33
+add-ends-33 c = search rules
 
-ends-requires-34 : tie.Need-ends-requires-34
-ends-requires-34 c κs = search rules
+ends-requires-33 : tie.Need-ends-requires-33
+ends-requires-33 c κs = search rules
 
 cast-t123 : tie.Need-overflow-cast-t123
 cast-t123 c = search rules
@@ -375,11 +347,11 @@ cast-t123 c = search rules
 mul-t124 : tie.Need-overflow-mul-t124
 mul-t124 c = search rules
 
-add-fetch-14 : tie.Need-overflow-add-fetch-14
-add-fetch-14 c = search rules
+add-fetch-11 : tie.Need-overflow-add-fetch-11
+add-fetch-11 c = search rules
 
-fetch-requires-15 : tie.Need-fetch-requires-15
-fetch-requires-15 c κs = further_jump _ _ c.before.before.fetch.ensures c.before.kind.ensures c.match.keys35 tt c.before.before.before.before.requires.0
+fetch-requires-12 : tie.Need-fetch-requires-12
+fetch-requires-12 c κs = further_jump _ _ c.before.before.fetch.ensures c.before.kind.ensures c.match.keys34 tt c.before.before.before.before.requires.0
 
 cast-t127 : tie.Need-overflow-cast-t127
 cast-t127 c = search rules
@@ -387,11 +359,11 @@ cast-t127 c = search rules
 add-t128 : tie.Need-overflow-add-t128
 add-t128 c = search rules
 
-add-ends-35 : tie.Need-overflow-add-ends-35
-add-ends-35 c = search rules
+add-ends-34 : tie.Need-overflow-add-ends-34
+add-ends-34 c = search rules
 
-ends-requires-35 : tie.Need-ends-requires-35
-ends-requires-35 c κs = search rules
+ends-requires-34 : tie.Need-ends-requires-34
+ends-requires-34 c κs = search rules
 
 cast-t132 : tie.Need-overflow-cast-t132
 cast-t132 c = search rules
@@ -399,11 +371,11 @@ cast-t132 c = search rules
 mul-t133 : tie.Need-overflow-mul-t133
 mul-t133 c = search rules
 
-add-fetch-15 : tie.Need-overflow-add-fetch-15
-add-fetch-15 c = search rules
+add-fetch-12 : tie.Need-overflow-add-fetch-12
+add-fetch-12 c = search rules
 
-fetch-requires-16 : tie.Need-fetch-requires-16
-fetch-requires-16 c κs = further_jump _ _ c.before.before.fetch.ensures c.before.kind.ensures c.match.keys36 tt c.before.before.before.before.requires.0
+fetch-requires-13 : tie.Need-fetch-requires-13
+fetch-requires-13 c κs = further_jump _ _ c.before.before.fetch.ensures c.before.kind.ensures c.match.keys35 tt c.before.before.before.before.requires.0
 
 cast-t136 : tie.Need-overflow-cast-t136
 cast-t136 c = search rules
@@ -411,29 +383,17 @@ cast-t136 c = search rules
 add-t137 : tie.Need-overflow-add-t137
 add-t137 c = search rules
 
+add-ends-35 : tie.Need-overflow-add-ends-35
+add-ends-35 c = search rules
+
+ends-requires-35 : tie.Need-ends-requires-35
+ends-requires-35 c κs = search rules
+
 add-ends-36 : tie.Need-overflow-add-ends-36
 add-ends-36 c = search rules
 
 ends-requires-36 : tie.Need-ends-requires-36
 ends-requires-36 c κs = search rules
-
-cast-t141 : tie.Need-overflow-cast-t141
-cast-t141 c = search rules
-
-mul-t142 : tie.Need-overflow-mul-t142
-mul-t142 c = search rules
-
-add-fetch-16 : tie.Need-overflow-add-fetch-16
-add-fetch-16 c = search rules
-
-fetch-requires-17 : tie.Need-fetch-requires-17
-fetch-requires-17 c κs = further_jump _ _ c.before.before.fetch.ensures c.before.kind.ensures c.match.keys37 tt c.before.before.before.before.requires.0
-
-cast-t145 : tie.Need-overflow-cast-t145
-cast-t145 c = search rules
-
-add-t146 : tie.Need-overflow-add-t146
-add-t146 c = search rules
 
 add-ends-37 : tie.Need-overflow-add-ends-37
 add-ends-37 c = search rules
@@ -639,18 +599,6 @@ add-ends-70 c = search rules
 ends-requires-70 : tie.Need-ends-requires-70
 ends-requires-70 c κs = search rules
 
-add-ends-71 : tie.Need-overflow-add-ends-71
-add-ends-71 c = search rules
-
-ends-requires-71 : tie.Need-ends-requires-71
-ends-requires-71 c κs = search rules
-
-add-ends-72 : tie.Need-overflow-add-ends-72
-add-ends-72 c = search rules
-
-ends-requires-72 : tie.Need-ends-requires-72
-ends-requires-72 c κs = search rules
-
 returns : tie.Need-returns
 returns c = is_push_field _ _ c.before.before.before.fetch.ensures c.before.before.kind.ensures c.before.match.keys1 tt c.ends.ensures
 
@@ -722,106 +670,97 @@ unfolding instruction_of constant_of length_of if◌then◌else◌
 returns-19 c = is_single _ _ c.before.before.before.fetch.ensures c.before.before.kind.ensures c.before.match.keys19 tt refl c.ends19.ensures
 
 returns-20 : tie.Need-returns-20
-unfolding instruction_of constant_of length_of if◌then◌else◌
-returns-20 c = is_single _ _ c.before.before.before.fetch.ensures c.before.before.kind.ensures c.before.match.keys20 tt refl c.ends20.ensures
+returns-20 c = is_unused_low _ _ c.before.before.before.fetch.ensures c.before.before.kind.ensures c.before.match.keys20 tt c.ends20.ensures
 
 returns-21 : tie.Need-returns-21
-returns-21 c = is_unused_low _ _ c.before.before.before.fetch.ensures c.before.before.kind.ensures c.before.match.keys21 tt c.ends21.ensures
+unfolding instruction_of extended_of length_of if◌then◌else◌
+returns-21 c =
+    let arm = c.before.before.before in
+    is_single _ _ arm.before.before.fetch.ensures arm.before.kind.ensures arm.match.keys21 tt
+    (ap Push (ap place_of (sym c.before.before.fetch2.ensures) ∙ sym c.before.place_of.ensures)) c.ends21.ensures
 
 returns-22 : tie.Need-returns-22
 unfolding instruction_of extended_of length_of if◌then◌else◌
 returns-22 c =
     let arm = c.before.before.before in
     is_single _ _ arm.before.before.fetch.ensures arm.before.kind.ensures arm.match.keys22 tt
-    (ap Push (ap place_of (sym c.before.before.fetch2.ensures) ∙ sym c.before.place_of.ensures)) c.ends22.ensures
+    (ap Store (ap place_of (sym c.before.before.fetch3.ensures) ∙ sym c.before.place-of2.ensures)) c.ends22.ensures
 
 returns-23 : tie.Need-returns-23
 unfolding instruction_of extended_of length_of if◌then◌else◌
 returns-23 c =
     let arm = c.before.before.before in
     is_single _ _ arm.before.before.fetch.ensures arm.before.kind.ensures arm.match.keys23 tt
-    (ap Store (ap place_of (sym c.before.before.fetch3.ensures) ∙ sym c.before.place-of2.ensures)) c.ends23.ensures
+    (ap PopStore (ap place_of (sym c.before.before.fetch4.ensures) ∙ sym c.before.place-of3.ensures)) c.ends23.ensures
 
 returns-24 : tie.Need-returns-24
 unfolding instruction_of extended_of length_of if◌then◌else◌
 returns-24 c =
-    let arm = c.before.before.before in
+    let arm = c.before.before in
     is_single _ _ arm.before.before.fetch.ensures arm.before.kind.ensures arm.match.keys24 tt
-    (ap PopStore (ap place_of (sym c.before.before.fetch4.ensures) ∙ sym c.before.place-of3.ensures)) c.ends24.ensures
+    (ap (λ x. Send (x % 32) (x / 32)) (sym c.before.fetch5.ensures)) c.ends24.ensures
 
 returns-25 : tie.Need-returns-25
 unfolding instruction_of extended_of length_of if◌then◌else◌
 returns-25 c =
-    let arm = c.before.before in
+    let arm = c.before.before.before in
     is_single _ _ arm.before.before.fetch.ensures arm.before.kind.ensures arm.match.keys25 tt
-    (ap (λ x. Send (x % 32) (x / 32)) (sym c.before.fetch5.ensures)) c.ends25.ensures
+    (λ i. Send (sym c.before.fetch7.ensures i) (sym c.before.before.fetch6.ensures i)) c.ends25.ensures
 
 returns-26 : tie.Need-returns-26
 unfolding instruction_of extended_of length_of if◌then◌else◌
 returns-26 c =
-    let arm = c.before.before.before in
+    let arm = c.before.before in
     is_single _ _ arm.before.before.fetch.ensures arm.before.kind.ensures arm.match.keys26 tt
-    (λ i. Send (sym c.before.fetch7.ensures i) (sym c.before.before.fetch6.ensures i)) c.ends26.ensures
+    (ap (λ x. SuperSend (x % 32) (x / 32)) (sym c.before.fetch8.ensures)) c.ends26.ensures
 
 returns-27 : tie.Need-returns-27
 unfolding instruction_of extended_of length_of if◌then◌else◌
 returns-27 c =
-    let arm = c.before.before in
+    let arm = c.before.before.before in
     is_single _ _ arm.before.before.fetch.ensures arm.before.kind.ensures arm.match.keys27 tt
-    (ap (λ x. SuperSend (x % 32) (x / 32)) (sym c.before.fetch8.ensures)) c.ends27.ensures
+    (λ i. SuperSend (sym c.before.fetch10.ensures i) (sym c.before.before.fetch9.ensures i)) c.ends27.ensures
 
 returns-28 : tie.Need-returns-28
 unfolding instruction_of extended_of length_of if◌then◌else◌
-returns-28 c =
-    let arm = c.before.before.before in
-    is_single _ _ arm.before.before.fetch.ensures arm.before.kind.ensures arm.match.keys28 tt
-    (λ i. SuperSend (sym c.before.fetch10.ensures i) (sym c.before.before.fetch9.ensures i)) c.ends28.ensures
+returns-28 c = is_single _ _ c.before.before.before.fetch.ensures c.before.before.kind.ensures c.before.match.keys28 tt refl c.ends28.ensures
 
 returns-29 : tie.Need-returns-29
 unfolding instruction_of extended_of length_of if◌then◌else◌
 returns-29 c = is_single _ _ c.before.before.before.fetch.ensures c.before.before.kind.ensures c.before.match.keys29 tt refl c.ends29.ensures
 
 returns-30 : tie.Need-returns-30
-unfolding instruction_of extended_of length_of if◌then◌else◌
-returns-30 c = is_single _ _ c.before.before.before.fetch.ensures c.before.before.kind.ensures c.before.match.keys30 tt refl c.ends30.ensures
+returns-30 c = is_unused_high _ _ c.before.before.before.fetch.ensures c.before.before.kind.ensures c.before.match.keys30 tt c.ends30.ensures
 
 returns-31 : tie.Need-returns-31
-unfolding instruction_of extended_of length_of if◌then◌else◌
-returns-31 c =
-    let fourth = c.before.before in
-    let third = fourth.before in
-    let second = third.before in
-    let first = second.before in
-    let arm = first.before in
-    is_single _ _ arm.before.before.fetch.ensures arm.before.kind.ensures arm.match.keys31 tt
-    (sym (c.before.push-block.ensures _ first.fetch11.ensures second.fetch12.ensures third.fetch13.ensures fourth.fetch14.ensures)) c.ends31.ensures
+returns-31 c = is_near _ _ c.before.before.before.fetch.ensures c.before.before.kind.ensures c.before.match.keys31 tt c.ends31.ensures
 
 returns-32 : tie.Need-returns-32
-returns-32 c = is_unused_high _ _ c.before.before.before.fetch.ensures c.before.before.kind.ensures c.before.match.keys32 tt c.ends32.ensures
+returns-32 c = is_near_on _ _ c.before.before.before.fetch.ensures c.before.before.kind.ensures c.before.match.keys32 tt c.ends32.ensures
 
 returns-33 : tie.Need-returns-33
-returns-33 c = is_near _ _ c.before.before.before.fetch.ensures c.before.before.kind.ensures c.before.match.keys33 tt c.ends33.ensures
+returns-33 c =
+    let arm = c.before.before in
+    is_far_jump _ _ arm.before.before.fetch.ensures arm.before.kind.ensures arm.match.keys33 tt
+    c.before.fetch11.ensures c.ends33.ensures
 
 returns-34 : tie.Need-returns-34
-returns-34 c = is_near_on _ _ c.before.before.before.fetch.ensures c.before.before.kind.ensures c.before.match.keys34 tt c.ends34.ensures
+returns-34 c =
+    let arm = c.before.before in
+    is_far_on_true _ _ arm.before.before.fetch.ensures arm.before.kind.ensures arm.match.keys34 tt
+    c.before.fetch12.ensures c.ends34.ensures
 
 returns-35 : tie.Need-returns-35
 returns-35 c =
     let arm = c.before.before in
-    is_far_jump _ _ arm.before.before.fetch.ensures arm.before.kind.ensures arm.match.keys35 tt
-    c.before.fetch15.ensures c.ends35.ensures
+    is_far_on_false _ _ arm.before.before.fetch.ensures arm.before.kind.ensures arm.match.keys35 tt
+    c.before.fetch13.ensures c.ends35.ensures
 
 returns-36 : tie.Need-returns-36
-returns-36 c =
-    let arm = c.before.before in
-    is_far_on_true _ _ arm.before.before.fetch.ensures arm.before.kind.ensures arm.match.keys36 tt
-    c.before.fetch16.ensures c.ends36.ensures
+returns-36 c = is_special _ _ c.before.before.before.fetch.ensures c.before.before.kind.ensures c.before.match.keys36 tt tt c.ends36.ensures
 
 returns-37 : tie.Need-returns-37
-returns-37 c =
-    let arm = c.before.before in
-    is_far_on_false _ _ arm.before.before.fetch.ensures arm.before.kind.ensures arm.match.keys37 tt
-    c.before.fetch17.ensures c.ends37.ensures
+returns-37 c = is_special _ _ c.before.before.before.fetch.ensures c.before.before.kind.ensures c.before.match.keys37 tt tt c.ends37.ensures
 
 returns-38 : tie.Need-returns-38
 returns-38 c = is_special _ _ c.before.before.before.fetch.ensures c.before.before.kind.ensures c.before.match.keys38 tt tt c.ends38.ensures
@@ -914,21 +853,15 @@ returns-67 : tie.Need-returns-67
 returns-67 c = is_special _ _ c.before.before.before.fetch.ensures c.before.before.kind.ensures c.before.match.keys67 tt tt c.ends67.ensures
 
 returns-68 : tie.Need-returns-68
-returns-68 c = is_special _ _ c.before.before.before.fetch.ensures c.before.before.kind.ensures c.before.match.keys68 tt tt c.ends68.ensures
+returns-68 c = is_literal_send _ _ c.before.before.before.fetch.ensures c.before.before.kind.ensures c.before.match.keys68 tt c.ends68.ensures
 
 returns-69 : tie.Need-returns-69
-returns-69 c = is_special _ _ c.before.before.before.fetch.ensures c.before.before.kind.ensures c.before.match.keys69 tt tt c.ends69.ensures
+returns-69 c = is_literal_send _ _ c.before.before.before.fetch.ensures c.before.before.kind.ensures c.before.match.keys69 tt c.ends69.ensures
 
 returns-70 : tie.Need-returns-70
-returns-70 c = is_literal_send _ _ c.before.before.before.fetch.ensures c.before.before.kind.ensures c.before.match.keys70 tt c.ends70.ensures
-
-returns-71 : tie.Need-returns-71
-returns-71 c = is_literal_send _ _ c.before.before.before.fetch.ensures c.before.before.kind.ensures c.before.match.keys71 tt c.ends71.ensures
-
-returns-72 : tie.Need-returns-72
-returns-72 c =
-    let key = last_kind_lem c.before.before.kind.ensures (past 0 71 _ (omega arith) c.before.match.rest) (search rules) in
-    is_literal_send _ _ c.before.before.before.fetch.ensures c.before.before.kind.ensures key tt c.ends72.ensures
+returns-70 c =
+    let key = last_kind_lem c.before.before.kind.ensures (past 0 69 _ (omega arith) c.before.match.rest) (search rules) in
+    is_literal_send _ _ c.before.before.before.fetch.ensures c.before.before.kind.ensures key tt c.ends70.ensures
 
 pub instruction-at-spec : {M : Type 1} → statement M
 instruction-at-spec =
@@ -936,22 +869,22 @@ instruction-at-spec =
     (tie.spec
     fetch-requires
     kind-requires
-    cast-t16
+    cast-t13
     add-ends
     ends-requires
-    cast-t21
+    cast-t18
     add-ends-2
     ends-requires-2
-    cast-t26
+    cast-t23
     add-ends-3
     ends-requires-3
-    cast-t31
+    cast-t28
     add-ends-4
     ends-requires-4
-    cast-t36
+    cast-t33
     add-ends-5
     ends-requires-5
-    cast-t41
+    cast-t38
     add-ends-6
     ends-requires-6
     add-ends-7
@@ -982,90 +915,81 @@ instruction-at-spec =
     ends-requires-19
     add-ends-20
     ends-requires-20
-    add-ends-21
-    ends-requires-21
     add-fetch
     fetch-requires-2
     place-of-requires
-    add-ends-22
-    ends-requires-22
+    add-ends-21
+    ends-requires-21
     add-fetch-2
     fetch-requires-3
     place-of-requires-2
-    add-ends-23
-    ends-requires-23
+    add-ends-22
+    ends-requires-22
     add-fetch-3
     fetch-requires-4
     place-of-requires-3
-    add-ends-24
-    ends-requires-24
+    add-ends-23
+    ends-requires-23
     add-fetch-4
     fetch-requires-5
-    add-ends-25
-    ends-requires-25
+    add-ends-24
+    ends-requires-24
     add-fetch-5
     fetch-requires-6
     add-fetch-6
     fetch-requires-7
-    add-ends-26
-    ends-requires-26
+    add-ends-25
+    ends-requires-25
     add-fetch-7
     fetch-requires-8
-    add-ends-27
-    ends-requires-27
+    add-ends-26
+    ends-requires-26
     add-fetch-8
     fetch-requires-9
     add-fetch-9
     fetch-requires-10
+    add-ends-27
+    ends-requires-27
     add-ends-28
     ends-requires-28
     add-ends-29
     ends-requires-29
     add-ends-30
     ends-requires-30
-    add-fetch-10
-    fetch-requires-11
-    add-fetch-11
-    fetch-requires-12
-    add-fetch-12
-    fetch-requires-13
-    add-fetch-13
-    fetch-requires-14
-    push-block-requires
+    cast-t104
+    add-t105
     add-ends-31
     ends-requires-31
+    cast-t109
+    add-t110
     add-ends-32
     ends-requires-32
-    cast-t113
-    add-t114
-    add-ends-33
-    ends-requires-33
+    cast-t114
+    mul-t115
+    add-fetch-10
+    fetch-requires-11
     cast-t118
     add-t119
-    add-ends-34
-    ends-requires-34
+    add-ends-33
+    ends-requires-33
     cast-t123
     mul-t124
-    add-fetch-14
-    fetch-requires-15
+    add-fetch-11
+    fetch-requires-12
     cast-t127
     add-t128
-    add-ends-35
-    ends-requires-35
+    add-ends-34
+    ends-requires-34
     cast-t132
     mul-t133
-    add-fetch-15
-    fetch-requires-16
+    add-fetch-12
+    fetch-requires-13
     cast-t136
     add-t137
+    add-ends-35
+    ends-requires-35
     add-ends-36
     ends-requires-36
-    cast-t141
-    mul-t142
-    add-fetch-16
-    fetch-requires-17
-    cast-t145
-    add-t146
     add-ends-37
     ends-requires-37
     add-ends-38
@@ -1134,10 +1058,6 @@ instruction-at-spec =
     ends-requires-69
     add-ends-70
     ends-requires-70
-    add-ends-71
-    ends-requires-71
-    add-ends-72
-    ends-requires-72
     returns
     returns-2
     returns-3
@@ -1207,6 +1127,4 @@ instruction-at-spec =
     returns-67
     returns-68
     returns-69
-    returns-70
-    returns-71
-    returns-72)
+    returns-70)

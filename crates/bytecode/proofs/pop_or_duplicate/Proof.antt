@@ -1,4 +1,4 @@
--- `pop_or_duplicate` is `extended_of` from 135 on but at 137, whatever follows.
+-- `pop_or_duplicate` is `extended_of` from 135 on, whatever follows.
 use mathlib.Core.Path.{sym}
 use Rattle.bytecode.specs.Test.{if◌then◌else◌}
 use Rattle.bytecode.specs.Code.{extended_of}
@@ -16,7 +16,7 @@ unfolding extended_of if◌then◌else◌
 returns-2 c = λ f. rw c.match.keys2
 
 returns-3 : tie.Need-returns-3
-returns-3 c = let pre = c.before.requires in λ f. sym (extended_unused _ f (past 135 3 _ pre.0 (c.match.rest, pre.1)))
+returns-3 c = λ f. sym (extended_unused _ f (past 135 2 _ c.before.requires c.match.rest))
 
 pub pop-or-duplicate-spec : {M : Type 1} → statement M
 pop-or-duplicate-spec = tie.close (tie.spec returns returns-2 returns-3)

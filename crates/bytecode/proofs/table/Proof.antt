@@ -1,6 +1,6 @@
 -- The table is right: a test at each of its 256 entries, which antt computes.
 use Rattle.bytecode.specs.Test.{if◌then◌else◌}
-use Rattle.bytecode.specs.Code.{place_of, short_of, constant_of, block_of, extended_of, jump_of, send_of, instruction_of, length_of}
+use Rattle.bytecode.specs.Code.{place_of, short_of, constant_of, extended_of, jump_of, send_of, instruction_of, length_of}
 use Rattle.bytecode.specs.Effect.{special_count, need, leaves}
 use Rattle.bytecode.specs.Table.{place_bound, place_index, bound, index, group, group_of}
 use Rattle.bytecode.proofs.TableLaws.{table_right}
@@ -8,7 +8,7 @@ use Rattle.bytecode.proofs.table.Statement.{statement}
 use Rattle.bytecode.proofs.table.Tie as tie
 
 returns : tie.Need-returns
-unfolding if◌then◌else◌ place_of short_of constant_of block_of extended_of jump_of send_of instruction_of length_of special_count need leaves place_bound place_index bound index group group_of
+unfolding if◌then◌else◌ place_of short_of constant_of extended_of jump_of send_of instruction_of length_of special_count need leaves place_bound place_index bound index group group_of
 returns c = table_right _ tt
 
 pub table-spec : {M : Type 1} → statement M

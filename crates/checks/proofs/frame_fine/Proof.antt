@@ -1,8 +1,8 @@
+use Rattle.checks.proofs.Headers.{header_inside, holds_method, rules_no, words_end, rules_here}
+-- Header, and then temporaries and operands as one part of the stack.
 use Prim.Native.Nat.{◌+◌, ◌-◌}
-use mathlib.Core.Path.{refl}
 use native.Mathlib.Omega.{arith}
 use Rattle.model.specs.Objects.{objects_at}
-use Rattle.checks.proofs.Headers.{header_inside, holds_method, rules_no, words_end, rules_here}
 use borrow.Author.Rules.{rules}
 use Rattle.checks.proofs.frame_fine.Statement.{statement}
 use Rattle.checks.proofs.frame_fine.Tie as tie
@@ -11,7 +11,9 @@ six-words-fine-requires : tie.Need-six-words-fine-requires
 six-words-fine-requires c κs = search rules
 
 returns : tie.Need-returns
-returns c = let a = c.before.before.before.before.before.before.args in rules_no a.edition (objects_at a.n a.b a.contents.now a.bodies.now) a.stack.now a.at.0 a.uppermost _ c.before.six-words-fine.ensures c.if1.true
+returns c =
+    let a = c.before.before.before.before.before.before.args in
+    rules_no a.edition (objects_at a.n a.b a.contents.now a.bodies.now) a.stack.now a.at.0 a.uppermost _ c.before.six-words-fine.ensures c.if1.true
 
 add-m : tie.Need-overflow-add-m
 add-m c = let h = header_inside c.before.before.before.before.before.before.requires in omega arith
@@ -34,23 +36,36 @@ shared-slice-read-depth c = let h = header_inside c.before.before.before.before.
 cast-depth : tie.Need-overflow-cast-depth
 cast-depth c = omega (arith, c.shared-slice-known6.given (c.before.before.before.before.before.before.before.before.args.at.0 + 2))
 
-in-block-requires : tie.Need-in-block-requires
-in-block-requires c κs = search rules
-
-own-count-requires : tie.Need-own-count-requires
-own-count-requires c κs = holds_method c.before.before.before.before.before.before.before.before.before.requires
-
 add-from : tie.Need-overflow-add-from
-add-from c = let h = header_inside c.before.before.before.before.before.before.before.before.before.before.requires in omega arith
+add-from c = let h = header_inside c.before.before.before.before.before.before.before.before.requires in omega arith
+
+header-requires : tie.Need-header-requires
+header-requires c κs = holds_method c.before.before.before.before.before.before.before.before.requires
+
+temporary-count-requires : tie.Need-temporary-count-requires
+temporary-count-requires c κs = search rules
 
 add-end : tie.Need-overflow-add-end
-add-end c = let a = c.before.before.before.before.before.before.before.before.before.before.args in let w = words_end a.edition (objects_at a.n a.b a.contents.now a.bodies.now) a.stack.now a.at.0 a.uppermost c.before.before.before.before.before.before.before.before.before.before.requires.frame _ c.before.before.before.before.before.six-words-fine.ensures c.before.before.before.before.if1.false _ _ _ _ refl c.before.in_block.ensures c.own_count.ensures refl in omega arith
+add-end c =
+    let at-if1 = c.before.before.before.before in
+    let at-six-words-fine = at-if1.before in
+    let at-start = at-six-words-fine.before.before.before.before.before in
+    let a = at-start.args in
+    let w = words_end a.edition (objects_at a.n a.b a.contents.now a.bodies.now) a.stack.now a.at.0 a.uppermost at-start.requires.frame _
+    at-six-words-fine.six-words-fine.ensures at-if1.if1.false _ _ c.before.header.ensures c.temporary-count.ensures in omega arith
 
 add-end-2 : tie.Need-overflow-add-end-2
-add-end-2 c = let a = c.before.before.before.before.before.before.before.before.before.before.args in let w = words_end a.edition (objects_at a.n a.b a.contents.now a.bodies.now) a.stack.now a.at.0 a.uppermost c.before.before.before.before.before.before.before.before.before.before.requires.frame _ c.before.before.before.before.before.six-words-fine.ensures c.before.before.before.before.if1.false _ _ _ _ refl c.before.in_block.ensures c.own_count.ensures refl in omega arith
+add-end-2 c =
+    let at-if1 = c.before.before.before.before in
+    let at-six-words-fine = at-if1.before in
+    let at-start = at-six-words-fine.before.before.before.before.before in
+    let a = at-start.args in
+    let w = words_end a.edition (objects_at a.n a.b a.contents.now a.bodies.now) a.stack.now a.at.0 a.uppermost at-start.requires.frame _
+    at-six-words-fine.six-words-fine.ensures at-if1.if1.false _ _ c.before.header.ensures c.temporary-count.ensures in omega arith
 
 mul-valid-words : tie.Need-overflow-mul-valid-words
-mul-valid-words c = let h = header_inside c.before.before.before.before.before.before.before.before.before.before.requires in omega arith
+mul-valid-words c =
+    let h = header_inside c.before.before.before.before.before.before.before.before.before.before.requires in omega arith
 
 sub-valid-words : tie.Need-overflow-sub-valid-words
 sub-valid-words c = search rules
@@ -59,16 +74,26 @@ part-valid-words-start : tie.Need-slice-bounds-valid-words-start
 part-valid-words-start c = search rules
 
 part-valid-words-end : tie.Need-slice-bounds-valid-words-end
-part-valid-words-end c = let a = c.before.before.before.before.before.before.before.before.before.before.args in let w = words_end a.edition (objects_at a.n a.b a.contents.now a.bodies.now) a.stack.now a.at.0 a.uppermost c.before.before.before.before.before.before.before.before.before.before.requires.frame _ c.before.before.before.before.before.six-words-fine.ensures c.before.before.before.before.if1.false _ _ _ _ refl c.before.in_block.ensures c.own_count.ensures refl in omega arith
+part-valid-words-end c =
+    let at-if1 = c.before.before.before.before in
+    let at-six-words-fine = at-if1.before in
+    let at-start = at-six-words-fine.before.before.before.before.before in
+    let a = at-start.args in
+    let w = words_end a.edition (objects_at a.n a.b a.contents.now a.bodies.now) a.stack.now a.at.0 a.uppermost at-start.requires.frame _
+    at-six-words-fine.six-words-fine.ensures at-if1.if1.false _ _ c.before.header.ensures c.temporary-count.ensures in omega arith
 
 valid-words-requires : tie.Need-valid-words-requires
 valid-words-requires c κs = search rules
 
 returns-2 : tie.Need-returns-2
 returns-2 c =
-    let a = c.before.before.before.before.before.before.before.before.before.before.before.before.args in
-    rules_here a.edition (objects_at a.n a.b a.contents.now a.bodies.now) a.stack.now a.at.0 a.uppermost c.before.before.before.before.before.before.before.before.before.before.before.before.requires.frame _ c.before.before.before.before.before.before.before.six-words-fine.ensures c.before.before.before.before.before.before.if1.false
-    _ _ _ _ refl c.before.before.before.in_block.ensures c.before.before.own_count.ensures refl _ c.valid_words.ensures
+    let at-if1 = c.before.before.before.before.before.before in
+    let at-six-words-fine = at-if1.before in
+    let at-start = at-six-words-fine.before.before.before.before.before in
+    let a = at-start.args in
+    rules_here a.edition (objects_at a.n a.b a.contents.now a.bodies.now) a.stack.now a.at.0 a.uppermost at-start.requires.frame _
+    at-six-words-fine.six-words-fine.ensures at-if1.if1.false _ _ c.before.before.before.header.ensures c.before.before.temporary-count.ensures _
+    c.valid_words.ensures
 
 pub frame-fine-spec : {M : Type 1} → statement M
 frame-fine-spec =
@@ -83,9 +108,9 @@ frame-fine-spec =
     mul-depth
     shared-slice-read-depth
     cast-depth
-    in-block-requires
-    own-count-requires
     add-from
+    header-requires
+    temporary-count-requires
     add-end
     add-end-2
     mul-valid-words

@@ -1,7 +1,7 @@
 use mathlib.Core.Path.{sym, ap, ◌∙◌}
 use native.Mathlib.Omega.{arith}
 use Rattle.readers.specs.Header.{runs_of}
-use Rattle.code.proofs.LinkFine.{shaped, method_word}
+use Rattle.code.proofs.LinkFine.{method_word}
 use Rattle.code.proofs.PassLaws.{blank_method, object_other, object_sound, object_unsound, asked_at}
 use borrow.Author.Rules.{rules}
 use Rattle.code.proofs.code_object.Statement.{statement}
@@ -52,7 +52,7 @@ word-of-requires c κs =
     let at_kind = at-if1.before in
     let at-start = at_kind.before.before.before.before.before.before in
     let p = at-start.requires in
-    method_word (shaped (asked_at p.0 at-start.args.k p.1 p.2 (sym at_kind.kind.ensures ∙ at-if1.if1.false))) _ (omega arith)
+    method_word (asked_at p.0 at-start.args.k p.1 p.2 (sym at_kind.kind.ensures ∙ at-if1.if1.false)) _ (omega arith)
 
 cast-header : tie.Need-overflow-cast-header
 cast-header c = search rules

@@ -11,14 +11,14 @@ use Rattle.code.proofs.drain.Statement.{statement}
 use Rattle.code.proofs.drain.Tie as tie
 
 abbrev invariant-loop : tie.invariant-loop
-invariant-loop table contents bodies n b counts m words limits limit room notes₀ pending₀ waiting₀ at₀ depth₀ notes pending waiting at depth =
-    Static table limits words limit room notes pending
-    × WalkingAt limits words (length notes) limit (linked (objects_at n b contents bodies) m) notes pending waiting at depth
+invariant-loop table contents bodies n b counts m words limits room notes₀ pending₀ waiting₀ at₀ depth₀ notes pending waiting at depth =
+    Static table limits words room notes pending
+    × WalkingAt limits words (length notes) room (linked (objects_at n b contents bodies) m) notes pending waiting at depth
     × (length notes ≡ length notes₀)
     × (length pending ≡ length pending₀)
 
 abbrev decreases-loop : tie.decreases-loop
-decreases-loop table contents bodies n b counts m words limits limit room notes₀ pending₀ waiting₀ at₀ depth₀ notes pending waiting at depth =
+decreases-loop table contents bodies n b counts m words limits room notes₀ pending₀ waiting₀ at₀ depth₀ notes pending waiting at depth =
     waiting + zeros notes
 
 loop-holds : tie.Need-loop-init invariant-loop decreases-loop
@@ -43,8 +43,8 @@ loop-again : tie.Need-loop-preserved invariant-loop decreases-loop
 loop-again c =
     let at_turn = c.before.before.before.before.before.before.before in
     let at-loop = at_turn.before.before.before in
-    let kt = at_turn.turn.auto.1.1.1.1.1.1.1.1.1.1.1.0 in
-    let ks = at_turn.turn.auto.1.1.1.1.1.1.1.1.1.1.1.1.0 in
+    let kt = at_turn.turn.auto.1.1.1.1.1.1.1.1.1.1.0 in
+    let ks = at_turn.turn.auto.1.1.1.1.1.1.1.1.1.1.1.0 in
     (static_again kt ks at-loop.loop.invariant.0, rw kt (at_turn.turn.ensures.goes _ _ _ c.before.k.given.1).0, kt ∙ at-loop.loop.invariant.2, ks ∙ at-loop.loop.invariant.3)
 
 enum_told : tie.Need-enum-told invariant-loop decreases-loop
@@ -54,13 +54,13 @@ same_length : tie.Need-same-length invariant-loop decreases-loop
 same_length c =
     let at_turn = c.before.before.before.before.before.before in
     let at-loop = at_turn.before.before.before in
-    at_turn.turn.auto.1.1.1.1.1.1.1.1.1.1.1.0 ∙ at-loop.loop.invariant.2
+    at_turn.turn.auto.1.1.1.1.1.1.1.1.1.1.0 ∙ at-loop.loop.invariant.2
 
 same-length-2 : tie.Need-same-length-2 invariant-loop decreases-loop
 same-length-2 c =
     let at_turn = c.before.before.before.before.before.before in
     let at-loop = at_turn.before.before.before in
-    at_turn.turn.auto.1.1.1.1.1.1.1.1.1.1.1.1.0 ∙ at-loop.loop.invariant.3
+    at_turn.turn.auto.1.1.1.1.1.1.1.1.1.1.1.0 ∙ at-loop.loop.invariant.3
 
 returns : tie.Need-returns invariant-loop decreases-loop
 unfolding Answer
@@ -76,13 +76,13 @@ same-length-3 : tie.Need-same-length-3 invariant-loop decreases-loop
 same-length-3 c =
     let at_turn = c.before.before.before.before.before.before in
     let at-loop = at_turn.before.before.before in
-    at_turn.turn.auto.1.1.1.1.1.1.1.1.1.1.1.0 ∙ at-loop.loop.invariant.2
+    at_turn.turn.auto.1.1.1.1.1.1.1.1.1.1.0 ∙ at-loop.loop.invariant.2
 
 same-length-4 : tie.Need-same-length-4 invariant-loop decreases-loop
 same-length-4 c =
     let at_turn = c.before.before.before.before.before.before in
     let at-loop = at_turn.before.before.before in
-    at_turn.turn.auto.1.1.1.1.1.1.1.1.1.1.1.1.0 ∙ at-loop.loop.invariant.3
+    at_turn.turn.auto.1.1.1.1.1.1.1.1.1.1.1.0 ∙ at-loop.loop.invariant.3
 
 returns-2 : tie.Need-returns-2 invariant-loop decreases-loop
 unfolding Answer

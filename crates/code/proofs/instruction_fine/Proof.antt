@@ -71,12 +71,6 @@ special-fine-requires c κs = let p = c.before.before.before.before.before.befor
 enum-told-10 : tie.Need-enum-told-10
 enum-told-10 c = search rules
 
-enum-told-11 : tie.Need-enum-told-11
-enum-told-11 c = search rules
-
-enum-told-12 : tie.Need-enum-told-12
-enum-told-12 c = search rules
-
 returns : tie.Need-returns
 unfolding linked
 returns c = told _ _ c.before.before.i.given.1 c.place-fine.ensures
@@ -141,14 +135,6 @@ returns-16 : tie.Need-returns-16
 unfolding linked
 returns-16 c = told _ _ c.enum-told10.given.1 refl
 
-returns-17 : tie.Need-returns-17
-unfolding linked
-returns-17 c = told _ _ c.enum-told11.given.1 refl
-
-returns-18 : tie.Need-returns-18
-unfolding linked
-returns-18 c = told _ _ c.enum-told12.given.1 refl
-
 pub instruction-fine-spec : {M : Type 1} → statement M
 instruction-fine-spec =
     tie.close
@@ -175,8 +161,6 @@ instruction-fine-spec =
     enum-known-i-6
     special-fine-requires
     enum-told-10
-    enum-told-11
-    enum-told-12
     returns
     returns-2
     returns-3
@@ -192,6 +176,4 @@ instruction-fine-spec =
     returns-13
     returns-14
     returns-15
-    returns-16
-    returns-17
-    returns-18)
+    returns-16)

@@ -3,7 +3,7 @@ use native.Mathlib.Omega.{arith}
 use borrow.Author.Rules.{rules}
 use borrow.Author.Tests.{not-true, not-false}
 use Rattle.bytecode.proofs.TestLaws.{true→T}
-use Rattle.code.proofs.PassLaws.{seven_shapes, seven_holders, seven_failures, seven_codes, seven_blocks, held_counts, zeros_at}
+use Rattle.code.proofs.PassLaws.{seven_shapes, seven_holders, seven_failures, seven_codes, held_counts, zeros_at}
 use Rattle.code.proofs.methods_fine.Statement.{statement}
 use Rattle.code.proofs.methods_fine.Tie as tie
 
@@ -81,7 +81,7 @@ same_length c = search rules
 
 returns-4 : tie.Need-returns-4
 returns-4 c =
-    let at-if3 = c.before.before.before.before.before.before.before.before in
+    let at-if3 = c.before.before.before.before.before.before.before in
     let at-failures-fine = at-if3.before in
     let at-if2 = at-failures-fine.before.before in
     let at-count-methods = at-if2.before.before in
@@ -89,36 +89,7 @@ returns-4 c =
     let at-shapes-fine = at-if1.before in
     let held = held_counts _ _ _ at-count-methods.count-methods.ensures (not-false _ at-if2.if2.false) in
     seven_codes _ _ _ _ (sym at-shapes-fine.shapes-fine.ensures ∙ not-false _ at-if1.if1.false) held.0
-    (sym (at-failures-fine.failures-fine.ensures _ held.1) ∙ not-false _ at-if3.if3.false) c.before.before.before.codes-noted.ensures (not-true _ c.if4.true)
-
-blocks-fine-requires : tie.Need-blocks-fine-requires
-blocks-fine-requires c κs =
-    let at-codes-noted = c.before.before.before.before in
-    let at-shapes-fine = c.before.before.before.before.before.before.before.before.before.before.before.before.before.before.before.before.before in
-    let at-start = c.before.before.before.before.before.before.before.before.before.before.before.before.before.before.before.before.before.before.before.before.before in
-    record {
-      ready = at-start.requires.0;
-      shaped = true→T (sym at-shapes-fine.shapes-fine.ensures ∙ not-false _ c.before.before.before.before.before.before.before.before.before.before.before.before.before.before.before.before.if1.false);
-      room = (let r = at-start.requires.1 in let q = at-codes-noted.codes-noted.auto.1.1.1.1.1.1.1.0 in omega arith);
-      noted = at-codes-noted.codes-noted.ensures.noted (not-false _ c.before.if4.false);
-    }
-
-same-length-2 : tie.Need-same-length-2
-same-length-2 c = search rules
-
-returns-5 : tie.Need-returns-5
-returns-5 c =
-    let at-codes-noted = c.before.before.before.before.before in
-    let at-if3 = c.before.before.before.before.before.before.before.before.before.before in
-    let at-failures-fine = at-if3.before in
-    let at-if2 = at-failures-fine.before.before in
-    let at-count-methods = at-if2.before.before in
-    let at-if1 = at-count-methods.before.before in
-    let at-shapes-fine = at-if1.before in
-    let held = held_counts _ _ _ at-count-methods.count-methods.ensures (not-false _ at-if2.if2.false) in
-    seven_blocks _ _ _ _ _ (sym at-shapes-fine.shapes-fine.ensures ∙ not-false _ at-if1.if1.false) held.0
-    (sym (at-failures-fine.failures-fine.ensures _ held.1) ∙ not-false _ at-if3.if3.false) at-codes-noted.codes-noted.ensures (not-false _ c.before.before.if4.false)
-    c.blocks-fine.ensures
+    (sym (at-failures-fine.failures-fine.ensures _ held.1) ∙ not-false _ at-if3.if3.false) c.before.before.codes-noted.ensures
 
 pub methods-fine-spec : {M : Type 1} → statement M
 methods-fine-spec =
@@ -136,7 +107,4 @@ methods-fine-spec =
     slice-aggregate-codes-noted
     codes-noted-requires
     same_length
-    returns-4
-    blocks-fine-requires
-    same-length-2
-    returns-5)
+    returns-4)

@@ -1,7 +1,7 @@
 use mathlib.Core.Path.{◌∙◌, refl}
 use native.Mathlib.Omega.{arith}
 use Rattle.flow.specs.Linked.{place_linked}
-use Rattle.code.proofs.LinkFine.{shaped, method_entry, place_free, place_variable, variable_small}
+use Rattle.code.proofs.LinkFine.{method_entry, place_free, place_variable, variable_small}
 use borrow.Author.Rules.{rules}
 use Rattle.code.proofs.place_fine.Statement.{statement}
 use Rattle.code.proofs.place_fine.Tie as tie
@@ -20,7 +20,7 @@ enum-known-p c = search rules
 
 literal-word-requires : tie.Need-literal-word-requires
 literal-word-requires c κs = let p = c.before.before.before.before.before.before.requires in
-    (method_entry (shaped p.0), p.0.ready.laid.words, omega (arith, variable_small c.before.p.given.1 p.1))
+    (method_entry p.0, p.0.ready.laid.words, omega (arith, variable_small c.before.p.given.1 p.1))
 
 variable-fine-requires : tie.Need-variable-fine-requires
 variable-fine-requires c κs = search rules

@@ -1,12 +1,12 @@
 use mathlib.Core.Path.{◌∙◌}
 use native.Mathlib.Omega.{arith}
-use Rattle.code.proofs.LinkFine.{shaped, method_entry, literal_sent}
+use Rattle.code.proofs.LinkFine.{method_entry, literal_sent}
 use borrow.Author.Rules.{rules}
 use Rattle.code.proofs.selector_fine.Statement.{statement}
 use Rattle.code.proofs.selector_fine.Tie as tie
 
 literal-word-requires : tie.Need-literal-word-requires
-literal-word-requires c κs = let p = c.before.before.before.requires in (method_entry (shaped p), p.ready.laid.words, omega arith)
+literal-word-requires c κs = let p = c.before.before.before.requires in (method_entry p, p.ready.laid.words, omega arith)
 
 send-fine-requires : tie.Need-send-fine-requires
 send-fine-requires c κs = search rules

@@ -1,4 +1,4 @@
-use Rattle.code.proofs.LinkFine.{shaped, special_word, special_same, special_class, special_sent}
+use Rattle.code.proofs.LinkFine.{special_word, special_same, special_class, special_sent}
 use mathlib.Core.Path.{◌∙◌}
 use borrow.Author.Rules.{rules}
 use Rattle.code.proofs.special_fine.Statement.{statement}
@@ -11,7 +11,7 @@ returns-2 : tie.Need-returns-2
 returns-2 c = special_class _ _ _ c.if2.true
 
 word-of-requires : tie.Need-word-of-requires
-word-of-requires c κs = let p = c.before.before.before.before.before.requires in special_word (shaped p.0) _ p.1
+word-of-requires c κs = let p = c.before.before.before.before.before.requires in special_word p.0 _ p.1
 
 special-count-requires : tie.Need-special-count-requires
 special-count-requires c κs = search rules

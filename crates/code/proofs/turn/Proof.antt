@@ -33,10 +33,8 @@ expand-requires : tie.Need-expand-requires
 expand-requires c κs =
     let at_entry_lem = c.before.before.before.before in
     let at_fetch = at_entry_lem.before in
-    let at-start = at_fetch.before.before.before.before.before.before.before in (
-      at_asks at-start.requires.1.0 at-start.requires.1.1,
-      (at_here at-start.requires.1.0 at-start.requires.1.1 _ _ at_fetch.fetch.ensures at_entry_lem.entry.ensures, at-start.requires.1.0.is_room),
-    )
+    let at-start = at_fetch.before.before.before.before.before.before.before in
+    (at_asks at-start.requires.1.0 at-start.requires.1.1, at_here at-start.requires.1.0 at-start.requires.1.1 _ _ at_fetch.fetch.ensures at_entry_lem.entry.ensures)
 
 enum-known-k : tie.Need-enum-known-k
 enum-known-k c = search rules
@@ -52,7 +50,7 @@ last-pending-requires c κs =
     let at-here-fine = at-if1.before in
     let at-start = at-here-fine.before.before.before.before.before.before.before.before.before in
     let T = turn_expanded at-start.requires.1.0 at-start.requires.1.1 (sym at-here-fine.here-fine.ensures ∙ not-false _ at-if1.if1.false) at-expand.expand.ensures in
-    let n = at-expand.expand.auto.1.1.1.1.0 in let p = at-expand.expand.auto.1.1.1.1.1.0 in let l = at-start.requires.1.0.long in
+    let n = at-expand.expand.auto.1.1.1.0 in let p = at-expand.expand.auto.1.1.1.1.0 in let l = at-start.requires.1.0.long in
     queued (omega arith) (T.goes _ (goes_known at-k2.k2.given.1)).0
 
 enum_told : tie.Need-enum-told
@@ -87,7 +85,7 @@ returns-3 c =
     let at-here-fine = at-if1.before in
     let at-start = at-here-fine.before.before.before.before.before.before.before.before.before in
     let T = turn_expanded at-start.requires.1.0 at-start.requires.1.1 (sym at-here-fine.here-fine.ensures ∙ not-false _ at-if1.if1.false) at-expand.expand.ensures in
-    next_known T at-expand.expand.auto.1.1.1.1.0 at-k2.k2.given.1 c.last-pending.ensures
+    next_known T at-expand.expand.auto.1.1.1.0 at-k2.k2.given.1 c.last-pending.ensures
 
 same-length-5 : tie.Need-same-length-5
 same-length-5 c = search rules

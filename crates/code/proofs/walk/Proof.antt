@@ -23,9 +23,6 @@ slice-write-notes c = search rules
 slice-write-pending : tie.Need-slice-write-pending
 slice-write-pending c = search rules
 
-mul-drain : tie.Need-overflow-mul-drain
-mul-drain c = search rules
-
 drain-requires : tie.Need-drain-requires
 drain-requires c κs =
     let at-if1 = c.before.before.before.before in
@@ -35,27 +32,27 @@ drain-requires c κs =
     let blank = blank_list _ at-start.requires.1.1 in (
       at-start.requires.0,
       (
-        static_start notes a refl c.before.before.before.if2.false,
-        starts _ _ _ _ notes at-start.args.pending.now _ blank (omega (arith, at-if1.if1.false)) a.long a.small,
+        static_start notes a refl,
+        starts _ _ _ _ notes at-start.args.pending.now _ blank (omega (arith, at-if1.if1.false)) a.long a.small (omega (arith, a.shallow)),
       ),
     )
 
 same_length : tie.Need-same-length
 same_length c =
     let at-drain = c.before.before.before.before.before in
-    at-drain.drain.auto.1.1.1.1.1.1.1.1.1.1.1.0 ∙ simp length-set
+    at-drain.drain.auto.1.1.1.1.1.1.1.1.1.1.0 ∙ simp length-set
 
 same-length-2 : tie.Need-same-length-2
 same-length-2 c =
     let at-drain = c.before.before.before.before.before in
-    at-drain.drain.auto.1.1.1.1.1.1.1.1.1.1.1.1.0 ∙ simp length-set
+    at-drain.drain.auto.1.1.1.1.1.1.1.1.1.1.1.0 ∙ simp length-set
 
 returns-3 : tie.Need-returns-3
 returns-3 c =
     let at-drain = c.before.before.before.before.before in
     let at-if2 = at-drain.before.before.before.before in
     let at-start = at-if2.before.before.before.before.before.before.before.before in
-    walked_some (table_as _ _ _ _ _ _ _ _ at-start.args.notes.now refl ∙ answered_some _ _ _ c.if3.true at-drain.drain.ensures)
+    walked_some (table_as _ _ _ _ _ _ _ at-start.args.notes.now at-if2.if2.false refl ∙ answered_some _ _ _ c.if3.true at-drain.drain.ensures)
 
 clear-requires : tie.Need-clear-requires
 clear-requires c κs = search rules
@@ -63,12 +60,12 @@ clear-requires c κs = search rules
 same-length-3 : tie.Need-same-length-3
 same-length-3 c =
     let at-drain = c.before.before.before.before.before.before.before.before.before in
-    c.before.before.clear.auto.0 ∙ at-drain.drain.auto.1.1.1.1.1.1.1.1.1.1.1.0 ∙ simp length-set
+    c.before.before.clear.auto.0 ∙ at-drain.drain.auto.1.1.1.1.1.1.1.1.1.1.0 ∙ simp length-set
 
 same-length-4 : tie.Need-same-length-4
 same-length-4 c =
     let at-drain = c.before.before.before.before.before.before.before.before.before in
-    at-drain.drain.auto.1.1.1.1.1.1.1.1.1.1.1.1.0 ∙ simp length-set
+    at-drain.drain.auto.1.1.1.1.1.1.1.1.1.1.1.0 ∙ simp length-set
 
 returns-4 : tie.Need-returns-4
 returns-4 c =
@@ -77,9 +74,9 @@ returns-4 c =
     let at-if2 = at-drain.before.before.before.before in
     let at-start = at-if2.before.before.before.before.before.before.before.before in
     let notes = at-start.args.notes.now in
-    let same = at-drain.drain.auto.1.1.1.1.1.1.1.1.1.1.1.0 in
-    walked_none (table_as _ _ _ _ _ _ _ _ notes refl ∙ answered_none _ _ _ at-if3.if3.false at-drain.drain.ensures)
-    (cleared_as notes at-drain.drain.new.1.1.1.1.1.1.1.1.1.1.1.0 _ _ refl same c.before.before.clear.ensures)
+    let same = at-drain.drain.auto.1.1.1.1.1.1.1.1.1.1.0 in
+    walked_none (table_as _ _ _ _ _ _ _ notes at-if2.if2.false refl ∙ answered_none _ _ _ at-if3.if3.false at-drain.drain.ensures)
+    (cleared_as notes at-drain.drain.new.1.1.1.1.1.1.1.1.1.1.0 _ _ refl same c.before.before.clear.ensures)
 
 pub walk-spec : {M : Type 1} → statement M
 walk-spec =
@@ -89,7 +86,6 @@ walk-spec =
     returns-2
     slice-write-notes
     slice-write-pending
-    mul-drain
     drain-requires
     same_length
     same-length-2

@@ -27,7 +27,7 @@ extended-fits-requires c κs = search rules
 returns : tie.Need-returns
 returns c =
     let at-start = c.before.before.before.before.before.before.before in
-    expand_extended (omega arith) at-start.requires.1.0 at-start.requires.1.1.0 at-start.requires.1.1.1.0 at-start.requires.1.1.1.1 at-start.requires.1.1.1.2
+    expand_extended (omega arith) at-start.requires.1.0 at-start.requires.1.1.0 at-start.requires.1.1.1 at-start.requires.1.1.2
     (step_no (and_no _ (sym (c.before.extended-fits.ensures _
     c.before.before.before.byte.ensures c.before.before.byte2.ensures) ∙ not-true _ c.if1.true)))
 
@@ -49,17 +49,8 @@ add-onward-2 c =
     let at-start = at_byte.before.before.before.before in
     omega (arith, c.extra.ensures, c.before.entry-need.ensures, extra_small at-start.args.b at_byte.byte.result)
 
-mul-onward : tie.Need-overflow-mul-onward
-mul-onward c =
-    let at_byte = c.before.before.before.before.before.before.before.before in
-    let at-start = at_byte.before.before.before.before in
-    omega (arith, c.extra.ensures, c.before.entry-need.ensures, extra_small at-start.args.b at_byte.byte.result)
-
 entry-leaves-requires : tie.Need-entry-leaves-requires
 entry-leaves-requires c κs = search rules
-
-mul-onward-2 : tie.Need-overflow-mul-onward-2
-mul-onward-2 c = search rules
 
 onward-requires : tie.Need-onward-requires
 onward-requires c κs = search rules
@@ -82,7 +73,7 @@ returns-2 c =
     let at-byte2 = at-extended-fits.before in
     let at_byte = at-byte2.before in
     let at-start = at_byte.before.before.before.before in
-    expand_extended (omega arith) at-start.requires.1.0 at-start.requires.1.1.0 at-start.requires.1.1.1.0 at-start.requires.1.1.1.1 at-start.requires.1.1.1.2
+    expand_extended (omega arith) at-start.requires.1.0 at-start.requires.1.1.0 at-start.requires.1.1.1 at-start.requires.1.1.2
     (step_and (sym (at-extended-fits.extended-fits.ensures _ at_byte.byte.ensures at-byte2.byte2.ensures)
     ∙ not-false _ at-if1.if1.false) (rw (
       at-extra.extra.ensures,
@@ -107,9 +98,7 @@ extended-spec =
     entry-need-requires
     extra-requires
     add-onward-2
-    mul-onward
     entry-leaves-requires
-    mul-onward-2
     onward-requires
     same_length
     same-length-2

@@ -1,5 +1,4 @@
 -- `fork` is a step that needs one operand, to two positions.
-use mathlib.Core.Path.{refl}
 use borrow.Author.Tests.{le-leb, lt-leb}
 use borrow.Author.Rules.{rules}
 use Rattle.flow.proofs.StepLaws.{step_yes, step_no}
@@ -19,7 +18,7 @@ same-length-2 : tie.Need-same-length-2
 same-length-2 c = search rules
 
 returns-2 : tie.Need-returns-2
-returns-2 c = step_yes (le-leb _ _ c.before.before.before.before.before.before.before.if1.false) (c.before.before.before.before.both.ensures _ _ refl refl refl refl)
+returns-2 c = step_yes (le-leb _ _ c.before.before.before.before.before.before.before.if1.false) c.before.before.before.before.both.ensures
 
 pub fork-spec : {M : Type 1} → statement M
 fork-spec = tie.close (tie.spec returns both-requires same_length same-length-2 returns-2)

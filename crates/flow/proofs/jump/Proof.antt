@@ -31,7 +31,7 @@ returns c =
     let at-visit = c.before.before.before.before in
     let at-if1 = at-visit.before.before.before in
     let at-start = at-if1.before.before.before.before in
-    expand_jump (omega arith) at-start.requires.1.0 at-start.requires.1.1.0 at-start.requires.1.1.1.2 at-start.requires.1.1.1.0 at-if1.if1.true
+    expand_jump (omega arith) at-start.requires.1.0 at-start.requires.1.1.2 at-start.requires.1.1.0 at-if1.if1.true
     (step_yes refl (visits_one _ at-visit.visit.ensures))
 
 add-fork : tie.Need-overflow-add-fork
@@ -61,7 +61,7 @@ returns-2 c =
     let at-if2 = at_Fork.before.before.before in
     let at-if1 = at-if2.before in
     let at-start = at-if1.before.before.before.before in
-    expand_fork (omega arith) at-start.requires.1.0 at-start.requires.1.1.0 at-start.requires.1.1.1.2 at-if1.if1.false at-if2.if2.true at_Fork.fork.ensures
+    expand_fork (omega arith) at-start.requires.1.0 at-start.requires.1.1.2 at-if1.if1.false at-if2.if2.true at_Fork.fork.ensures
 
 add-fetch : tie.Need-overflow-add-fetch
 add-fetch c = search rules
@@ -69,7 +69,7 @@ add-fetch c = search rules
 fetch-requires : tie.Need-fetch-requires
 fetch-requires c κs =
     let at-start = c.before.before.before.before.before in
-    second_inside (omega arith) at-start.requires.1.0 c.if2.false at-start.requires.1.1.1.1 at-start.requires.1.1.1.2
+    second_inside (omega arith) at-start.requires.1.0 c.if2.false at-start.requires.1.1.1 at-start.requires.1.1.2
 
 cast-x : tie.Need-overflow-cast-x
 cast-x c = search rules
@@ -92,7 +92,7 @@ add-to-3 c = search rules
 returns-3 : tie.Need-returns-3
 returns-3 c =
     let at-start = c.before.before.before.before.before.before.before.before in
-    expand_before (omega arith) at-start.requires.1.0 at-start.requires.1.1.1.2 c.before.before.before.if2.false
+    expand_before (omega arith) at-start.requires.1.0 at-start.requires.1.1.2 c.before.before.before.if2.false
     c.before.if3.true (omega (arith, c.before.before.fetch.ensures, c.if4.true))
 
 visit-requires-2 : tie.Need-visit-requires-2
@@ -112,7 +112,7 @@ returns-4 c =
     let at_fetch = at-if3.before in
     let at-if2 = at_fetch.before in
     let at-start = at-if2.before.before.before.before.before in
-    expand_long (omega arith) at-start.requires.1.0 at-start.requires.1.1.0 at-start.requires.1.1.1.2 at-if2.if2.false at-if3.if3.true _
+    expand_long (omega arith) at-start.requires.1.0 at-start.requires.1.1.2 at-if2.if2.false at-if3.if3.true _
     (omega (arith, at_fetch.fetch.ensures, at-if4.if4.false)) (step_yes refl (visits_one _ at-visit2.visit2.ensures))
 
 add-fork-4 : tie.Need-overflow-add-fork-4
@@ -148,7 +148,7 @@ returns-5 c =
     let at-if3 = at-fork2.before.before.before in
     let at_fetch = at-if3.before in
     let at-start = at_fetch.before.before.before.before.before.before in
-    expand_fork_long (omega arith) at-start.requires.1.0 at-start.requires.1.1.0 at-start.requires.1.1.1.2 at-if3.if3.false at-start.requires.1.1.1.1
+    expand_fork_long (omega arith) at-start.requires.1.0 at-start.requires.1.1.2 at-if3.if3.false at-start.requires.1.1.1
     (rw at_fetch.fetch.ensures at at-fork2.fork2.ensures)
 
 pub jump-spec : {M : Type 1} → statement M

@@ -26,14 +26,8 @@ add-onward c = search rules
 entry-need-requires : tie.Need-entry-need-requires
 entry-need-requires c κs = search rules
 
-mul-onward : tie.Need-overflow-mul-onward
-mul-onward c = search rules
-
 entry-leaves-requires : tie.Need-entry-leaves-requires
 entry-leaves-requires c κs = search rules
-
-mul-onward-2 : tie.Need-overflow-mul-onward-2
-mul-onward-2 c = search rules
 
 onward-requires : tie.Need-onward-requires
 onward-requires c κs = search rules
@@ -45,9 +39,15 @@ same-length-2 : tie.Need-same-length-2
 same-length-2 c = search rules
 
 returns-2 : tie.Need-returns-2
-returns-2 c = step_and
-    (rw (c.before.before.before.before.before.before.before.before.before.before.before.before.entry-bound.ensures, c.before.before.before.before.before.before.before.before.before.before.before.entry-index.ensures) at (lt-ltb _ _ c.before.before.before.before.before.before.before.before.before.if1.false))
-    (rw (c.before.before.before.before.before.before.entry-need.ensures, c.before.before.before.before.before.entry-leaves.ensures) at c.before.before.before.before.onward.ensures)
+returns-2 c =
+    let at_Onward = c.before.before.before.before in
+    let at-leaves = at_Onward.before in
+    let at-need = at-leaves.before in
+    let at-if1 = at-need.before.before.before in
+    let at-index = at-if1.before.before in
+    step_and
+    (rw (at-index.before.entry-bound.ensures, at-index.entry-index.ensures) at (lt-ltb _ _ at-if1.if1.false))
+    (rw (at-need.entry-need.ensures, at-leaves.entry-leaves.ensures) at at_Onward.onward.ensures)
 
 pub plain-spec : {M : Type 1} → statement M
 plain-spec =
@@ -60,9 +60,7 @@ plain-spec =
     returns
     add-onward
     entry-need-requires
-    mul-onward
     entry-leaves-requires
-    mul-onward-2
     onward-requires
     same_length
     same-length-2

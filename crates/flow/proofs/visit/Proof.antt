@@ -2,7 +2,6 @@
 use mathlib.Core.Logic.{inl, inr}
 use native.Mathlib.Omega.{arith}
 use borrow.Author.Rules.{rules}
-use Rattle.flow.specs.Walk.{alike}
 use Rattle.flow.proofs.VisitLaws.{visit_fresh, visit_known, visit_stuck, has_room, visited_new, visited_same, clash}
 use Rattle.flow.proofs.visit.Statement.{statement}
 use Rattle.flow.proofs.visit.Tie as tie
@@ -35,8 +34,7 @@ mul-pending : tie.Need-overflow-mul-pending
 mul-pending c = search rules
 
 slice-write-pending : tie.Need-slice-write-pending
-slice-write-pending c =
-    has_room c.before.before.before.before.args.at c.before.before.before.before.args.depth c.before.before.before.before.requires c.before.before.if2.false c.if3.true
+slice-write-pending c = has_room _ _ c.before.before.before.before.requires c.before.before.before.if1.false c.before.before.if2.false c.if3.true
 
 add-t12 : tie.Need-overflow-add-t12
 add-t12 c = search rules
@@ -48,21 +46,23 @@ same-length-2 : tie.Need-same-length-2
 same-length-2 c = search rules
 
 returns-3 : tie.Need-returns-3
-returns-3 c = visit_fresh (visited_new _ _ c.before.before.before.before.requires c.before.before.if2.false _ c.before.before.before.if1.false c.if3.true)
+returns-3 c = visit_fresh (visited_new _ _ c.before.before.before.before.requires c.before.before.before.if1.false c.before.before.if2.false c.if3.true)
 
 add-if4 : tie.Need-overflow-add-if4
 add-if4 c = search rules
 
 returns-4 : tie.Need-returns-4
 returns-4 c =
-    let at-if1 = c.before.before.before.before in
-    visit_known (visited_same _ at-if1.if1.false c.if4.true)
+    let at-if2 = c.before.before.before in
+    let at-if1 = at-if2.before in
+    let at-start = at-if1.before in
+    visit_known (visited_same _ _ at-start.requires at-if1.if1.false at-if2.if2.false c.if4.true)
 
 returns-5 : tie.Need-returns-5
 returns-5 c =
     let at-start = c.before.before.before.before.before in
     let args = at-start.args in
-    visit_stuck (clash (alike args.room) args.notes.now args.at args.depth c.before.if3.false c.if4.false)
+    visit_stuck (clash args.room args.notes.now args.at args.depth c.before.if3.false c.if4.false)
 
 pub visit-spec : {M : Type 1} → statement M
 visit-spec =

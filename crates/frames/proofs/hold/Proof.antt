@@ -1,75 +1,115 @@
 -- The frame's own words give it back.
 use native.Mathlib.Omega.{arith}
-use Rattle.frames.proofs.ActiveLaws.{own_is, entered}
+use Rattle.frames.proofs.ActiveLaws.{entered}
 use borrow.Author.Rules.{rules}
 use Rattle.frames.proofs.hold.Statement.{statement}
 use Rattle.frames.proofs.hold.Tie as tie
-use Rattle.frames.proofs.first_temporary.Reads as first-temporary-reads
-use Rattle.frames.proofs.home_at.Reads as home-at-reads
-use Rattle.frames.proofs.own_count.Reads as own-count-reads
-use Rattle.objects.proofs.code_of.Reads as code-of-reads
-use Rattle.objects.proofs.header.Reads as header-reads
-use Rattle.readers.proofs.temporary_count.Reads as temporary-count-reads
 
 add-position : tie.Need-overflow-add-position
-add-position c = search rules
+add-position c =
+    let at-start = c.before.before.before in
+    let k = at-start.requires in
+    omega arith
 
 mul-position : tie.Need-overflow-mul-position
-mul-position c = search rules
+mul-position c =
+    let at-start = c.before.before.before in
+    let k = at-start.requires in
+    omega arith
 
 shared-slice-read-position : tie.Need-shared-slice-read-position
-shared-slice-read-position c = search rules
+shared-slice-read-position c =
+    let at-start = c.before.before.before.before in
+    let k = at-start.requires in
+    omega arith
 
 code-of-requires : tie.Need-code-of-requires
-code-of-requires c κs = search rules
+code-of-requires c κs =
+    let at-start = c.before.before.before.before in
+    at-start.requires.method
 
 header-requires : tie.Need-header-requires
-header-requires c κs = search rules
+header-requires c κs =
+    let at-start = c.before.before.before.before.before in
+    at-start.requires.method
 
 temporary-count-requires : tie.Need-temporary-count-requires
 temporary-count-requires c κs = search rules
 
-home-at-requires : tie.Need-home-at-requires
-home-at-requires c κs = search rules
-
 first-temporary-requires : tie.Need-first-temporary-requires
-first-temporary-requires c κs = search rules
-
-own-count-requires : tie.Need-own-count-requires
-own-count-requires c κs = search rules
+first-temporary-requires c κs =
+    let at-start = c.before.before.before.before.before.before.before in
+    let k = at-start.requires in
+    omega arith
 
 add-operands : tie.Need-overflow-add-operands
-add-operands c = let k = c.before.before.before.before.before.before.before.before.before.before.requires in let o = own_is _ _ _ _ _ _ c.before.before.before.before.header.ensures c.before.before.before.temporary-count.ensures c.before.before.home_at.ensures c.own_count.ensures c.before.before.before.before.before.before.before.before.before.before.requires.own in omega (arith, c.before.first-temporary.ensures)
+add-operands c =
+    let at-start = c.before.before.before.before.before.before.before.before in
+    let k = at-start.requires in
+    omega (arith, c.before.temporary-count.ensures, c.before.before.header.ensures, c.first-temporary.ensures)
 
 add-position-2 : tie.Need-overflow-add-position-2
-add-position-2 c = search rules
+add-position-2 c =
+    let at-start = c.before.before.before.before.before.before.before.before in
+    let k = at-start.requires in
+    omega arith
 
 mul-position-2 : tie.Need-overflow-mul-position-2
-mul-position-2 c = search rules
+mul-position-2 c =
+    let at-start = c.before.before.before.before.before.before.before.before in
+    let k = at-start.requires in
+    omega arith
 
 shared-slice-read-position-2 : tie.Need-shared-slice-read-position-2
-shared-slice-read-position-2 c = search rules
+shared-slice-read-position-2 c =
+    let at-start = c.before.before.before.before.before.before.before.before.before in
+    let k = at-start.requires in
+    omega arith
 
 cast-position : tie.Need-overflow-cast-position
-cast-position c = search rules
+cast-position c =
+    let at-start = c.before.before.before.before.before.before.before.before.before in
+    let k = at-start.requires in
+    omega arith
 
 add-depth : tie.Need-overflow-add-depth
-add-depth c = search rules
+add-depth c =
+    let at-start = c.before.before.before.before.before.before.before.before.before in
+    let k = at-start.requires in
+    omega arith
 
 mul-depth : tie.Need-overflow-mul-depth
-mul-depth c = search rules
+mul-depth c =
+    let at-start = c.before.before.before.before.before.before.before.before.before in
+    let k = at-start.requires in
+    omega arith
 
 shared-slice-read-depth : tie.Need-shared-slice-read-depth
-shared-slice-read-depth c = search rules
+shared-slice-read-depth c =
+    let at-start = c.before.before.before.before.before.before.before.before.before.before in
+    let k = at-start.requires in
+    omega arith
 
 cast-depth : tie.Need-overflow-cast-depth
-cast-depth c = search rules
+cast-depth c =
+    let at-start = c.before.before.before.before.before.before.before.before.before.before in
+    let k = at-start.requires in
+    omega arith
 
-add-t16 : tie.Need-overflow-add-t16
-add-t16 c = let k = c.before.before.before.before.before.before.before.before.before.before.before.before.requires in let o = own_is _ _ _ _ _ _ c.before.before.before.before.before.before.header.ensures c.before.before.before.before.before.temporary-count.ensures c.before.before.before.before.home_at.ensures c.before.before.own_count.ensures c.before.before.before.before.before.before.before.before.before.before.before.before.requires.own in omega (arith, c.before.before.before.first-temporary.ensures)
+add-t14 : tie.Need-overflow-add-t14
+add-t14 c =
+    let at-temporary-count = c.before.before.before in
+    let at-header = at-temporary-count.before in
+    let at-start = at-header.before.before.before.before.before.before in
+    let k = at-start.requires in
+    omega (arith, at-temporary-count.temporary-count.ensures, at-header.header.ensures, c.before.before.first-temporary.ensures)
 
 returns : tie.Need-returns
-returns c = entered _ _ _ _ _ _ c.before.before.before.before.before.before.before.code_of_lem.result _ _ _ _ _ c.before.before.before.before.before.before.before.code_of_lem.ensures c.before.before.before.before.before.before.header.ensures c.before.before.before.before.before.temporary-count.ensures c.before.before.before.before.home_at.ensures c.before.before.own_count.ensures c.before.before.before.before.before.before.before.before.before.before.before.before.requires.own (let e = c.before.before.before.first-temporary.ensures in omega arith)
+returns c =
+    let at-temporary-count = c.before.before.before in
+    let at-header = at-temporary-count.before in
+    let at-code-of = at-header.before in
+    entered _ _ _ _ _ _ at-code-of.code_of_lem.result _ _ _ at-code-of.code_of_lem.ensures at-header.header.ensures at-temporary-count.temporary-count.ensures (let e = c.before.before.first-temporary.ensures in omega arith)
 
 pub hold-spec : {M : Type 1} → statement M
 hold-spec =
@@ -81,9 +121,7 @@ hold-spec =
     code-of-requires
     header-requires
     temporary-count-requires
-    home-at-requires
     first-temporary-requires
-    own-count-requires
     add-operands
     add-position-2
     mul-position-2
@@ -93,5 +131,5 @@ hold-spec =
     mul-depth
     shared-slice-read-depth
     cast-depth
-    add-t16
+    add-t14
     returns)

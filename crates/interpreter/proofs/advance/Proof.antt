@@ -1,6 +1,5 @@
-use mathlib.Core.Logic.{inl, inr}
 use native.Mathlib.Omega.{arith}
-use Rattle.interpreter.proofs.Advancing.{not_valued, not_pushed, went_on, leaves_halt, halted, leaves_return, finishes, return_runs, returned_below, sent_low, can_send, answers, enters, leaves_stopped, stops, leaves_missed, misses}
+use Rattle.interpreter.proofs.Advancing.{went_on, leaves_halt, halted, leaves_return, finishes, return_runs, returned_below, sent_low, can_send, answers, enters, leaves_stopped, stops, leaves_missed, misses}
 use mathlib.Core.Path.{◌∙◌}
 use borrow.Author.Rules.{rules}
 use Rattle.interpreter.proofs.advance.Statement.{statement}
@@ -27,8 +26,8 @@ send-requires c κs =
 enum-known-objects : tie.Need-enum-known-objects
 enum-known-objects c = search rules
 
-sub-t44 : tie.Need-overflow-sub-t44
-sub-t44 c =
+sub-t41 : tie.Need-overflow-sub-t41
+sub-t41 c =
     let at-message = c.before.before.before.before.before.before.before.before.before.before.before.before.before.before.before.before.before.before.before.before in
     let at-step = at-message.before.before.before.before.before.before in
     let at-start = at-step.before.before.before.before.before.before.before.before in
@@ -66,7 +65,7 @@ leave-requires-3 : tie.Need-leave-requires-3
 leave-requires-3 c κs =
     let at-step = c.before.before.before.before.before.before.before.before in
     let at-start = at-step.before.before.before.before.before.before.before.before in
-    leaves_return at-start.requires.0 at-step.step.new.1.0 at-step.step.new.1.1.0 at-step.step.result at-step.step.ensures _ (inl c.before.before.w.given.1)
+    leaves_return at-start.requires.0 at-step.step.new.1.0 at-step.step.new.1.1.0 at-step.step.result at-step.step.ensures _ c.before.before.w.given.1
 
 same_length : tie.Need-same-length
 same_length c = search rules
@@ -83,7 +82,7 @@ returns c =
     let at-w = at-leave3.before.before.before in
     let at-step = at-w.before.before.before.before.before.before in
     let at-start = at-step.before.before.before.before.before.before.before.before in
-    finishes at-start.requires.0 at-step.step.new.1.0 at-step.step.new.1.1.0 at-step.step.result at-step.step.ensures _ (inl at-w.w.given.1) _ at-leave3.leave3.ensures _ c.if1.true at-start.args.edition
+    finishes at-start.requires.0 at-step.step.new.1.0 at-step.step.new.1.1.0 at-step.step.result at-step.step.ensures _ at-w.w.given.1 _ at-leave3.leave3.ensures _ c.if1.true at-start.args.edition
 
 return-to-requires : tie.Need-return-to-requires
 return-to-requires c κs =
@@ -91,15 +90,16 @@ return-to-requires c κs =
     let at-w = at-leave3.before.before.before in
     let at-step = at-w.before.before.before.before.before.before in
     let at-start = at-step.before.before.before.before.before.before.before.before in
-    (return_runs at-start.requires.0 at-step.step.new.1.0 at-step.step.new.1.1.0 at-step.step.result at-step.step.ensures _ (inl at-w.w.given.1) _ at-leave3.leave3.ensures, (let h = c.before.before.before.if1.false in omega arith))
+    (return_runs at-start.requires.0 at-step.step.new.1.0 at-step.step.new.1.1.0 at-step.step.result at-step.step.ensures _ at-w.w.given.1 _ at-leave3.leave3.ensures, (let h = c.before.before.before.if1.false in omega arith))
 
-enum-known-w-2 : tie.Need-enum-known-w-2
-enum-known-w-2 c = search rules
+enum-known-k : tie.Need-enum-known-k
+enum-known-k c = search rules
 
 leave-requires-4 : tie.Need-leave-requires-4
-leave-requires-4 c κs = let at-step = c.before.before.before.before.before.before.before.before in
+leave-requires-4 c κs =
+    let at-step = c.before.before.before.before.before.before.before.before in
     let at-start = at-step.before.before.before.before.before.before.before.before in
-    leaves_return at-start.requires.0 at-step.step.new.1.0 at-step.step.new.1.1.0 at-step.step.result at-step.step.ensures _ (inr c.before.before.w2.given.1)
+    leaves_halt at-start.requires.0 at-step.step.new.1.0 at-step.step.new.1.1.0 at-step.step.result at-step.step.ensures _ c.before.before.k.given.1
 
 same-length-4 : tie.Need-same-length-4
 same-length-4 c = search rules
@@ -111,33 +111,10 @@ same-length-6 : tie.Need-same-length-6
 same-length-6 c = search rules
 
 returns-2 : tie.Need-returns-2
-returns-2 c = let at-leave4 = c.before.before.before.before in
-    let at-w2 = at-leave4.before.before.before in
-    let at-step = at-w2.before.before.before.before.before.before in
+returns-2 c =
+    let at-step = c.before.before.before.before.before.before.before in
     let at-start = at-step.before.before.before.before.before.before.before.before in
-    finishes at-start.requires.0 at-step.step.new.1.0 at-step.step.new.1.1.0 at-step.step.result at-step.step.ensures _ (inr at-w2.w2.given.1) _ at-leave4.leave4.ensures _ c.if2.true at-start.args.edition
-
-return-to-requires-2 : tie.Need-return-to-requires-2
-return-to-requires-2 c κs = let at-leave4 = c.before.before.before.before.before.before.before in
-    let at-w2 = at-leave4.before.before.before in
-    let at-step = at-w2.before.before.before.before.before.before in
-    let at-start = at-step.before.before.before.before.before.before.before.before in
-    (return_runs at-start.requires.0 at-step.step.new.1.0 at-step.step.new.1.1.0 at-step.step.result at-step.step.ensures _ (inr at-w2.w2.given.1) _ at-leave4.leave4.ensures, (let h = c.before.before.before.if2.false in omega arith))
-
-enum-told-3 : tie.Need-enum-told-3
-enum-told-3 c = search rules
-
-enum-told-4 : tie.Need-enum-told-4
-enum-told-4 c = search rules
-
-enum-known-k : tie.Need-enum-known-k
-enum-known-k c = search rules
-
-leave-requires-5 : tie.Need-leave-requires-5
-leave-requires-5 c κs =
-    let at-step = c.before.before.before.before.before.before.before.before in
-    let at-start = at-step.before.before.before.before.before.before.before.before in
-    leaves_halt at-start.requires.0 at-step.step.new.1.0 at-step.step.new.1.1.0 at-step.step.result at-step.step.ensures _ c.before.before.k.given.1
+    went_on at-start.requires.0 at-step.step.new.1.0 at-step.step.new.1.1.0 at-step.step.result at-step.step.ensures _ _ _ c.before.position.given.1 at-start.args.edition
 
 same-length-7 : tie.Need-same-length-7
 same-length-7 c = search rules
@@ -148,26 +125,11 @@ same-length-8 c = search rules
 same-length-9 : tie.Need-same-length-9
 same-length-9 c = search rules
 
-returns-3 : tie.Need-returns-3
-returns-3 c =
-    let at-step = c.before.before.before.before.before.before.before in
-    let at-start = at-step.before.before.before.before.before.before.before.before in
-    went_on at-start.requires.0 at-step.step.new.1.0 at-step.step.new.1.1.0 at-step.step.result at-step.step.ensures _ _ _ c.before.position.given.1 at-start.args.edition
-
 same-length-10 : tie.Need-same-length-10
 same-length-10 c = search rules
 
-same-length-11 : tie.Need-same-length-11
-same-length-11 c = c.before.before.before.before.before.before.before.before.before.before.before.before.before.before.send.auto.1.0 ∙ c.before.before.before.before.before.before.before.before.before.before.before.before.before.before.before.before.before.before.before.before.before.before.before.before.before.before.step.auto.1.0
-
-same-length-12 : tie.Need-same-length-12
-same-length-12 c = search rules
-
-same-length-13 : tie.Need-same-length-13
-same-length-13 c = search rules
-
-returns-4 : tie.Need-returns-4
-returns-4 c =
+returns-3 : tie.Need-returns-3
+returns-3 c =
     let at-objects = c.before.before.before.before in
     let at-send = at-objects.before.before.before.before.before.before.before.before.before.before in
     let at-message = at-send.before.before.before.before.before.before in
@@ -175,28 +137,49 @@ returns-4 c =
     let at-start = at-step.before.before.before.before.before.before.before.before in
     answers at-start.requires.0 at-step.step.new.1.0 at-step.step.new.1.1.0 at-step.step.result at-step.step.ensures _ at-message.message.given.1 at-start.args.edition at-start.args.cache.now at-send.send.new.0 at-send.send.new.1.0 at-send.send.new.1.1.0 at-send.send.new.1.1.1.0 at-send.send.result at-send.send.ensures _ _ _ at-objects.objects.given.1
 
+same-length-11 : tie.Need-same-length-11
+same-length-11 c = search rules
+
+same-length-12 : tie.Need-same-length-12
+same-length-12 c =
+    let at-send = c.before.before.before.before.before.before.before.before.before.before.before in
+    let at-step = at-send.before.before.before.before.before.before.before.before.before.before.before.before in
+    at-send.send.auto.1.0 ∙ at-step.step.auto.1.0
+
+same-length-13 : tie.Need-same-length-13
+same-length-13 c = search rules
+
 same-length-14 : tie.Need-same-length-14
 same-length-14 c = search rules
 
-same-length-15 : tie.Need-same-length-15
-same-length-15 c = c.before.before.before.before.before.before.before.before.before.before.before.send.auto.1.0 ∙ c.before.before.before.before.before.before.before.before.before.before.before.before.before.before.before.before.before.before.before.before.before.before.before.step.auto.1.0
-
-same-length-16 : tie.Need-same-length-16
-same-length-16 c = c.before.before.before.before.before.before.before.before.before.before.before.send.auto.1.1.0 ∙ c.before.before.before.before.before.before.before.before.before.before.before.before.before.before.before.before.before.before.before.before.before.before.before.step.auto.1.1.0
-
-same-length-17 : tie.Need-same-length-17
-same-length-17 c = search rules
-
-returns-5 : tie.Need-returns-5
-returns-5 c =
+returns-4 : tie.Need-returns-4
+returns-4 c =
     let at-send = c.before.before.before.before.before.before.before.before.before.before.before in
     let at-message = at-send.before.before.before.before.before.before in
     let at-step = at-message.before.before.before.before.before.before in
     let at-start = at-step.before.before.before.before.before.before.before.before in
     enters at-start.requires.0 at-step.step.new.1.0 at-step.step.new.1.1.0 at-step.step.result at-step.step.ensures _ at-message.message.given.1 at-start.args.edition at-start.args.cache.now at-send.send.new.0 at-send.send.new.1.0 at-send.send.new.1.1.0 at-send.send.new.1.1.1.0 at-send.send.result at-send.send.ensures _ _ _ c.before.frame.given.1
 
+same-length-15 : tie.Need-same-length-15
+same-length-15 c = search rules
+
+same-length-16 : tie.Need-same-length-16
+same-length-16 c = search rules
+
+same-length-17 : tie.Need-same-length-17
+same-length-17 c = search rules
+
 same-length-18 : tie.Need-same-length-18
 same-length-18 c = search rules
+
+returns-5 : tie.Need-returns-5
+returns-5 c =
+    let at-enum-told = c.before.before.before.before in
+    let at-send = at-enum-told.before.before.before.before.before.before.before.before.before.before in
+    let at-message = at-send.before.before.before.before.before.before in
+    let at-step = at-message.before.before.before.before.before.before in
+    let at-start = at-step.before.before.before.before.before.before.before.before in
+    stops at-start.requires.0 at-step.step.new.1.0 at-step.step.new.1.1.0 at-step.step.result at-step.step.ensures _ at-message.message.given.1 at-start.args.edition at-start.args.cache.now at-send.send.new.0 at-send.send.new.1.0 at-send.send.new.1.1.0 at-send.send.new.1.1.1.0 at-send.send.result at-send.send.ensures at-enum-told.enum_told.given.1 _ c.before.before.leave.ensures
 
 same-length-19 : tie.Need-same-length-19
 same-length-19 c = search rules
@@ -207,17 +190,17 @@ same-length-20 c = search rules
 same-length-21 : tie.Need-same-length-21
 same-length-21 c = search rules
 
+same-length-22 : tie.Need-same-length-22
+same-length-22 c = search rules
+
 returns-6 : tie.Need-returns-6
 returns-6 c =
-    let at-enum-told = c.before.before.before.before in
-    let at-send = at-enum-told.before.before.before.before.before.before.before.before.before.before in
+    let at-enum-told2 = c.before.before.before.before in
+    let at-send = at-enum-told2.before.before.before.before.before.before.before.before.before.before in
     let at-message = at-send.before.before.before.before.before.before in
     let at-step = at-message.before.before.before.before.before.before in
     let at-start = at-step.before.before.before.before.before.before.before.before in
-    stops at-start.requires.0 at-step.step.new.1.0 at-step.step.new.1.1.0 at-step.step.result at-step.step.ensures _ at-message.message.given.1 at-start.args.edition at-start.args.cache.now at-send.send.new.0 at-send.send.new.1.0 at-send.send.new.1.1.0 at-send.send.new.1.1.1.0 at-send.send.result at-send.send.ensures at-enum-told.enum_told.given.1 _ c.before.before.leave.ensures
-
-same-length-22 : tie.Need-same-length-22
-same-length-22 c = search rules
+    misses at-start.requires.0 at-step.step.new.1.0 at-step.step.new.1.1.0 at-step.step.result at-step.step.ensures _ at-message.message.given.1 at-start.args.edition at-start.args.cache.now at-send.send.new.0 at-send.send.new.1.0 at-send.send.new.1.1.0 at-send.send.new.1.1.1.0 at-send.send.result at-send.send.ensures at-enum-told2.enum-told2.given.1 _ c.before.before.leave2.ensures
 
 same-length-23 : tie.Need-same-length-23
 same-length-23 c = search rules
@@ -230,12 +213,12 @@ same-length-25 c = search rules
 
 returns-7 : tie.Need-returns-7
 returns-7 c =
-    let at-enum-told2 = c.before.before.before.before in
-    let at-send = at-enum-told2.before.before.before.before.before.before.before.before.before.before in
-    let at-message = at-send.before.before.before.before.before.before in
-    let at-step = at-message.before.before.before.before.before.before in
+    let at-if1 = c.before.before.before.before.before.before in
+    let at-leave3 = at-if1.before.before.before.before in
+    let at-w = at-leave3.before.before.before in
+    let at-step = at-w.before.before.before.before.before.before in
     let at-start = at-step.before.before.before.before.before.before.before.before in
-    misses at-start.requires.0 at-step.step.new.1.0 at-step.step.new.1.1.0 at-step.step.result at-step.step.ensures _ at-message.message.given.1 at-start.args.edition at-start.args.cache.now at-send.send.new.0 at-send.send.new.1.0 at-send.send.new.1.1.0 at-send.send.new.1.1.1.0 at-send.send.result at-send.send.ensures at-enum-told2.enum-told2.given.1 _ c.before.before.leave2.ensures
+    returned_below at-start.requires.0 at-step.step.new.1.0 at-step.step.new.1.1.0 at-step.step.result at-step.step.ensures _ at-w.w.given.1 _ at-leave3.leave3.ensures (let h = at-if1.if1.false in omega arith) _ c.before.before.return-to.result c.before.before.return-to.ensures _ at-start.args.edition
 
 same-length-26 : tie.Need-same-length-26
 same-length-26 c = search rules
@@ -248,69 +231,10 @@ same-length-28 c = search rules
 
 returns-8 : tie.Need-returns-8
 returns-8 c =
-    let at-if1 = c.before.before.before.before.before.before in
-    let at-leave3 = at-if1.before.before.before.before in
-    let at-w = at-leave3.before.before.before in
-    let at-step = at-w.before.before.before.before.before.before in
-    let at-start = at-step.before.before.before.before.before.before.before.before in
-    returned_below at-start.requires.0 at-step.step.new.1.0 at-step.step.new.1.1.0 at-step.step.result at-step.step.ensures _ (inl at-w.w.given.1) _ at-leave3.leave3.ensures (let h = at-if1.if1.false in omega arith) _ c.before.before.return-to.result c.before.before.return-to.ensures _ at-start.args.edition
-
-same-length-29 : tie.Need-same-length-29
-same-length-29 c = search rules
-
-same-length-30 : tie.Need-same-length-30
-same-length-30 c = search rules
-
-same-length-31 : tie.Need-same-length-31
-same-length-31 c = search rules
-
-returns-9 : tie.Need-returns-9
-returns-9 c = let at-if2 = c.before.before.before.before.before.before in
-    let at-leave4 = at-if2.before.before.before.before in
-    let at-w2 = at-leave4.before.before.before in
-    let at-step = at-w2.before.before.before.before.before.before in
-    let at-start = at-step.before.before.before.before.before.before.before.before in
-    returned_below at-start.requires.0 at-step.step.new.1.0 at-step.step.new.1.1.0 at-step.step.result at-step.step.ensures _ (inr at-w2.w2.given.1) _ at-leave4.leave4.ensures (let h = at-if2.if2.false in omega arith) _ c.before.before.return-to2.result c.before.before.return-to2.ensures _ at-start.args.edition
-
-same-length-32 : tie.Need-same-length-32
-same-length-32 c = search rules
-
-same-length-33 : tie.Need-same-length-33
-same-length-33 c = search rules
-
-same-length-34 : tie.Need-same-length-34
-same-length-34 c = search rules
-
-returns-10 : tie.Need-returns-10
-returns-10 c = absurd (not_valued c.before.before.before.before.before.before.before.before.before.before.before.before.before.before.requires.0 c.before.before.before.before.before.before.step.new.1.0 c.before.before.before.before.before.before.step.new.1.1.0 c.before.before.before.before.before.before.step.result c.before.before.before.before.before.before.step.ensures _ _ _ c.enum-told3.given.1)
-
-same-length-35 : tie.Need-same-length-35
-same-length-35 c = search rules
-
-same-length-36 : tie.Need-same-length-36
-same-length-36 c = search rules
-
-same-length-37 : tie.Need-same-length-37
-same-length-37 c = search rules
-
-returns-11 : tie.Need-returns-11
-returns-11 c = absurd (not_pushed c.before.before.before.before.before.before.before.before.before.before.before.before.before.before.requires.0 c.before.before.before.before.before.before.step.new.1.0 c.before.before.before.before.before.before.step.new.1.1.0 c.before.before.before.before.before.before.step.result c.before.before.before.before.before.before.step.ensures _ _ _ c.enum-told4.given.1)
-
-same-length-38 : tie.Need-same-length-38
-same-length-38 c = search rules
-
-same-length-39 : tie.Need-same-length-39
-same-length-39 c = search rules
-
-same-length-40 : tie.Need-same-length-40
-same-length-40 c = search rules
-
-returns-12 : tie.Need-returns-12
-returns-12 c =
     let at-k = c.before.before.before.before.before in
     let at-step = at-k.before.before.before.before.before.before in
     let at-start = at-step.before.before.before.before.before.before.before.before in
-    halted at-start.requires.0 at-step.step.new.1.0 at-step.step.new.1.1.0 at-step.step.result at-step.step.ensures _ at-k.k.given.1 _ _ c.before.before.leave5.ensures at-start.args.edition
+    halted at-start.requires.0 at-step.step.new.1.0 at-step.step.new.1.1.0 at-step.step.result at-step.step.ensures _ at-k.k.given.1 _ _ c.before.before.leave4.ensures at-start.args.edition
 
 pub advance-spec : {M : Type 1} → statement M
 advance-spec =
@@ -321,7 +245,7 @@ advance-spec =
     enum-known-message
     send-requires
     enum-known-objects
-    sub-t44
+    sub-t41
     enum-known-frame
     enum_told
     leave-requires
@@ -334,37 +258,32 @@ advance-spec =
     same-length-3
     returns
     return-to-requires
-    enum-known-w-2
+    enum-known-k
     leave-requires-4
     same-length-4
     same-length-5
     same-length-6
     returns-2
-    return-to-requires-2
-    enum-told-3
-    enum-told-4
-    enum-known-k
-    leave-requires-5
     same-length-7
     same-length-8
     same-length-9
-    returns-3
     same-length-10
+    returns-3
     same-length-11
     same-length-12
     same-length-13
-    returns-4
     same-length-14
+    returns-4
     same-length-15
     same-length-16
     same-length-17
-    returns-5
     same-length-18
+    returns-5
     same-length-19
     same-length-20
     same-length-21
-    returns-6
     same-length-22
+    returns-6
     same-length-23
     same-length-24
     same-length-25
@@ -372,20 +291,4 @@ advance-spec =
     same-length-26
     same-length-27
     same-length-28
-    returns-8
-    same-length-29
-    same-length-30
-    same-length-31
-    returns-9
-    same-length-32
-    same-length-33
-    same-length-34
-    returns-10
-    same-length-35
-    same-length-36
-    same-length-37
-    returns-11
-    same-length-38
-    same-length-39
-    same-length-40
-    returns-12)
+    returns-8)

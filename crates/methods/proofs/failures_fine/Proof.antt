@@ -15,7 +15,7 @@ takes-count-requires : tie.Need-takes-count-requires
 takes-count-requires c κs = search rules
 
 returns-2 : tie.Need-returns-2
-returns-2 c = λ o h. c.takes_count.ensures o h refl ∙ by_failures c.before.before.before.before.args.edition o (sym c.before.before.has-messages.ensures ∙ not-false _ c.before.if1.false)
+returns-2 c = λ o h. c.Takes-count.ensures o h refl ∙ by_failures c.before.before.before.before.args.edition o (sym c.before.before.has-messages.ensures ∙ not-false _ c.before.if1.false)
 
 pub failures-fine-spec : {M : Type 1} → statement M
 failures-fine-spec = tie.close (tie.spec has-messages-requires returns takes-count-requires returns-2)

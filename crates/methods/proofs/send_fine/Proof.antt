@@ -24,7 +24,7 @@ returns-2 : tie.Need-returns-2
 returns-2 c =
     let args = c.before.before.before.before.before.before.args in
     by_count args.n args.b args.contents.now args.bodies.now args.counts.now c.before.before.before.before.before.before.requires args.selector args.arguments
-    (sym (c.before.before.is-nil-or.ensures args.b args.bodies.now) ∙ not-false _ c.before.if1.false) c.takes_count.ensures
+    (sym (c.before.before.is-nil-or.ensures args.b args.bodies.now) ∙ not-false _ c.before.if1.false) c.Takes-count.ensures
 
 pub send-fine-spec : {M : Type 1} → statement M
 send-fine-spec = tie.close (tie.spec is-nil-or-requires returns takes-count-requires returns-2)

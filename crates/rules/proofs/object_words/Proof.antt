@@ -5,10 +5,9 @@ use native.Mathlib.Omega.{arith}
 use borrow.Author.Tests.{not-true, not-false}
 use Rattle.bytecode.specs.Test.{every}
 use Rattle.model.specs.Word.{is_valid}
-use Rattle.model.specs.Objects.{objects_at, kind, start, body_words, part}
-use Rattle.model.specs.Rules.{holds_words}
+use Rattle.model.specs.Objects.{objects_at, sized_in_bytes, start, body_words, part}
 use Rattle.readers.proofs.Bodies.{body_plain, body_part}
-use Rattle.rules.proofs.Laid.{words_no, words_other, words_all, words_sized}
+use Rattle.rules.proofs.Laid.{words_no, words_bytes, words_all}
 use borrow.Author.Rules.{rules}
 use Rattle.rules.proofs.object_words.Statement.{statement}
 use Rattle.rules.proofs.object_words.Tie as tie
@@ -28,8 +27,8 @@ returns c =
 kind-requires : tie.Need-kind-requires
 kind-requires c κs = search rules
 
-holds-words-requires : tie.Need-holds-words-requires
-holds-words-requires c κs = search rules
+in-bytes-requires : tie.Need-in-bytes-requires
+in-bytes-requires c κs = search rules
 
 returns-2 : tie.Need-returns-2
 returns-2 c =
@@ -38,9 +37,9 @@ returns-2 c =
     let at-class-word = at-is-valid.before in
     let at-start = at-class-word.before.before.before in
     let a = at-start.args in
-    words_other (objects_at a.n a.b a.contents.now a.bodies.now) a.k (ap (is_valid a.n) (sym at-class-word.class-word.ensures)
-    ∙ sym at-is-valid.is-valid.ensures ∙ not-false _ at-if1.if1.false) (ap holds_words (sym c.before.before.kind.ensures)
-    ∙ sym c.before.holds-words.ensures ∙ not-true _ c.if2.true)
+    words_bytes (objects_at a.n a.b a.contents.now a.bodies.now) a.k (ap (is_valid a.n) (sym at-class-word.class-word.ensures)
+    ∙ sym at-is-valid.is-valid.ensures ∙ not-false _ at-if1.if1.false) (ap sized_in_bytes (sym c.before.before.kind.ensures)
+    ∙ sym c.before.in_bytes.ensures ∙ c.if2.true)
 
 start-requires : tie.Need-start-requires
 start-requires c κs = search rules
@@ -74,7 +73,7 @@ part-valid-words-end c =
     let p = at-start.requires in
     let o = objects_at a.n a.b a.contents.now a.bodies.now in
     let h = p.0.inside a.k p.1.0 p.1.1 in
-    let w = body_plain o a.k (words_sized (kind o a.k) (ap holds_words (sym at_kind.kind.ensures) ∙ sym c.before.before.before.holds-words.ensures ∙ not-false _ c.before.before.if2.false)) in
+    let w = body_plain o a.k (ap sized_in_bytes (sym at_kind.kind.ensures) ∙ sym c.before.before.before.in_bytes.ensures ∙ c.before.before.if2.false) in
     let s = c.before.start.ensures in
     let z = c.size.ensures in
     let l = p.0.words in
@@ -88,8 +87,8 @@ returns-3 c =
     let at_size = c.before.before in
     let at-start = at_size.before in
     let at-if2 = at-start.before in
-    let at-holds-words = at-if2.before in
-    let at_kind = at-holds-words.before in
+    let at-in-bytes = at-if2.before in
+    let at_kind = at-in-bytes.before in
     let at-if1 = at_kind.before in
     let at-is-valid = at-if1.before in
     let at-class-word = at-is-valid.before in
@@ -98,8 +97,8 @@ returns-3 c =
     let p = at-start'.requires in
     let o = objects_at a.n a.b a.contents.now a.bodies.now in
     let g = p.0.inside a.k p.1.0 p.1.1 in
-    let t = ap holds_words (sym at_kind.kind.ensures) ∙ sym at-holds-words.holds-words.ensures ∙ not-false _ at-if2.if2.false in
-    let w = body_plain o a.k (words_sized (kind o a.k) t) in
+    let t = ap sized_in_bytes (sym at_kind.kind.ensures) ∙ sym at-in-bytes.in_bytes.ensures ∙ at-if2.if2.false in
+    let w = body_plain o a.k t in
     let s = at-start.start.ensures in
     let z = at_size.size.ensures in
     let count : at-start.start.result + at_size.size.result - at-start.start.result ≡ body_words o a.k = omega arith in
@@ -114,7 +113,7 @@ object-words-spec =
     is-valid-requires
     returns
     kind-requires
-    holds-words-requires
+    in-bytes-requires
     returns-2
     start-requires
     cast-from

@@ -128,8 +128,7 @@ returns-4 c =
         limit = at-code-of.code_of_lem.ensures.end;
         operands = ap₂ ◌+◌ c.first-temporary.ensures h;
         position = refl;
-        ends = omega arith;
-        home = refl;
+        none = refl;
       };
     }
 

@@ -208,7 +208,7 @@ returns-4 c =
     let at-found = at-acted.before.before.before.before.before.before.before.before.before.before in
     let at-cached = at-found.before.before in
     let at-start = at-cached.before.before.before.before.before.before.before.before.before in
-    made_frame at-start.requires.0 at-start.requires.1 _ (sym at-cached.cached.ensures.finds ∙ at-found.found.given.1) at-start.args.edition at-start.args.cache.now at-acted.acted.new.0 at-acted.acted.new.1.0 at-acted.acted.result at-acted.acted.ensures at-enum-told3.enum-told3.given.1 at-new-frame.new-frame.result at-new-frame.new-frame.ensures _ _ _ at-fit.fit.given.1 at-start.requires.3 _ _ at-make-frame.make-frame.ensures at-cached.cached.ensures.reads c.before.before.fill2.ensures
+    made_frame at-start.requires.0 at-start.requires.1 _ (sym at-cached.cached.ensures.finds ∙ at-found.found.given.1) at-start.args.edition at-start.args.cache.now at-acted.acted.new.0 at-acted.acted.new.1.0 at-acted.acted.result at-acted.acted.ensures at-enum-told3.enum-told3.given.1 at-new-frame.new-frame.result at-new-frame.new-frame.ensures _ _ _ at-fit.fit.given.1 _ _ at-make-frame.make-frame.ensures at-cached.cached.ensures.reads c.before.before.fill2.ensures
 
 same-length-16 : tie.Need-same-length-16
 same-length-16 c = search rules

@@ -3,7 +3,7 @@ use native.Mathlib.Omega.{arith}
 use Rattle.bytecode.specs.declared.Place.TheVariants.{Field, Temporary, Literal, LiteralVariable}
 use Rattle.frames.proofs.ActiveLaws.{ends}
 use Rattle.steps.proofs.PlaceLaws.{read_as}
-use Rattle.steps.proofs.DoingLaws.{home_low, push_as, field_there, field_reads, temporary_there, temporary_reads, literal_lies, literal_reads, variable_lies, variable_there, variable_reads}
+use Rattle.steps.proofs.DoingLaws.{push_as, field_there, field_reads, temporary_there, temporary_reads, literal_lies, literal_reads, variable_lies, variable_there, variable_reads}
 use borrow.Author.Rules.{rules}
 use Rattle.steps.proofs.read.Statement.{statement}
 use Rattle.steps.proofs.read.Tie as tie
@@ -37,7 +37,8 @@ enum-known-place-2 c = search rules
 first-temporary-requires : tie.Need-first-temporary-requires
 first-temporary-requires c κs =
     let at-start = c.before.before.before.before.before.before in
-    home_low at-start.requires.active
+    let k = ends at-start.requires.active in
+    omega arith
 
 add_at : tie.Need-overflow-add-at
 add_at c =
@@ -117,25 +118,25 @@ returns : tie.Need-returns
 returns c =
     let at_place = c.before.before.before in
     let at-start = at_place.before.before.before.before.before in
-    read_as _ _ _ at_place.place.given.1 (field_reads (push_as at-start.requires (Field _) at_place.place.given.1) _ c.word_of.ensures)
+    read_as _ _ at_place.place.given.1 (field_reads (push_as at-start.requires (Field _) at_place.place.given.1) _ c.word_of.ensures)
 
 returns-2 : tie.Need-returns-2
 returns-2 c =
     let at-place2 = c.before.before.before in
     let at-start = at-place2.before.before.before.before.before in
-    read_as _ _ _ at-place2.place2.given.1 (temporary_reads (push_as at-start.requires (Temporary _) at-place2.place2.given.1) _ (let f = c.before.first-temporary.ensures in omega arith))
+    read_as _ _ at-place2.place2.given.1 (temporary_reads (push_as at-start.requires (Temporary _) at-place2.place2.given.1) _ (let f = c.before.first-temporary.ensures in omega arith))
 
 returns-3 : tie.Need-returns-3
 returns-3 c =
     let at-place3 = c.before.before.before in
     let at-start = at-place3.before.before.before.before.before in
-    read_as _ _ _ at-place3.place3.given.1 (literal_reads (push_as at-start.requires (Literal _) at-place3.place3.given.1) _ c.literal.ensures)
+    read_as _ _ at-place3.place3.given.1 (literal_reads (push_as at-start.requires (Literal _) at-place3.place3.given.1) _ c.literal.ensures)
 
 returns-4 : tie.Need-returns-4
 returns-4 c =
     let at-place4 = c.before.before.before.before in
     let at-start = at-place4.before.before.before.before.before in
-    read_as _ _ _ at-place4.place4.given.1 (variable_reads (push_as at-start.requires (LiteralVariable _) at-place4.place4.given.1) _ _ c.before.literal2.ensures c.word-of2.ensures)
+    read_as _ _ at-place4.place4.given.1 (variable_reads (push_as at-start.requires (LiteralVariable _) at-place4.place4.given.1) _ _ c.before.literal2.ensures c.word-of2.ensures)
 
 pub read_spec : {M : Type 1} → statement M
 read_spec =

@@ -1,9 +1,8 @@
 -- By the number of the send.
 use native.Mathlib.Omega.{arith}
 use mathlib.Core.Path.{refl}
-use mathlib.Core.Logic.{inl, inr}
 use Rattle.frames.proofs.ActiveLaws.{ends}
-use Rattle.steps.proofs.DoingLaws.{special_below, special_one, special_inside, special_valid, entries_room, same_two_there, same_done, class_done, special_done, value_none, value_one}
+use Rattle.steps.proofs.DoingLaws.{special_below, special_one, special_inside, special_valid, entries_room, same_two_there, same_done, class_done, special_done}
 use borrow.Author.Rules.{rules}
 use Rattle.steps.proofs.special_send.Statement.{statement}
 use Rattle.steps.proofs.special_send.Tie as tie
@@ -73,42 +72,25 @@ same-length-2 c = search rules
 returns-2 : tie.Need-returns-2
 returns-2 c = class_done c.before.before.before.before.before.before.before.requires.0 c.before.if2.true _ _ _ _ refl (c.class_of.ensures _ _) refl refl
 
-value-send-requires : tie.Need-value-send-requires
-value-send-requires c κs = record { doing = c.before.before.before.before.before.before.before.before.requires.0; value = inl c.before.if3.true; counts = value_none c.before.if3.true }
+word-of-requires : tie.Need-word-of-requires
+word-of-requires c κs = special_inside c.before.before.before.before.before.before.requires.0
+
+special-count-requires : tie.Need-special-count-requires
+special-count-requires c κs =
+    let at-start = c.before.before.before.before.before.before.before in
+    (at-start.requires.1, special_below at-start.requires.0)
+
+sent-requires : tie.Need-sent-requires
+sent-requires c κs =
+    let at-if1 = c.before.before.before.before in
+    let at-start = at-if1.before.before.before.before.before in
+    special_done at-start.requires.0 _ _ at-start.requires.1 at-if1.if1.false c.before.before.before.if2.false c.before.before.word_of.ensures c.before.special-count.ensures
 
 same-length-3 : tie.Need-same-length-3
 same-length-3 c = search rules
 
 returns-3 : tie.Need-returns-3
 returns-3 c = search rules
-
-value-send-requires-2 : tie.Need-value-send-requires-2
-value-send-requires-2 c κs = record { doing = c.before.before.before.before.before.before.before.before.before.requires.0; value = inr c.before.if4.true; counts = value_one c.before.if4.true }
-
-same-length-4 : tie.Need-same-length-4
-same-length-4 c = search rules
-
-returns-4 : tie.Need-returns-4
-returns-4 c = search rules
-
-word-of-requires : tie.Need-word-of-requires
-word-of-requires c κs = special_inside c.before.before.before.before.before.before.before.before.requires.0
-
-special-count-requires : tie.Need-special-count-requires
-special-count-requires c κs = let at-start = c.before.before.before.before.before.before.before.before.before in (at-start.requires.1, special_below at-start.requires.0)
-
-sent-requires : tie.Need-sent-requires
-sent-requires c κs = let at-if4 = c.before.before.before in
-    let at-if1 = at-if4.before.before.before in
-    let at-start = at-if1.before.before.before.before.before in
-    special_done at-start.requires.0 _ _ at-start.requires.1 at-if1.if1.false at-if4.before.before.if2.false at-if4.before.if3.false at-if4.if4.false
-    c.before.before.word_of.ensures c.before.special-count.ensures
-
-same-length-5 : tie.Need-same-length-5
-same-length-5 c = search rules
-
-returns-5 : tie.Need-returns-5
-returns-5 c = search rules
 
 pub special-send-spec : {M : Type 1} → statement M
 special-send-spec =
@@ -133,14 +115,8 @@ special-send-spec =
     slice-write-stack-2
     same-length-2
     returns-2
-    value-send-requires
-    same-length-3
-    returns-3
-    value-send-requires-2
-    same-length-4
-    returns-4
     word-of-requires
     special-count-requires
     sent-requires
-    same-length-5
-    returns-5)
+    same-length-3
+    returns-3)

@@ -1,9 +1,9 @@
 -- By the instruction.
 use native.Mathlib.Omega.{arith}
 use mathlib.Core.Path.{refl}
-use Rattle.bytecode.specs.declared.Instruction.TheVariants.{Push, Store, PopStore, PushSelf, PushConstant, ReturnSelf, ReturnConstant, ReturnTop, Pop, Duplicate, Jump, JumpOn, Send, SuperSend, SpecialSend, PushBlock, BlockReturn, Unused}
+use Rattle.bytecode.specs.declared.Instruction.TheVariants.{Push, Store, PopStore, PushSelf, PushConstant, ReturnSelf, ReturnConstant, ReturnTop, Pop, Duplicate, Jump, JumpOn, Send, SuperSend, SpecialSend, Unused}
 use Rattle.frames.proofs.ActiveLaws.{ends}
-use Rattle.steps.proofs.DoingLaws.{told, storing_kept, storing_popped, store_one, self_pushing, self_done, constant_pushing, constant_done, duplicate_one, duplicate_pushing, duplicate_done, pop_one, pop_done, jump_small, jump_low, jump_done, self_returned, constant_returned, top_one, top_returned, next_low, block_one, block_returned, block_jumps, block_says, never}
+use Rattle.steps.proofs.DoingLaws.{told, storing_kept, storing_popped, store_one, self_pushing, self_done, constant_pushing, constant_done, duplicate_one, duplicate_pushing, duplicate_done, pop_one, pop_done, jump_small, jump_low, jump_done, self_returned, constant_returned, top_one, top_returned, never}
 use borrow.Author.Rules.{rules}
 use Rattle.steps.proofs.step.Statement.{statement}
 use Rattle.steps.proofs.step.Tie as tie
@@ -32,8 +32,8 @@ store-requires c κs =
 enum-known-instruction-3 : tie.Need-enum-known-instruction-3
 enum-known-instruction-3 c = search rules
 
-sub-t49 : tie.Need-overflow-sub-t49
-sub-t49 c =
+sub-t45 : tie.Need-overflow-sub-t45
+sub-t45 c =
     let at-decoded = c.before.before.before.before in
     let k = store_one (storing_popped (told at-decoded.decoded.ensures (PopStore _) c.before.before.instruction3.given.1) _ refl) in
     omega arith
@@ -81,20 +81,20 @@ push-word-requires-2 c κs =
 enum-told-2 : tie.Need-enum-told-2
 enum-told-2 c = search rules
 
-add-t62 : tie.Need-overflow-add-t62
-add-t62 c =
+add-t58 : tie.Need-overflow-add-t58
+add-t58 c =
     let at-start = c.before.before.before.before.before.before.before.before in
     let k = ends at-start.requires in
     omega arith
 
-mul-t63 : tie.Need-overflow-mul-t63
-mul-t63 c =
+mul-t59 : tie.Need-overflow-mul-t59
+mul-t59 c =
     let at-start = c.before.before.before.before.before.before.before.before in
     let k = ends at-start.requires in
     omega arith
 
-slice-read-t65 : tie.Need-slice-read-t65
-slice-read-t65 c =
+slice-read-t61 : tie.Need-slice-read-t61
+slice-read-t61 c =
     let at-start = c.before.before.before.before.before.before.before.before.before in
     let k = ends at-start.requires in
     omega arith
@@ -111,14 +111,14 @@ sub_at c =
     let k = top_one (told at-decoded.decoded.ensures (ReturnTop) c.before.enum-told3.given.1) in
     omega arith
 
-mul-t66 : tie.Need-overflow-mul-t66
-mul-t66 c =
+mul-t62 : tie.Need-overflow-mul-t62
+mul-t62 c =
     let at-start = c.before.before.before.before.before.before.before.before.before in
     let k = ends at-start.requires in
     omega arith
 
-slice-read-t68 : tie.Need-slice-read-t68
-slice-read-t68 c =
+slice-read-t64 : tie.Need-slice-read-t64
+slice-read-t64 c =
     let at-decoded = c.before.before.before.before in
     let at-start = at-decoded.before.before.before.before.before.before in
     let k = ends at-start.requires in
@@ -128,8 +128,8 @@ slice-read-t68 c =
 enum-told-4 : tie.Need-enum-told-4
 enum-told-4 c = search rules
 
-sub-t69 : tie.Need-overflow-sub-t69
-sub-t69 c =
+sub-t65 : tie.Need-overflow-sub-t65
+sub-t65 c =
     let at-decoded = c.before.before.before in
     let k = pop_one (told at-decoded.decoded.ensures (Pop) c.before.enum-told4.given.1) in
     omega arith
@@ -166,21 +166,21 @@ push-word-requires-3 c κs =
 enum-known-instruction-6 : tie.Need-enum-known-instruction-6
 enum-known-instruction-6 c = search rules
 
-cast-t76 : tie.Need-overflow-cast-t76
-cast-t76 c = search rules
+cast-t72 : tie.Need-overflow-cast-t72
+cast-t72 c = search rules
 
-add-t77 : tie.Need-overflow-add-t77
-add-t77 c =
+add-t73 : tie.Need-overflow-add-t73
+add-t73 c =
     let at-instruction6 = c.before.before.before in
     let at-decoded = at-instruction6.before.before in
     let k = jump_small (told at-decoded.decoded.ensures (Jump _ _) at-instruction6.instruction6.given.1) in
     omega arith
 
-cast-t78 : tie.Need-overflow-cast-t78
-cast-t78 c = search rules
+cast-t74 : tie.Need-overflow-cast-t74
+cast-t74 c = search rules
 
-sub-t79 : tie.Need-overflow-sub-t79
-sub-t79 c =
+sub-t75 : tie.Need-overflow-sub-t75
+sub-t75 c =
     let at-instruction6 = c.before.before.before in
     let at-decoded = at-instruction6.before.before in
     jump_low (told at-decoded.decoded.ensures (Jump _ _) at-instruction6.instruction6.given.1)
@@ -239,38 +239,8 @@ special-send-requires c κs =
     let at-decoded = at-instruction10.before.before in
     (told at-decoded.decoded.ensures (SpecialSend _) at-instruction10.instruction10.given.1, let h = c.before.before.if1.false in omega arith)
 
-enum-known-instruction-11 : tie.Need-enum-known-instruction-11
-enum-known-instruction-11 c = search rules
-
-cast-t103 : tie.Need-overflow-cast-t103
-cast-t103 c = search rules
-
-cast-t104 : tie.Need-overflow-cast-t104
-cast-t104 c = search rules
-
-add-t105 : tie.Need-overflow-add-t105
-add-t105 c = let k = next_low (told c.before.before.before.before.decoded.ensures (PushBlock _ _ _) c.before.before.instruction11.given.1) in omega arith
-
-cast-t106 : tie.Need-overflow-cast-t106
-cast-t106 c = search rules
-
-sub-t107 : tie.Need-overflow-sub-t107
-sub-t107 c = block_jumps (told c.before.before.before.before.decoded.ensures (PushBlock _ _ _) c.before.before.instruction11.given.1)
-
 enum-told-6 : tie.Need-enum-told-6
 enum-told-6 c = search rules
-
-sub-at-3 : tie.Need-overflow-sub-at-3
-sub-at-3 c = let k = block_one (told c.before.before.before.decoded.ensures BlockReturn c.before.enum-told6.given.1) in omega arith
-
-mul-t109 : tie.Need-overflow-mul-t109
-mul-t109 c = let k = ends c.before.before.before.before.before.before.before.before.before.requires in omega arith
-
-slice-read-t111 : tie.Need-slice-read-t111
-slice-read-t111 c = let k = ends c.before.before.before.before.before.before.before.before.before.before.requires in let o = block_one (told c.before.before.before.before.decoded.ensures BlockReturn c.before.before.enum-told6.given.1) in omega arith
-
-enum-told-7 : tie.Need-enum-told-7
-enum-told-7 c = search rules
 
 same-length-3 : tie.Need-same-length-3
 same-length-3 c = search rules
@@ -434,25 +404,7 @@ same-length-34 : tie.Need-same-length-34
 same-length-34 c = search rules
 
 returns-17 : tie.Need-returns-17
-returns-17 c = block_says (told c.before.before.before.before.decoded.ensures (PushBlock _ _ _) c.before.before.instruction11.given.1) _ _ refl refl
-
-same-length-35 : tie.Need-same-length-35
-same-length-35 c = search rules
-
-same-length-36 : tie.Need-same-length-36
-same-length-36 c = search rules
-
-returns-18 : tie.Need-returns-18
-returns-18 c = block_returned (told c.before.before.before.before.decoded.ensures BlockReturn c.before.before.enum-told6.given.1) _ refl
-
-same-length-37 : tie.Need-same-length-37
-same-length-37 c = search rules
-
-same-length-38 : tie.Need-same-length-38
-same-length-38 c = search rules
-
-returns-19 : tie.Need-returns-19
-returns-19 c = absurd (never (told c.before.before.decoded.ensures (Unused) c.enum-told7.given.1))
+returns-17 c = absurd (never (told c.before.before.decoded.ensures (Unused) c.enum-told6.given.1))
 
 pub step_spec : {M : Type 1} → statement M
 step_spec =
@@ -464,7 +416,7 @@ step_spec =
     enum-known-instruction-2
     store-requires
     enum-known-instruction-3
-    sub-t49
+    sub-t45
     store-requires-2
     enum_told
     add-w
@@ -474,26 +426,26 @@ step_spec =
     enum-known-instruction-4
     push-word-requires-2
     enum-told-2
-    add-t62
-    mul-t63
-    slice-read-t65
+    add-t58
+    mul-t59
+    slice-read-t61
     enum-known-instruction-5
     enum-told-3
     sub_at
-    mul-t66
-    slice-read-t68
+    mul-t62
+    slice-read-t64
     enum-told-4
-    sub-t69
+    sub-t65
     enum-told-5
     sub-at-2
     mul-w-2
     slice-read-w-2
     push-word-requires-3
     enum-known-instruction-6
-    cast-t76
-    add-t77
-    cast-t78
-    sub-t79
+    cast-t72
+    add-t73
+    cast-t74
+    sub-t75
     enum-known-instruction-7
     cast-jump-on
     jump-on-requires
@@ -507,17 +459,7 @@ step_spec =
     same-length-2
     returns
     special-send-requires
-    enum-known-instruction-11
-    cast-t103
-    cast-t104
-    add-t105
-    cast-t106
-    sub-t107
     enum-told-6
-    sub-at-3
-    mul-t109
-    slice-read-t111
-    enum-told-7
     same-length-3
     same-length-4
     returns-2
@@ -565,10 +507,4 @@ step_spec =
     returns-16
     same-length-33
     same-length-34
-    returns-17
-    same-length-35
-    same-length-36
-    returns-18
-    same-length-37
-    same-length-38
-    returns-19)
+    returns-17)

@@ -2,7 +2,7 @@
 use native.Mathlib.Omega.{arith}
 use mathlib.Core.Path.{refl}
 use Rattle.bytecode.specs.declared.Place.TheVariants.{Field, Temporary, Literal, LiteralVariable}
-use Rattle.steps.proofs.DoingLaws.{home_low, store_as, store_ends, store_one, own_there, own_stored, temporary_room, temporary_stored, literal_never, variable_holds, variable_room, variable_stored}
+use Rattle.steps.proofs.DoingLaws.{store_as, store_ends, store_one, own_there, own_stored, temporary_room, temporary_stored, literal_never, variable_holds, variable_room, variable_stored}
 use borrow.Author.Rules.{rules}
 use Rattle.steps.proofs.store.Statement.{statement}
 use Rattle.steps.proofs.store.Tie as tie
@@ -57,7 +57,8 @@ enum-known-place-2 c = search rules
 first-temporary-requires : tie.Need-first-temporary-requires
 first-temporary-requires c κs =
     let at-start = c.before.before.before.before.before.before.before.before in
-    home_low at-start.requires.doing.active
+    let k = store_ends at-start.requires in
+    omega arith
 
 add-to : tie.Need-overflow-add-to
 add-to c =

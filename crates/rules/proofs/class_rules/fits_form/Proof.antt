@@ -40,15 +40,9 @@ returns-7 c =
 returns-8 : tie.Need-returns-8
 unfolding fits_form if◌then◌else◌
 returns-8 c =
-    let at-if5 = c.before.before in
-    simp (ne_eqb _ _ at-if5.before.before.if1.false, ne_eqb _ _ at-if5.before.if3.false, ne_eqb _ _ at-if5.if5.false, ne_eqb _ _ c.before.if6.false, eq-eqb _ _ c.if8.true)
-
-returns-9 : tie.Need-returns-9
-unfolding fits_form if◌then◌else◌
-returns-9 c =
-    let at-if5 = c.before.before in
-    simp (ne_eqb _ _ at-if5.before.before.if1.false, ne_eqb _ _ at-if5.before.if3.false, ne_eqb _ _ at-if5.if5.false, ne_eqb _ _ c.before.if6.false, ne_eqb _ _ c.if8.false)
+    let at-if5 = c.before in
+    simp (ne_eqb _ _ at-if5.before.before.if1.false, ne_eqb _ _ at-if5.before.if3.false, ne_eqb _ _ at-if5.if5.false, ne_eqb _ _ c.if6.false)
 
 pub fits-form-spec : {M : Type 1} → statement M
 fits-form-spec =
-    tie.close (tie.spec returns returns-2 returns-3 returns-4 returns-5 returns-6 returns-7 returns-8 returns-9)
+    tie.close (tie.spec returns returns-2 returns-3 returns-4 returns-5 returns-6 returns-7 returns-8)

@@ -3,7 +3,7 @@ use Prim.Native.Nat.{ℕ, ◌/◌}
 use mathlib.Core.Path.{sym, ap, ◌∙◌}
 use borrow.Author.Tests.{not-true, not-false}
 use Rattle.model.specs.Objects.{objects_at}
-use Rattle.rules.proofs.ClassLaws.{no_kinds, no_form, no_selectors, no_message_objects, by_blocks, integer_class_kind}
+use Rattle.rules.proofs.ClassLaws.{no_kinds, no_form, no_selectors, by_messages, integer_class_kind}
 use native.Mathlib.Omega.{arith}
 use Rattle.bytecode.proofs.TestLaws.{true→T}
 use Rattle.readers.proofs.InsideLaws.{class_inside}
@@ -50,23 +50,10 @@ messages-fine-requires c κs = search rules
 
 returns-4 : tie.Need-returns-4
 returns-4 c =
-    let a = c.before.before.before.before.before.before.before.before.before.before.args in
+    let a = c.before.before.before.before.before.before.before.before.before.args in
     let o = objects_at a.n a.b a.contents.now a.bodies.now in
-    sym (no_message_objects a.edition o (sym c.before.before.before.before.before.before.before.known-kinds.ensures ∙ not-false _ c.before.before.before.before.before.before.if1.false)
-    (ap (λ (x : ℕ). x / 2) (sym c.before.before.before.before.before.word_of.ensures) ∙ c.before.before.before.before.if2.false)
-    (sym c.before.before.before.selectors-fine.ensures ∙ not-false _ c.before.before.if3.false) (sym c.before.messages-fine.ensures ∙ not-true _ c.if4.true))
-
-blocks-fine-requires : tie.Need-blocks-fine-requires
-blocks-fine-requires c κs = search rules
-
-returns-5 : tie.Need-returns-5
-returns-5 c =
-    let a = c.before.before.before.before.before.before.before.before.before.before.before.args in
-    let o = objects_at a.n a.b a.contents.now a.bodies.now in
-    c.blocks-fine.ensures
-    ∙ sym (by_blocks a.edition o (sym c.before.before.before.before.before.before.before.before.known-kinds.ensures ∙ not-false _ c.before.before.before.before.before.before.before.if1.false)
-    (ap (λ (x : ℕ). x / 2) (sym c.before.before.before.before.before.before.word_of.ensures) ∙ c.before.before.before.before.before.if2.false)
-    (sym c.before.before.before.before.selectors-fine.ensures ∙ not-false _ c.before.before.before.if3.false) (sym c.before.before.messages-fine.ensures ∙ not-false _ c.before.if4.false))
+    c.messages-fine.ensures ∙ sym (by_messages a.edition o (sym c.before.before.before.before.before.before.known-kinds.ensures ∙ not-false _ c.before.before.before.before.before.if1.false)
+    (ap (λ (x : ℕ). x / 2) (sym c.before.before.before.before.word_of.ensures) ∙ c.before.before.before.if2.false) (sym c.before.before.selectors-fine.ensures ∙ not-false _ c.before.if3.false))
 
 pub known-fine-spec : {M : Type 1} → statement M
 known-fine-spec =
@@ -79,6 +66,4 @@ known-fine-spec =
     selectors-fine-requires
     returns-3
     messages-fine-requires
-    returns-4
-    blocks-fine-requires
-    returns-5)
+    returns-4)

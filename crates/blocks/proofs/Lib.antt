@@ -1,2 +1,0 @@
-pub mod Valuing
-pub mod Pushing
