@@ -1,4 +1,6 @@
 // The instructions of a method's code. specs/Code.antt says which bytes mean which, specs/Effect.antt what each needs and leaves.
+#![tactic(auto)]
+
 ghost use Rattle.std.specs.Prelude.{◌≡◌, ℕ, ◌+◌, ◌*◌, ◌/◌, ◌<◌, ◌≤◌, length};
 ghost use Rattle.bytecode.specs.Code.{byte_at, bytes_after, place_of, short_of, constant_of, jump_of, send_of, extended_of, instruction_of, next_at, decode_at};
 ghost use Rattle.bytecode.specs.Table.{group_part, length_part, need_part, leaves_part, bound_part, index_part, extra_of, Entry, IsTable};

@@ -1,6 +1,7 @@
 // The calls on a state. Each promise is an equation with the flat calls of plain's specs/FlatCalls.antt, through the definitions of specs/State.antt:
 // it gives the answer and every lent word, and leaves nothing to the program. What is named `.._checked` takes a state that check accepts and does not
 // look at it again.
+#![tactic(auto)]
 ghost use Rattle.std.specs.Prelude.{◌≡◌, ◌+◌, ◌*◌, ◌≤◌, T, length};
 ghost use Rattle.std.proofs.lemmas.List.Edits.{sets};
 ghost use Rattle.model.specs.Image.{accepted, buffers_fine};
