@@ -4,12 +4,8 @@ use Rattle.bytecode.specs.Code.{place_of, short_of, constant_of, extended_of, ju
 use Rattle.bytecode.specs.Effect.{special_count, need, leaves}
 use Rattle.bytecode.specs.Table.{place_bound, place_index, bound, index, group, group_of}
 use Rattle.bytecode.proofs.TableLaws.{table_right}
-use Rattle.bytecode.proofs.table.Statement.{statement}
-use Rattle.bytecode.proofs.table.Tie as tie
+use Rattle.bytecode.proofs.table.Goals as goal
 
-returns : tie.Need-returns
+pub returns : goal.returns
 unfolding if◌then◌else◌ place_of short_of constant_of extended_of jump_of send_of instruction_of length_of special_count need leaves place_bound place_index bound index group group_of
 returns c = table_right _ tt
-
-pub table-spec : {M : Type 1} → statement M
-table-spec = tie.close (tie.spec returns)
