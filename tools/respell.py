@@ -127,7 +127,8 @@ def turn_prose(text, rows):
 
 def turn_rt(text, rows):
     def words(s):
-        return re.sub(r"(?<![\w'.-])[a-z][\w'-]*", lambda m: rows.get(m[0], m[0]), s)
+        # Behind a dot only a name with a capital turns: a clause's, under its module; the code has none.
+        return re.sub(r"(?<![\w'-])[a-z][\w'-]*", lambda m: rows.get(m[0], m[0]) if s[m.start() - 1 : m.start()] != "." or re.search("[A-Z]", m[0]) else m[0], s)
 
     out = []
     for piece in re.split(r"(//[^\n]*|\"(?:[^\"\\]|\\.)*\")", text):

@@ -27,7 +27,7 @@ pub enum Saved {
 
 // Registers of no image.
 fn no_registers() -> Registers
-    ensures { registers_of result ≡ R.noRegisters }
+    ensures { registers_of result ≡ R.no_registers }
 {
     Registers {
         n: 0,

@@ -105,7 +105,7 @@ fn noted_fine(
 ) -> bool
     requires t { T (buffers_fine (room_at contents.now bodies.now stack.now cache.now) registers.n registers.b) }
     requires first_parts { FirstParts (registers_of registers) × (2 * registers.b ≤ length notes.old) × Blank notes.old }
-    ensures { result ≡ K.stateFine (state registers contents.now bodies.now stack.now cache.now) }
+    ensures { result ≡ K.state_fine (state registers contents.now bodies.now stack.now cache.now) }
 {
     let edition = registers.edition;
     let n = registers.n as usize;
@@ -149,7 +149,7 @@ fn few_noted(
 ) -> bool
     requires t { T (buffers_fine (room_at contents.now bodies.now stack.now cache.now) registers.n registers.b) }
     requires first_parts { FirstParts (registers_of registers) × (registers.b ≤ 2000) }
-    ensures { result ≡ K.stateFine (state registers contents.now bodies.now stack.now cache.now) }
+    ensures { result ≡ K.state_fine (state registers contents.now bodies.now stack.now cache.now) }
 {
     let mut notes = [0u8; 4000];
     noted_fine(registers, contents, bodies, stack, cache, &mut notes)
@@ -165,7 +165,7 @@ fn some_noted(
 ) -> bool
     requires t { T (buffers_fine (room_at contents.now bodies.now stack.now cache.now) registers.n registers.b) }
     requires first_parts { FirstParts (registers_of registers) × (registers.b ≤ 8000) }
-    ensures { result ≡ K.stateFine (state registers contents.now bodies.now stack.now cache.now) }
+    ensures { result ≡ K.state_fine (state registers contents.now bodies.now stack.now cache.now) }
 {
     let mut notes = [0u8; 16000];
     noted_fine(registers, contents, bodies, stack, cache, &mut notes)
@@ -181,7 +181,7 @@ fn most_noted(
 ) -> bool
     requires t { T (buffers_fine (room_at contents.now bodies.now stack.now cache.now) registers.n registers.b) }
     requires first_parts { FirstParts (registers_of registers) }
-    ensures { result ≡ K.stateFine (state registers contents.now bodies.now stack.now cache.now) }
+    ensures { result ≡ K.state_fine (state registers contents.now bodies.now stack.now cache.now) }
 {
     let mut notes = [0u8; limits::MOST_BODY_BYTES];
     noted_fine(registers, contents, bodies, stack, cache, &mut notes)
@@ -196,7 +196,7 @@ fn state_fine(
     cache: &[u16],
 ) -> bool
     requires { T (buffers_fine (room_at contents.now bodies.now stack.now cache.now) registers.n registers.b) }
-    ensures { result ≡ K.stateFine (state registers contents.now bodies.now stack.now cache.now) }
+    ensures { result ≡ K.state_fine (state registers contents.now bodies.now stack.now cache.now) }
 {
     let edition = registers.edition;
     if !store::header_fine(edition, registers.n, registers.b) {
@@ -293,7 +293,7 @@ fn write_reply(reply: Reply, answers: &mut [u32], at: usize) -> Registers
 impl Registers {
     // The same but for phase, top and value.
     fn with_phase(self, phase: u16, top: u16, value: u16) -> Registers
-        ensures { registers_of result ≡ R.withPhase (registers_of self) phase top value }
+        ensures { registers_of result ≡ R.with_phase (registers_of self) phase top value }
     {
         Registers {
             n: self.n,
@@ -309,7 +309,7 @@ impl Registers {
 
     // The same but for N and B.
     fn with_sizes(self, n: u16, b: u16) -> Registers
-        ensures { registers_of result ≡ R.withSizes (registers_of self) n b }
+        ensures { registers_of result ≡ R.with_sizes (registers_of self) n b }
     {
         Registers {
             n: n,
