@@ -10,7 +10,7 @@ use model::{Computed, Pointer, limits};
 use primitives::Done;
 
 // An answer, and how many objects and body words there are then; or a frame is needed; or the receiver has no such field.
-#[derive(Drop)]
+#[derive(Clone, Copy)]
 pub enum Activated {
     Answer { word: u16, n: usize, b: usize },
     Frame,

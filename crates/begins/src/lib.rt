@@ -11,7 +11,7 @@ use activation::Activated;
 use model::{Found, StackPosition, limits};
 
 // What a begin leads to: an answer without a frame, with N and B after it; the first frame; or the number of a refusal.
-#[derive(Drop)]
+#[derive(Clone, Copy)]
 pub enum Beginning {
     Answered { word: u16, n: usize, b: usize },
     Entered,

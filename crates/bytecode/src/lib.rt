@@ -10,7 +10,7 @@ mod kinds;
 
 // Where a push or a store finds its operand. The number is a usize so that a place has more than 8 bytes: one of 2, 4 or 8 bytes is copied
 // as a single number, which hides its case from the compiler.
-#[derive(Drop)]
+#[derive(Clone, Copy)]
 pub enum Place {
     Field(usize),
     Temporary(usize),
@@ -20,7 +20,7 @@ pub enum Place {
 
 // A constant is held as its word. A jump goes to the next instruction's position, plus `ahead`, minus `back`. A jump on a boolean
 // counts ahead only. A special send is bytecode 176 plus its number.
-#[derive(Drop)]
+#[derive(Clone, Copy)]
 pub enum Instruction {
     Push(Place),
     Store(Place),
@@ -370,7 +370,7 @@ pub fn decode(words: &[u16], size: usize, at: usize) -> Instruction
 }
 
 // An instruction, and the position behind it.
-#[derive(Drop)]
+#[derive(Clone, Copy)]
 pub struct Decoded {
     pub instruction: Instruction,
     pub next: usize,

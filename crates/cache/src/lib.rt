@@ -15,7 +15,7 @@ const CACHE_ENTRIES: usize = 64;
 const CACHE_ENTRY_WORDS: usize = 4;
 
 // What a lookup comes to, by the cache or not: what it found, and how many dictionaries the plain walk reads.
-#[derive(Drop)]
+#[derive(Clone, Copy)]
 pub struct Lookup {
     pub found: Found,
     pub dictionaries: usize,

@@ -14,7 +14,7 @@ const MOST_CALLS: u32 = 4294967295;
 pub const ANSWER_SIZE: usize = 7;
 
 // A call of a list. The arguments of a begin are the list's words from `from` to `end`.
-#[derive(Drop)]
+#[derive(Clone, Copy)]
 pub enum Listed {
     Begin {
         receiver: u16,

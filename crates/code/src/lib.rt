@@ -178,7 +178,7 @@ fn here_fine(
 }
 
 // Where the walk goes on: how many positions are pending, the last of them and its depth. Or it is over, or there is no depth table.
-#[derive(Drop)]
+#[derive(Clone, Copy)]
 enum Next {
     At(usize, usize, usize),
     Over,

@@ -10,7 +10,7 @@ ghost use Rattle.flow.specs.Walk.{Asks, Visit, Visits, Step, alike, Here, Expand
 
 // After a step: how many positions are pending; or that there is no depth table. `Fresh` has the last of them too, with its depth: it was
 // noted just now. `Known` holds two zeros for these: variants of equal fields stay in registers, others go through memory.
-#[derive(Drop)]
+#[derive(Clone, Copy)]
 pub enum Went {
     Fresh(usize, usize, usize),
     Known(usize, usize, usize),

@@ -14,7 +14,7 @@ use model::{CodePosition, Pointer, StackPosition, limits};
 
 // The running frame as the run loop holds it: its base, where its method's code starts and ends in bodies, the position of its next bytecode,
 // the place behind its last operand, and its first. Its own words for position and depth are written when the loop leaves it.
-#[derive(Drop)]
+#[derive(Clone, Copy)]
 pub struct Active {
     pub base: StackPosition,
     pub code: usize,
@@ -27,7 +27,7 @@ pub struct Active {
 // A send by the running frame: its selector and argument count, the class where the search starts, the position behind it. `sure` says that
 // a method that is found can run on the receiver. The large fields come first, so that the small ones share no place with the positions of
 // another event: those would be put together with masks at each bytecode.
-#[derive(Drop)]
+#[derive(Clone, Copy)]
 pub struct Message {
     pub count: usize,
     pub next: CodePosition,

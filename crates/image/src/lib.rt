@@ -10,7 +10,7 @@ ghost use Rattle.image.specs.Heads.{as_header, head_words};
 use model::limits;
 
 // The five words at the front of an image.
-#[derive(Drop)]
+#[derive(Clone, Copy)]
 pub struct Header {
     pub edition: u16,
     pub n: u16,

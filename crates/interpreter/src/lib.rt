@@ -14,7 +14,7 @@ use steps::Event;
 // What a bytecode leads to: the running frame goes on, at another position and with operands up to another end, after a send that was
 // answered with the number of objects and body words then; or a new frame is on top, which ends at `end`; both with the dictionaries that the lookup read; or the frame below is, after a
 // return; or the value that the run finishes with; or a send that failed, whose message may be sent; or a halt, with the phase that says why.
-#[derive(Drop)]
+#[derive(Clone, Copy)]
 pub enum Advanced {
     Next {
         position: CodePosition,

@@ -12,14 +12,14 @@ use machine::{Checked, Registers};
 use store::Reading;
 
 // The answer of load. Refused, the registers are all zero.
-#[derive(Drop)]
+#[derive(Clone, Copy)]
 pub enum Loaded {
     Accepted(Registers),
     Refused(u32, Registers),
 }
 
 // The answer of save.
-#[derive(Drop)]
+#[derive(Clone, Copy)]
 pub enum Saved {
     Wrote(u32),
     Refused(u32),

@@ -21,7 +21,7 @@ use calls::Listed;
 use model::limits;
 
 // `receiver` and `selector` are the start words, `edition` is the image's.
-#[derive(Drop)]
+#[derive(Clone, Copy)]
 pub struct Registers {
     pub n: u16,
     pub b: u16,
@@ -34,20 +34,20 @@ pub struct Registers {
 }
 
 // The answer of check.
-#[derive(Drop)]
+#[derive(Clone, Copy)]
 pub enum Checked {
     Right,
     Refused(u32),
 }
 
 // The answers of begin, run, drop and forget. What passes registers by value gives them back.
-#[derive(Drop)]
+#[derive(Clone, Copy)]
 pub enum Begun {
     Started(Registers),
     Refused(u32, Registers),
 }
 
-#[derive(Drop)]
+#[derive(Clone, Copy)]
 pub enum Ran {
     Done {
         registers: Registers,
@@ -58,27 +58,27 @@ pub enum Ran {
     Refused(u32, Registers),
 }
 
-#[derive(Drop)]
+#[derive(Clone, Copy)]
 pub enum Dropped {
     Dropped(Registers),
     Refused(u32, Registers),
 }
 
-#[derive(Drop)]
+#[derive(Clone, Copy)]
 pub enum Forgotten {
     Emptied,
     Refused(u32),
 }
 
 // What the calls of a list left: the registers, and how many were made.
-#[derive(Drop)]
+#[derive(Clone, Copy)]
 pub struct Made {
     pub registers: Registers,
     pub calls: u32,
 }
 
 // The answer of play.
-#[derive(Drop)]
+#[derive(Clone, Copy)]
 pub enum Played {
     Made(Made),
     Refused(u32, Registers),
@@ -86,7 +86,7 @@ pub enum Played {
 
 // A call of a list that was made: its answer, and the registers that it left. Phase and value of a run are those of the registers; beside them it
 // has its count, its reach and its sum of dictionaries.
-#[derive(Drop)]
+#[derive(Clone, Copy)]
 enum Reply {
     Done(Registers),
     Refused(u32, Registers),

@@ -19,7 +19,7 @@ use model::{CodePosition, Found, Pointer, StackPosition, limits};
 
 // What the message leads to: a running handler, with the number of objects and body words then, its top frame and where that ends, and the dictionaries that the search read; or a halt, with the
 // phase that says why.
-#[derive(Drop)]
+#[derive(Clone, Copy)]
 pub enum Resent {
     Sent {
         n: usize,
@@ -32,14 +32,14 @@ pub enum Resent {
 }
 
 // The receiver of a send: its place in the stack, and how many operands lie below it.
-#[derive(Drop)]
+#[derive(Clone, Copy)]
 struct Receiver {
     place: usize,
     left: usize,
 }
 
 // A frame of a method: its temporaries and where it ends; or none fits.
-#[derive(Drop)]
+#[derive(Clone, Copy)]
 enum Placed {
     At { temporaries: usize, end: usize },
     Full,

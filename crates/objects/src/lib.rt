@@ -18,7 +18,7 @@ use bytecode::Decoded;
 use model::{Found, Pointer, limits};
 
 // A method's code in bodies: its words stand from `from` up to `end`, `size` counts its bytes.
-#[derive(Drop)]
+#[derive(Clone, Copy)]
 pub struct Code {
     pub from: usize,
     pub end: usize,
@@ -26,7 +26,7 @@ pub struct Code {
 }
 
 // What a search for a method comes to: what it found, how many dictionaries it read, and how many of their pairs.
-#[derive(Drop)]
+#[derive(Clone, Copy)]
 pub struct Search {
     pub found: Found,
     pub dictionaries: usize,

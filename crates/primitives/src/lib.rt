@@ -30,7 +30,7 @@ const INDEXED: usize = 1;
 const OF_BYTES: usize = 2;
 
 // What a primitive gives: a word or failure, and how many objects and body words there are then.
-#[derive(Drop)]
+#[derive(Clone, Copy)]
 pub struct Done {
     pub answer: Computed,
     pub n: usize,
@@ -38,7 +38,7 @@ pub struct Done {
 }
 
 // What 60 to 62 take of a receiver: 1 by words, 2 by bytes, 0 not at all; where in the body its elements start, and how many there are.
-#[derive(Drop)]
+#[derive(Clone, Copy)]
 pub struct Elements {
     pub by: usize,
     pub start: usize,

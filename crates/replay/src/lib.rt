@@ -8,7 +8,7 @@ use loads::Loaded;
 use machine::Made;
 
 // The calls were made, or the image is refused and nothing else is done.
-#[derive(Drop)]
+#[derive(Clone, Copy)]
 pub enum Replayed {
     Made(Made),
     Refused(u32),

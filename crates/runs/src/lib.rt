@@ -11,7 +11,7 @@ use interpreter::Advanced;
 use model::{Pointer, StackPosition, limits};
 
 // How a run ended: the registers but for the start words, the bytecodes made, reach, the largest end of a frame that stood in it, and the dictionaries that its lookups read.
-#[derive(Drop)]
+#[derive(Clone, Copy)]
 pub struct Ended {
     pub n: u16,
     pub b: u16,
@@ -24,7 +24,7 @@ pub struct Ended {
 }
 
 // How a stretch of a run ended: with the run, or at a send that failed, with so many bytecodes left, reach and dictionaries so far.
-#[derive(Drop)]
+#[derive(Clone, Copy)]
 pub enum Stretched {
     Over(Ended),
     Failed {

@@ -17,7 +17,7 @@ use frames::{Active, Message};
 use model::{CodePosition, Found, Pointer, StackPosition, limits};
 
 // The frame of a method, how many temporaries it has and where it ends; or the stack is full; or the receiver is none for the method.
-#[derive(Drop)]
+#[derive(Clone, Copy)]
 enum Base {
     At {
         frame: Active,
@@ -30,7 +30,7 @@ enum Base {
 
 // What a send leads to: an answer, with the number of objects and body words then; a new top frame, and where it ends; either with the dictionaries that its lookup read; or a halt, with the
 // phase that says why.
-#[derive(Drop)]
+#[derive(Clone, Copy)]
 pub enum Sent {
     Answered {
         n: usize,

@@ -12,7 +12,7 @@ use machine::{Begun, Ran};
 // One byte more than the longest image that a header can name, and odd, as no image is.
 const MOST: usize = 655361;
 
-#[derive(Drop)]
+#[derive(Clone, Copy)]
 enum Input {
     Bytes(usize),
     Failed,

@@ -17,7 +17,7 @@ use model::{CodePosition, Computed, Pointer, StackPosition, limits};
 
 // What a bytecode is to the run loop: the frame goes on, at another position and with operands up to another end; or a send is to be made, or
 // a return of a word; or it halts, with the phase that says why.
-#[derive(Drop)]
+#[derive(Clone, Copy)]
 pub enum Event {
     Next {
         position: CodePosition,

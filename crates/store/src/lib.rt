@@ -14,7 +14,7 @@ ghost use Rattle.store.specs.Readings.{reading_number, reading_of};
 use model::limits;
 
 // What reading an image gives: its edition, counts and start words, or the number of the refusal.
-#[derive(Drop)]
+#[derive(Clone, Copy)]
 pub enum Reading {
     Accepted {
         edition: u16,
