@@ -17,7 +17,7 @@ use Rattle.model.specs.Objects.{Objects, entry_word, class_word, kind, start, si
 use Rattle.model.specs.Method.{header, home, literal, flag, temporary_count, literal_count, code_words, code_size, frame_words, extension, primitive_number, argument_count, runs_code}
 use Rattle.model.proofs.ChainLaws.{Named, named}
 use Rattle.model.proofs.Parts.{same_test, part_same}
-use Rattle.model.proofs.Facts.{Right, Valid, odd, names, naming, valid_cases, valid_more, least, inside, class_words_lem, method_words, list_words, method_facts}
+use Rattle.model.proofs.Facts.{Right, Valid, odd, names, naming, valid_cases, valid_more, inside, class_words_lem, method_words, list_words, method_facts}
 
 -- a kind that is none of classes, lists and methods
 abbrev pub Free : ℕ → Type 0
