@@ -1,6 +1,7 @@
 // What a method does on a receiver and arguments: it answers without a frame, or runs in a new one. The definition is plain's
 // specs/Step.antt; what does not answer changes nothing.
 #![tactic(auto)]
+
 ghost use Rattle.std.specs.Prelude.{◌≡◌, ◌&&◌, [], ◌∷◌, leb};
 ghost use Rattle.model.specs.Primitive.{primitive};
 ghost use Rattle.primitives.specs.Outcomes.{Receives, DoesAt};

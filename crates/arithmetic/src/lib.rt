@@ -1,5 +1,6 @@
 // Primitives 1 to 17 on two words. The definition is model's specs/Arithmetic.antt.
 #![tactic(auto)]
+
 ghost use Rattle.std.specs.Prelude.{◌≡◌, ◌≤◌, ◌%◌, ◌^◌, min, ◌&&◌, leb, pos, ◌*ℤ◌};
 ghost use Rattle.std.specs.Int.Signed.{mag, quot_z, shr_z};
 ghost use Rattle.model.specs.Limits.{largest_integer};

@@ -1,6 +1,7 @@
 // What bench/ and apart/ take from the proved side beside the calls: the table, for the C peer to walk by; and a lookup with the number of
 // pairs and of dictionaries that it reads, which no call gives.
 #![tactic(auto)]
+
 ghost use Rattle.std.specs.Prelude.{◌≡◌, List, ℕ, ◌*◌, ◌≤◌, T, length};
 ghost use Rattle.bytecode.specs.Table.{IsTable};
 ghost use Rattle.model.specs.Limits.{entry_words, class_kind};

@@ -1,5 +1,6 @@
 // The cache of lookups: an entry's place, a lookup through it, how it is filled, what is right of it. No other code knows the words of an entry.
 #![tactic(auto)]
+
 ghost use Rattle.std.specs.Prelude.{◌≡◌, ◌&&◌, ◌+◌, ◌<◌, eqb, length, get_or};
 ghost use Rattle.model.specs.Limits.{cache_entries, cache_words};
 ghost use Rattle.model.specs.Objects.{objects_at};

@@ -1,5 +1,6 @@
 // The frames' part of check.
 #![tactic(auto)]
+
 ghost use Rattle.std.specs.Prelude.{◌≡◌, true, suc, T, length};
 ghost use Rattle.bytecode.specs.Test.{all_of};
 ghost use Rattle.model.specs.Limits.{method_kind};

@@ -1,5 +1,6 @@
 // The third pass of rule 7: the code of all methods, and the depth notes of all of them in one table, a byte for each byte of the bodies.
 #![tactic(auto)]
+
 ghost use Rattle.std.specs.Prelude.{◌≡◌, ◌*◌, ◌/◌, ◌<◌, ◌≤◌, length};
 ghost use Rattle.bytecode.specs.Code.{decode_at};
 ghost use Rattle.bytecode.specs.Table.{place_index, IsTable};

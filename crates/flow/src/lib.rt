@@ -1,6 +1,7 @@
 // The step of the depth walk over a method's code, by the rules that need no objects: which positions are reached from one, and how many operands
 // stand there. The walk itself is code's, which asks the objects too.
 #![tactic(auto)]
+
 ghost use Rattle.std.specs.Prelude.{◌≡◌, ◌&&◌, [], ◌∷◌, ℕ, ◌+◌, ◌-◌, ◌*◌, ◌<◌, ◌≤◌, ltb, leb, length, get_or, replicate};
 ghost use Rattle.bytecode.specs.Code.{place_of, instruction_of};
 ghost use Rattle.bytecode.specs.Table.{group_part, length_part, need_part, leaves_part, bound_part, index_part};

@@ -1,5 +1,6 @@
 // The frames in the stack: the running one as the run loop holds it, where a frame's words stand, what is written to them.
 #![tactic(auto)]
+
 ghost use Rattle.std.specs.Prelude.{◌≡◌, ◌+◌, ◌≤◌, ◌<◌, length, set, take};
 ghost use Rattle.std.proofs.lemmas.List.Edits.{sets};
 ghost use Rattle.model.specs.Limits.{frame_header_words, method_kind};

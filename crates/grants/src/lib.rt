@@ -1,5 +1,6 @@
 // A run of a granted count of bytecodes: stretches of the loop, and between them the messages of sends that failed.
 #![tactic(auto)]
+
 ghost use Rattle.std.specs.Prelude.{◌≡◌, max};
 ghost use Rattle.runs.specs.Ends.{Goes};
 ghost use Rattle.grants.specs.Grants.{Fails, AgainTo, ResumesTo, RunsOn};

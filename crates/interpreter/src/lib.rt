@@ -1,5 +1,6 @@
 // A bytecode of a running handler, whole: the step, and the sends and returns that it leaves to be made.
 #![tactic(auto)]
+
 ghost use Rattle.std.specs.Prelude.{ℕ, ◌<◌};
 ghost use Rattle.plain.specs.Running.{Runs};
 ghost use Rattle.cache.specs.Caches.{Caches};

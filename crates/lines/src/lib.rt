@@ -1,5 +1,6 @@
 // The line that step80 prints. Its definition is in specs/Text.antt of plain.
 #![tactic(auto)]
+
 ghost use Rattle.std.specs.Prelude.{◌≡◌, ◌++◌, ◌+◌, ◌≤◌, length, drop};
 ghost use Rattle.std.proofs.lemmas.List.Edits.{sets};
 ghost use Rattle.plain.specs.Program.{line, refusal};

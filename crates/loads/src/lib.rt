@@ -1,6 +1,7 @@
 // Load and save: a state from an image, and an image from a state. Their promises are equations with the flat calls of plain's
 // specs/FlatCalls.antt, through the definitions of specs/Answers.antt.
 #![tactic(auto)]
+
 ghost use Rattle.std.specs.Prelude.{◌≡◌};
 ghost use Rattle.plain.specs.Registers as R;
 ghost use Rattle.plain.specs.FlatCalls.{flat_save};

@@ -2,6 +2,7 @@
 // it gives the answer and every lent word, and leaves nothing to the program. What is named `.._checked` takes a state that check accepts and does not
 // look at it again.
 #![tactic(auto)]
+
 ghost use Rattle.std.specs.Prelude.{◌≡◌, ◌+◌, ◌*◌, ◌≤◌, T, length};
 ghost use Rattle.std.proofs.lemmas.List.Edits.{sets};
 ghost use Rattle.model.specs.Image.{accepted, buffers_fine};

@@ -1,5 +1,6 @@
 // A send that failed is sent once more, as a message (02, M-104). The step is plain's specs/Step.antt.
 #![tactic(auto)]
+
 ghost use Rattle.std.specs.Prelude.{◌≡◌, ◌&&◌, [], ◌∷◌, ℕ, suc, ◌+◌, ◌-◌, ◌≤◌, ◌<◌, eqb, length, set};
 ghost use Rattle.std.proofs.lemmas.List.Edits.{sets};
 ghost use Rattle.bytecode.specs.Constant.{false_word};

@@ -1,5 +1,6 @@
 // The image rules of methods (refusal 7). A method is given by its word.
 #![tactic(auto)]
+
 ghost use Rattle.std.specs.Prelude.{◌≡◌, List, ℕ, ◌+◌, ◌*◌, ◌/◌, ◌%◌, ◌<◌, ◌≤◌, T, length, get_or};
 ghost use Rattle.bytecode.specs.Test.{below, all_of};
 ghost use Rattle.model.specs.Limits.{entry_words, method_kind, failure_selector_object};

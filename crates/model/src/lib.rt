@@ -1,5 +1,6 @@
 // The types that the definitions of specs/ speak of, and the numbers of 01.
 #![tactic(auto)]
+
 pub mod limits;
 
 // An even word: twice an object number.

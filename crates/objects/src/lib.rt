@@ -1,6 +1,7 @@
 // What the interpreter asks of contents and bodies whose objects are right, and what it writes there. n and b say how many objects and body
 // words stand there; the definitions are model's specs/, over the objects in the two buffers.
 #![tactic(auto)]
+
 ghost use Rattle.std.specs.Prelude.{◌≡◌, List, ℕ, ◌+◌, ◌-◌, ◌*◌, ◌/◌, ◌<◌, ◌≤◌, T, length, take, drop};
 ghost use Rattle.bytecode.specs.Code.{byte_at, bytes_after, instruction_of, next_at};
 ghost use Rattle.model.specs.Limits.{entry_words, class_kind, list_kind, method_kind, primitive_flag};

@@ -1,5 +1,6 @@
 // Primitives 60 to 62, 70, 71, 110 and 111. The definitions are model's specs/Primitive.antt; what fails changes nothing.
 #![tactic(auto)]
+
 ghost use Rattle.std.specs.Prelude.{◌≡◌, List, [], ◌∷◌, ℕ, ◌+◌, ◌*◌, ◌<◌, ◌≤◌, length, eqb};
 ghost use Rattle.model.specs.Limits.{entry_words, most_objects, most_body_words, fields_kind, message_fields};
 ghost use Rattle.model.specs.Objects.{objects_at, part};

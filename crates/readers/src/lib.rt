@@ -1,6 +1,7 @@
 // Words, entries of the contents and words of the bodies, and what 01 fixes of them. Each reader asks no more than that its index is inside.
 // The definitions are model's specs/, over the objects in the two buffers; n and b say how many objects and body words stand there.
 #![tactic(auto)]
+
 ghost use Rattle.std.specs.Prelude.{◌≡◌, List, ℕ, ◌*◌, ◌<◌, ◌≤◌, length, get_or, take};
 ghost use Rattle.bytecode.specs.Test.{every};
 ghost use Rattle.model.specs.Limits.{entry_words};

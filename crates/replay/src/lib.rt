@@ -1,5 +1,6 @@
 // A list of calls on an image that is loaded first. The promise of `replay` is the theorem over lists of calls, for this list.
 #![tactic(auto)]
+
 ghost use Rattle.plain.specs.Registers as R;
 ghost use Rattle.plain.specs.Flat.{flat};
 ghost use Rattle.replay.specs.Replays.{Replays};

@@ -1,5 +1,6 @@
 // The image rules 4, 5, 14 and 6 over the lent words. The definitions are model's specs/Rules.antt.
 #![tactic(auto)]
+
 ghost use Rattle.std.specs.Prelude.{◌≡◌, ◌≤◌, eqb, length};
 ghost use Rattle.bytecode.specs.Test.{implies, all_of};
 ghost use Rattle.model.specs.Limits.{least_objects, class_kind, class_words};

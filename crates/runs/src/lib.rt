@@ -1,5 +1,6 @@
 // The run loop, over N, B, top and the lent words. The start words are none of its business: what it promises holds for all of them.
 #![tactic(auto)]
+
 ghost use Rattle.std.specs.Prelude.{◌≡◌, ◌+◌, ◌≤◌, ◌<◌, max};
 ghost use Rattle.model.specs.Limits.{longest_chain};
 ghost use Rattle.plain.specs.Running.{Runs};

@@ -1,5 +1,6 @@
 // A send: the method is sought through the cache, and answers without a frame or runs in a new one. The step is plain's specs/Step.antt.
 #![tactic(auto)]
+
 ghost use Rattle.std.specs.Prelude.{◌≡◌, true, ◌+◌, ◌≤◌, ◌<◌, length, get_or, set};
 ghost use Rattle.std.proofs.lemmas.List.Edits.{sets};
 ghost use Rattle.model.specs.Objects.{objects_at, class_of, part};

@@ -1,6 +1,7 @@
 // The calls as C makes them: a slice is a pointer and a length, registers are eight words, and every function returns 0 or the number of the
 // refusal. include/sofaduck.h is the same for a C programmer.
 #![tactic(auto)]
+
 ghost use Rattle.std.specs.Prelude.{◌≡◌, List, ℕ};
 ghost use Rattle.plain.specs.Registers as R;
 ghost use Rattle.plain.specs.Flat.{flat};

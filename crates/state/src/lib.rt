@@ -1,5 +1,6 @@
 // Parts of check's test of a state: phase and value, and the frames in the phases that have any.
 #![tactic(auto)]
+
 ghost use Rattle.std.specs.Prelude.{◌≡◌};
 ghost use Rattle.model.specs.Objects.{objects_at};
 ghost use Rattle.checks.specs.Frame.{Noted};

@@ -1,5 +1,6 @@
 // Reads an image on standard input and prints one line.
 #![tactic(auto)]
+
 ghost use Rattle.std.specs.Prelude.{◌≤◌, ◌≡◌, ◌++◌, length, drop};
 ghost use Rattle.io.specs.Counts.{IsPrefixLen};
 ghost use Rattle.plain.specs.Program.{step80};

@@ -1,5 +1,6 @@
 // One bytecode of the running frame, but for the making of sends and returns, which the run loop does: they leave here as events.
 #![tactic(auto)]
+
 ghost use Rattle.std.specs.Prelude.{◌≡◌, ◌<◌, ◌≤◌};
 ghost use Rattle.std.proofs.Math.Option.{some};
 ghost use Rattle.bytecode.specs.Effect.{special_count};

@@ -1,5 +1,6 @@
 // An image read into the lent contents and bodies, and judged there. The definitions are model's specs/Image.antt and specs/Answer.antt.
 #![tactic(auto)]
+
 ghost use Rattle.std.specs.Prelude.{◌≡◌, List, [], ℕ, ◌*◌, ◌≤◌, length};
 ghost use Rattle.model.specs.Limits.{entry_words};
 ghost use Rattle.model.specs.Objects.{objects_at};

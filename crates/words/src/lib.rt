@@ -1,5 +1,6 @@
 // Runs of words in a buffer: the one loop that fills with a word, and the one that copies.
 #![tactic(auto)]
+
 ghost use Rattle.std.specs.Prelude.{◌≡◌, ◌+◌, ◌≤◌, length, replicate};
 ghost use Rattle.std.proofs.lemmas.List.Edits.{sets};
 ghost use Rattle.model.specs.Objects.{part};

@@ -1,0 +1,9 @@
+-- Each field is a word of the image.
+use Rattle.model.specs.Image.{header_of, image_header}
+use Rattle.image.proofs.RoundTrip.{header_eq}
+use Rattle.image.proofs.header_of.Goals as goal
+
+pub returns : goal.returns
+unfolding image_header header_of
+returns c = header_eq c.header_word-edition.ensures c.header_word-n.ensures
+    c.header_word-b.ensures c.header_word-receiver.ensures c.header_word-selector.ensures

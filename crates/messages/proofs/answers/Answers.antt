@@ -1,0 +1,26 @@
+use mathlib.Core.Path.{sym, ap, ◌∙◌}
+use mathlib.Core.Bool.{Bool, ◌&&◌}
+use Prim.Native.Nat.{ℕ}
+use borrow.Author.Tests.{eq-eqb, ne_eqb}
+use lib.Dec.{eqb}
+use Rattle.model.specs.Limits.{primitive_flag}
+use Rattle.model.specs.Objects.{objects_at}
+use Rattle.model.specs.Method.{flag, primitive_number}
+use Rattle.readers.specs.Header.{flag_of}
+use Rattle.messages.proofs.answers.Goals as goal
+
+pub header-requires : goal.header-requires
+header-requires c =
+    c.requires
+
+pub returns-then-flag-ne-PRIMITIVE : goal.returns-then-flag-ne-PRIMITIVE
+returns-then-flag-ne-PRIMITIVE c =
+    sym (ap (λ (t : Bool). t && eqb (primitive_number (objects_at c.args.n c.args.b c.args.contents.now c.args.bodies.now) c.args.method.0) 110) (ne_eqb (flag (objects_at c.args.n c.args.b c.args.contents.now c.args.bodies.now) c.args.method.0) primitive_flag (λ q. c.if-flag-ne-PRIMITIVE.true (c.flag-flag.ensures ∙ ap flag_of c.header.ensures ∙ q))))
+
+pub primitive_number-requires : goal.primitive_number-requires
+primitive_number-requires c =
+    (c.requires, sym (c.flag-flag.ensures ∙ ap flag_of c.header.ensures) ∙ c.if-flag-ne-PRIMITIVE.false)
+
+pub returns : goal.returns
+returns c =
+    ap (λ (k : ℕ). eqb k 110) c.primitive_number.ensures ∙ sym (ap (λ (t : Bool). t && eqb (primitive_number (objects_at c.args.n c.args.b c.args.contents.now c.args.bodies.now) c.args.method.0) 110) (eq-eqb (flag (objects_at c.args.n c.args.b c.args.contents.now c.args.bodies.now) c.args.method.0) primitive_flag (sym (c.flag-flag.ensures ∙ ap flag_of c.header.ensures) ∙ c.if-flag-ne-PRIMITIVE.false)))

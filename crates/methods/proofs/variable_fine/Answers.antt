@@ -1,0 +1,30 @@
+use Prim.Native.Nat.{◌/◌}
+use mathlib.Core.Path.{sym, ap, ◌∙◌}
+use mathlib.Core.Bool.{Bool, ◌&&◌}
+use mathlib.Core.List.{[]}
+use lib.Dec.{leb}
+use Rattle.bytecode.proofs.TestLaws.{true→T}
+use Rattle.model.specs.Limits.{fields_kind}
+use Rattle.model.specs.Objects.{objects_at, size}
+use Rattle.model.specs.Rules.{variable_fine}
+use Rattle.model.proofs.ChainLaws as C
+use Rattle.methods.proofs.variable_fine.Goals as goal
+
+pub returns-then-not-is_kind : goal.returns-then-not-is_kind
+unfolding variable_fine
+returns-then-not-is_kind c = λ b bodies. sym (ap (λ (x : Bool). x && leb 2
+    (size (objects_at c.args.n b c.args.contents.now bodies) (c.args.w / 2)))
+    (sym (c.is_kind.ensures b bodies) ∙ c.if-not-is_kind.true))
+
+pub size-requires : goal.size-requires
+size-requires c =
+    let args = c.args in
+    let h = C.named (objects_at args.n 0 args.contents.now []) fields_kind args.w
+    (true→T (sym (c.is_kind.ensures 0 []) ∙ c.if-not-is_kind.false)) in record { entries = c.requires; least = h.least; most = h.most }
+
+pub returns : goal.returns
+unfolding variable_fine
+returns c =
+    let args = c.args in
+    λ b bodies. ap (leb 2) c.size.ensures ∙ sym (ap (λ (x : Bool). x && leb 2 (size (objects_at args.n b args.contents.now bodies) (args.w / 2)))
+    (sym (c.is_kind.ensures b bodies) ∙ c.if-not-is_kind.false))

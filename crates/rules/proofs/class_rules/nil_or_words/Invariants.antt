@@ -1,0 +1,12 @@
+-- `nil_or_words` tests every word.
+use Prim.Native.Nat.{◌-◌, ◌≤◌}
+use lib.ListN.{length, get_or}
+use Rattle.model.specs.Objects.{is_nil_or, entries_at}
+use Rattle.readers.proofs.Loops.{Before}
+use Rattle.rules.proofs.class_rules.nil_or_words.Given as goal
+
+abbrev pub invariant-loop-i : goal.invariant-loop-i
+invariant-loop-i l = (l.i ≤ length l.words) × Before (λ j. is_nil_or (entries_at l.n l.contents) l.of (get_or l.words j 0)) l.i
+
+abbrev pub decreases-loop-i : goal.decreases-loop-i
+decreases-loop-i l = length l.words - l.i

@@ -1,0 +1,51 @@
+-- 1, 2 and 3 change nothing; `settle` does the rest.
+use mathlib.Core.Path.{sym, ap, ◌∙◌}
+use native.Mathlib.Omega.{arith}
+use Rattle.bytecode.proofs.TestLaws.{true→T}
+use Rattle.model.specs.Image as Image
+use Rattle.store.proofs.Verdicts.{gives_1, refuse, stores}
+use Rattle.store.proofs.ReadingLaws.{reading_refused, reading_accepted}
+use Rattle.store.proofs.Settled.{lent_by, read_2, read_3, read_on}
+use Rattle.store.proofs.read.Goals as goal
+
+pub returns-then-not-length_fine : goal.returns-then-not-length_fine
+returns-then-not-length_fine c =
+    let number = refuse _ 1 _ _ _ (gives_1 _ _ (sym c.length_fine.ensures ∙ c.if-not-length_fine.true)) (omega arith) in
+    reading_refused _ _ _ _ _ _ _ number (omega arith)
+
+pub returns-then-not-header_fine : goal.returns-then-not-header_fine
+returns-then-not-header_fine c =
+    let number = refuse _ 2 _ _ _ (read_2 _ _ c.header_of-header.ensures (sym c.length_fine.ensures
+    ∙ c.if-not-length_fine.false) (sym c.header_fine.ensures ∙ c.if-not-header_fine.true)) (omega arith) in
+    reading_refused _ _ _ _ _ _ _ number (omega arith)
+
+pub returns-then-not-buffers_fine : goal.returns-then-not-buffers_fine
+returns-then-not-buffers_fine c =
+    let number = refuse _ 3 _ _ _ (read_3 _ _ c.header_of-header.ensures (sym c.length_fine.ensures ∙ c.if-not-length_fine.false)
+    (sym c.header_fine.ensures ∙ c.if-not-header_fine.false) (sym c.buffers_fine.ensures ∙ c.if-not-buffers_fine.true)) (omega arith) in
+    reading_refused _ _ _ _ _ _ _ number (omega arith)
+
+pub settle-number-requires : goal.settle-number-requires
+settle-number-requires c =
+    record {
+      long = true→T (sym c.length_fine.ensures ∙ c.if-not-length_fine.false);
+      objects = sym
+          (ap (λ (h : Image.Header). h.n) c.header_of-header.ensures);
+      words = sym (ap (λ (h : Image.Header). h.b) c.header_of-header.ensures);
+      lent = lent_by c.header_of-header.result.edition _ _ c.args.cache _ _ (sym c.header_fine.ensures
+          ∙ c.if-not-header_fine.false) (sym c.buffers_fine.ensures ∙ c.if-not-buffers_fine.false);
+    }
+
+pub returns-then-number-ne0 : goal.returns-then-number-ne0
+returns-then-number-ne0 c =
+    let number = stores _ _ _ _ _ _ (read_on _ _ c.header_of-header.ensures (sym c.length_fine.ensures ∙ c.if-not-length_fine.false)
+    (sym c.header_fine.ensures ∙ c.if-not-header_fine.false) (sym c.buffers_fine.ensures
+    ∙ c.if-not-buffers_fine.false)) c.settle-number.ensures in
+    reading_refused _ _ _ _ _ _ _ number c.if-number-ne0.true
+
+pub returns : goal.returns
+returns c =
+    let number = stores _ _ _ _ _ _ (read_on _ _ c.header_of-header.ensures (sym c.length_fine.ensures ∙ c.if-not-length_fine.false)
+    (sym c.header_fine.ensures ∙ c.if-not-header_fine.false) (sym c.buffers_fine.ensures
+    ∙ c.if-not-buffers_fine.false)) c.settle-number.ensures in
+    reading_accepted _ _ _ _ _ _ _ number _ c.if-number-ne0.false c.header_of-header.ensures
