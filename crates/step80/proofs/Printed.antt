@@ -3,7 +3,7 @@ use Prim.Native.Nat.{ℕ}
 use mathlib.Core.Path.{◌≡◌, sym, ap, ◌∙◌, subst}
 use mathlib.Core.List.{List, [], ◌++◌}
 use lib.ListN.{length, drop}
-use Rattle.io.specs.Counts.{IsPrefixLen}
+use Rattle.step80.specs.Counts.{IsPrefixLen}
 use Rattle.plain.specs.Flat.{Flat, flat, room_of}
 use Rattle.plain.specs.FlatCalls.{flat_load, flat_begin, flat_run}
 use Rattle.plain.specs.Program.{Line, line, refusal, step80_room, step80}

@@ -2,40 +2,33 @@
 #![tactic(auto)]
 
 ghost use Rattle.std.specs.Prelude.{◌≤◌, ◌≡◌, ◌++◌, length, drop};
-ghost use Rattle.io.specs.Counts.{IsPrefixLen};
 ghost use Rattle.plain.specs.Program.{step80};
 ghost use Rattle.plain.specs.Text.{line_bytes};
+ghost use Rattle.step80.specs.Counts.{IsPrefixLen};
 ghost use Rattle.step80.specs.Input.{bytes_read};
 
 use loads::Loaded;
 use machine::{Begun, Ran};
+use std::io;
+use std::io::Read;
 
 // One byte more than the longest image that a header can name, and odd, as no image is.
 const MOST: usize = 655361;
 
-#[derive(Clone, Copy)]
-enum Input {
-    Bytes(usize),
-    Failed,
-}
-
-// Standard input, to its end or until the buffer is full.
-fn read_all(image: &mut [u8]) -> Input
+// Standard input, to its end or until the buffer is full. An error is that of the read that failed; the buffer keeps what was read before it.
+fn read_all(rt: &impl Input, image: &mut [u8]) -> io::Result<usize>
     ensures { bytes_read result ≤ length image.new }
 {
+    let mut input = rt.reader();
     let mut done: usize = 0;
     while done < image.len() {
-        let got = libc::read(libc::STDIN_FILENO, &mut image[done..]);
-        if got < 0 {
-            return Input::Failed;
-        }
-        let more = io::count(got, &image[done..]);
+        let more = input.read(&mut image[done..])?;
         if more == 0 {
-            return Input::Bytes(done);
+            return Ok(done);
         }
         done += more;
     }
-    Input::Bytes(done)
+    Ok(done)
 }
 
 // Load, begin with the start words and no arguments, and in phase 1 run 1,000 bytecodes; the line stands at the front of `out`.
@@ -76,29 +69,25 @@ fn answer(
     }
 }
 
-// Reads, computes, prints. Where reading or writing fails it says so on standard error.
+// Reads, computes, prints. An error is that of the read or the write that failed.
 fn work(
+    rt: &(impl Input + Print),
     image: &mut [u8],
     contents: &mut [u16],
     bodies: &mut [u16],
     stack: &mut [u16],
     cache: &mut [u16],
     out: &mut [u8],
-)
+) -> io::Result<()>
     requires { (length contents.old ≡ 8188) × (length bodies.old ≡ 24000) × (length stack.old ≡ 1024) × (length cache.old ≡ 256) × (64 ≤ length out.old) }
 {
-    let Input::Bytes(n) = read_all(image) else {
-        os::fail(b"read");
-        return;
-    };
+    let n = read_all(rt, image)?;
     let k = answer(&image[..n], contents, bodies, stack, cache, out);
-    let is_written = io::write_all(libc::STDOUT_FILENO, &out[..k]);
-    if !is_written {
-        os::fail(b"write");
-    }
+    rt.write_all(&out[..k])
 }
 
-fn main() {
+// Where reading or writing fails it says so on standard error, and the exit status is 1.
+fn main(rt: HostRuntime) -> io::Result<()> {
     let mut image = [0u8; MOST];
     let mut contents = [0u16; 8188];
     let mut bodies = [0u16; 24000];
@@ -106,11 +95,12 @@ fn main() {
     let mut cache = [0u16; 256];
     let mut out = [0u8; 64];
     work(
+        &rt,
         &mut image,
         &mut contents,
         &mut bodies,
         &mut stack,
         &mut cache,
         &mut out,
-    );
+    )
 }
