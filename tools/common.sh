@@ -94,7 +94,7 @@ proved() {
     [ "$name" = "$crate" ] || [ -e "crates/$name/out/rlib/stamp" ] || new=$((new + 1))
     for part in src specs proofs; do [ ! -d "crates/$name/$part" ] || sources+=("crates/$name/$part"); done
   done
-  # rt checks and compiles the crate itself at each call, even where nothing changed.
+  # rt lib checks and compiles the crate itself at each call, even where nothing changed.
   if [ "$(cat "$progress.made" 2> /dev/null)" = "$(rt version)" ] && [ -e "target/$made" ] &&
     [ -z "$(find "${sources[@]}" -newer "$progress.made" -print -quit)" ]; then return; fi
   if [ "$new" -gt 0 ]; then
