@@ -159,10 +159,10 @@ uint32_t sofaduck_load(const uint8_t *image, size_t image_length,
  * Each call checks all of it first, so a spoiled state does no harm. It is refused by 3 where contents have less than 4 * N words, bodies less than
  * B, or the cache other than 256, and by 11 where objects, cache, registers or frames break a rule that every call keeps. The time for that grows
  * with the image and the frames, and is spent once a call: one run of a thousand bytecodes takes far less than a thousand runs of one, and one play
- * far less than its calls made singly. On a shared two-core x86-64 machine it took about 4, 21 and 195 microseconds for images of 1,000, 6,000 and
- * 24,000 words of bodies with one frame, and 600 for a state made to be slow: 1,300 classes with chains of 24, 3,640 frames, and a cache full of
- * lookups that read 9,200 pairs each. Of 100 contacts in a frame, with handlers of about 50 bytecodes and 6,000 words of bodies, each took 43
- * microseconds singly and half of one by play (bench/run prints it).
+ * far less than its calls made singly. On a shared two-core x86-64 machine, where the library was built by the older rattle-kit-5b, it took about 4,
+ * 21 and 195 microseconds for images of 1,000, 6,000 and 24,000 words of bodies with one frame, and 600 for a state made to be slow: 1,300 classes
+ * with chains of 24, 3,640 frames, and a cache full of lookups that read 9,200 pairs each. Of 100 contacts in a frame, with handlers of about 50
+ * bytecodes and 6,000 words of bodies, each took 43 microseconds singly and half of one by play (bench/run prints it).
  *
  * What an engine may write itself, between calls and in any phase: into a field of an object of kind SOFADUCK_FIELDS, any integer and any word that
  * names an object; into an object of kind SOFADUCK_BYTES, any bytes, but for the one behind an odd number of them, which stays 0. Check accepts it.

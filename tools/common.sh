@@ -58,7 +58,7 @@ only_debian() {
 # CRATE: it and the crates that it rests on, a line each.
 crates_for() {
   awk -F: -v wanted="$1" '
-    !/^#/ && NF > 1 { on[$1] = $2 }
+    !/^#/ && NF > 1 { split($1, word, " "); on[word[1]] = $2 }
     END {
       list[1] = wanted; seen[wanted] = 1; n = 1
       for (i = 1; i <= n; i++) {
@@ -69,35 +69,67 @@ crates_for() {
     }' crates.txt
 }
 
-# check|staticlib CRATE: the crate is proved and built, with a line for each crate as it is proved and the number of those that come after it. What was proved
-# before and has not changed since is not proved again. All that rt says is in target/progress/CRATE.
+# How many crates are checked at a time: one for each processor, and 3 GB for each.
+at_once() {
+  local processors memory
+  processors=$(nproc 2> /dev/null || echo 1)
+  memory=$(awk '/^MemAvailable:/ { print int($2 / 3000000) }' /proc/meminfo 2> /dev/null)
+  [ "${memory:-1}" -ge "$processors" ] || processors=${memory:-1}
+  echo "$((processors > 0 ? processors : 1))"
+}
+
+# sofaduck|benchmark|step80: target/staticlib/libsofaduck.a, target/staticlib/libbenchmark.a or target/bin/step80 is proved and built, with a line for each
+# crate as it is proved and the number of those that come after it. What was proved before and has not changed since is not proved again. All that rt says is
+# in target/progress, under the same name.
 proved() {
-  local crate all=0 new=0 began=$SECONDS
+  local crate=$1 file=lib$1.a made=staticlib/lib$1.a progress=target/progress/$1 name part all=0 new=0 began=$SECONDS sources=(crates.txt)
   needs rt
-  # An archive is written anew at each call, half a minute even where nothing changed.
-  if [ "$1" = staticlib ] && [ "$(cat "target/progress/$2.made" 2> /dev/null)" = "$(rt version)" ] && [ -e "target/staticlib/lib$2.a" ] &&
-    [ -z "$(find crates crates.txt -newer "target/staticlib/lib$2.a" -print -quit)" ]; then return; fi
-  for crate in $(crates_for "$2"); do
+  case $1 in
+    # A crate is a library for other crates or one for C, and `sofaduck` is used by `benchmark`.
+    sofaduck) crate=sofaduck_c file=libsofaduck_c.a ;;
+    step80) file=step80 made=bin/step80 ;;
+  esac
+  for name in $(crates_for "$crate"); do
     all=$((all + 1))
-    [ -e "target/stamp/$crate" ] || [ "$1 $crate" = "staticlib $2" ] || new=$((new + 1))
+    [ "$name" = "$crate" ] || [ -e "crates/$name/out/rlib/stamp" ] || new=$((new + 1))
+    for part in src specs proofs; do [ ! -d "crates/$name/$part" ] || sources+=("crates/$name/$part"); done
   done
-  mkdir -p target/progress
+  # rt lib checks and compiles the crate itself at each call, even where nothing changed.
+  if [ "$(cat "$progress.made" 2> /dev/null)" = "$(rt version)" ] && [ -e "target/$made" ] &&
+    [ -z "$(find "${sources[@]}" -newer "$progress.made" -print -quit)" ]; then return; fi
   if [ "$new" -gt 0 ]; then
-    echo "proving $2: $new of $all crates are not proved here yet; all $all take about 8 minutes on two cores" >&2
-  elif [ "$1" = staticlib ]; then
-    echo "building lib$2.a: half a minute, and what its crates take that changed" >&2
+    echo "proving $1: $new of the $((all - 1)) crates that it rests on are not proved here yet. First all are read, then each takes 5 to 60 seconds, $(at_once) at a time" >&2
+  else
+    echo "building target/$made: half a minute, and what its crates take that changed" >&2
   fi
-  rm -f "target/progress/$2.failed"
-  { rt "$1" "$2" 2>&1 || touch "target/progress/$2.failed"; } | tee "target/progress/$2" | awk -v all="$all" '
-    /^rt: [a-z0-9]+ proved/ { done++; if (!/unchanged/) { sub(/^rt: /, ""); printf "  %s, %d to go\n", $0, all - done; fflush() } }
-    /^rt: .*NOT PROVED/ { sub(/^rt: /, ""); print "  " $0; fflush() }' >&2
-  if [ -e "target/progress/$2.failed" ]; then
-    tail -n 20 "target/progress/$2" >&2
-    echo "$0: $2 is not proved; target/progress/$2 has all that rt said" >&2
+  mkdir -p target/progress target/staticlib target/bin
+  rm -f "$progress.failed"
+  touch "$progress.began"
+  {
+    (
+      cd "crates/$crate" || exit
+      [ "$new" -eq 0 ] || rt all check --jobs "$(at_once)" || exit
+      if [ "$crate" = step80 ]; then rt run < stdin > /dev/null; else rt lib; fi
+    ) 2>&1 || touch "$progress.failed"
+  } | tee "$progress" | awk -v all="$all" -v new="$new" '
+    # rt all says a crate as it is done, and then what its check said; rt lib and rt run say it as they begin.
+    /^== summary$/ { if (new) { print "  building"; fflush() } new = -1; name = ""; next }
+    /^== / { name = $2; done++; next }
+    /^rt: chose --jobs [0-9]+ for / { name = $NF; if (!new) { print "  proving " name; fflush() } }
+    /^logic=proved/ { if (new > 0) { printf "  %s proved, %d to go\n", name, all - done; fflush() } }
+    /^logic=not-proved/ { print "  " name " NOT PROVED"; fflush() }
+    /^rt: .*waiting for / || /^rt: note: the disk / { print "  " $0; fflush() }' >&2
+  if [ ! -e "$progress.failed" ] && cp "crates/$crate/out/$file" "target/$made.new" && mv "target/$made.new" "target/$made"; then
+    rt version > "$progress.made"
+    # What was edited meanwhile is built the next time.
+    touch -r "$progress.began" "$progress.made"
+  else
+    rm -f "$progress.made"
+    { grep -E '(^|: )error|^rt: |: failed' "$progress" || cat "$progress"; } | tail -n 20 >&2
+    echo "$0: $1 is not proved; $progress has all that rt said. One crate is checked by: cd crates/NAME && rt check" >&2
     exit 1
   fi
-  [ "$1" != staticlib ] || rt version > "target/progress/$2.made"
-  if [ "$new" -gt 0 ]; then echo "proved: $2, in $((SECONDS - began)) seconds" >&2; fi
+  if [ "$new" -gt 0 ]; then echo "proved: $1, in $((SECONDS - began)) seconds" >&2; fi
 }
 
 # PROGRAM...: programs of apart/ are built, in target/apart/release. `compare` and `runner` are linked with the proved library, which has to be there,

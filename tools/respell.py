@@ -19,6 +19,8 @@ TOKEN = re.compile(r'[^\s(){}.;,@"«»\[\]\\]+')
 MODULE = re.compile(r"crates/\w+/(specs/.*|proofs/[A-Z][^/]*|proofs/[A-Z].*/[A-Z][^/]*)\.antt$")
 DECLARED = re.compile(r"(?:(?:abbrev|unfoldable|pub|data|record|ruleset) )*([^\s(){}.;,:|]+)(?: \{[^}]*\})*(?: \([^)]*\))* :(?:\s|$)")
 FIELD = re.compile(r"\s+(?:pub )?([a-z][^\s(){}.;,:|]*)(?: \{[^}]*\})* :(?:\s|$)")
+# The kit keeps if◌then◌else◌ for its own choice: that of bytecode's specs/Test, which stays shut, begins with another word.
+CHOICE = ("if◌then◌else◌", "when◌then◌else◌")
 # Names that Rattle makes below these heads keep their spelling.
 MADE = re.compile(r"(?:^|[^\w'.-])(?:tie|goal)\.$")
 
@@ -106,6 +108,8 @@ def turn_antt(path, text, rows):
     def turn(part):
         def one(m):
             w = m[0]
+            if w == "if" or w == CHOICE[0]:
+                return "when" if w == "if" else CHOICE[1]
             if w not in rows or w in mine or MADE.search(part[: m.start()][-12:]):
                 return w
             return rows[w]
@@ -158,6 +162,8 @@ def main(argv):
         old = plain(p)
         if p.endswith(".antt"):
             new = turn_antt(p, old, rows)
+        elif p.endswith(".edit") and re.search(r"(?m)^file: .*\.antt$", old):
+            new = "\n".join(turn_antt(p, line, rows) if line.startswith(("old:", "new:")) else turn_rt(line, rows) for line in old.split("\n"))
         elif p.endswith((".rt", ".edit")):
             new = turn_rt(old, rows)
         else:

@@ -8,27 +8,27 @@ use native.Mathlib.Nat.{mul-le-mul_left, mul-le-mul_right}
 use borrow.Author.Tests.{eq-eqb, ne_eqb, lt-leb}
 use lib.Dec.{leb}
 use lib.Bits.{bit_xor, differ, xor_step, xor_lt}
-use Rattle.bytecode.specs.Test.{if◌then◌else◌}
+use Rattle.bytecode.specs.Test.{when◌then◌else◌}
 use Rattle.model.specs.declared.Computed.TheVariants.{Failed}
 use Rattle.model.specs.Word.{value_of}
 use Rattle.model.specs.Arithmetic.{on_bits, on_integers, arithmetic}
 
 pub receiver_no_integer : (k v w : ℕ) → (v % 2 ≡ 1 → ⊥) → arithmetic k v w ≡ Failed
-unfolding arithmetic if◌then◌else◌
+unfolding arithmetic when◌then◌else◌
 receiver_no_integer k v w h = rw (ne_eqb (v % 2) 1 h)
 
 module _ (k v w : ℕ) (hv : v % 2 ≡ 1) where
   pub argument_no_integer : (w % 2 ≡ 1 → ⊥) → arithmetic k v w ≡ Failed
-  unfolding arithmetic if◌then◌else◌
+  unfolding arithmetic when◌then◌else◌
   argument_no_integer h = rw (eq-eqb (v % 2) 1 hv, ne_eqb (w % 2) 1 h)
 
   module _ (hw : w % 2 ≡ 1) where
     pub bitwise : (leb 14 k && leb k 16) ≡ true → arithmetic k v w ≡ on_bits k v w
-    unfolding arithmetic if◌then◌else◌
+    unfolding arithmetic when◌then◌else◌
     bitwise e = rw (eq-eqb (v % 2) 1 hv, eq-eqb (w % 2) 1 hw, e)
 
     pub not_bitwise : (leb 14 k && leb k 16) ≡ false → arithmetic k v w ≡ on_integers k (value_of v) (value_of w)
-    unfolding arithmetic if◌then◌else◌
+    unfolding arithmetic when◌then◌else◌
     not_bitwise e = rw (eq-eqb (v % 2) 1 hv, eq-eqb (w % 2) 1 hw, e)
 
     pub numbered : (j : ℕ) → k ≡ j → j < 14 → arithmetic k v w ≡ on_integers j (value_of v) (value_of w)

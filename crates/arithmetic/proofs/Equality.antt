@@ -10,7 +10,7 @@ use lib.IntN.{ℤ, pos, negsuc}
 use lib.Signed.{le_z}
 use mir.Syntax.{w32}
 use mir.Val.{SFits, of_z}
-use Rattle.bytecode.specs.Test.{if◌then◌else◌}
+use Rattle.bytecode.specs.Test.{when◌then◌else◌}
 use Rattle.model.specs.Word.{value_of}
 
 module _ (t : Bool) (a b : ℕ) (equal : a ≡ b → t ≡ true) (unequal : (a ≡ b → ⊥) → t ≡ false) where
@@ -44,7 +44,7 @@ module _ (v w : ℕ) (hv : v < 65536) (hw : w < 65536) (ov : v % 2 ≡ 1) (ow : 
   same = le_z (value_of v) (value_of w) && le_z (value_of w) (value_of v)
 
   by_halves : Dec (v < 32768) → Dec (w < 32768) → eqb v w ≡ same
-  unfolding value_of if◌then◌else◌
+  unfolding value_of when◌then◌else◌
   by_halves (yes l) (yes g) = rw (lt-ltb v 32768 l, lt-ltb w 32768 g)
       (both_ways (eqb v w) (v / 2) (w / 2) (λ e. eq-eqb v w (omega arith)) (λ n. ne_eqb v w (λ e. n (omega arith))))
   by_halves (yes l) (no g) = rw (lt-ltb v 32768 l, le-ltb w 32768 (omega arith)) (ne_eqb v w (λ e. omega arith))

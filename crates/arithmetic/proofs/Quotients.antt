@@ -10,7 +10,7 @@ use lib.IntN.{ℤ, pos, negsuc, neg_ℤ, suc_ℤ, pred_ℤ, ◌+ℤ◌, ◌-ℤ�
 use lib.Signed.{mag, lt_z, quot_z, rem_z, mag_rem}
 use mir.Syntax.{w32}
 use mir.Val.{SFits}
-use Rattle.bytecode.specs.Test.{if◌then◌else◌}
+use Rattle.bytecode.specs.Test.{when◌then◌else◌}
 use Rattle.model.specs.declared.Computed.{Computed}
 use Rattle.model.specs.declared.Computed.TheVariants.{Failed}
 use Rattle.model.specs.Limits.{largest_integer}
@@ -20,26 +20,26 @@ use Rattle.arithmetic.proofs.Magnitude.{fits, neg_natural, sum_mag, difference_m
 -- ---- the definitions
 
 pub by_zero : {b : ℤ} (z : ℤ) → b ≡ pos 0 → divided b z ≡ Failed
-unfolding divided if◌then◌else◌
+unfolding divided when◌then◌else◌
 by_zero z e = rw e
 
 pub by_other : (b z : ℤ) → (b ≡ pos 0 → ⊥) → divided b z ≡ number z
-unfolding divided if◌then◌else◌
+unfolding divided when◌then◌else◌
 by_other (pos zero) z h = absurd (h refl)
 by_other (pos (suc b)) z h = refl
 by_other (negsuc b) z h = refl
 
-either_way : (t : Bool) → (if t then Failed else Failed) ≡ Failed
-unfolding if◌then◌else◌
+either_way : (t : Bool) → (when t then Failed else Failed) ≡ Failed
+unfolding when◌then◌else◌
 either_way true = refl
 either_way false = refl
 
 pub exact_by_zero : (a : ℤ) {b : ℤ} → b ≡ pos 0 → exact_quotient a b ≡ Failed
 unfolding exact_quotient
-exact_by_zero a {b} e = ap (λ (x : Computed). if is_zero (rem_z a b) then x else Failed) (by_zero (quot_z a b) e) ∙ either_way (is_zero (rem_z a b))
+exact_by_zero a {b} e = ap (λ (x : Computed). when is_zero (rem_z a b) then x else Failed) (by_zero (quot_z a b) e) ∙ either_way (is_zero (rem_z a b))
 
 pub exact : (a b : ℤ) → rem_z a b ≡ pos 0 → (b ≡ pos 0 → ⊥) → exact_quotient a b ≡ number (quot_z a b)
-unfolding exact_quotient if◌then◌else◌
+unfolding exact_quotient when◌then◌else◌
 exact a b e h = rw e (by_other b (quot_z a b) h)
 
 not_zero : (z : ℤ) → (z ≡ pos 0 → ⊥) → is_zero z ≡ false
@@ -48,7 +48,7 @@ not_zero (pos (suc n)) h = refl
 not_zero (negsuc n) h = refl
 
 pub inexact : (a b : ℤ) → (rem_z a b ≡ pos 0 → ⊥) → exact_quotient a b ≡ Failed
-unfolding exact_quotient if◌then◌else◌
+unfolding exact_quotient when◌then◌else◌
 inexact a b h = rw (not_zero (rem_z a b) h)
 
 -- ---- rounding down, by the two signs

@@ -6,18 +6,18 @@ use borrow.Author.Tests.{le-leb, lt-leb, ltb-true, ltb-false}
 use lib.Dec.{T}
 use lib.IntN.{ℤ, pos, negsuc}
 use lib.Signed.{mag, lt_z}
-use Rattle.bytecode.specs.Test.{if◌then◌else◌}
+use Rattle.bytecode.specs.Test.{when◌then◌else◌}
 use Rattle.model.specs.declared.Computed.TheVariants.{Word, Failed}
 use Rattle.model.specs.Limits.{largest_integer}
 use Rattle.model.specs.Word.{word_of}
 use Rattle.model.specs.Arithmetic.{number}
 
 pub in_range : (z : ℤ) → mag z ≤ largest_integer → number z ≡ Word (word_of z)
-unfolding number if◌then◌else◌
+unfolding number when◌then◌else◌
 in_range z h = rw (le-leb (mag z) largest_integer h)
 
 pub out_of_range : (z : ℤ) → largest_integer < mag z → number z ≡ Failed
-unfolding number if◌then◌else◌
+unfolding number when◌then◌else◌
 out_of_range z h = rw (lt-leb (mag z) largest_integer h)
 
 pub below_range : (z : ℤ) → lt_z z (negsuc largest_integer) ≡ true → number z ≡ Failed

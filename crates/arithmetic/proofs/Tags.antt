@@ -10,7 +10,7 @@ use lib.IntN.{ℤ, pos, negsuc, neg_ℤ, ◌+ℤ◌, ◌-ℤ◌, +ℤ_comm, +ℤ
 use lib.Signed.{mag, lt_z, le_z}
 use mir.Syntax.{w32}
 use mir.Val.{SFits, to_z, of_z}
-use Rattle.bytecode.specs.Test.{if◌then◌else◌}
+use Rattle.bytecode.specs.Test.{when◌then◌else◌}
 use Rattle.model.specs.declared.Computed.TheVariants.{Word, Failed}
 use Rattle.model.specs.Limits.{largest_integer}
 use Rattle.model.specs.Word.{value_of, word_of}
@@ -28,7 +28,7 @@ raised_signed w = (w + 32768) % 65536
 
 module _ (w : ℕ) (h : w < 65536) (odd : w % 2 ≡ 1) where
   by_half : Dec (w < 32768) → pos (raised_signed w) -ℤ pos 32768 ≡ tagged (value_of w)
-  unfolding tagged value_of if◌then◌else◌
+  unfolding tagged value_of when◌then◌else◌
   by_half (yes l) = let g : 32768 ≤ raised_signed w = omega arith in rw (le-ltb (raised_signed w) 32768 g, lt-ltb w 32768 l) (ap pos (omega arith))
   by_half (no n) = let g : raised_signed w < 32768 = omega arith in rw (lt-ltb (raised_signed w) 32768 g, le-ltb w 32768 (omega arith)) (ap negsuc (omega arith))
 

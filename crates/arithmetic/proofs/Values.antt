@@ -8,7 +8,7 @@ use lib.IntN.{ℤ, pos, negsuc, ◌+ℤ◌, ◌-ℤ◌}
 use lib.Signed.{mag}
 use mir.Syntax.{w32}
 use mir.Val.{SFits, to_z, of_z}
-use Rattle.bytecode.specs.Test.{if◌then◌else◌}
+use Rattle.bytecode.specs.Test.{when◌then◌else◌}
 use Rattle.model.specs.Limits.{largest_integer}
 use Rattle.model.specs.Word.{value_of, word_of}
 use Rattle.arithmetic.proofs.Machine.{reads}
@@ -19,7 +19,7 @@ raised_word w = (w + 32768) % 65536 / 2
 
 module _ (w : ℕ) (h : w < 65536) where
   by_half : Dec (w < 32768) → pos (raised_word w) -ℤ pos 16384 ≡ value_of w
-  unfolding value_of if◌then◌else◌
+  unfolding value_of when◌then◌else◌
   by_half (yes l) = let g : 16384 ≤ raised_word w = omega arith in rw (le-ltb (raised_word w) 16384 g, lt-ltb w 32768 l) (ap pos (omega arith))
   by_half (no n) = let g : raised_word w < 16384 = omega arith in rw (lt-ltb (raised_word w) 16384 g, le-ltb w 32768 (omega arith)) (ap negsuc (omega arith))
 
@@ -46,7 +46,7 @@ word_of_raised (negsuc n) h = omega arith
 -- every word's integer is in range
 module _ (w : ℕ) (h : w < 65536) where
   half_mag : Dec (w < 32768) → mag (value_of w) ≤ largest_integer
-  unfolding value_of if◌then◌else◌
+  unfolding value_of when◌then◌else◌
   half_mag (yes l) = rw (lt-ltb w 32768 l) (omega arith)
   half_mag (no n) = rw (le-ltb w 32768 (omega arith)) (omega arith)
 

@@ -6,7 +6,7 @@ use mathlib.Core.List.{List}
 use borrow.Author.Tests.{not-true, not-false}
 use lib.Dec.{T, eqb}
 use lib.ListN.{length, get_or}
-use Rattle.bytecode.specs.Test.{if◌then◌else◌}
+use Rattle.bytecode.specs.Test.{when◌then◌else◌}
 use Rattle.bytecode.specs.Constant.{nil_word}
 use Rattle.bytecode.proofs.TestLaws.{true→T}
 use Rattle.model.specs.declared.Found.{Found}
@@ -31,7 +31,7 @@ module _ (words contents bodies stack cache : List ℕ) (selector class m p d : 
 
   -- check refuses
   pub unchecked : (r : ℕ) → verdict_of r ≡ check s → (r ≡ 0 → ⊥) → LookupIs s selector class m p d m p d false
-  unfolding if◌then◌else◌
+  unfolding when◌then◌else◌
   unchecked zero e h = absurd (h refl)
   unchecked (suc k) e h = record { made = ap (λ (v : Verdict). is_accepted v && is_kind (flat_objects s) class_kind class) e; found = refl; read = refl; walked = refl }
 
@@ -49,7 +49,7 @@ module _ (words contents bodies stack cache : List ℕ) (selector class m p d : 
 
     module _ {x : Bool} (k : x ≡ is_kind o class_kind class) where
       pub no_class : not x ≡ true → LookupIs s selector class m p d m p d false
-      unfolding registers_at if◌then◌else◌
+      unfolding registers_at when◌then◌else◌
       no_class q = record { made = sym (ap₂ (λ (v : Verdict) (b : Bool). is_accepted v && b) yes (sym k ∙ not-true x q)); found = refl; read = refl; walked = refl }
 
       is_class : not x ≡ false → is_kind o class_kind class ≡ true
@@ -60,6 +60,6 @@ module _ (words contents bodies stack cache : List ℕ) (selector class m p d : 
 
       pub looked : {f g : Found} {j k : ℕ} → not x ≡ false → f ≡ lookup o selector class → j ≡ pairs_read o selector class → k ≡ dictionaries_read o selector class → f ≡ g
           → LookupIs s selector class m p d (word_found g) j k true
-      unfolding registers_at if◌then◌else◌
+      unfolding registers_at when◌then◌else◌
       looked q a b w c =
           record { made = sym (ap₂ (λ (v : Verdict) (t : Bool). is_accepted v && t) yes (is_class q)); found = ap word_found (sym c ∙ a); read = b; walked = w }

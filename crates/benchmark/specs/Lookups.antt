@@ -1,6 +1,6 @@
 -- What a lookup that is compared from outside gives.
 use Rattle.std.specs.Prelude.{ℕ, ◌≡◌, Bool, true, false, ◌&&◌}
-use Rattle.bytecode.specs.Test.{if◌then◌else◌}
+use Rattle.bytecode.specs.Test.{when◌then◌else◌}
 use Rattle.model.specs.declared.Found.{Found}
 use Rattle.model.specs.declared.Found.TheVariants.{Method, Nothing}
 use Rattle.model.specs.Limits.{class_kind}
@@ -22,6 +22,6 @@ word_found Nothing = 0
 -- A method, pairs and dictionaries that stood there are written over where a lookup was made.
 pub record LookupIs (s : Flat) (selector class method pairs dictionaries method' pairs' dictionaries' : ℕ) (r : Bool) : Type 0 where
   pub made : r ≡ (is_accepted (check s) && is_kind (flat_objects s) class_kind class)
-  pub found : method' ≡ (if r then word_found (lookup (flat_objects s) selector class) else method)
-  pub read : pairs' ≡ (if r then pairs_read (flat_objects s) selector class else pairs)
-  pub walked : dictionaries' ≡ (if r then dictionaries_read (flat_objects s) selector class else dictionaries)
+  pub found : method' ≡ (when r then word_found (lookup (flat_objects s) selector class) else method)
+  pub read : pairs' ≡ (when r then pairs_read (flat_objects s) selector class else pairs)
+  pub walked : dictionaries' ≡ (when r then dictionaries_read (flat_objects s) selector class else dictionaries)

@@ -6,7 +6,7 @@ use native.Mathlib.Omega.{arith}
 use native.Mathlib.Decide.{ℕ_discrete, dec_lt}
 use lib.Dec.{ltb, eqb}
 use borrow.Author.Tests.{ltb-true, ltb-false, eqb-true}
-use Rattle.bytecode.specs.Test.{if◌then◌else◌}
+use Rattle.bytecode.specs.Test.{when◌then◌else◌}
 use Rattle.bytecode.specs.Code.{place_of, short_of, constant_of, extended_of, jump_of, send_of, instruction_of, length_of}
 use Rattle.bytecode.specs.declared.Place.TheVariants.{Field, Temporary, Literal, LiteralVariable}
 use Rattle.bytecode.specs.declared.Instruction.TheVariants.{Push, Store, PopStore, Jump, JumpOn, Send, SuperSend, Unused}
@@ -38,15 +38,15 @@ extended_unused b following h =
 
 -- The length of 128 to 134
 length_132 : length_of 132 ≡ 3
-unfolding length_of if◌then◌else◌
+unfolding length_of when◌then◌else◌
 length_132 = refl
 
 length_133 : length_of 133 ≡ 2
-unfolding length_of if◌then◌else◌
+unfolding length_of when◌then◌else◌
 length_133 = refl
 
 length_134 : length_of 134 ≡ 3
-unfolding length_of if◌then◌else◌
+unfolding length_of when◌then◌else◌
 length_134 = refl
 
 module _ (b : ℕ) where
@@ -175,7 +175,7 @@ module _ (b : ℕ) (f g : ℕ → ℕ) (alike : (k : ℕ) → 1 ≤ k → k < le
   there c k e l h = alike k l (rw (eqb-true b c e) h)
 
   same_extended : extended_of b f ≡ extended_of b g
-  unfolding extended_of length_of if◌then◌else◌
+  unfolding extended_of length_of when◌then◌else◌
   same_extended =
       if_alike (eqb b 128) (λ e. ap (λ x. Push (place_of x)) (there 128 1 e (omega arith) (omega arith)))
       (λ e. if_alike (eqb b 129) (λ e. ap (λ x. Store (place_of x)) (there 129 1 e (omega arith) (omega arith)))
@@ -191,7 +191,7 @@ module _ (b : ℕ) (f g : ℕ → ℕ) (alike : (k : ℕ) → 1 ≤ k → k < le
   same_jump l h =
       if_alike (ltb b 152) (λ e. refl)
       (λ e. if_alike (ltb b 160) (λ e. refl)
-      (λ e. ap (λ x. if ltb b 168 then Jump (b % 8 * 256 + x) 1024 else if ltb b 172 then JumpOn true (b % 4 * 256 + x) else JumpOn false (b % 4 * 256 + x))
+      (λ e. ap (λ x. when ltb b 168 then Jump (b % 8 * 256 + x) 1024 else when ltb b 172 then JumpOn true (b % 4 * 256 + x) else JumpOn false (b % 4 * 256 + x))
       (alike 1 (omega arith) (let k = ltb-false b 160 e in omega (arith, length_jump b (omega arith) k h)))))
 
   pub same_bytes : instruction_of b f ≡ instruction_of b g

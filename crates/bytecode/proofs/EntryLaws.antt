@@ -2,12 +2,12 @@
 use Prim.Native.Nat.{ℕ, zero, suc, ◌+◌, ◌-◌, ◌<◌, ◌≤◌}
 use mathlib.Core.Path.{◌≡◌, refl, subst}
 use mathlib.Core.Bool.{Bool, true, ◌&&◌, ◌||◌}
-use mathlib.Core.Logic.{◌⊎◌, ⊎_elim}
+use mathlib.Core.Logic.{⊎_elim}
 use mathlib.Core.List.{[], ◌∷◌}
 use native.Mathlib.Omega.{arith}
 use native.Mathlib.Decide.{ℕ_discrete}
 use lib.Dec.{T, ltb, eqb, eqb→eq, ltb→lt}
-use Rattle.bytecode.specs.Test.{if◌then◌else◌}
+use Rattle.bytecode.specs.Test.{when◌then◌else◌}
 use Rattle.bytecode.specs.Code.{place_of, short_of, constant_of, extended_of, jump_of, send_of, instruction_of, length_of}
 use Rattle.bytecode.specs.Effect.{special_count, need, leaves, usable, successors}
 use Rattle.bytecode.specs.Table.{group, alone, group_of, extra_of}
@@ -38,11 +38,11 @@ module _ (f : ℕ → ℕ) where
       && eqb (leaves (instruction_of b f)) (leaves (alone b)))
 
   effects_tested : (b : ℕ) → b < 256 → T (effect_test b)
-  unfolding counted effect_test if◌then◌else◌ place_of short_of constant_of extended_of jump_of send_of instruction_of special_count need leaves extra_of
+  unfolding counted effect_test when◌then◌else◌ place_of short_of constant_of extended_of jump_of send_of instruction_of special_count need leaves extra_of
   effects_tested b h = below_at 256 effect_test tt b h
 
   counted_effects : (k : ℕ) → k < 4 → Effect (131 + k)
-  unfolding Effect if◌then◌else◌ short_of constant_of extended_of jump_of send_of instruction_of need leaves extra_of
+  unfolding Effect when◌then◌else◌ short_of constant_of extended_of jump_of send_of instruction_of need leaves extra_of
   counted_effects zero h = (refl, refl)
   counted_effects (suc zero) h = (refl, refl)
   counted_effects (suc (suc zero)) h = (refl, refl)

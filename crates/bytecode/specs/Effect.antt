@@ -1,13 +1,13 @@
 -- What an instruction does to the operands, and where control goes on (01, "Code").
 use Rattle.std.specs.Prelude.{ℕ, ◌+◌, ◌-◌, Bool, true, false, List, [], ◌∷◌, get_or, ltb, leb}
-use Rattle.bytecode.specs.Test.{if◌then◌else◌}
+use Rattle.bytecode.specs.Test.{when◌then◌else◌}
 use Rattle.bytecode.specs.declared.Instruction.{Instruction}
 use Rattle.bytecode.specs.declared.Instruction.TheVariants.{Push, Store, PopStore, PushSelf, PushConstant, ReturnSelf, ReturnConstant, ReturnTop, Pop, Duplicate, Jump, JumpOn, Send, SuperSend, SpecialSend, Unused}
 
 -- The argument count of special send k, bytecode 176 + k (01, "Code", last paragraph)
 unfoldable pub special_count : ℕ → ℕ
 special_count k =
-    if ltb k 16 then 1 else
+    when ltb k 16 then 1 else
     get_or (1 ∷ 2 ∷ 0 ∷ 0 ∷ 1 ∷ 0 ∷ 1 ∷ 0 ∷ 1 ∷ 0 ∷ 1 ∷ 1 ∷ 0 ∷ 1 ∷ 0 ∷ 0 ∷ []) (k - 16) 0
 
 -- The operands that an instruction needs
@@ -83,7 +83,7 @@ successors next (ReturnConstant w) = []
 successors next ReturnTop = []
 successors next Pop = next ∷ []
 successors next Duplicate = next ∷ []
-successors next (Jump a b) = if leb b (next + a) then (next + a - b) ∷ [] else []
+successors next (Jump a b) = when leb b (next + a) then (next + a - b) ∷ [] else []
 successors next (JumpOn x a) = next ∷ (next + a) ∷ []
 successors next (Send l n) = next ∷ []
 successors next (SuperSend l n) = next ∷ []

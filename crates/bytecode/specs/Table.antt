@@ -1,6 +1,6 @@
 -- The constant table: one number for each byte, which says what the depth walk asks of the instruction that begins with it.
 use Rattle.std.specs.Prelude.{ℕ, ◌/◌, ◌%◌, ◌<◌, ◌≡◌, List, get_or, eqb}
-use Rattle.bytecode.specs.Test.{if◌then◌else◌}
+use Rattle.bytecode.specs.Test.{when◌then◌else◌}
 use Rattle.bytecode.specs.Code.{instruction_of, length_of}
 use Rattle.bytecode.specs.Effect.{need, leaves}
 use Rattle.bytecode.specs.declared.Place.{Place}
@@ -83,15 +83,15 @@ alone b = instruction_of b (λ k. 0)
 
 -- The group of a byte. 2 has also the instructions with further bytes, since an entry does not say all of them.
 unfoldable pub group_of : ℕ → ℕ
-group_of b = if eqb (length_of b) 1 then group (alone b) else 2
+group_of b = when eqb (length_of b) 1 then group (alone b) else 2
 
 -- The operands that the sends 131 to 134 need beside those that the entry says: their arguments, which the first further byte says
 unfoldable pub extra_of : ℕ → ℕ → ℕ
 extra_of b x =
-    if eqb b 131 then x / 32 else
-    if eqb b 132 then x else
-    if eqb b 133 then x / 32 else
-    if eqb b 134 then x else
+    when eqb b 131 then x / 32 else
+    when eqb b 132 then x else
+    when eqb b 133 then x / 32 else
+    when eqb b 134 then x else
     0
 
 -- The parts of an entry, from the high end: group 2 bits, length 3, need 2, leaves 2, bound 2, index 5

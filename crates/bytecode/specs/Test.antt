@@ -1,12 +1,12 @@
 -- Tests that compute: a choice, and a test of every number, element or rule. They render no sentence of 01 by themselves.
 use Rattle.std.specs.Prelude.{ℕ, zero, suc, Bool, true, false, ◌&&◌, List, [], ◌∷◌}
 
-infix 2 if◌then◌else◌
+infix 2 when◌then◌else◌
 -- It stays a call where the test is open, so that lemmas find it. Both values are computed before the choice: a branch that recurs
 -- is a clause of a function instead.
-unfoldable pub if◌then◌else◌ : {A : Type 0} → Bool → A → A → A
-if true then a else b = a
-if false then a else b = b
+unfoldable pub when◌then◌else◌ : {A : Type 0} → Bool → A → A → A
+when true then a else b = a
+when false then a else b = b
 
 -- the test holds at 1, 2, .., n
 abbrev pub up_to : ℕ → (ℕ → Bool) → Bool

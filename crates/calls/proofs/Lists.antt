@@ -8,7 +8,7 @@ use borrow.Author.Tests.{lt-ltb, le-ltb, le-leb, lt-leb, eq-eqb, ne_eqb}
 use lib.Dec.{ltb, eqb}
 use lib.ListN.{length, get_or, set, take, drop, length-append}
 use lib.Seq.{sets, sets-eq, take_at, drop_at, length-take-le}
-use Rattle.bytecode.specs.Test.{if◌then◌else◌}
+use Rattle.bytecode.specs.Test.{when◌then◌else◌}
 use Rattle.bytecode.proofs.Choice.{if_yes, if_no}
 use Rattle.model.specs.Objects.{part}
 use Rattle.plain.specs.Calls.{Call, begin_call, run_call, drop_call, forget_call, Answer, done, refused_by, result, wrote}
@@ -22,12 +22,12 @@ use Rattle.calls.specs.Plays.{answered, answers_of}
 
 -- The encoding, computed: begin with two arguments, run of 65538, drop, forget; then a run that is not whole
 calls_of_example : calls_of (0 ∷ 36 ∷ 28 ∷ 2 ∷ 7 ∷ 9 ∷ 1 ∷ 1 ∷ 2 ∷ 2 ∷ 3 ∷ 1 ∷ 5 ∷ []) ≡ begin_call 36 28 (7 ∷ 9 ∷ []) ∷ run_call 65538 ∷ drop_call ∷ forget_call ∷ []
-unfolding calls_of calls_from size_at call_at begin_at run_length if◌then◌else◌
+unfolding calls_of calls_from size_at call_at begin_at run_length when◌then◌else◌
 calls_of_example = refl
 
 -- an unknown first word, and no words, end the list
 unknown_example : calls_of (3 ∷ 4 ∷ 3 ∷ []) ≡ forget_call ∷ []
-unfolding calls_of calls_from size_at call_at begin_at run_length if◌then◌else◌
+unfolding calls_of calls_from size_at call_at begin_at run_length when◌then◌else◌
 unknown_example = refl
 
 -- ---- the call at a position
@@ -39,11 +39,11 @@ module _ (words : List ℕ) (i : ℕ) where
 
   module _ (inside : i < length words) where
     size_in : size_at words i
-        ≡ (if eqb (get_or words i 0) 0
-        then (if ltb (length words - i) 4 then 0 else if ltb (length words - i) (4 + get_or words (i + 3) 0) then 0 else (4 + get_or words (i + 3) 0)) else
-        if eqb (get_or words i 0) 1 then (if ltb (length words - i) 3 then 0 else 3) else
-        if eqb (get_or words i 0) 2 then 1 else
-        if eqb (get_or words i 0) 3 then 1 else 0)
+        ≡ (when eqb (get_or words i 0) 0
+        then (when ltb (length words - i) 4 then 0 else when ltb (length words - i) (4 + get_or words (i + 3) 0) then 0 else (4 + get_or words (i + 3) 0)) else
+        when eqb (get_or words i 0) 1 then (when ltb (length words - i) 3 then 0 else 3) else
+        when eqb (get_or words i 0) 2 then 1 else
+        when eqb (get_or words i 0) 3 then 1 else 0)
     unfolding size_at
     size_in = if_no _ _ (lt-leb (length words) i inside)
 
@@ -89,7 +89,7 @@ module _ (words : List ℕ) (i : ℕ) where
           go (no a) = omega arith
 
     module _ (a : get_or words i 0 ≡ 0 → ⊥) (b : get_or words i 0 ≡ 1 → ⊥) where
-      size_later : size_at words i ≡ (if eqb (get_or words i 0) 2 then 1 else if eqb (get_or words i 0) 3 then 1 else 0)
+      size_later : size_at words i ≡ (when eqb (get_or words i 0) 2 then 1 else when eqb (get_or words i 0) 3 then 1 else 0)
       size_later = size_in ∙ if_no _ _ (ne_eqb (get_or words i 0) 0 a) ∙ if_no _ _ (ne_eqb (get_or words i 0) 1 b)
 
       pub size_drop : get_or words i 0 ≡ 2 → size_at words i ≡ 1
@@ -134,7 +134,7 @@ module _ (words : List ℕ) (i : ℕ) where
     reads_run k = sym (if_no _ _ (ne_eqb (get_or words i 0) 0 a) ∙ if_yes _ _ (eq-eqb (get_or words i 0) 1 k))
 
     module _ (b : get_or words i 0 ≡ 1 → ⊥) where
-      reads_later : call_at words i ≡ (if eqb (get_or words i 0) 2 then drop_call else forget_call)
+      reads_later : call_at words i ≡ (when eqb (get_or words i 0) 2 then drop_call else forget_call)
       unfolding call_at
       reads_later = if_no _ _ (ne_eqb (get_or words i 0) 0 a) ∙ if_no _ _ (ne_eqb (get_or words i 0) 1 b)
 

@@ -6,19 +6,19 @@
 -- The list ends where the words end, or at the first call that is not whole or has another first word.
 -- An answer is seven words: number (0 or the refusal), phase, count, value, reach, and the high and the low word of the dictionaries.
 use Rattle.std.specs.Prelude.{ℕ, zero, suc, ◌+◌, ◌-◌, ◌*◌, ◌/◌, ◌%◌, List, [], ◌∷◌, ◌++◌, leb, ltb, eqb, length, get_or}
-use Rattle.bytecode.specs.Test.{if◌then◌else◌}
+use Rattle.bytecode.specs.Test.{when◌then◌else◌}
 use Rattle.model.specs.Objects.{part}
 use Rattle.plain.specs.Calls.{Call, begin_call, run_call, drop_call, forget_call, Answer, done, refused_by, result, wrote}
 
 -- The number of words of the call at position i; 0 where none stands there whole
 unfoldable pub size_at : List ℕ → ℕ → ℕ
 size_at words i =
-    if leb (length words) i then 0 else
-    if eqb (get_or words i 0) 0
-    then (if ltb (length words - i) 4 then 0 else if ltb (length words - i) (4 + get_or words (i + 3) 0) then 0 else (4 + get_or words (i + 3) 0)) else
-    if eqb (get_or words i 0) 1 then (if ltb (length words - i) 3 then 0 else 3) else
-    if eqb (get_or words i 0) 2 then 1 else
-    if eqb (get_or words i 0) 3 then 1 else 0
+    when leb (length words) i then 0 else
+    when eqb (get_or words i 0) 0
+    then (when ltb (length words - i) 4 then 0 else when ltb (length words - i) (4 + get_or words (i + 3) 0) then 0 else (4 + get_or words (i + 3) 0)) else
+    when eqb (get_or words i 0) 1 then (when ltb (length words - i) 3 then 0 else 3) else
+    when eqb (get_or words i 0) 2 then 1 else
+    when eqb (get_or words i 0) 3 then 1 else 0
 
 -- The n of the run at position i, and the begin there
 unfoldable pub run_length : List ℕ → ℕ → ℕ
@@ -30,9 +30,9 @@ begin_at words i = begin_call (get_or words (i + 1) 0) (get_or words (i + 2) 0) 
 -- The call at position i, where one stands whole
 unfoldable pub call_at : List ℕ → ℕ → Call
 call_at words i =
-    if eqb (get_or words i 0) 0 then begin_at words i else
-    if eqb (get_or words i 0) 1 then run_call (run_length words i) else
-    if eqb (get_or words i 0) 2 then drop_call else forget_call
+    when eqb (get_or words i 0) 0 then begin_at words i else
+    when eqb (get_or words i 0) 1 then run_call (run_length words i) else
+    when eqb (get_or words i 0) 2 then drop_call else forget_call
 
 -- A call of n words and what follows it; nothing where n is 0
 abbrev pub unless_none : ℕ → Call → (ℕ → List Call) → List Call

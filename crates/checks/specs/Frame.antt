@@ -1,6 +1,6 @@
 -- The tests of one frame in the order in which the code makes them.
 use Rattle.std.specs.Prelude.{ℕ, suc, ◌+◌, ◌*◌, ◌≤◌, Bool, ◌&&◌, List, T, eqb, length}
-use Rattle.bytecode.specs.Test.{if◌then◌else◌}
+use Rattle.bytecode.specs.Test.{when◌then◌else◌}
 use Rattle.model.specs.Limits.{method_kind}
 use Rattle.model.specs.Word.{is_valid}
 use Rattle.model.specs.Objects.{Objects, objects_at, class_of, is_kind}
@@ -20,7 +20,7 @@ stands_at_of o stack base =
 
 -- Where it ends; 0 where none stands
 unfoldable pub frame_end : Objects → List ℕ → ℕ → ℕ
-frame_end o stack base = if stands_at_of o stack base then base + frame_size o (frame_method stack base) else 0
+frame_end o stack base = when stands_at_of o stack base then base + frame_size o (frame_method stack base) else 0
 
 -- Its words but for temporaries and operands
 unfoldable pub six_words_fine : ℕ → Objects → Bool → Frame → Bool

@@ -8,7 +8,7 @@ use native.Mathlib.Decide.{dec_lt}
 use borrow.Author.Tests.{eq-eqb}
 use lib.Dec.{T, ltb, leb, eqb, leb→le, ltb→lt, eqb→eq}
 use lib.ListN.{get_or}
-use Rattle.bytecode.specs.Test.{if◌then◌else◌, implies}
+use Rattle.bytecode.specs.Test.{when◌then◌else◌, implies}
 use Rattle.bytecode.specs.Code.{place_of, short_of, constant_of, extended_of, jump_of, send_of, instruction_of, length_of}
 use Rattle.bytecode.specs.Table.{place_bound, place_index, bound, index, group, alone, group_of, extra_of}
 use Rattle.bytecode.specs.declared.Place.TheVariants.{Field, Temporary, Literal, LiteralVariable}
@@ -49,7 +49,7 @@ direct_test : ℕ → Bool
 direct_test b = implies (eqb (group_of b) 0) (direct (alone b))
 
 direct_tested : (b : ℕ) → b < 256 → T (direct_test b)
-unfolding direct_test direct if◌then◌else◌ place_of short_of constant_of extended_of jump_of send_of instruction_of length_of group group_of
+unfolding direct_test direct when◌then◌else◌ place_of short_of constant_of extended_of jump_of send_of instruction_of length_of group group_of
 direct_tested b h = below_at 256 direct_test tt b h
 
 direct_at : (b : ℕ) → b < 256 → group_of b ≡ 0 → T (direct (alone b))
@@ -139,7 +139,7 @@ module _ (f : ℕ → ℕ) where
   goes_test k = eqb (group (instruction_of (128 + k) f)) 0
 
   goes_tested : (k : ℕ) → k < 7 → T (goes_test k)
-  unfolding goes_test if◌then◌else◌ short_of constant_of extended_of jump_of send_of instruction_of group
+  unfolding goes_test when◌then◌else◌ short_of constant_of extended_of jump_of send_of instruction_of group
   goes_tested k h = below_at 7 goes_test tt k h
 
   pub extended_goes_on : (b : ℕ) → 128 ≤ b → b < 135 → group (instruction_of b f) ≡ 0
@@ -151,31 +151,31 @@ module _ (f : ℕ → ℕ) where
 -- the rule on each of 128 to 134
 module _ (counts : List ℕ) {b x y : ℕ} (f : ℕ → ℕ) (first : x ≡ f 1) (second : y ≡ f 2) where
   pub extended_128 : b ≡ 128 → indexed_by counts (instruction_of b f) ≡ place_indexed_by counts (place_of x)
-  unfolding if◌then◌else◌ extended_of instruction_of indexed
+  unfolding when◌then◌else◌ extended_of instruction_of indexed
   extended_128 e = rw (e, first) refl
 
   pub extended_129 : b ≡ 129 → indexed_by counts (instruction_of b f) ≡ is_writable (place_of x) && place_indexed_by counts (place_of x)
-  unfolding if◌then◌else◌ extended_of instruction_of indexed
+  unfolding when◌then◌else◌ extended_of instruction_of indexed
   extended_129 e = rw (e, first) refl
 
   pub extended_130 : b ≡ 130 → indexed_by counts (instruction_of b f) ≡ is_writable (place_of x) && place_indexed_by counts (place_of x)
-  unfolding if◌then◌else◌ extended_of instruction_of indexed
+  unfolding when◌then◌else◌ extended_of instruction_of indexed
   extended_130 e = rw (e, first) refl
 
   pub extended_131 : b ≡ 131 → indexed_by counts (instruction_of b f) ≡ ltb (x % 32) (get_or counts 3 0)
-  unfolding if◌then◌else◌ extended_of instruction_of indexed
+  unfolding when◌then◌else◌ extended_of instruction_of indexed
   extended_131 e = rw (e, first) refl
 
   pub extended_132 : b ≡ 132 → indexed_by counts (instruction_of b f) ≡ ltb y (get_or counts 3 0)
-  unfolding if◌then◌else◌ extended_of instruction_of indexed
+  unfolding when◌then◌else◌ extended_of instruction_of indexed
   extended_132 e = rw (e, second) refl
 
   pub extended_133 : b ≡ 133 → indexed_by counts (instruction_of b f) ≡ ltb (x % 32) (get_or counts 3 0)
-  unfolding if◌then◌else◌ extended_of instruction_of indexed
+  unfolding when◌then◌else◌ extended_of instruction_of indexed
   extended_133 e = rw (e, first) refl
 
   pub extended_134 : b ≡ 134 → indexed_by counts (instruction_of b f) ≡ ltb y (get_or counts 3 0)
-  unfolding if◌then◌else◌ extended_of instruction_of indexed
+  unfolding when◌then◌else◌ extended_of instruction_of indexed
   extended_134 e = rw (e, second) refl
 
 -- at most 255 arguments
@@ -188,16 +188,16 @@ extra_small b x =
 
 -- The group 2 has 128 to 134 and 144 to 175.
 far_test : ℕ → Bool
-far_test b = implies (eqb (group_of b) 2) (if ltb b 144 then leb 128 b && ltb b 135 else ltb b 176)
+far_test b = implies (eqb (group_of b) 2) (when ltb b 144 then leb 128 b && ltb b 135 else ltb b 176)
 
 far_tested : (b : ℕ) → b < 256 → T (far_test b)
-unfolding far_test if◌then◌else◌ place_of short_of constant_of extended_of jump_of send_of instruction_of length_of group group_of
+unfolding far_test when◌then◌else◌ place_of short_of constant_of extended_of jump_of send_of instruction_of length_of group group_of
 far_tested b h = below_at 256 far_test tt b h
 
-far_at : (b : ℕ) → b < 256 → group_of b ≡ 2 → T (if ltb b 144 then leb 128 b && ltb b 135 else ltb b 176)
+far_at : (b : ℕ) → b < 256 → group_of b ≡ 2 → T (when ltb b 144 then leb 128 b && ltb b 135 else ltb b 176)
 unfolding far_test
 far_at b h g =
-    implied (eqb (group_of b) 2) (if ltb b 144 then leb 128 b && ltb b 135 else ltb b 176) (far_tested b h) (true→T (eq-eqb (group_of b) 2 g))
+    implied (eqb (group_of b) 2) (when ltb b 144 then leb 128 b && ltb b 135 else ltb b 176) (far_tested b h) (true→T (eq-eqb (group_of b) 2 g))
 
 pub far_low : (b : ℕ) → b < 256 → group_of b ≡ 2 → b < 144 → (128 ≤ b) × (b < 135)
 far_low b h g l =

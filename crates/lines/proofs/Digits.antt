@@ -2,7 +2,7 @@
 use Prim.Native.Nat.{ℕ, zero, suc, ◌+◌, ◌/◌, ◌%◌, ◌^◌, ◌≤◌, ◌<◌}
 use mathlib.Core.Path.{◌≡◌, ap, ◌∙◌}
 use mathlib.Core.List.{List, [], ◌∷◌, ◌++◌}
-use Rattle.bytecode.specs.Test.{if◌then◌else◌}
+use Rattle.bytecode.specs.Test.{when◌then◌else◌}
 use native.Mathlib.Omega.{arith}
 use native.Mathlib.Decide.{dec_lt}
 use borrow.Author.Tests.{lt-ltb, le-ltb}
@@ -11,7 +11,7 @@ use Rattle.plain.specs.Text.{digits, decimal}
 
 -- fuel above the number is enough
 same_digits : (f g n : ℕ) → n < f → n < g → digits f n ≡ digits g n
-unfolding digits if◌then◌else◌
+unfolding digits when◌then◌else◌
 same_digits zero g n h k = absurd (omega arith)
 same_digits (suc f) zero n h k = absurd (omega arith)
 same_digits (suc f) (suc g) n h k = go (same_digits f g (n / 10)) (dec_lt n 10)
@@ -21,11 +21,11 @@ same_digits (suc f) (suc g) n h k = go (same_digits f g (n / 10)) (dec_lt n 10)
     go e (no l) = simp (le-ltb n 10 (omega arith)) (ap (λ (ds : List ℕ). ds ++ ((48 + n % 10) ∷ [])) (e (omega arith) (omega arith)))
 
 pub one_digit : (n : ℕ) → n < 10 → decimal n ≡ (48 + n) ∷ []
-unfolding decimal digits if◌then◌else◌
+unfolding decimal digits when◌then◌else◌
 one_digit n h = simp (lt-ltb n 10 h)
 
 pub more_digits : (n : ℕ) → 10 ≤ n → decimal n ≡ decimal (n / 10) ++ ((48 + n % 10) ∷ [])
-unfolding decimal digits if◌then◌else◌
+unfolding decimal digits when◌then◌else◌
 more_digits n h =
     simp (le-ltb n 10 h) (ap (λ (ds : List ℕ). ds ++ ((48 + n % 10) ∷ [])) (same_digits n (suc (n / 10)) (n / 10) (omega arith) (omega arith)))
 

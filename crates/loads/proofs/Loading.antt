@@ -9,7 +9,7 @@ use native.Mathlib.Omega.{arith}
 use borrow.Author.Tests.{eq-eqb}
 use lib.Seq.{sets}
 use Rattle.bytecode.proofs.TestLaws.{and_both, true→T}
-use Rattle.bytecode.specs.Test.{if◌then◌else◌}
+use Rattle.bytecode.specs.Test.{when◌then◌else◌}
 use Rattle.model.specs.Limits.{entry_words, header_words}
 use Rattle.model.specs.Image.{Room, Header, Verdict, accepted, refused, image_header, image_objects, image_bytes, length_fine, buffers_fine, load_verdict}
 use Rattle.image.proofs.RoundTrip.{objects_fit}
@@ -93,11 +93,11 @@ module _ (image contents bodies cache contents' bodies' : List ℕ) where
         → loadGives (L.Refused k r) contents' bodies' stack cache ≡ flat_load s image
     load_refused k r z e q = go verdict refl e q
       where
-        by_number : (j : ℕ) (b : Bool) → stored k contents' bodies' ≡ (if b then stored j contents bodies else in_front j h.n h.b
+        by_number : (j : ℕ) (b : Bool) → stored k contents' bodies' ≡ (when b then stored j contents bodies else in_front j h.n h.b
             (replicate (entry_words * h.n) 0) (replicate h.b 0) contents bodies)
-            → gives (refused_by k) (flat R.no_registers contents' bodies' stack cache) ≡ gives (refused_by j) (if b then with_registers s R.no_registers else zeroed s h.n h.b)
-        by_number j true q = unfold if◌then◌else◌ in given_eq (ap (λ (z : Stored). refused_by z.number) q) refl (ap (λ (z : Stored). z.contents) q) (ap (λ (z : Stored). z.bodies) q) refl refl
-        by_number j false q = unfold if◌then◌else◌ zeroed in
+            → gives (refused_by k) (flat R.no_registers contents' bodies' stack cache) ≡ gives (refused_by j) (when b then with_registers s R.no_registers else zeroed s h.n h.b)
+        by_number j true q = unfold when◌then◌else◌ in given_eq (ap (λ (z : Stored). refused_by z.number) q) refl (ap (λ (z : Stored). z.contents) q) (ap (λ (z : Stored). z.bodies) q) refl refl
+        by_number j false q = unfold when◌then◌else◌ zeroed in
             given_eq (ap (λ (z : Stored). refused_by z.number) q) refl
             (ap (λ (z : Stored). z.contents) q ∙ ap (λ (l : ℕ). replicate (entry_words * h.n) 0 ++ drop l contents) (sym (length-replicate {A = ℕ} (entry_words * h.n) 0)))
             (ap (λ (z : Stored). z.bodies) q ∙ ap (λ (l : ℕ). replicate h.b 0 ++ drop l bodies) (sym (length-replicate {A = ℕ} h.b 0))) refl refl
@@ -137,9 +137,9 @@ none_given s image k t e = go (load_verdict (room_of s) image) e
     is_refused (gives done x) = ⊥
     is_refused no_answer = ⊥
 
-    either : (b : Bool) (n m : ℕ) → (if b then with_registers s R.no_registers else zeroed s n m).registers ≡ R.no_registers
-    either true n m = unfold if◌then◌else◌ in refl
-    either false n m = unfold if◌then◌else◌ zeroed in refl
+    either : (b : Bool) (n m : ℕ) → (when b then with_registers s R.no_registers else zeroed s n m).registers ≡ R.no_registers
+    either true n m = unfold when◌then◌else◌ in refl
+    either false n m = unfold when◌then◌else◌ zeroed in refl
 
     go : (v : Verdict) → gives (refused_by k) t ≡ after_load s image v → t.registers ≡ R.no_registers
     go accepted e = absurd (subst is_refused e tt)

@@ -203,7 +203,7 @@ module _ {e n b top : ℕ} {contents bodies stack cache : List ℕ} {q : Message
     enters_same : entering o₁ m receiver ≡ entering o m receiver
     unfolding entering
     enters_same =
-        ap (λ (t : Bool). Rattle.bytecode.specs.Test.if◌then◌else◌ t entered unfit)
+        ap (λ (t : Bool). Rattle.bytecode.specs.Test.when◌then◌else◌ t entered unfit)
         (ap₂ (in_chain o₁) (home_same ext r.right m facts.method) (class_same ext receiver (receiver_valid r.sending)) ∙ chain_same ext r.right (home o m) (class_of o receiver))
 
     -- ---- the receiver's place

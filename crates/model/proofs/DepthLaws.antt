@@ -9,7 +9,7 @@ use native.Mathlib.Omega.{arith}
 use native.Mathlib.Decide.{dec_lt}
 use lib.Dec.{T, leb}
 use lib.ListN.{length}
-use Rattle.bytecode.specs.Test.{if◌then◌else◌, all_of}
+use Rattle.bytecode.specs.Test.{when◌then◌else◌, all_of}
 use Rattle.bytecode.specs.Code.{next_at, decode_at}
 use Rattle.bytecode.specs.Effect.{usable, successors}
 use Rattle.bytecode.specs.declared.Instruction.{Instruction}
@@ -22,8 +22,8 @@ use Rattle.model.specs.Depth.{Reached, first, onward, note_at, successorsAt, dep
 use Rattle.model.specs.Rules.{allowed, SoundMethod, method_table}
 use Rattle.model.proofs.WalkLaws.{Notes, at_reached, found, decides_walk}
 
-one_or_none : (b : Bool) (p : ℕ) → length (if b then p ∷ [] else []) ≤ 2
-unfolding if◌then◌else◌
+one_or_none : (b : Bool) (p : ℕ) → length (when b then p ∷ [] else []) ≤ 2
+unfolding when◌then◌else◌
 one_or_none true p = omega arith
 one_or_none false p = omega arith
 

@@ -2,7 +2,7 @@
 use Prim.Native.Nat.{ℕ}
 use mathlib.Core.Path.{◌≡◌, refl}
 use mathlib.Core.List.{List, [], ◌∷◌}
-use Rattle.bytecode.specs.Test.{if◌then◌else◌}
+use Rattle.bytecode.specs.Test.{when◌then◌else◌}
 use Rattle.model.specs.Limits.{fields_kind, bytes_kind, class_kind}
 use Rattle.model.specs.Word.{pointer}
 use Rattle.model.specs.Objects.{Objects, class_of, part}
@@ -85,7 +85,7 @@ record Elements : Type 0 where
   size_over_whole : answer (size_answer objects (pointer 15)) ≡ 0
 
 elements : Elements
-unfolding objects answer three if◌then◌else◌ class_of is_indexable is_index at at_put size_answer store_word store_byte object_byte
+unfolding objects answer three when◌then◌else◌ class_of is_indexable is_index at at_put size_answer store_word store_byte object_byte
 elements =
     record {
       size_behind = refl;

@@ -8,7 +8,7 @@ use native.Mathlib.Decide.{ℕ_discrete, dec_le}
 use borrow.Author.Tests.{eq-eqb, ne_eqb}
 use lib.Dec.{T, leb, eqb}
 use lib.ListN.{length, get_or}
-use Rattle.bytecode.specs.Test.{if◌then◌else◌}
+use Rattle.bytecode.specs.Test.{when◌then◌else◌}
 use Rattle.bytecode.specs.Constant.{nil_word}
 use Rattle.bytecode.proofs.Choice.{if_yes, if_no}
 use Rattle.model.specs.Limits.{entry_words, class_kind, list_kind, method_kind, class_words, last_count_flag, primitive_flag, large_frame_words, small_frame_words}
@@ -17,7 +17,7 @@ use Rattle.model.specs.Objects.{Objects, entry_word, class_word, kind, start, si
 use Rattle.model.specs.Method.{header, home, literal, flag, temporary_count, literal_count, code_words, code_size, frame_words, extension, primitive_number, argument_count, runs_code}
 use Rattle.model.proofs.ChainLaws.{Named, named}
 use Rattle.model.proofs.Parts.{same_test, part_same}
-use Rattle.model.proofs.Facts.{Right, Valid, odd, names, naming, valid_cases, valid_more, least, inside, class_words_lem, method_words, list_words, method_facts}
+use Rattle.model.proofs.Facts.{Right, Valid, odd, names, naming, valid_cases, valid_more, inside, class_words_lem, method_words, list_words, method_facts}
 
 -- a kind that is none of classes, lists and methods
 abbrev pub Free : ℕ → Type 0
@@ -39,7 +39,7 @@ module _ {o o' : Objects} (x : Extends o o') where
   pub words_same : (k : ℕ) → 1 ≤ k → k ≤ o.n → body_words o' k ≡ body_words o k
   unfolding body_words
   words_same k h g =
-      ap₂ (λ (a b : ℕ). if sized_in_bytes a then (b + 1) / 2 else b) (x.entries k 1 h g (omega arith)) (x.entries k 3 h g (omega arith))
+      ap₂ (λ (a b : ℕ). when sized_in_bytes a then (b + 1) / 2 else b) (x.entries k 1 h g (omega arith)) (x.entries k 3 h g (omega arith))
 
   pub valid_grows : (w : ℕ) → T (is_valid o.n w) → T (is_valid o'.n w)
   valid_grows w t = valid_more o.n o'.n w x.grows t
@@ -78,9 +78,9 @@ module _ {o o' : Objects} (x : Extends o o') where
   unfolding class_of
   class_same w t = go (valid_cases o.n w t)
     where
-      go : Valid o.n w → (if is_integer w then integer_class else class_word o' (w / 2)) ≡ (if is_integer w then integer_class else class_word o (w / 2))
+      go : Valid o.n w → (when is_integer w then integer_class else class_word o' (w / 2)) ≡ (when is_integer w then integer_class else class_word o (w / 2))
       go (odd h) = if_yes _ _ (eq-eqb (w % 2) 1 h) ∙ sym (if_yes _ _ (eq-eqb (w % 2) 1 h))
-      go (names a b c) = ap (λ (z : ℕ). if is_integer w then integer_class else z) (x.entries (w / 2) 0 b c (omega arith))
+      go (names a b c) = ap (λ (z : ℕ). when is_integer w then integer_class else z) (x.entries (w / 2) 0 b c (omega arith))
 
 pub extends_trans : {o o' o'' : Objects} → Extends o o' → Extends o' o'' → Extends o o''
 extends_trans {o} {o'} {o''} x y =
@@ -190,7 +190,7 @@ module _ {e : ℕ} {o o' : Objects} (x : Extends o o') (r : Right e o) where
 
     pub frame_same : frame_words o' m ≡ frame_words o m
     unfolding frame_words
-    frame_same = ap (λ (w : ℕ). if eqb (w / 128 % 2) 1 then large_frame_words else small_frame_words) header_same
+    frame_same = ap (λ (w : ℕ). when eqb (w / 128 % 2) 1 then large_frame_words else small_frame_words) header_same
 
     pub code_size_same : code_size o' m ≡ code_size o m
     unfolding code_size
@@ -225,11 +225,11 @@ module _ {e : ℕ} {o o' : Objects} (x : Extends o o') (r : Right e o) where
 
     pub arguments_same : argument_count o' m ≡ argument_count o m
     unfolding argument_count
-    arguments_same = ap (λ (a : ℕ). if leb a last_count_flag then a else if eqb a primitive_flag then extension o' m / 512 % 32 else 0) flag_same
-        ∙ ap (λ (a : ℕ). if leb (flag o m) last_count_flag then flag o m else a) (go (ℕ_discrete (flag o m) primitive_flag))
+    arguments_same = ap (λ (a : ℕ). when leb a last_count_flag then a else when eqb a primitive_flag then extension o' m / 512 % 32 else 0) flag_same
+        ∙ ap (λ (a : ℕ). when leb (flag o m) last_count_flag then flag o m else a) (go (ℕ_discrete (flag o m) primitive_flag))
       where
-        go : Dec (flag o m ≡ primitive_flag) → (if eqb (flag o m) primitive_flag then extension o' m / 512 % 32 else 0) ≡ (if eqb (flag o m) primitive_flag then extension o m / 512 % 32 else 0)
-        go (yes q) = ap (λ (a : ℕ). if eqb (flag o m) primitive_flag then a / 512 % 32 else 0) (extension_same q)
+        go : Dec (flag o m ≡ primitive_flag) → (when eqb (flag o m) primitive_flag then extension o' m / 512 % 32 else 0) ≡ (when eqb (flag o m) primitive_flag then extension o m / 512 % 32 else 0)
+        go (yes q) = ap (λ (a : ℕ). when eqb (flag o m) primitive_flag then a / 512 % 32 else 0) (extension_same q)
         go (no q) = if_no _ _ (ne_eqb (flag o m) primitive_flag q) ∙ sym (if_no _ _ (ne_eqb (flag o m) primitive_flag q))
 
     pub runs_same : runs_code o' m ≡ runs_code o m

@@ -8,7 +8,7 @@ use native.Mathlib.Decide.{ℕ_discrete}
 use borrow.Author.Tests.{eq-eqb, ne_eqb, eqb-true, eqb-false, ltb-true, ltb-false}
 use lib.Dec.{T, T_not, not_T, leb, ltb, eqb, leb→le, le→leb, ltb→lt, lt→ltb, eqb→eq}
 use lib.ListN.{length}
-use Rattle.bytecode.specs.Test.{if◌then◌else◌, up_to, every, implies, all_of}
+use Rattle.bytecode.specs.Test.{when◌then◌else◌, up_to, every, implies, all_of}
 use Rattle.bytecode.specs.Constant.{nil_word}
 use Rattle.bytecode.proofs.Choice.{if_yes, if_no, if_cases}
 use Rattle.bytecode.proofs.TestLaws.{true→T, T→true, and_left, and_right, and_both, or_cases, implied, rule, rules, up_to_at, at_up_to, below_at, every_at, at_every}
@@ -174,10 +174,10 @@ fits_cases e o k t = go (eqb (form o c) fixed_form) (eqb (form o c) indexed_form
     c = class_word o k
 
     go : (x y z v : Bool) → eqb (form o c) fixed_form ≡ x → eqb (form o c) indexed_form ≡ y → eqb (form o c) bytes_form ≡ z → eqb (form o c) other_form ≡ v
-        → T (if x then eqb (kind o k) fields_kind && eqb (size o k) (field_count o c) else
-        if y then eqb (kind o k) fields_kind && leb (field_count o c) (size o k) else
-        if z then eqb (kind o k) bytes_kind else
-        if v then leb class_kind (kind o k) && leb (kind o k) method_kind else false) → Fits o k c
+        → T (when x then eqb (kind o k) fields_kind && eqb (size o k) (field_count o c) else
+        when y then eqb (kind o k) fields_kind && leb (field_count o c) (size o k) else
+        when z then eqb (kind o k) bytes_kind else
+        when v then leb class_kind (kind o k) && leb (kind o k) method_kind else false) → Fits o k c
     go true y z v p q r m s =
         fixed (eqb-true (form o c) fixed_form p) (eqb→eq (kind o k) fields_kind (and_left (eqb (kind o k) fields_kind) (eqb (size o k) (field_count o c)) (subst T (if_yes _ _ refl) s)))
         (eqb→eq (size o k) (field_count o c) (and_right (eqb (kind o k) fields_kind) (eqb (size o k) (field_count o c)) (subst T (if_yes _ _ refl) s)))

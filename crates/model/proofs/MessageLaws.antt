@@ -8,7 +8,7 @@ use native.Mathlib.Omega.{arith}
 use borrow.Author.Tests.{ne_eqb, eqb-true}
 use lib.Dec.{T, leb, eqb, leb→le}
 use lib.ListN.{length, get_or}
-use Rattle.bytecode.specs.Test.{if◌then◌else◌, every}
+use Rattle.bytecode.specs.Test.{when◌then◌else◌, every}
 use Rattle.bytecode.specs.Constant.{false_word}
 use Rattle.bytecode.proofs.Choice.{if_no, if_eq, if_cases}
 use Rattle.bytecode.proofs.TestLaws.{and_left, and_right, every_at}
@@ -131,14 +131,14 @@ module _ (e : ℕ) (room : Room) (o : Objects) (w x : ℕ) (even : x % 2 ≡ 0) 
       two k c q = let z : primitive_count k ≡ 2 = (unfold primitive_count in if_eq k 61 2 _ q) in omega arith
 
       none_62 : (k : ℕ) → 1 ≡ primitive_count k → k ≡ 62 → ⊥
-      none_62 k c q = let z : primitive_count k ≡ 0 = ap primitive_count q ∙ (unfold primitive_count if◌then◌else◌ in refl) in omega arith
+      none_62 k c q = let z : primitive_count k ≡ 0 = ap primitive_count q ∙ (unfold primitive_count when◌then◌else◌ in refl) in omega arith
 
       none_70 : (k : ℕ) → 1 ≡ primitive_count k → k ≡ 70 → ⊥
-      none_70 k c q = let z : primitive_count k ≡ 0 = ap primitive_count q ∙ (unfold primitive_count if◌then◌else◌ in refl) in omega arith
+      none_70 k c q = let z : primitive_count k ≡ 0 = ap primitive_count q ∙ (unfold primitive_count when◌then◌else◌ in refl) in omega arith
 
       none_111 : (k : ℕ) → 1 ≡ primitive_count k → k ≡ 111 → ⊥
-      none_111 k c q = let z : primitive_count k ≡ 0 = ap primitive_count q ∙ (unfold primitive_count if◌then◌else◌ in refl) in omega arith
+      none_111 k c q = let z : primitive_count k ≡ 0 = ap primitive_count q ∙ (unfold primitive_count when◌then◌else◌ in refl) in omega arith
 
   pub identity_answers : w ≢ x → primitive e room o 110 1 w (x ∷ []) ≡ answers false_word o
-  unfolding primitive perform primitive_count if◌then◌else◌
+  unfolding primitive perform primitive_count when◌then◌else◌
   identity_answers h = ap (λ (t : Bool). answers (boolean_word t) o) (ne_eqb w x h)

@@ -17,7 +17,7 @@ use Rattle.bytecode.proofs.Choice.{if_yes, if_cases}
 use Rattle.bytecode.proofs.TestLaws.{true→T, and_left, and_right, every_at}
 use Rattle.model.specs.declared.Computed.{Computed}
 use Rattle.model.specs.declared.Computed.TheVariants.{Word, Failed}
-use Rattle.model.specs.Limits.{most_body_words, entry_words, fields_kind, bytes_kind, class_kind, fixed_form, indexed_form, bytes_form, largest_integer}
+use Rattle.model.specs.Limits.{entry_words, fields_kind, bytes_kind, class_kind, fixed_form, indexed_form, bytes_form, largest_integer}
 use Rattle.model.specs.Word.{is_integer, is_natural, is_valid, in_range, word_of, value_of, pointer, boolean_word}
 use Rattle.model.specs.Objects.{Objects, kind, size, body_word, is_kind, class_of, field_count, form}
 use Rattle.model.specs.Image.{Room}

@@ -6,7 +6,7 @@ use mathlib.Core.List.{List, []}
 use native.Mathlib.Omega.{arith}
 use borrow.Author.Tests.{ltb-true}
 use lib.Dec.{T, leb, ltb, eqb, ltb→lt, eqb→eq}
-use Rattle.bytecode.specs.Test.{if◌then◌else◌, below, implies}
+use Rattle.bytecode.specs.Test.{when◌then◌else◌, below, implies}
 use Rattle.bytecode.specs.Constant.{nil_word}
 use Rattle.bytecode.specs.Code.{next_at, decode_at, instruction_of, place_of, short_of, constant_of, extended_of, jump_of, send_of, byte_at, bytes_after}
 use Rattle.bytecode.specs.Table.{place_index}
@@ -192,7 +192,7 @@ Small (SuperSend l n) = Unit {0}
 Small (SpecialSend k) = k < special_selectors
 Small Unused = Unit {0}
 
-small_if : (b : Bool) (i j : Instruction) → Small i → Small j → Small (if b then i else j)
+small_if : (b : Bool) (i j : Instruction) → Small i → Small j → Small (when b then i else j)
 small_if b i j s t = if_cases Small b i j (λ p. s) (λ p. t)
 
 small_place : (x : ℕ) → place_index (place_of x) < 64

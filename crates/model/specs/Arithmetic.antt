@@ -2,7 +2,7 @@
 use Rattle.std.specs.Prelude.{ℕ, zero, suc, ◌+◌, ◌/◌, ◌^◌, Bool, true, false, ◌&&◌, not, leb, eqb, ℤ, pos, negsuc, neg_ℤ, ◌+ℤ◌, ◌-ℤ◌, ◌*ℤ◌}
 use Rattle.std.specs.Int.Signed.{lt_z, le_z, quot_z, rem_z, shr_z}
 use Rattle.std.specs.Int.Bits.{bit_and, bit_or, bit_xor}
-use Rattle.bytecode.specs.Test.{if◌then◌else◌}
+use Rattle.bytecode.specs.Test.{when◌then◌else◌}
 use Rattle.model.specs.declared.Computed.{Computed}
 use Rattle.model.specs.declared.Computed.TheVariants.{Word, Failed}
 use Rattle.model.specs.Word.{is_integer, in_range, word_of, value_of, boolean_word}
@@ -29,44 +29,44 @@ is_zero (negsuc n) = false
 
 -- A number out of range fails, and so does a zero divisor.
 unfoldable pub number : ℤ → Computed
-number z = if in_range z then Word (word_of z) else Failed
+number z = when in_range z then Word (word_of z) else Failed
 
 abbrev pub truth : Bool → Computed
 truth x = Word (boolean_word x)
 
 unfoldable pub divided : ℤ → ℤ → Computed
-divided divisor z = if is_zero divisor then Failed else number z
+divided divisor z = when is_zero divisor then Failed else number z
 
 -- 10 fails on a remainder too.
 unfoldable pub exact_quotient : ℤ → ℤ → Computed
-exact_quotient a b = if is_zero (rem_z a b) then divided b (quot_z a b) else Failed
+exact_quotient a b = when is_zero (rem_z a b) then divided b (quot_z a b) else Failed
 
 -- The primitive of a number on two integers
 unfoldable pub on_integers : ℕ → ℤ → ℤ → Computed
 on_integers k a b =
-    if eqb k 1 then number (a +ℤ b) else
-    if eqb k 2 then number (a -ℤ b) else
-    if eqb k 3 then truth (lt_z a b) else
-    if eqb k 4 then truth (lt_z b a) else
-    if eqb k 5 then truth (le_z a b) else
-    if eqb k 6 then truth (le_z b a) else
-    if eqb k 7 then truth (le_z a b && le_z b a) else
-    if eqb k 8 then truth (not (le_z a b && le_z b a)) else
-    if eqb k 9 then number (a *ℤ b) else
-    if eqb k 10 then exact_quotient a b else
-    if eqb k 11 then divided b (floor_remainder a b) else
-    if eqb k 12 then divided b (floor_quotient a b) else
-    if eqb k 13 then divided b (quot_z a b) else
-    if eqb k 17 then number (shifted a b) else
+    when eqb k 1 then number (a +ℤ b) else
+    when eqb k 2 then number (a -ℤ b) else
+    when eqb k 3 then truth (lt_z a b) else
+    when eqb k 4 then truth (lt_z b a) else
+    when eqb k 5 then truth (le_z a b) else
+    when eqb k 6 then truth (le_z b a) else
+    when eqb k 7 then truth (le_z a b && le_z b a) else
+    when eqb k 8 then truth (not (le_z a b && le_z b a)) else
+    when eqb k 9 then number (a *ℤ b) else
+    when eqb k 10 then exact_quotient a b else
+    when eqb k 11 then divided b (floor_remainder a b) else
+    when eqb k 12 then divided b (floor_quotient a b) else
+    when eqb k 13 then divided b (quot_z a b) else
+    when eqb k 17 then number (shifted a b) else
     Failed
 
 -- 14 and, 15 or, 16 exclusive or, in two's complement: on the words themselves, whose tags are one
 unfoldable pub on_bits : ℕ → ℕ → ℕ → Computed
-on_bits k v w = if eqb k 14 then Word (bit_and v w) else if eqb k 15 then Word (bit_or v w) else Word (bit_xor v w + 1)
+on_bits k v w = when eqb k 14 then Word (bit_and v w) else when eqb k 15 then Word (bit_or v w) else Word (bit_xor v w + 1)
 
 -- All of them fail on a word that is no integer. Numbers other than 1 to 17 fail.
 unfoldable pub arithmetic : ℕ → ℕ → ℕ → Computed
 arithmetic k v w =
-    if is_integer v && is_integer w
-    then (if leb 14 k && leb k 16 then on_bits k v w else on_integers k (value_of v) (value_of w))
+    when is_integer v && is_integer w
+    then (when leb 14 k && leb k 16 then on_bits k v w else on_integers k (value_of v) (value_of w))
     else Failed

@@ -1,6 +1,6 @@
 -- The numbers that 01 fixes, named once. Those that an edition may change take it as their argument. What an edition has, all later ones have.
 use Rattle.std.specs.Prelude.{ℕ, ◌*◌, Bool, ◌&&◌, leb}
-use Rattle.bytecode.specs.Test.{if◌then◌else◌}
+use Rattle.bytecode.specs.Test.{when◌then◌else◌}
 
 abbrev pub last_edition : ℕ
 last_edition = 2
@@ -14,7 +14,7 @@ has_messages e = leb 2 e
 
 -- 01, "Image": objects and body words of an image. Every edition has the objects with a fixed number.
 unfoldable pub least_objects : ℕ → ℕ
-least_objects e = if has_messages e then 8 else 5
+least_objects e = when has_messages e then 8 else 5
 
 abbrev pub most_objects : ℕ
 most_objects = 2047

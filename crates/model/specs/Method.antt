@@ -1,6 +1,6 @@
 -- Methods: header, home, literals, code (01, "Image", last paragraph). A method is given by its word.
 use Rattle.std.specs.Prelude.{ℕ, ◌+◌, ◌-◌, ◌*◌, ◌/◌, ◌%◌, Bool, ◌||◌, List, leb, eqb}
-use Rattle.bytecode.specs.Test.{if◌then◌else◌}
+use Rattle.bytecode.specs.Test.{when◌then◌else◌}
 use Rattle.model.specs.Limits.{last_count_flag, primitive_flag, frame_header_words, small_frame_words, large_frame_words}
 use Rattle.model.specs.Word.{object_number}
 use Rattle.model.specs.Objects.{Objects, body_word, body_words, start, size, part}
@@ -38,7 +38,7 @@ code_size o m = size o (object_number m) - (4 + 2 * literal_count o m)
 
 -- The words of a frame for temporaries and operands, and all words of a frame
 unfoldable pub frame_words : Objects → ℕ → ℕ
-frame_words o m = if is_large o m then large_frame_words else small_frame_words
+frame_words o m = when is_large o m then large_frame_words else small_frame_words
 
 abbrev pub frame_size : Objects → ℕ → ℕ
 frame_size o m = frame_header_words + frame_words o m
@@ -53,8 +53,8 @@ primitive_number o m = extension o m / 2 % 256
 -- How many arguments a method takes: the flag, or the extension's number, or none
 unfoldable pub argument_count : Objects → ℕ → ℕ
 argument_count o m =
-    if leb (flag o m) last_count_flag then flag o m else
-    if eqb (flag o m) primitive_flag then extension o m / 512 % 32 else
+    when leb (flag o m) last_count_flag then flag o m else
+    when eqb (flag o m) primitive_flag then extension o m / 512 % 32 else
     0
 
 -- A method whose code can run

@@ -1,7 +1,7 @@
 -- Objects: the table of contents and the bodies, read by object number (01, "Image").
 -- A read outside the two lists gives 0; the image rules see to it that none is made.
 use Rattle.std.specs.Prelude.{ℕ, ◌+◌, ◌-◌, ◌*◌, ◌/◌, Bool, ◌&&◌, ◌||◌, List, [], ◌++◌, eqb, length, get_or, take, drop}
-use Rattle.bytecode.specs.Test.{if◌then◌else◌}
+use Rattle.bytecode.specs.Test.{when◌then◌else◌}
 use Rattle.bytecode.specs.Constant.{nil_word}
 use Rattle.model.specs.Limits.{entry_words, bytes_kind, method_kind}
 use Rattle.model.specs.Word.{is_integer, is_pointer, object_number, integer_class}
@@ -46,7 +46,7 @@ abbrev pub sized_in_bytes : ℕ → Bool
 sized_in_bytes k = eqb k bytes_kind || eqb k method_kind
 
 unfoldable pub body_words : Objects → ℕ → ℕ
-body_words o k = if sized_in_bytes (kind o k) then (size o k + 1) / 2 else size o k
+body_words o k = when sized_in_bytes (kind o k) then (size o k + 1) / 2 else size o k
 
 abbrev pub body_end : Objects → ℕ → ℕ
 body_end o k = start o k + body_words o k
@@ -71,7 +71,7 @@ is_nil_or o k w = eqb w nil_word || is_kind o k w
 
 -- The class of a word: object 4 for an integer
 unfoldable pub class_of : Objects → ℕ → ℕ
-class_of o w = if is_integer w then integer_class else class_word o (object_number w)
+class_of o w = when is_integer w then integer_class else class_word o (object_number w)
 
 -- The four words of a class body; the class is given by its word.
 abbrev pub superclass_word : Objects → ℕ → ℕ

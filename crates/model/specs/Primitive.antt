@@ -1,7 +1,7 @@
 -- The primitives (01, "Plain machine": "Primitives"): 1 to 17 by specs/Arithmetic.antt, 60 to 62, 70, 71, 110, 111. One that fails
 -- changes nothing; every other number fails.
 use Rattle.std.specs.Prelude.{ℕ, ◌+◌, ◌-◌, ◌*◌, ◌/◌, ◌%◌, Bool, ◌&&◌, ◌||◌, not, List, [], ◌∷◌, ◌++◌, leb, ltb, eqb, length, get_or, set, replicate}
-use Rattle.bytecode.specs.Test.{if◌then◌else◌}
+use Rattle.bytecode.specs.Test.{when◌then◌else◌}
 use Rattle.bytecode.specs.Constant.{nil_word}
 use Rattle.model.specs.declared.Computed.{Computed}
 use Rattle.model.specs.declared.Computed.TheVariants.{Word, Failed}
@@ -22,12 +22,12 @@ store_word o k i w = record { n = o.n; b = o.b; contents = o.contents; bodies = 
 
 -- Byte i (from 0) of object k, and the objects in which it becomes v: the other half of its word stays.
 unfoldable pub object_byte : Objects → ℕ → ℕ → ℕ
-object_byte o k i = if eqb (i % 2) 0 then body_word o k (i / 2) / 256 else body_word o k (i / 2) % 256
+object_byte o k i = when eqb (i % 2) 0 then body_word o k (i / 2) / 256 else body_word o k (i / 2) % 256
 
 unfoldable pub store_byte : Objects → ℕ → ℕ → ℕ → Objects
 store_byte o k i v =
     store_word o k (i / 2)
-    (if eqb (i % 2) 0 then v * 256 + body_word o k (i / 2) % 256 else body_word o k (i / 2) / 256 * 256 + v)
+    (when eqb (i % 2) 0 then v * 256 + body_word o k (i / 2) % 256 else body_word o k (i / 2) / 256 * 256 + v)
 
 -- 02, M-103: elements stand behind the F named fields of the object's class, of which form 2 has none: where in the body they start, and how
 -- many there are. Right objects of forms 1 and 2 have no fewer words or bytes than F (`elements_fill`, proofs/ElementLaws.antt).
@@ -57,24 +57,24 @@ place_of_index o w x = element_start o w + (x / 2 - 1)
 -- 60 at:
 unfoldable pub at : Objects → ℕ → ℕ → Outcome
 at o w x =
-    if is_indexable o w && is_index (element_count o w) x
+    when is_indexable o w && is_index (element_count o w) x
     then
-    answers (if holds_bytes o w then 2 * object_byte o (object_number w) (place_of_index o w x) + 1 else body_word o (object_number w) (place_of_index o w x)) o
+    answers (when holds_bytes o w then 2 * object_byte o (object_number w) (place_of_index o w x) + 1 else body_word o (object_number w) (place_of_index o w x)) o
     else fails
 
 -- 61 at:put: answers what it stored; a byte is 0 to 255.
 unfoldable pub at_put : Objects → ℕ → ℕ → ℕ → Outcome
 at_put o w x v =
-    if is_indexable o w && is_index (element_count o w) x
+    when is_indexable o w && is_index (element_count o w) x
     then
-    (if holds_bytes o w
-    then (if is_natural 255 v then answers v (store_byte o (object_number w) (place_of_index o w x) (v / 2)) else fails)
+    (when holds_bytes o w
+    then (when is_natural 255 v then answers v (store_byte o (object_number w) (place_of_index o w x) (v / 2)) else fails)
     else answers v (store_word o (object_number w) (place_of_index o w x) v))
     else fails
 
 -- 62 size
 unfoldable pub size_answer : Objects → ℕ → Outcome
-size_answer o w = if is_indexable o w then answers (2 * element_count o w + 1) o else fails
+size_answer o w = when is_indexable o w then answers (2 * element_count o w + 1) o else fails
 
 -- One more object, with this body
 unfoldable pub appended : Objects → ℕ → ℕ → ℕ → List ℕ → Objects
@@ -104,23 +104,23 @@ has_message_room room o count =
 
 unfoldable pub make : Room → Objects → ℕ → ℕ → ℕ → ℕ → ℕ → Outcome
 make room o class kind size count fill =
-    if has_room room o count then answers (pointer (o.n + 1)) (appended o class kind size (replicate count fill)) else fails
+    when has_room room o count then answers (pointer (o.n + 1)) (appended o class kind size (replicate count fill)) else fails
 
 -- 70 new, of a class of form 0: F fields, all nil
 unfoldable pub new : Room → Objects → ℕ → Outcome
 new room o c =
-    if is_kind o class_kind c && eqb (form o c) fixed_form
+    when is_kind o class_kind c && eqb (form o c) fixed_form
     then make room o c fields_kind (field_count o c) (field_count o c) nil_word
     else fails
 
 -- 71 new:, of form 1 with the argument's number of words after F, all nil, or of form 2 with that many bytes, all zero
 unfoldable pub new_with : Room → Objects → ℕ → ℕ → Outcome
 new_with room o c x =
-    if is_kind o class_kind c && is_natural largest_integer x
+    when is_kind o class_kind c && is_natural largest_integer x
     then
-    (if eqb (form o c) indexed_form
+    (when eqb (form o c) indexed_form
     then make room o c fields_kind (field_count o c + x / 2) (field_count o c + x / 2) nil_word
-    else (if eqb (form o c) bytes_form then make room o c bytes_kind (x / 2) ((x / 2 + 1) / 2) 0 else fails))
+    else (when eqb (form o c) bytes_form then make room o c bytes_kind (x / 2) ((x / 2 + 1) / 2) 0 else fails))
     else fails
 
 abbrev pub computed : Objects → Computed → Outcome
@@ -130,20 +130,20 @@ computed o Failed = fails
 -- Primitive k on a receiver w and two arguments, those that it takes; `e` is the edition, which has all of them today
 unfoldable pub perform : ℕ → Room → Objects → ℕ → ℕ → ℕ → ℕ → Outcome
 perform e room o k w x y =
-    if leb 1 k && leb k 17 then computed o (arithmetic k w x) else
-    if eqb k 60 then at o w x else
-    if eqb k 61 then at_put o w x y else
-    if eqb k 62 then size_answer o w else
-    if eqb k 70 then new room o w else
-    if eqb k 71 then new_with room o w x else
-    if eqb k 110 then answers (boolean_word (eqb w x)) o else
-    if eqb k 111 then answers (class_of o w) o else
+    when leb 1 k && leb k 17 then computed o (arithmetic k w x) else
+    when eqb k 60 then at o w x else
+    when eqb k 61 then at_put o w x y else
+    when eqb k 62 then size_answer o w else
+    when eqb k 70 then new room o w else
+    when eqb k 71 then new_with room o w x else
+    when eqb k 110 then answers (boolean_word (eqb w x)) o else
+    when eqb k 111 then answers (class_of o w) o else
     fails
 
 -- How many arguments primitive k takes; with another count it fails.
 unfoldable pub primitive_count : ℕ → ℕ
-primitive_count k = if eqb k 61 then 2 else if eqb k 62 || (eqb k 70 || eqb k 111) then 0 else 1
+primitive_count k = when eqb k 61 then 2 else when eqb k 62 || (eqb k 70 || eqb k 111) then 0 else 1
 
 unfoldable pub primitive : ℕ → Room → Objects → ℕ → ℕ → ℕ → List ℕ → Outcome
 primitive e room o k count w arguments =
-    if eqb count (primitive_count k) then perform e room o k w (get_or arguments 0 0) (get_or arguments 1 0) else fails
+    when eqb count (primitive_count k) then perform e room o k w (get_or arguments 0 0) (get_or arguments 1 0) else fails

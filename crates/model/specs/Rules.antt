@@ -2,7 +2,7 @@
 -- asked. Each is a test of the objects; `e` is the edition.
 use Rattle.std.specs.Prelude.{ℕ, ◌+◌, ◌-◌, ◌*◌, ◌%◌, ◌≡◌, Bool, true, false, ◌&&◌, ◌||◌, not, List, [], ◌∷◌, T, leb, ltb, eqb, length}
 use Rattle.std.proofs.Math.Option.{Option}
-use Rattle.bytecode.specs.Test.{if◌then◌else◌, up_to, below, every, implies, all_of}
+use Rattle.bytecode.specs.Test.{when◌then◌else◌, up_to, below, every, implies, all_of}
 use Rattle.bytecode.specs.Constant.{nil_word}
 use Rattle.bytecode.specs.Effect.{special_count}
 use Rattle.bytecode.specs.declared.Place.{Place}
@@ -28,7 +28,7 @@ header_fine e n b = is_edition e && sizes_fine e n b
 
 -- 4: layout. A body starts where the one before it ends, the first at 0;
 unfoldable pub start_fine_of : Objects → ℕ → Bool
-start_fine_of o k = if eqb k 1 then eqb (start o k) 0 else eqb (start o k) (body_end o (k - 1))
+start_fine_of o k = when eqb k 1 then eqb (start o k) 0 else eqb (start o k) (body_end o (k - 1))
 
 -- an odd number of bytes leaves half a word, which is zero;
 unfoldable pub padding_fine : Objects → ℕ → Bool
@@ -66,10 +66,10 @@ rule14 o = up_to o.n (chain_fine o)
 -- An object fits the form of its class.
 unfoldable pub fits : ℕ → Objects → ℕ → Bool
 fits e o k =
-    if eqb (form o (class_word o k)) fixed_form then eqb (kind o k) fields_kind && eqb (size o k) (field_count o (class_word o k)) else
-    if eqb (form o (class_word o k)) indexed_form then eqb (kind o k) fields_kind && leb (field_count o (class_word o k)) (size o k) else
-    if eqb (form o (class_word o k)) bytes_form then eqb (kind o k) bytes_kind else
-    if eqb (form o (class_word o k)) other_form then leb class_kind (kind o k) && leb (kind o k) method_kind else
+    when eqb (form o (class_word o k)) fixed_form then eqb (kind o k) fields_kind && eqb (size o k) (field_count o (class_word o k)) else
+    when eqb (form o (class_word o k)) indexed_form then eqb (kind o k) fields_kind && leb (field_count o (class_word o k)) (size o k) else
+    when eqb (form o (class_word o k)) bytes_form then eqb (kind o k) bytes_kind else
+    when eqb (form o (class_word o k)) other_form then leb class_kind (kind o k) && leb (kind o k) method_kind else
     false
 
 unfoldable pub entry_fine : ℕ → Objects → ℕ → Bool

@@ -2,7 +2,7 @@
 -- A word is a natural number below 65,536; the integer that it holds is a ℤ, whose range is a bound on its magnitude.
 use Rattle.std.specs.Prelude.{ℕ, ◌+◌, ◌-◌, ◌*◌, ◌/◌, ◌%◌, Bool, true, false, ◌&&◌, ◌||◌, leb, ltb, eqb, ℤ, pos, negsuc}
 use Rattle.std.specs.Int.Signed.{mag}
-use Rattle.bytecode.specs.Test.{if◌then◌else◌}
+use Rattle.bytecode.specs.Test.{when◌then◌else◌}
 use Rattle.bytecode.specs.Constant.{false_word, true_word}
 use Rattle.model.specs.Limits.{largest_integer, integer_class_object, failure_selector_object, message_class_object, array_class_object}
 
@@ -19,7 +19,7 @@ word_of (pos n) = 2 * n + 1
 word_of (negsuc n) = 65535 - 2 * n
 
 unfoldable pub value_of : ℕ → ℤ
-value_of w = if ltb w 32768 then pos (w / 2) else negsuc ((65535 - w) / 2)
+value_of w = when ltb w 32768 then pos (w / 2) else negsuc ((65535 - w) / 2)
 
 -- An integer word from 0 to a bound; as a number it is half the word.
 abbrev pub is_natural : ℕ → ℕ → Bool

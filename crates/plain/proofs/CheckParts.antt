@@ -5,7 +5,7 @@ use mathlib.Core.Bool.{Bool, true, false, ◌&&◌}
 use mathlib.Core.List.{List}
 use lib.Dec.{leb, eqb}
 use lib.ListN.{length}
-use Rattle.bytecode.specs.Test.{if◌then◌else◌, all_of}
+use Rattle.bytecode.specs.Test.{when◌then◌else◌, all_of}
 use Rattle.model.specs.Word.{is_valid}
 use Rattle.plain.specs.Registers.{finished, last_phase, has_frames}
 use Rattle.plain.specs.State.{Frame}
@@ -21,11 +21,11 @@ module _ (s : Flat) where
   phasePart = leb s.registers.phase last_phase
 
   abbrev pub valuePart : Bool
-  valuePart = if eqb s.registers.phase finished then is_valid s.registers.n s.registers.value else eqb s.registers.value 0
+  valuePart = when eqb s.registers.phase finished then is_valid s.registers.n s.registers.value else eqb s.registers.value 0
 
   abbrev pub framesPart : Bool
   framesPart =
-      if has_frames s.registers.phase
+      when has_frames s.registers.phase
       then frames_fine s.registers.edition (flat_objects s) (length s.stack) true s.registers.top (frames_from (suc s.registers.top) (flat_objects s) s.stack s.registers.top)
       else eqb s.registers.top 0
 
@@ -44,10 +44,10 @@ module _ (s : Flat) where
       and_true false = refl
 
       by_frames : (h : Bool) (fs : List Frame)
-          → (if h then frames_fine s.registers.edition (flat_objects s) (length s.stack) true s.registers.top (if_frames h fs) else (eqb s.registers.top 0 && is_empty (if_frames h fs)))
-          ≡ (if h then frames_fine s.registers.edition (flat_objects s) (length s.stack) true s.registers.top fs else eqb s.registers.top 0)
-      by_frames true fs = unfold if◌then◌else◌ in refl
-      by_frames false fs = unfold if◌then◌else◌ in and_true (eqb s.registers.top 0)
+          → (when h then frames_fine s.registers.edition (flat_objects s) (length s.stack) true s.registers.top (if_frames h fs) else (eqb s.registers.top 0 && is_empty (if_frames h fs)))
+          ≡ (when h then frames_fine s.registers.edition (flat_objects s) (length s.stack) true s.registers.top fs else eqb s.registers.top 0)
+      by_frames true fs = unfold when◌then◌else◌ in refl
+      by_frames false fs = unfold when◌then◌else◌ in and_true (eqb s.registers.top 0)
 
       regroup : (a b c d e : Bool) → ((a && (b && (c && (d && true)))) && e) ≡ (a && (b && (c && (d && e))))
       regroup true true true true e = refl

@@ -1,5 +1,5 @@
 -- Opens every definition of the three crates, for proofs by computation: such a proof says `unfolding computing`.
-use Rattle.bytecode.specs.Test.{if◌then◌else◌}
+use Rattle.bytecode.specs.Test.{when◌then◌else◌}
 use Rattle.bytecode.specs.Code.{byte_at, place_of, short_of, constant_of, extended_of, jump_of, send_of, instruction_of, length_of, next_at, decode_at}
 use Rattle.bytecode.specs.Effect.{special_count, need, leaves, usable, successors}
 use Rattle.model.specs.Limits.{least_objects}
@@ -22,7 +22,7 @@ use Rattle.plain.specs.FlatCalls.{laid, stack_after, cache_after, flat_begin, fl
 use Rattle.plain.specs.Program.{step80}
 
 unfoldable pub computing : Unit {0}
-unfolding if◌then◌else◌ byte_at place_of short_of constant_of extended_of jump_of send_of instruction_of length_of next_at decode_at special_count need leaves usable successors least_objects word_of value_of is_pointer
+unfolding when◌then◌else◌ byte_at place_of short_of constant_of extended_of jump_of send_of instruction_of length_of next_at decode_at special_count need leaves usable successors least_objects word_of value_of is_pointer
     is_valid body_words body_of is_kind class_of code_words code_size frame_words argument_count walk walk_from successorsAt depthAfterAt rulesAt fineAt depthTable find_from find_in lookup_within lookup
     dictionaries_within dictionaries_read pairs_from pairs_in pairs_within pairs_read in_chain_within in_chain ends_within start_fine_of padding_fine layout_rules rule4 words_fine rule5 chain_fine rule14 fits entry_fine pair_fine dictionary_fine class_rules message_object_rules known_object_rules object_fine rule6 takes_count
     send_fine variable_fine place_fine allowed method_table method_rules dictionary_methods_fine failure_methods_fine rule7 rule8 words_of bytes_of header_of objects_in image_header image_objects image_of length_fine buffers_fine

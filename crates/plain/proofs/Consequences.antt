@@ -6,7 +6,7 @@ use mathlib.Core.Bool.{Bool, true, false}
 use mathlib.Core.List.{List, [], ◌∷◌}
 use native.Mathlib.Omega.{arith}
 use lib.Dec.{eqb}
-use Rattle.bytecode.specs.Test.{if◌then◌else◌}
+use Rattle.bytecode.specs.Test.{when◌then◌else◌}
 use Rattle.model.specs.Limits.{class_kind}
 use Rattle.model.specs.Objects.{Objects, body_words, sized_in_bytes}
 use Rattle.model.specs.Image.{Room, Verdict, accepted, refused, load_verdict}
@@ -63,7 +63,7 @@ keeps_refl o = record { objects = omega arith; words = omega arith; entries = λ
 body_words_lem : (o o' : Objects) → Keeps o o' → (k : ℕ) → 1 ≤ k → k ≤ o.n → body_words o' k ≡ body_words o k
 unfolding body_words
 body_words_lem o o' x k a b =
-    ap₂ (λ (kd sz : ℕ). if sized_in_bytes kd then (sz + 1) / 2 else sz) (x.entries k 1 a b (omega arith)) (x.entries k 3 a b (omega arith))
+    ap₂ (λ (kd sz : ℕ). when sized_in_bytes kd then (sz + 1) / 2 else sz) (x.entries k 1 a b (omega arith)) (x.entries k 3 a b (omega arith))
 
 keeps_trans : (o o' o'' : Objects) → Keeps o o' → Keeps o' o'' → Keeps o o''
 keeps_trans o o' o'' x y =

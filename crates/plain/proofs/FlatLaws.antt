@@ -1,12 +1,12 @@
 -- A right plain state laid into the buffers: the flat state stands for it, and check accepts it.
-use Prim.Native.Nat.{ℕ, zero, suc, ◌+◌, ◌*◌, ◌≤◌}
+use Prim.Native.Nat.{ℕ, zero, suc, ◌*◌, ◌≤◌}
 use mathlib.Core.Path.{◌≡◌, refl, sym, ap, ◌∙◌, subst}
 use mathlib.Core.Bool.{Bool, true, false, ◌&&◌}
 use mathlib.Core.List.{List, []}
 use native.Mathlib.Omega.{arith}
 use borrow.Author.Tests.{eq-eqb}
 use lib.Dec.{T, leb, eqb, leb→le, le→leb, eqb→eq}
-use lib.ListN.{length, take}
+use lib.ListN.{length}
 use lib.Seq.{length-take-le}
 use Rattle.bytecode.proofs.TestLaws.{true→T, and_left, and_right, and_both}
 use Rattle.model.specs.Limits.{entry_words, cache_words}
@@ -18,7 +18,7 @@ use Rattle.plain.specs.State.{Plain, objects}
 use Rattle.plain.specs.Cache.{cache_fine}
 use Rattle.plain.specs.Flat.{Flat, room_of, flat_objects, frames_from, if_frames, plain_of}
 use Rattle.plain.specs.Check.{plain_fine, state_fine, check}
-use Rattle.plain.specs.FlatCalls.{at_front, with_plain}
+use Rattle.plain.specs.FlatCalls.{with_plain}
 use Rattle.plain.proofs.Preserve.{runs, ends}
 use Rattle.plain.proofs.StateLaws.{PlainRight, Stands, goes, rests, waits, image_right, right_image, plain_stands, plain_image, stands_plain}
 use Rattle.plain.proofs.RunLaws.{Stood}

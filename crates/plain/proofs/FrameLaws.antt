@@ -1,12 +1,12 @@
 -- What check says of frames, as statements.
-use Prim.Native.Nat.{ℕ, suc, ◌+◌, ◌-◌, ◌≤◌}
+use Prim.Native.Nat.{ℕ, suc, ◌+◌, ◌≤◌}
 use mathlib.Core.Path.{◌≡◌, refl, ◌∙◌, subst}
 use mathlib.Core.Bool.{Bool, true, false, ◌&&◌}
 use mathlib.Core.List.{List, [], ◌∷◌}
 use native.Mathlib.Omega.{arith}
 use lib.Dec.{T, leb, eqb, leb→le, le→leb, eqb→eq, eqb_refl}
 use lib.ListN.{length}
-use Rattle.bytecode.specs.Test.{if◌then◌else◌, every, all_of}
+use Rattle.bytecode.specs.Test.{when◌then◌else◌, every, all_of}
 use Rattle.bytecode.proofs.TestLaws.{and_left, and_right, and_both, rule, rules}
 use Rattle.model.specs.Limits.{method_kind, most_stack_words}
 use Rattle.model.specs.Word.{is_valid}
@@ -152,7 +152,7 @@ table_depth true d = d
 table_depth false d = suc d
 
 pub note_is : (is_top : Bool) (f : Frame) → note_of is_top f ≡ suc (table_depth is_top f.depth)
-unfolding note_of if◌then◌else◌
+unfolding note_of when◌then◌else◌
 note_is true f = refl
 note_is false f = refl
 

@@ -9,7 +9,7 @@ use borrow.Author.Tests.{eqb-true}
 use lib.Dec.{T, eqb}
 use lib.ListN.{length, take, set}
 use lib.Seq.{sets}
-use Rattle.bytecode.specs.Test.{if◌then◌else◌, every}
+use Rattle.bytecode.specs.Test.{when◌then◌else◌, every}
 use Rattle.bytecode.specs.Constant.{false_word}
 use Rattle.bytecode.proofs.Choice.{if_yes, if_no, if_eq, if_ne, if_cases}
 use Rattle.bytecode.proofs.TestLaws.{T→true}
@@ -38,13 +38,13 @@ use Rattle.plain.proofs.FramedLaws.{new_image, answer_written, frame_written}
 module _ (e : ℕ) (room : Room) (o : Objects) (m receiver w : ℕ) (one : argument_count o m ≡ 1) (even : w % 2 ≡ 0) where
   -- flags 5 and 6 take no arguments
   not_self : flag o m ≢ receiver_flag
-  not_self q = let z : argument_count o m ≡ 0 = (unfold argument_count if◌then◌else◌ in rw q refl) in omega arith
+  not_self q = let z : argument_count o m ≡ 0 = (unfold argument_count when◌then◌else◌ in rw q refl) in omega arith
 
   not_field : flag o m ≢ field_flag
-  not_field q = let z : argument_count o m ≡ 0 = (unfold argument_count if◌then◌else◌ in rw q refl) in omega arith
+  not_field q = let z : argument_count o m ≡ 0 = (unfold argument_count when◌then◌else◌ in rw q refl) in omega arith
 
   no_answer : activate e room o m receiver (w ∷ [])
-      ≡ (if eqb (flag o m) primitive_flag then primitive_answered o m receiver (primitive e room o (primitive_number o m) (argument_count o m) receiver (w ∷ [])) else entering o m receiver)
+      ≡ (when eqb (flag o m) primitive_flag then primitive_answered o m receiver (primitive e room o (primitive_number o m) (argument_count o m) receiver (w ∷ [])) else entering o m receiver)
   unfolding activate
   no_answer = if_ne (flag o m) receiver_flag _ _ not_self ∙ if_ne (flag o m) field_flag _ _ not_field
 

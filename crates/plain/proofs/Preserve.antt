@@ -1,5 +1,5 @@
 -- One bytecode from a right state: a step exists, and leads to a right state or halts for a listed cause.
-use Prim.Native.Nat.{ℕ, zero, suc, ◌+◌, ◌-◌, ◌/◌, ◌%◌, ◌≤◌, ◌<◌}
+use Prim.Native.Nat.{ℕ, zero, suc, ◌+◌, ◌-◌, ◌≤◌, ◌<◌}
 use mathlib.Core.Path.{◌≡◌, refl, sym, ap, ◌∙◌, subst}
 use mathlib.Core.Bool.{Bool, true, false, ◌&&◌, ◌||◌}
 use mathlib.Core.List.{List, [], ◌∷◌, ◌++◌, Memᴰ}
@@ -8,7 +8,7 @@ use native.Mathlib.Omega.{arith}
 use borrow.Author.Tests.{ltb-true, eqb-true}
 use lib.Dec.{T, leb, ltb, eqb, ltb→lt, lt→ltb}
 use lib.ListN.{length, get_elem?, drop, set, replicate, length-append, length-replicate}
-use Rattle.bytecode.specs.Test.{if◌then◌else◌, every}
+use Rattle.bytecode.specs.Test.{when◌then◌else◌, every}
 use Rattle.bytecode.specs.Constant.{nil_word}
 use Rattle.bytecode.specs.Effect.{special_count, need, leaves, usable, successors}
 use Rattle.bytecode.specs.declared.Place.{Place}
@@ -121,11 +121,11 @@ unfolding special_count
 special_one k h = if_lt k 16 1 _ h
 
 special_same : special_count 22 ≡ 1
-unfolding special_count if◌then◌else◌
+unfolding special_count when◌then◌else◌
 special_same = refl
 
 special_class : special_count 23 ≡ 0
-unfolding special_count if◌then◌else◌
+unfolding special_count when◌then◌else◌
 special_class = refl
 
 -- ---- activation
@@ -142,10 +142,10 @@ module _ (After : Objects → Objects → Type 0) (room : Room) (edition : ℕ) 
 
   -- a field that was found is valid
   field_valid_lem : (v i w : ℕ) → field_of o v i ≡ some w → T (is_valid o.n w)
-  unfolding field_of if◌then◌else◌
+  unfolding field_of when◌then◌else◌
   field_valid_lem v i w e = by_test (is_kind o fields_kind v && ltb i (size o (object_number v))) refl e
     where
-      by_test : (b : Bool) → (is_kind o fields_kind v && ltb i (size o (object_number v))) ≡ b → (if b then some (body_word o (object_number v) i) else none) ≡ some w → T (is_valid o.n w)
+      by_test : (b : Bool) → (is_kind o fields_kind v && ltb i (size o (object_number v))) ≡ b → (when b then some (body_word o (object_number v) i) else none) ≡ some w → T (is_valid o.n w)
       by_test true q h =
           subst (λ (k : ℕ). T (is_valid o.n k)) (mathlib.Core.Option.some-injective (body_word o (object_number v) i) w h) (world.field_valid v i (true→T q))
       by_test false q h = absurd (mathlib.Core.Option.none-ne-some w h)
@@ -328,8 +328,8 @@ module _ (After : Objects → Objects → Type 0) (room : Room) (s : Plain) wher
         go false y = absurd y
 
     -- ---- places
-    if_some : (n : ℕ) (b : Bool) (w : ℕ) → T b → T (is_valid n w) → Finds n (if b then some w else none)
-    unfolding if◌then◌else◌
+    if_some : (n : ℕ) (b : Bool) (w : ℕ) → T b → T (is_valid n w) → Finds n (when b then some w else none)
+    unfolding when◌then◌else◌
     if_some n true w t v = (w, refl, v)
     if_some n false w t v = absurd t
 

@@ -6,7 +6,7 @@ use mathlib.Core.List.{List, [], ◌∷◌}
 use native.Mathlib.Omega.{arith}
 use borrow.Author.Tests.{eqb-true, eq-eqb}
 use lib.Dec.{eqb}
-use Rattle.bytecode.specs.Test.{if◌then◌else◌}
+use Rattle.bytecode.specs.Test.{when◌then◌else◌}
 use Rattle.bytecode.proofs.Choice.{if_yes, if_no}
 use Rattle.model.specs.Image.{accepted}
 use Rattle.plain.specs.Registers.{running, Cause, not_understood, no_boolean, no_stack_room, phase_of}
@@ -31,7 +31,7 @@ use Rattle.plain.proofs.LoopLaws.{runs_behind}
 onwards : ℕ → Given → Given
 onwards n (gives done s) = gives done s
 onwards n (gives (refused_by i) s) = gives (refused_by i) s
-onwards n (gives (result phase k v h d) s) = if eqb phase running then runs_from n k h d s else gives (result phase k v h d) s
+onwards n (gives (result phase k v h d) s) = when eqb phase running then runs_from n k h d s else gives (result phase k v h d) s
 onwards n (gives (wrote i) s) = gives (wrote i) s
 onwards n no_answer = no_answer
 

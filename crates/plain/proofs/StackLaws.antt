@@ -7,7 +7,7 @@ use mathlib.Core.Option.{Option, some, none}
 use native.Mathlib.Omega.{arith}
 use lib.Dec.{T, ltb, eqb}
 use lib.ListN.{length, drop}
-use Rattle.bytecode.specs.Test.{if◌then◌else◌}
+use Rattle.bytecode.specs.Test.{when◌then◌else◌}
 use Rattle.bytecode.proofs.Choice.{if_yes, if_no}
 use Rattle.bytecode.proofs.TestLaws.{true→T, T→true}
 use Rattle.bytecode.specs.declared.Instruction.{Instruction}
@@ -82,12 +82,12 @@ fits_nor n k base words h e = go (fits_stack k base words) refl
 
 -- a test for a frame, with either stack
 tested : (n k base words : ℕ) (p : Plain) (l : Looked) → base + words ≤ standing_end p
-    → Alike n k (if fits_stack n base words then leads_to p l else halts no_stack_room) (if fits_stack k base words then leads_to p l else halts no_stack_room)
-unfolding Alike if◌then◌else◌
+    → Alike n k (when fits_stack n base words then leads_to p l else halts no_stack_room) (when fits_stack k base words then leads_to p l else halts no_stack_room)
+unfolding Alike when◌then◌else◌
 tested n k base words p l a = go (fits_stack n base words) refl
   where
     go : (b : Bool) → fits_stack n base words ≡ b
-        → Alike n k (if b then leads_to p l else halts no_stack_room) (if fits_stack k base words then leads_to p l else halts no_stack_room)
+        → Alike n k (when b then leads_to p l else halts no_stack_room) (when fits_stack k base words then leads_to p l else halts no_stack_room)
     go true e = λ h. if_yes _ _ (fits_too n k base words (standing_end p) e a h)
     go false e = λ h. if_no _ _ (fits_nor n k base words h e)
 
@@ -113,8 +113,8 @@ module _ (room : Room) (k : ℕ) where
   activated_alike s f rest m receiver arguments l y y' h entered = framed_alike s f rest m receiver arguments l
   activated_alike s f rest m receiver arguments l y y' h unfit = h
 
-  choice_alike : (b : Bool) (x x' y y' : Stepped) → Alike room.stack k x x' → Alike room.stack k y y' → Alike room.stack k (if b then x else y) (if b then x' else y')
-  unfolding if◌then◌else◌
+  choice_alike : (b : Bool) (x x' y y' : Stepped) → Alike room.stack k x x' → Alike room.stack k y y' → Alike room.stack k (when b then x else y) (when b then x' else y')
+  unfolding when◌then◌else◌
   choice_alike true x x' y y' a b = a
   choice_alike false x x' y y' a b = b
 
@@ -246,18 +246,18 @@ module _ (room : Room) (k : ℕ) where
   begun_same (begun p) = λ h. refl
   begun_same (declined i) = λ h. refl
 
-  begun_choice : (b : Bool) (x x' y y' : Begun) → BeginAlike x x' → BeginAlike y y' → BeginAlike (if b then x else y) (if b then x' else y')
-  unfolding if◌then◌else◌
+  begun_choice : (b : Bool) (x x' y y' : Begun) → BeginAlike x x' → BeginAlike y y' → BeginAlike (when b then x else y) (when b then x' else y')
+  unfolding when◌then◌else◌
   begun_choice true x x' y y' a b = a
   begun_choice false x x' y y' a b = b
 
   begun_tested : (base words : ℕ) (p : Plain) → base + words ≤ standing_end p
-      → BeginAlike (if fits_stack room.stack base words then begun p else declined 13) (if fits_stack k base words then begun p else declined 13)
-  unfolding if◌then◌else◌ BeginAlike
+      → BeginAlike (when fits_stack room.stack base words then begun p else declined 13) (when fits_stack k base words then begun p else declined 13)
+  unfolding when◌then◌else◌ BeginAlike
   begun_tested base words p a = go (fits_stack room.stack base words) refl
     where
       go : (b : Bool) → fits_stack room.stack base words ≡ b
-          → BeginAlike (if b then begun p else declined 13) (if fits_stack k base words then begun p else declined 13)
+          → BeginAlike (when b then begun p else declined 13) (when fits_stack k base words then begun p else declined 13)
       go true e = λ h. if_yes _ _ (fits_too room.stack k base words (standing_end p) e a h)
       go false e = λ d. if_no _ _ (fits_nor room.stack k base words (d refl) e)
 

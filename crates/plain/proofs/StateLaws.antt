@@ -7,7 +7,7 @@ use native.Mathlib.Omega.{arith}
 use borrow.Author.Tests.{eq-eqb, ne_eqb}
 use lib.Dec.{T, leb, eqb, leb→le, le→leb, eqb→eq}
 use lib.ListN.{length}
-use Rattle.bytecode.specs.Test.{if◌then◌else◌, all_of}
+use Rattle.bytecode.specs.Test.{when◌then◌else◌, all_of}
 use Rattle.bytecode.proofs.Choice.{if_yes, if_no}
 use Rattle.bytecode.proofs.TestLaws.{and_left, and_right, and_both, rule, rules, true→T}
 use Rattle.model.specs.Limits.{is_edition, entry_words}
@@ -78,11 +78,11 @@ module _ (stack : ℕ) (s : Plain) where
   phase = s.registers.phase
 
   abbrev valueFine : ℕ → Bool
-  valueFine p = if eqb p finished then is_valid s.registers.n s.registers.value else eqb s.registers.value 0
+  valueFine p = when eqb p finished then is_valid s.registers.n s.registers.value else eqb s.registers.value 0
 
   abbrev framesFineAt : ℕ → Bool
   framesFineAt p =
-      if has_frames p then frames_fine s.registers.edition (objects s) stack true s.registers.top s.frames else eqb s.registers.top 0 && is_empty s.frames
+      when has_frames p then frames_fine s.registers.edition (objects s) stack true s.registers.top s.frames else eqb s.registers.top 0 && is_empty s.frames
 
   none_of : T (eqb s.registers.top 0 && is_empty s.frames) → (s.registers.top ≡ 0) × (s.frames ≡ [])
   none_of t =
@@ -93,7 +93,7 @@ module _ (stack : ℕ) (s : Plain) where
 
   -- by the phase
   stands_by : (p : ℕ) → phase ≡ p → T (leb p last_phase) → T (valueFine p) → T (framesFineAt p) → Stands stack s
-  unfolding if◌then◌else◌
+  unfolding when◌then◌else◌
   stands_by zero e a v f = rests e (eqb→eq s.registers.value 0 v) (none_of f).0 (none_of f).1
   stands_by (suc zero) e a v f = goes (runs e (eqb→eq s.registers.value 0 v) (frames_right s.registers.edition (objects s) stack true s.registers.top s.frames f))
   stands_by (suc (suc zero)) e a v f = goes (ends e v (none_of f).0 (none_of f).1)
@@ -111,7 +111,7 @@ module _ (stack : ℕ) (s : Plain) where
     frames : T (framesFineAt p)
 
   fine_by : (p : ℕ) → phase ≡ p → Stands stack s → Fine p
-  unfolding if◌then◌else◌
+  unfolding when◌then◌else◌
   fine_by zero e (goes (runs a v f)) = absurd (omega arith)
   fine_by zero e (goes (ends a v t f)) = absurd (omega arith)
   fine_by zero e (rests a v t f) = record { most = tt; value = eq→eqb s.registers.value 0 v; frames = of_none t f }

@@ -1,6 +1,6 @@
 -- The calls of the plain machine (01, "Plain machine", last paragraph, and "From the state"). It is never refused by 3 or 11.
 use Rattle.std.specs.Prelude.{ℕ, zero, suc, ◌+◌, max, Bool, true, false, List, [], ◌∷◌, eqb, length}
-use Rattle.bytecode.specs.Test.{if◌then◌else◌}
+use Rattle.bytecode.specs.Test.{when◌then◌else◌}
 use Rattle.model.specs.declared.Found.{Found}
 use Rattle.model.specs.declared.Found.TheVariants.{Method, Nothing}
 use Rattle.model.specs.Objects.{Objects, class_of}
@@ -41,7 +41,7 @@ pub data Begun : Type 0 where
 abbrev pub begin_activated : Room → Plain → ℕ → ℕ → List ℕ → Activation → Begun
 begin_activated room s m receiver arguments (answered w o) = begun (with_frames (with_objects s o) [] finished 0 w)
 begin_activated room s m receiver arguments entered =
-    if fits_stack room.stack 0 (frame_size (objects s) m)
+    when fits_stack room.stack 0 (frame_size (objects s) m)
     then begun (with_frames s (new_frame (objects s) 0 m receiver arguments ∷ []) running 0 0)
     else declined 13
 begin_activated room s m receiver arguments unfit = declined 9
@@ -50,15 +50,15 @@ begin_activated room s m receiver arguments unfit = declined 9
 abbrev pub begin_found : Room → Plain → ℕ → List ℕ → Found → Begun
 begin_found room s receiver arguments Nothing = declined 9
 begin_found room s receiver arguments (Method m) =
-    if eqb (argument_count (objects s) m.0) (length arguments)
+    when eqb (argument_count (objects s) m.0) (length arguments)
     then begin_activated room s m.0 receiver arguments (activate s.registers.edition room (objects s) m.0 receiver arguments)
     else declined 10
 
 -- Begin is a send from no frame, all frames removed. 12 in phase 1, then 8, 9, 10, 13
 unfoldable pub begin : Room → Plain → ℕ → ℕ → List ℕ → Begun
 begin room s receiver selector arguments =
-    if eqb s.registers.phase running then declined 12 else
-    if rule8 (objects s) receiver selector arguments
+    when eqb s.registers.phase running then declined 12 else
+    when rule8 (objects s) receiver selector arguments
     then begin_found room s receiver arguments (lookup (objects s) selector (class_of (objects s) receiver))
     else declined 8
 

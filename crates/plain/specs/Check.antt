@@ -1,6 +1,6 @@
 -- Check (01, "Calls", last paragraph): a test of the plain state that a flat state stands for, and of the cache.
 use Rattle.std.specs.Prelude.{ℕ, suc, ◌+◌, Bool, true, false, ◌&&◌, List, [], ◌∷◌, leb, eqb, length}
-use Rattle.bytecode.specs.Test.{if◌then◌else◌, every, all_of}
+use Rattle.bytecode.specs.Test.{when◌then◌else◌, every, all_of}
 use Rattle.model.specs.Limits.{method_kind}
 use Rattle.model.specs.Word.{is_valid}
 use Rattle.model.specs.Objects.{Objects, class_of, is_kind}
@@ -21,7 +21,7 @@ image_rules e o receiver selector = header_fine e o.n o.b ∷ tests_of (object_t
 -- A frame: the fifth word is 0; receiver, temporaries and operands are valid; home is in the receiver's class chain; the position is
 -- reached and the depth is that of the table there, or one less below the top. (A note is one more than the table's depth.)
 unfoldable pub note_of : Bool → Frame → ℕ
-note_of is_top f = if is_top then suc f.depth else suc (suc f.depth)
+note_of is_top f = when is_top then suc f.depth else suc (suc f.depth)
 
 unfoldable pub frame_rules : ℕ → Objects → Bool → Frame → List Bool
 frame_rules e o is_top f =
@@ -55,8 +55,8 @@ unfoldable pub plain_rules : ℕ → Plain → List Bool
 plain_rules stack s =
     all_of (image_rules s.registers.edition (objects s) s.registers.start_receiver s.registers.start_selector) ∷
     leb s.registers.phase last_phase ∷
-    (if eqb s.registers.phase finished then is_valid s.registers.n s.registers.value else eqb s.registers.value 0) ∷
-    (if has_frames s.registers.phase
+    (when eqb s.registers.phase finished then is_valid s.registers.n s.registers.value else eqb s.registers.value 0) ∷
+    (when has_frames s.registers.phase
     then frames_fine s.registers.edition (objects s) stack true s.registers.top s.frames
     else eqb s.registers.top 0 && is_empty s.frames) ∷
     []

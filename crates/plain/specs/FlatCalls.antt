@@ -2,7 +2,7 @@
 -- "From the state"). Begin and run are what the plain machine does, laid back into the buffers.
 use Rattle.std.specs.Prelude.{ℕ, ◌*◌, Bool, true, false, ◌&&◌, List, [], ◌∷◌, ◌++◌, leb, eqb, length, replicate}
 use Rattle.std.proofs.lemmas.List.Edits.{sets}
-use Rattle.bytecode.specs.Test.{if◌then◌else◌}
+use Rattle.bytecode.specs.Test.{when◌then◌else◌}
 use Rattle.model.specs.Limits.{entry_words}
 use Rattle.model.specs.Image.{Verdict, accepted, refused, unless, ◌then◌, buffers_fine, image_header, image_of, image_bytes, load_verdict}
 pub use Rattle.model.specs.Objects.{at_front}
@@ -98,7 +98,7 @@ zeroed s n b =
 abbrev pub after_load : Flat → List ℕ → Verdict → Given
 after_load s bytes accepted = gives done (with_plain s (loaded bytes) s.stack empty_cache)
 after_load s bytes (refused k) =
-    gives (refused_by k) (if leb k 3 then with_registers s no_registers else zeroed s (image_header bytes).n (image_header bytes).b)
+    gives (refused_by k) (when leb k 3 then with_registers s no_registers else zeroed s (image_header bytes).n (image_header bytes).b)
 
 unfoldable pub flat_load : Flat → List ℕ → Given
 flat_load s bytes = after_load s bytes (load_verdict (room_of s) bytes)

@@ -2,7 +2,7 @@
 use Rattle.std.specs.Prelude.{ℕ, suc, ◌+◌, ◌-◌, Bool, true, false, ◌&&◌, ◌||◌, List, [], ◌∷◌, ◌++◌, leb, ltb, eqb, length, get_or, take, drop, set}
 use Rattle.std.proofs.Math.Option.{Option, none, some}
 use Rattle.std.proofs.Math.ListN.{get_elem?}
-use Rattle.bytecode.specs.Test.{if◌then◌else◌}
+use Rattle.bytecode.specs.Test.{when◌then◌else◌}
 use Rattle.bytecode.specs.Constant.{false_word, true_word}
 use Rattle.bytecode.specs.Code.{next_at, decode_at}
 use Rattle.bytecode.specs.Effect.{special_count}
@@ -59,7 +59,7 @@ provided false s = missing
 
 -- The operand under k others
 unfoldable pub operand : Frame → ℕ → Option ℕ
-operand f k = if ltb k f.depth then get_elem? f.operands (f.depth - suc k) else none
+operand f k = when ltb k f.depth then get_elem? f.operands (f.depth - suc k) else none
 
 -- The operands without the k uppermost
 abbrev pub without : Frame → ℕ → List ℕ
@@ -67,10 +67,10 @@ without f k = take (f.depth - k) f.operands
 
 -- Field i (from 0) of a word: only objects of kind 0 have fields.
 unfoldable pub field_of : Objects → ℕ → ℕ → Option ℕ
-field_of o w i = if is_kind o fields_kind w && ltb i (size o (object_number w)) then some (body_word o (object_number w) i) else none
+field_of o w i = when is_kind o fields_kind w && ltb i (size o (object_number w)) then some (body_word o (object_number w) i) else none
 
 unfoldable pub literal_of : Objects → ℕ → ℕ → Option ℕ
-literal_of o m i = if ltb i (literal_count o m) then some (literal o m i) else none
+literal_of o m i = when ltb i (literal_count o m) then some (literal o m i) else none
 
 -- The state that runs on with f as its top frame
 abbrev pub on_top : Plain → Frame → List Frame → Plain
@@ -120,7 +120,7 @@ pub data Activation : Type 0 where
 
 -- The frame of a method is for receivers that have its home in their class chain.
 unfoldable pub entering : Objects → ℕ → ℕ → Activation
-entering o m receiver = if in_chain o (home o m) (class_of o receiver) then entered else unfit
+entering o m receiver = when in_chain o (home o m) (class_of o receiver) then entered else unfit
 
 abbrev pub field_answered : Objects → Option ℕ → Activation
 field_answered o (some w) = answered w o
@@ -133,16 +133,16 @@ primitive_answered o m receiver fails = entering o m receiver
 -- Flag 5 answers the receiver, flag 6 its field T; `e` is the edition. Where a primitive fails, the code runs.
 unfoldable pub activate : ℕ → Room → Objects → ℕ → ℕ → List ℕ → Activation
 activate e room o m receiver arguments =
-    if eqb (flag o m) receiver_flag then answered receiver o else
-    if eqb (flag o m) field_flag then field_answered o (field_of o receiver (temporary_count o m)) else
-    if eqb (flag o m) primitive_flag
+    when eqb (flag o m) receiver_flag then answered receiver o else
+    when eqb (flag o m) field_flag then field_answered o (field_of o receiver (temporary_count o m)) else
+    when eqb (flag o m) primitive_flag
     then primitive_answered o m receiver (primitive e room o (primitive_number o m) (argument_count o m) receiver arguments)
     else entering o m receiver
 
 -- A new frame above the top one, f, whose receiver and arguments are popped; phase 5 where it does not fit
 unfoldable pub framed : Room → Plain → Frame → List Frame → ℕ → ℕ → List ℕ → Looked → Stepped
 framed room s f rest m receiver arguments l =
-    if fits_stack room.stack (s.registers.top + frame_size (objects s) f.method) (frame_size (objects s) m)
+    when fits_stack room.stack (s.registers.top + frame_size (objects s) f.method) (frame_size (objects s) m)
     then leads_to
     (with_frames s (new_frame (objects s) s.registers.top m receiver arguments ∷ f ∷ rest) running
     (s.registers.top + frame_size (objects s) f.method) 0) l
@@ -169,7 +169,7 @@ messaged s selector arguments = with_objects s (message_made (objects s) selecto
 abbrev pub resent : Room → Plain → Frame → List Frame → ℕ → ℕ → ℕ → List ℕ → Found → Stepped
 resent room s f rest selector class receiver arguments Nothing = halts not_understood
 resent room s f rest selector class receiver arguments (Method m) =
-    if has_message_room room (objects s) (length arguments)
+    when has_message_room room (objects s) (length arguments)
     then activated room (messaged s selector arguments) f rest m.0 receiver (message_word (objects s) ∷ []) (looked_up (objects s) failure_selector class m.0) (halts not_understood)
     (activate s.registers.edition room (message_made (objects s) selector arguments) m.0 receiver (message_word (objects s) ∷ []))
     else halts not_understood
@@ -178,7 +178,7 @@ resent room s f rest selector class receiver arguments (Method m) =
 -- from the class where the failed search started.
 unfoldable pub failed : Room → Plain → Frame → List Frame → ℕ → ℕ → ℕ → List ℕ → Stepped
 failed room s f rest selector class receiver arguments =
-    if has_messages s.registers.edition
+    when has_messages s.registers.edition
     then resent room s f rest selector class receiver arguments (lookup (objects s) failure_selector class)
     else halts not_understood
 
@@ -223,11 +223,11 @@ arithmetic_sends room s f rest position k =
 -- Special send k: arithmetic first for 176–191; 198 (==) and 199 (class) never look up.
 unfoldable pub special_sends : Room → Plain → Frame → List Frame → ℕ → ℕ → Stepped
 special_sends room s f rest position k =
-    if ltb k 16 then arithmetic_sends room s f rest position k else
-    if is_same k
+    when ltb k 16 then arithmetic_sends room s f rest position k else
+    when is_same k
     then (operand f 1 >>= λ a. operand f 0 >>= λ b. pushed s f rest position (without f 2) (boolean_word (eqb a b)) no_lookup)
     else
-    if is_class k
+    when is_class k
     then (operand f 0 >>= λ a. pushed s f rest position (without f 1) (class_of (objects s) a) no_lookup)
     else sends room s f rest position (class_of (objects s)) (special_selector (objects s) k) (special_count k)
 
@@ -235,8 +235,8 @@ special_sends room s f rest position k =
 unfoldable pub jumps : Plain → Frame → List Frame → ℕ → Bool → ℕ → Stepped
 jumps s f rest position condition ahead =
     operand f 0 >>= λ w.
-    if eqb w (boolean_word condition) then leads_to (on_top s (popped f (position + ahead) 1) rest) no_lookup else
-    if eqb w true_word || eqb w false_word then leads_to (on_top s (popped f position 1) rest) no_lookup else
+    when eqb w (boolean_word condition) then leads_to (on_top s (popped f (position + ahead) 1) rest) no_lookup else
+    when eqb w true_word || eqb w false_word then leads_to (on_top s (popped f position 1) rest) no_lookup else
     halts no_boolean
 
 -- One instruction, the next one at `position`

@@ -1,12 +1,12 @@
 -- The line that step80 prints, in byte codes (01, "Worked by hand").
 use Rattle.std.specs.Prelude.{ℕ, zero, suc, ◌+◌, ◌/◌, ◌%◌, List, [], ◌∷◌, ◌++◌, ltb}
-use Rattle.bytecode.specs.Test.{if◌then◌else◌}
+use Rattle.bytecode.specs.Test.{when◌then◌else◌}
 use Rattle.plain.specs.Program.{Line, line, refusal, no_line}
 
 -- Decimal digits, the highest first, with no zero in front, as far as the fuel goes.
 unfoldable pub digits : ℕ → ℕ → List ℕ
 digits zero n = []
-digits (suc fuel) n = let rest = digits fuel (n / 10) in if ltb n 10 then (48 + n) ∷ [] else rest ++ ((48 + n % 10) ∷ [])
+digits (suc fuel) n = let rest = digits fuel (n / 10) in when ltb n 10 then (48 + n) ∷ [] else rest ++ ((48 + n % 10) ∷ [])
 
 -- All digits of n: it has no more than n + 1 of them.
 unfoldable pub decimal : ℕ → List ℕ

@@ -9,7 +9,7 @@ use native.Mathlib.Decide.{dec_le}
 use borrow.Author.Tests.{eq-eqb, ne_eqb, le-leb, lt-leb}
 use lib.Dec.{leb, eqb}
 use lib.ListN.{length, get_or}
-use Rattle.bytecode.specs.Test.{if◌then◌else◌}
+use Rattle.bytecode.specs.Test.{when◌then◌else◌}
 use Rattle.bytecode.proofs.Choice.{if_yes, if_no, if_cases}
 use Rattle.model.specs.declared.Computed.{Computed}
 use Rattle.model.specs.Limits.{entry_words}
@@ -58,31 +58,31 @@ module _ (edition : ℕ) (room : Room) (o : Objects) (k w x y : ℕ) where
   there j z p e = p ∙ ap (λ (i : ℕ). perform edition room o i w x y) (sym e)
 
   pub is_60 : k ≡ 60 → at o w x ≡ perform edition room o k w x y
-  unfolding perform if◌then◌else◌
+  unfolding perform when◌then◌else◌
   is_60 e = there 60 (at o w x) refl e
 
   pub is_61 : k ≡ 61 → at_put o w x y ≡ perform edition room o k w x y
-  unfolding perform if◌then◌else◌
+  unfolding perform when◌then◌else◌
   is_61 e = there 61 (at_put o w x y) refl e
 
   pub is_62 : k ≡ 62 → size_answer o w ≡ perform edition room o k w x y
-  unfolding perform if◌then◌else◌
+  unfolding perform when◌then◌else◌
   is_62 e = there 62 (size_answer o w) refl e
 
   pub is_70 : k ≡ 70 → new room o w ≡ perform edition room o k w x y
-  unfolding perform if◌then◌else◌
+  unfolding perform when◌then◌else◌
   is_70 e = there 70 (new room o w) refl e
 
   pub is_71 : k ≡ 71 → new_with room o w x ≡ perform edition room o k w x y
-  unfolding perform if◌then◌else◌
+  unfolding perform when◌then◌else◌
   is_71 e = there 71 (new_with room o w x) refl e
 
   pub is_110 : k ≡ 110 → answers (boolean_word (eqb w x)) o ≡ perform edition room o k w x y
-  unfolding perform if◌then◌else◌
+  unfolding perform when◌then◌else◌
   is_110 e = there 110 (answers (boolean_word (eqb w x)) o) refl e
 
   pub is_111 : k ≡ 111 → answers (class_of o w) o ≡ perform edition room o k w x y
-  unfolding perform if◌then◌else◌
+  unfolding perform when◌then◌else◌
   is_111 e = there 111 (answers (class_of o w) o) refl e
 
   pub is_none : (1 ≤ k → 17 < k) → k ≢ 60 → k ≢ 61 → k ≢ 62 → k ≢ 70 → k ≢ 71 → k ≢ 110 → k ≢ 111 → fails ≡ perform edition room o k w x y
@@ -114,26 +114,26 @@ pub primitive_same : (edition : ℕ) (room : Room) (contents bodies : List ℕ) 
     → primitive edition (room_of contents bodies) o k count w (get_or arguments 0 0 ∷ get_or arguments 1 0 ∷ []) ≡ primitive edition room o k count w arguments
 unfolding primitive
 primitive_same edition room contents bodies o k count w arguments p q =
-    ap (λ (z : Outcome). if eqb count (primitive_count k) then z else fails) (room_same edition room contents bodies o k w (get_or arguments 0 0) (get_or arguments 1 0) p q)
+    ap (λ (z : Outcome). when eqb count (primitive_count k) then z else fails) (room_same edition room contents bodies o k w (get_or arguments 0 0) (get_or arguments 1 0) p q)
 
 -- the counts, by the tests of the code
 counted : (k j c : ℕ) → c ≡ primitive_count j → k ≡ j → c ≡ primitive_count k
 counted k j c p e = p ∙ ap primitive_count (sym e)
 
 pub count_61 : {k : ℕ} → k ≡ 61 → 2 ≡ primitive_count k
-unfolding primitive_count if◌then◌else◌
+unfolding primitive_count when◌then◌else◌
 count_61 {k} e = counted k 61 2 refl e
 
 pub count_62 : {k : ℕ} → k ≡ 62 → 0 ≡ primitive_count k
-unfolding primitive_count if◌then◌else◌
+unfolding primitive_count when◌then◌else◌
 count_62 {k} e = counted k 62 0 refl e
 
 pub count_70 : {k : ℕ} → k ≡ 70 → 0 ≡ primitive_count k
-unfolding primitive_count if◌then◌else◌
+unfolding primitive_count when◌then◌else◌
 count_70 {k} e = counted k 70 0 refl e
 
 pub count_111 : {k : ℕ} → k ≡ 111 → 0 ≡ primitive_count k
-unfolding primitive_count if◌then◌else◌
+unfolding primitive_count when◌then◌else◌
 count_111 {k} e = counted k 111 0 refl e
 
 pub count_one : {k : ℕ} → k ≢ 61 → k ≢ 62 → k ≢ 70 → k ≢ 111 → 1 ≡ primitive_count k

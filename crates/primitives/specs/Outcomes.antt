@@ -1,6 +1,6 @@
 -- What a primitive's outcome is in the code's answer and in the buffers.
 use Rattle.std.specs.Prelude.{ℕ, ◌+◌, ◌*◌, ◌/◌, ◌≤◌, ◌≡◌, List, T, length}
-use Rattle.bytecode.specs.Test.{if◌then◌else◌}
+use Rattle.bytecode.specs.Test.{when◌then◌else◌}
 use Rattle.model.specs.declared.Computed.{Computed}
 use Rattle.model.specs.declared.Computed.TheVariants.{Word, Failed}
 use Rattle.model.specs.Limits.{entry_words, most_objects, most_body_words}
@@ -71,8 +71,8 @@ abbrev pub no_elements : Elements
 no_elements = record { by = 0; start = 0; count = 0 }
 
 unfoldable pub elements_of : Objects → ℕ → Elements
-elements_of o w = if is_indexable o w then record { by = form o (class_of o w); start = element_start o w; count = element_count o w } else no_elements
+elements_of o w = when is_indexable o w then record { by = form o (class_of o w); start = element_start o w; count = element_count o w } else no_elements
 
 -- The number that an index holds, 0 where it is none
 unfoldable pub index_of : ℕ → ℕ → ℕ
-index_of count x = if is_index count x then x / 2 else 0
+index_of count x = when is_index count x then x / 2 else 0

@@ -8,7 +8,7 @@ use native.Mathlib.Omega.{arith}
 use borrow.Author.Tests.{eq-eqb, ne_eqb}
 use lib.Dec.{eqb, eqb→eq}
 use lib.ListN.{get_or}
-use Rattle.bytecode.specs.Test.{if◌then◌else◌, up_to, every, all_of}
+use Rattle.bytecode.specs.Test.{when◌then◌else◌, up_to, every, all_of}
 use Rattle.bytecode.proofs.Choice.{if_yes, if_no}
 use Rattle.bytecode.proofs.TestLaws.{true→T, and_left, and_right, up_to_at}
 use Rattle.model.specs.Word.{is_valid}
@@ -24,7 +24,7 @@ pub start_fine : (o : Objects) (k : ℕ) → start_fine_of o k ≡ eqb (start o 
 unfolding start_fine_of start_of
 start_fine o k = go (eqb k 1)
   where
-    go : (t : Bool) → (if t then eqb (start o k) 0 else eqb (start o k) (body_end o (k - 1))) ≡ eqb (start o k) (if t then 0 else body_end o (k - 1))
+    go : (t : Bool) → (when t then eqb (start o k) 0 else eqb (start o k) (body_end o (k - 1))) ≡ eqb (start o k) (when t then 0 else body_end o (k - 1))
     go true = if_yes _ _ refl ∙ ap (eqb (start o k)) (sym (if_yes _ _ refl))
     go false = if_no _ _ refl ∙ ap (eqb (start o k)) (sym (if_no _ _ refl))
 

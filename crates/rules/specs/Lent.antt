@@ -1,6 +1,6 @@
 -- What is settled of the lent words before the image rules are asked (01, "From the input", 2 and 3), and where a body has to start.
 use Rattle.std.specs.Prelude.{ℕ, ◌-◌, ◌*◌, ◌≤◌, List, eqb, length}
-use Rattle.bytecode.specs.Test.{if◌then◌else◌}
+use Rattle.bytecode.specs.Test.{when◌then◌else◌}
 use Rattle.model.specs.Limits.{entry_words, least_objects, most_objects, most_body_words}
 use Rattle.model.specs.Objects.{Objects, body_end}
 
@@ -13,4 +13,4 @@ pub record Lent (e n b : ℕ) (contents bodies : List ℕ) : Type 0 where
   pub most_words : b ≤ most_body_words
 
 unfoldable pub start_of : Objects → ℕ → ℕ
-start_of o k = if eqb k 1 then 0 else body_end o (k - 1)
+start_of o k = when eqb k 1 then 0 else body_end o (k - 1)

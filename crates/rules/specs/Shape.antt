@@ -1,6 +1,6 @@
 -- Rule 6 in the parts in which it is tested: F and form of a class together, the kinds of the objects 1 to 4 together, a class with a fixed number.
 use Rattle.std.specs.Prelude.{ℕ, ◌/◌, Bool, false, ◌&&◌, not, List, [], ◌∷◌, leb, eqb}
-use Rattle.bytecode.specs.Test.{if◌then◌else◌, implies, every, all_of}
+use Rattle.bytecode.specs.Test.{when◌then◌else◌, implies, every, all_of}
 use Rattle.bytecode.specs.Constant.{nil_word}
 use Rattle.model.specs.Limits.{fields_kind, bytes_kind, class_kind, list_kind, method_kind, fixed_form, indexed_form, bytes_form, other_form}
 use Rattle.model.specs.Limits.{last_form, most_fields, nil_object, false_object, true_object, integer_class_object, selectors_object, special_selectors}
@@ -11,10 +11,10 @@ use Rattle.model.specs.Rules.{entry_fine, dictionary_fine}
 -- whether an object of this kind and size fits a class of this form and F
 unfoldable pub fits_form : ℕ → ℕ → ℕ → ℕ → Bool
 fits_form form fields kind size =
-    if eqb form fixed_form then eqb kind fields_kind && eqb size fields else
-    if eqb form indexed_form then eqb kind fields_kind && leb fields size else
-    if eqb form bytes_form then eqb kind bytes_kind else
-    if eqb form other_form then leb class_kind kind && leb kind method_kind else
+    when eqb form fixed_form then eqb kind fields_kind && eqb size fields else
+    when eqb form indexed_form then eqb kind fields_kind && leb fields size else
+    when eqb form bytes_form then eqb kind bytes_kind else
+    when eqb form other_form then leb class_kind kind && leb kind method_kind else
     false
 
 -- F and form of a class, given by their words

@@ -1,5 +1,5 @@
-// The calls as C makes them: a slice is a pointer and a length, registers are eight words, and every function returns 0 or the number of the
-// refusal. include/sofaduck.h is the same for a C programmer.
+// The calls as C makes them: registers are eight words, and every function returns 0 or the number of the refusal. `sofaduck_c` exports them: there a
+// slice is a pointer and a length. include/sofaduck.h is the same for a C programmer.
 #![tactic(auto)]
 
 ghost use Rattle.std.specs.Prelude.{◌≡◌, List, ℕ};
@@ -38,8 +38,7 @@ fn read_registers(registers: &[u16; 8]) -> Registers
     }
 }
 
-#[unsafe(no_mangle)]
-pub extern "C" fn sofaduck_load(
+pub fn sofaduck_load(
     image: &[u8],
     contents: &mut [u16],
     bodies: &mut [u16],
@@ -62,8 +61,7 @@ pub extern "C" fn sofaduck_load(
     }
 }
 
-#[unsafe(no_mangle)]
-pub extern "C" fn sofaduck_begin(
+pub fn sofaduck_begin(
     contents: &mut [u16],
     bodies: &mut [u16],
     stack: &mut [u16],
@@ -93,8 +91,7 @@ pub extern "C" fn sofaduck_begin(
     }
 }
 
-#[unsafe(no_mangle)]
-pub extern "C" fn sofaduck_run(
+pub fn sofaduck_run(
     contents: &mut [u16],
     bodies: &mut [u16],
     stack: &mut [u16],
@@ -132,8 +129,7 @@ pub extern "C" fn sofaduck_run(
     }
 }
 
-#[unsafe(no_mangle)]
-pub extern "C" fn sofaduck_drop(
+pub fn sofaduck_drop(
     contents: &[u16],
     bodies: &[u16],
     stack: &[u16],
@@ -157,8 +153,7 @@ pub extern "C" fn sofaduck_drop(
     }
 }
 
-#[unsafe(no_mangle)]
-pub extern "C" fn sofaduck_play(
+pub fn sofaduck_play(
     contents: &mut [u16],
     bodies: &mut [u16],
     stack: &mut [u16],
@@ -188,8 +183,7 @@ pub extern "C" fn sofaduck_play(
     }
 }
 
-#[unsafe(no_mangle)]
-pub extern "C" fn sofaduck_forget(
+pub fn sofaduck_forget(
     contents: &[u16],
     bodies: &[u16],
     stack: &[u16],
@@ -206,8 +200,7 @@ pub extern "C" fn sofaduck_forget(
     }
 }
 
-#[unsafe(no_mangle)]
-pub extern "C" fn sofaduck_check(
+pub fn sofaduck_check(
     contents: &[u16],
     bodies: &[u16],
     stack: &[u16],
@@ -222,8 +215,7 @@ pub extern "C" fn sofaduck_check(
     }
 }
 
-#[unsafe(no_mangle)]
-pub extern "C" fn sofaduck_save(
+pub fn sofaduck_save(
     contents: &[u16],
     bodies: &[u16],
     stack: &[u16],

@@ -9,7 +9,7 @@ use borrow.Author.Tests.{eq-eqb, ne_eqb, le-leb, lt-leb}
 use lib.Dec.{T, leb, eqb, eqb→eq}
 use lib.ListN.{length}
 use lib.Seq.{length-take-le}
-use Rattle.bytecode.specs.Test.{if◌then◌else◌, all_of}
+use Rattle.bytecode.specs.Test.{when◌then◌else◌, all_of}
 use Rattle.bytecode.proofs.Choice.{if_yes, if_no}
 use Rattle.bytecode.proofs.TestLaws.{true→T, T→true, and_right, and_both, never}
 use Rattle.model.specs.Limits.{entry_words, cache_words}
@@ -36,7 +36,7 @@ use Rattle.state.specs.Parts.{registers_fine, standing_fine}
 -- ---- phase and value
 pub late_phase : (n phase value : ℕ) → 5 < phase → false ≡ registers_fine n phase value
 unfolding registers_fine
-late_phase n phase value h = sym (ap (λ (x : Bool). x && (if eqb phase finished then is_valid n value else eqb value 0)) (lt-leb phase last_phase h))
+late_phase n phase value h = sym (ap (λ (x : Bool). x && (when eqb phase finished then is_valid n value else eqb value 0)) (lt-leb phase last_phase h))
 
 pub finished_value : (n phase value : ℕ) (r : Bool) → phase ≤ 5 → phase ≡ 2 → r ≡ is_valid n value → r ≡ registers_fine n phase value
 unfolding registers_fine

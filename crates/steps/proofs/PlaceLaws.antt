@@ -7,7 +7,7 @@ use mathlib.Core.Option.{Option, none, some}
 use native.Mathlib.Omega.{arith}
 use lib.Dec.{T, leb, ltb, leb→le, ltb→lt, lt→ltb}
 use lib.ListN.{length, get_or, get_elem?, take, set}
-use Rattle.bytecode.specs.Test.{if◌then◌else◌}
+use Rattle.bytecode.specs.Test.{when◌then◌else◌}
 use Rattle.bytecode.specs.declared.Place.{Place}
 use Rattle.bytecode.specs.declared.Place.TheVariants.{Field, Temporary, Literal, LiteralVariable}
 use Rattle.bytecode.specs.declared.Instruction.{Instruction}
@@ -101,7 +101,7 @@ module _ {n b top : ℕ} {contents bodies stack : List ℕ} (r : Runs n b top co
   pub literal_at : (j w m' : ℕ) → m' ≡ m → j < literal_count o m → w ≡ literal o m' j → literal_of o f.method j ≡ some w
   unfolding literal_of
   literal_at j w m' q t e =
-      ap (λ (x : ℕ). if ltb j (literal_count o x) then some (literal o x j) else none) (method_is r)
+      ap (λ (x : ℕ). when ltb j (literal_count o x) then some (literal o x j) else none) (method_is r)
       ∙ if_yes _ _ (T→true (ltb j (literal_count o m)) (lt→ltb j (literal_count o m) t)) ∙ ap some (ap (λ (x : ℕ). literal o x j) (sym q) ∙ sym e)
 
   pub literal_read : (j w m' : ℕ) → m' ≡ m → T (place_fine o m (Literal j)) → w ≡ literal o m' j → read o f (Literal j) ≡ some w

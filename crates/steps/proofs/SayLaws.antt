@@ -9,7 +9,7 @@ use native.Mathlib.Omega.{arith}
 use borrow.Author.Tests.{eq-eqb, ne_eqb}
 use lib.Dec.{T, leb, eqb, leb→le}
 use lib.ListN.{get_or, set}
-use Rattle.bytecode.specs.Test.{if◌then◌else◌}
+use Rattle.bytecode.specs.Test.{when◌then◌else◌}
 use Rattle.bytecode.specs.Constant.{true_word, false_word}
 use Rattle.bytecode.specs.Effect.{need, leaves, usable, successors}
 use Rattle.bytecode.specs.declared.Place.{Place}
@@ -171,8 +171,8 @@ module _ {n b top : ℕ} {contents bodies stack : List ℕ} {h : Here} where
     -- what the step does with the boolean
     abbrev chosen : Plain → ℕ → Stepped
     chosen s w =
-        if eqb w (boolean_word condition) then leads_to (on_top s (popped (top_frame n b top contents bodies stack) (h.next + ahead) 1) (rest_frames n b top contents bodies stack)) no_lookup else
-        if eqb w true_word || eqb w false_word then leads_to (on_top s (popped (top_frame n b top contents bodies stack) h.next 1) (rest_frames n b top contents bodies stack)) no_lookup else
+        when eqb w (boolean_word condition) then leads_to (on_top s (popped (top_frame n b top contents bodies stack) (h.next + ahead) 1) (rest_frames n b top contents bodies stack)) no_lookup else
+        when eqb w true_word || eqb w false_word then leads_to (on_top s (popped (top_frame n b top contents bodies stack) h.next 1) (rest_frames n b top contents bodies stack)) no_lookup else
         halts no_boolean
 
     chooses : Does a (λ s room. chosen s tested)

@@ -10,7 +10,7 @@ use native.Mathlib.Omega.{arith}
 use borrow.Author.Tests.{eq-eqb, ne_eqb}
 use lib.Dec.{T, ltb, eqb, ltb→lt}
 use lib.ListN.{get_or}
-use Rattle.bytecode.specs.Test.{if◌then◌else◌}
+use Rattle.bytecode.specs.Test.{when◌then◌else◌}
 use Rattle.bytecode.specs.Effect.{special_count, need, leaves, successors}
 use Rattle.bytecode.specs.declared.Instruction.TheVariants.{SpecialSend}
 use Rattle.bytecode.proofs.Choice.{if_yes, if_no, if_lt, if_ge}
@@ -41,11 +41,11 @@ unfolding special_count
 special_one k h = if_lt k 16 1 _ h
 
 special_same : special_count 22 ≡ 1
-unfolding special_count if◌then◌else◌
+unfolding special_count when◌then◌else◌
 special_same = refl
 
 special_class : special_count 23 ≡ 0
-unfolding special_count if◌then◌else◌
+unfolding special_count when◌then◌else◌
 special_class = refl
 
 neither : (a b c : Bool) → a ≡ false → b ≡ false → T (a || (b || c)) → T c

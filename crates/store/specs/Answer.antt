@@ -1,6 +1,6 @@
 -- What loading leaves in the lent contents and bodies, and its answer as a number (01, "From the input").
 use Rattle.std.specs.Prelude.{ℕ, ◌*◌, ◌≡◌, List, ◌++◌, T, leb, drop, replicate}
-use Rattle.bytecode.specs.Test.{if◌then◌else◌}
+use Rattle.bytecode.specs.Test.{when◌then◌else◌}
 use Rattle.model.specs.Limits.{entry_words}
 use Rattle.model.specs.Image.{Room, Verdict, accepted, refused, image_header, image_objects, length_fine}
 use Rattle.rules.specs.Lent.{Lent}
@@ -32,7 +32,7 @@ unfoldable pub stored_by : Verdict → List ℕ → List ℕ → List ℕ → St
 stored_by accepted image contents bodies =
     in_front 0 (image_header image).n (image_header image).b (image_objects image).contents (image_objects image).bodies contents bodies
 stored_by (refused k) image contents bodies =
-    if leb k 3 then stored k contents bodies else
+    when leb k 3 then stored k contents bodies else
     in_front k (image_header image).n (image_header image).b (replicate (entry_words * (image_header image).n) 0) (replicate (image_header image).b 0) contents bodies
 
 -- What is settled once 1, 2 and 3 are passed

@@ -9,7 +9,7 @@ use lib.IntN.{ℤ, pos, ◌+ℤ◌, ◌-ℤ◌, ◌*ℤ◌}
 use lib.Signed.{mag, lt_z, le_z}
 use mir.Syntax.{w32}
 use mir.Val.{SFits, to_z, of_z}
-use Rattle.bytecode.specs.Test.{if◌then◌else◌}
+use Rattle.bytecode.specs.Test.{when◌then◌else◌}
 use Rattle.model.specs.Word.{value_of}
 use Rattle.model.specs.Arithmetic.{number, truth, on_bits, on_integers, arithmetic}
 use Rattle.arithmetic.specs.Tagged.{tagged}
@@ -182,7 +182,7 @@ compute-requires : tie.Need-compute-requires
 compute-requires c κs = search rules
 
 returns-2 : tie.Need-returns-in-1
-unfolding on_integers if◌then◌else◌
+unfolding on_integers when◌then◌else◌
 returns-2 c =
     let t = c.before.before.before.before in
     let e = read-sum t c.before.before.signed.ensures c.before.signed-in-1.ensures in
@@ -190,7 +190,7 @@ returns-2 c =
     ∙ line t 1 c.before.before.before.in-1.is (omega arith)
 
 returns-3 : tie.Need-returns-in-2
-unfolding on_integers if◌then◌else◌
+unfolding on_integers when◌then◌else◌
 returns-3 c =
     let t = c.before.before.before.before in
     let e = read-difference t c.before.before.signed-in-2.ensures c.before.signed-in-2-2.ensures in
@@ -198,7 +198,7 @@ returns-3 c =
     ∙ line t 2 c.before.before.before.in-2.is (omega arith)
 
 returns-4 : tie.Need-returns-in-3
-unfolding on_integers if◌then◌else◌
+unfolding on_integers when◌then◌else◌
 returns-4 c =
     let t = c.before.before.before.before in
     c.truth.ensures
@@ -206,7 +206,7 @@ returns-4 c =
     ∙ line t 3 c.before.before.before.in-3.is (omega arith)
 
 returns-5 : tie.Need-returns-in-4
-unfolding on_integers if◌then◌else◌
+unfolding on_integers when◌then◌else◌
 returns-5 c =
     let t = c.before.before.before.before in
     c.truth-in-4.ensures
@@ -214,7 +214,7 @@ returns-5 c =
     ∙ line t 4 c.before.before.before.in-4.is (omega arith)
 
 returns-6 : tie.Need-returns-in-5
-unfolding on_integers if◌then◌else◌
+unfolding on_integers when◌then◌else◌
 returns-6 c =
     let t = c.before.before.before.before in
     c.truth-in-5.ensures
@@ -222,7 +222,7 @@ returns-6 c =
     ∙ line t 5 c.before.before.before.in-5.is (omega arith)
 
 returns-7 : tie.Need-returns-in-6
-unfolding on_integers if◌then◌else◌
+unfolding on_integers when◌then◌else◌
 returns-7 c =
     let t = c.before.before.before.before in
     c.truth-in-6.ensures
@@ -230,16 +230,16 @@ returns-7 c =
     ∙ line t 6 c.before.before.before.in-6.is (omega arith)
 
 returns-8 : tie.Need-returns-in-7
-unfolding on_integers if◌then◌else◌
+unfolding on_integers when◌then◌else◌
 returns-8 c = c.truth-in-7.ensures ∙ ap truth (equal c.before.before) ∙ line c.before.before 7 c.before.in-7.is (omega arith)
 
 returns-9 : tie.Need-returns-in-8
-unfolding on_integers if◌then◌else◌
+unfolding on_integers when◌then◌else◌
 returns-9 c =
     c.truth-in-8.ensures ∙ ap (λ (x : Bool). truth (not x)) (equal c.before.before) ∙ line c.before.before 8 c.before.in-8.is (omega arith)
 
 returns-10 : tie.Need-returns-in-9
-unfolding on_integers if◌then◌else◌
+unfolding on_integers when◌then◌else◌
 returns-10 c =
     let t = c.before.before.before.before in
     c.number.ensures
@@ -247,11 +247,11 @@ returns-10 c =
     ∙ line t 9 c.before.before.before.in-9.is (omega arith)
 
 returns-11 : tie.Need-returns-in-14
-unfolding on_bits if◌then◌else◌
+unfolding on_bits when◌then◌else◌
 returns-11 c = bits c.before 14 c.in-14.is refl
 
 returns-12 : tie.Need-returns-in-15
-unfolding on_bits if◌then◌else◌
+unfolding on_bits when◌then◌else◌
 returns-12 c = bits c.before 15 c.in-15.is refl
 
 returns-13 : tie.Need-returns-in_default

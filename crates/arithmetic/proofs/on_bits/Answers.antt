@@ -1,5 +1,5 @@
 -- `arithmetic::on_bits` meets its contract.
-use Rattle.bytecode.specs.Test.{if◌then◌else◌}
+use Rattle.bytecode.specs.Test.{when◌then◌else◌}
 use Rattle.bytecode.proofs.Choice.{ranges}
 use Rattle.model.specs.Arithmetic.{on_bits}
 use Rattle.arithmetic.proofs.Dispatch.{xor_below}
@@ -10,11 +10,11 @@ overflow_add-result c =
     record { fits = xor_below c.args.v c.args.w c.ranges.v.fits c.ranges.w.fits c.requires.0 c.requires.1 }
 
 pub returns-in-14 : goal.returns-in-14
-unfolding on_bits if◌then◌else◌
+unfolding on_bits when◌then◌else◌
 returns-in-14 c = rw c.in-14.is
 
 pub returns-in-15 : goal.returns-in-15
-unfolding on_bits if◌then◌else◌
+unfolding on_bits when◌then◌else◌
 returns-in-15 c = rw c.in-15.is
 
 pub returns-in_default : goal.returns-in_default

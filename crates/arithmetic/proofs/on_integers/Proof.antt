@@ -6,7 +6,7 @@ use lib.IntN.{ℤ, ◌+ℤ◌, ◌-ℤ◌, ◌*ℤ◌}
 use lib.Signed.{lt_z, le_z, quot_z}
 use mir.Syntax.{w32}
 use mir.Val.{SFits, to_z, of_z}
-use Rattle.bytecode.specs.Test.{if◌then◌else◌}
+use Rattle.bytecode.specs.Test.{when◌then◌else◌}
 use Rattle.bytecode.proofs.Choice.{ranges}
 use Rattle.model.specs.declared.Computed.{Computed}
 use Rattle.model.specs.Arithmetic.{number, truth, divided, exact_quotient, floor_quotient, floor_remainder, shifted, on_integers}
@@ -86,59 +86,59 @@ shift-requires : tie.Need-shift-requires
 shift-requires c κs = let s = c.before in rw (read s.ranges.a, read s.ranges.b) s.requires
 
 returns : tie.Need-returns-in-1
-unfolding on_integers if◌then◌else◌
+unfolding on_integers when◌then◌else◌
 returns c = let s = c.before.before in rw c.before.in-1.is (c.number.ensures ∙ op-number s ◌+ℤ◌ (sum_fits (a s) (b s) s.requires.0 s.requires.1))
 
 returns-2 : tie.Need-returns-in-2
-unfolding on_integers if◌then◌else◌
+unfolding on_integers when◌then◌else◌
 returns-2 c = let s = c.before.before in rw c.before.in-2.is (c.number-in-2.ensures ∙ op-number s ◌-ℤ◌ (difference_fits (a s) (b s) s.requires.0 s.requires.1))
 
 returns-3 : tie.Need-returns-in-3
-unfolding on_integers if◌then◌else◌
+unfolding on_integers when◌then◌else◌
 returns-3 c = let s = c.before.before in rw c.before.in-3.is (c.truth.ensures ∙ at_read s (λ x y. truth (lt_z x y)))
 
 returns-4 : tie.Need-returns-in-4
-unfolding on_integers if◌then◌else◌
+unfolding on_integers when◌then◌else◌
 returns-4 c = let s = c.before.before in rw c.before.in-4.is (c.truth-in-4.ensures ∙ at_read s (λ x y. truth (lt_z y x)))
 
 returns-5 : tie.Need-returns-in-5
-unfolding on_integers if◌then◌else◌
+unfolding on_integers when◌then◌else◌
 returns-5 c = let s = c.before.before in rw c.before.in-5.is (c.truth-in-5.ensures ∙ at_read s (λ x y. truth (le_z x y)))
 
 returns-6 : tie.Need-returns-in-6
-unfolding on_integers if◌then◌else◌
+unfolding on_integers when◌then◌else◌
 returns-6 c = let s = c.before.before in rw c.before.in-6.is (c.truth-in-6.ensures ∙ at_read s (λ x y. truth (le_z y x)))
 
 returns-7 : tie.Need-returns-in-7
-unfolding on_integers if◌then◌else◌
+unfolding on_integers when◌then◌else◌
 returns-7 c = let s = c.before.before in rw c.before.in-7.is (c.truth-in-7.ensures ∙ ap truth (equal_bits (a s) (b s) s.ranges.a s.ranges.b))
 
 returns-8 : tie.Need-returns-in-8
-unfolding on_integers if◌then◌else◌
+unfolding on_integers when◌then◌else◌
 returns-8 c = let s = c.before.before in rw c.before.in-8.is (c.truth-in-8.ensures ∙ ap (λ (t : Bool). truth (not t)) (equal_bits (a s) (b s) s.ranges.a s.ranges.b))
 
 returns-9 : tie.Need-returns-in-9
-unfolding on_integers if◌then◌else◌
+unfolding on_integers when◌then◌else◌
 returns-9 c = let s = c.before.before in rw c.before.in-9.is (c.number-in-9.ensures ∙ op-number s ◌*ℤ◌ (product_fits (a s) (b s) s.requires.0 s.requires.1))
 
 returns-10 : tie.Need-returns-in-10
-unfolding on_integers if◌then◌else◌
+unfolding on_integers when◌then◌else◌
 returns-10 c = let s = c.before.before in rw c.before.in-10.is (c.exact_quotient.ensures ∙ at_read s exact_quotient)
 
 returns-11 : tie.Need-returns-in-11
-unfolding on_integers if◌then◌else◌
+unfolding on_integers when◌then◌else◌
 returns-11 c = let s = c.before.before in rw c.before.in-11.is (c.remainder_down.ensures ∙ at_read s (λ x y. divided y (floor_remainder x y)))
 
 returns-12 : tie.Need-returns-in-12
-unfolding on_integers if◌then◌else◌
+unfolding on_integers when◌then◌else◌
 returns-12 c = let s = c.before.before in rw c.before.in-12.is (c.quotient_down.ensures ∙ at_read s (λ x y. divided y (floor_quotient x y)))
 
 returns-13 : tie.Need-returns-in-13
-unfolding on_integers if◌then◌else◌
+unfolding on_integers when◌then◌else◌
 returns-13 c = let s = c.before.before in rw c.before.in-13.is (c.quotient.ensures ∙ at_read s (λ x y. divided y (quot_z x y)))
 
 returns-14 : tie.Need-returns-in-17
-unfolding on_integers if◌then◌else◌
+unfolding on_integers when◌then◌else◌
 returns-14 c = let s = c.before.before in rw c.before.in-17.is (c.shift.ensures ∙ at_read s (λ x y. number (shifted x y)))
 
 returns-15 : tie.Need-returns-in_default

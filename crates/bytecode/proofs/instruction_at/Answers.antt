@@ -2,7 +2,7 @@
 use Prim.Native.Nat.{◌/◌, ◌%◌}
 use mathlib.Core.Path.{refl, sym, ap, ◌∙◌}
 use native.Mathlib.Omega.{arith}
-use Rattle.bytecode.specs.Test.{if◌then◌else◌}
+use Rattle.bytecode.specs.Test.{when◌then◌else◌}
 use Rattle.bytecode.specs.Code.{place_of, constant_of, extended_of, instruction_of, length_of}
 use Rattle.bytecode.specs.declared.Instruction.TheVariants.{Push, Store, PopStore, Send, SuperSend}
 use Rattle.bytecode.proofs.Choice.{past}
@@ -14,41 +14,41 @@ pub fetch-b-requires : goal.fetch-b-requires
 fetch-b-requires c = first_there _ _ c.requires.0
 
 pub fetch-requires : goal.fetch-requires
-unfolding length_of if◌then◌else◌
+unfolding length_of when◌then◌else◌
 fetch-requires c = further_extended _ _ c.fetch-b.ensures c.kind.ensures c.in-20.is 1 tt tt c.requires.0
 
 pub fetch-requires-in-21 : goal.fetch-requires-in-21
-unfolding length_of if◌then◌else◌
+unfolding length_of when◌then◌else◌
 fetch-requires-in-21 c = further_extended _ _ c.fetch-b.ensures c.kind.ensures c.in-21.is 1 tt tt c.requires.0
 
 pub fetch-requires-in-22 : goal.fetch-requires-in-22
-unfolding length_of if◌then◌else◌
+unfolding length_of when◌then◌else◌
 fetch-requires-in-22 c = further_extended _ _ c.fetch-b.ensures c.kind.ensures c.in-22.is 1 tt tt c.requires.0
 
 pub fetch-x-requires : goal.fetch-x-requires
-unfolding length_of if◌then◌else◌
+unfolding length_of when◌then◌else◌
 fetch-x-requires c = further_extended _ _ c.fetch-b.ensures c.kind.ensures c.in-23.is 1 tt tt c.requires.0
 
 pub fetch-x-requires-in-24 : goal.fetch-x-requires-in-24
-unfolding length_of if◌then◌else◌
+unfolding length_of when◌then◌else◌
 fetch-x-requires-in-24 c = further_extended _ _ c.fetch-b.ensures c.kind.ensures c.in-24.is 1 tt tt c.requires.0
 
 pub fetch-y-requires : goal.fetch-y-requires
-unfolding length_of if◌then◌else◌
+unfolding length_of when◌then◌else◌
 fetch-y-requires c =
     further_extended _ _ c.fetch-b.ensures c.kind.ensures c.in-24.is 2 tt tt
     c.requires.0
 
 pub fetch-x-requires-in-25 : goal.fetch-x-requires-in-25
-unfolding length_of if◌then◌else◌
+unfolding length_of when◌then◌else◌
 fetch-x-requires-in-25 c = further_extended _ _ c.fetch-b.ensures c.kind.ensures c.in-25.is 1 tt tt c.requires.0
 
 pub fetch-x-requires-in-26 : goal.fetch-x-requires-in-26
-unfolding length_of if◌then◌else◌
+unfolding length_of when◌then◌else◌
 fetch-x-requires-in-26 c = further_extended _ _ c.fetch-b.ensures c.kind.ensures c.in-26.is 1 tt tt c.requires.0
 
 pub fetch-y-requires-in-26 : goal.fetch-y-requires-in-26
-unfolding length_of if◌then◌else◌
+unfolding length_of when◌then◌else◌
 fetch-y-requires-in-26 c =
     further_extended _ _ c.fetch-b.ensures c.kind.ensures c.in-26.is 2 tt tt
     c.requires.0
@@ -81,108 +81,108 @@ pub returns-in-5 : goal.returns-in-5
 returns-in-5 c = is_pop_temporary _ _ c.fetch-b.ensures c.kind.ensures c.in-5.is tt c.ends-in-5.ensures
 
 pub returns-in-6 : goal.returns-in-6
-unfolding instruction_of constant_of length_of if◌then◌else◌
+unfolding instruction_of constant_of length_of when◌then◌else◌
 returns-in-6 c = is_single _ _ c.fetch-b.ensures c.kind.ensures c.in-6.is tt refl c.ends-in-6.ensures
 
 pub returns-in-7 : goal.returns-in-7
-unfolding instruction_of constant_of length_of if◌then◌else◌
+unfolding instruction_of constant_of length_of when◌then◌else◌
 returns-in-7 c = is_single _ _ c.fetch-b.ensures c.kind.ensures c.in-7.is tt refl c.ends-in-7.ensures
 
 pub returns-in-8 : goal.returns-in-8
-unfolding instruction_of constant_of length_of if◌then◌else◌
+unfolding instruction_of constant_of length_of when◌then◌else◌
 returns-in-8 c = is_single _ _ c.fetch-b.ensures c.kind.ensures c.in-8.is tt refl c.ends-in-8.ensures
 
 pub returns-in-9 : goal.returns-in-9
-unfolding instruction_of constant_of length_of if◌then◌else◌
+unfolding instruction_of constant_of length_of when◌then◌else◌
 returns-in-9 c = is_single _ _ c.fetch-b.ensures c.kind.ensures c.in-9.is tt refl c.ends-in-9.ensures
 
 pub returns-in-10 : goal.returns-in-10
-unfolding instruction_of constant_of length_of if◌then◌else◌
+unfolding instruction_of constant_of length_of when◌then◌else◌
 returns-in-10 c = is_single _ _ c.fetch-b.ensures c.kind.ensures c.in-10.is tt refl c.ends-in-10.ensures
 
 pub returns-in-11 : goal.returns-in-11
-unfolding instruction_of constant_of length_of if◌then◌else◌
+unfolding instruction_of constant_of length_of when◌then◌else◌
 returns-in-11 c = is_single _ _ c.fetch-b.ensures c.kind.ensures c.in-11.is tt refl c.ends-in-11.ensures
 
 pub returns-in-12 : goal.returns-in-12
-unfolding instruction_of constant_of length_of if◌then◌else◌
+unfolding instruction_of constant_of length_of when◌then◌else◌
 returns-in-12 c = is_single _ _ c.fetch-b.ensures c.kind.ensures c.in-12.is tt refl c.ends-in-12.ensures
 
 pub returns-in-13 : goal.returns-in-13
-unfolding instruction_of constant_of length_of if◌then◌else◌
+unfolding instruction_of constant_of length_of when◌then◌else◌
 returns-in-13 c = is_single _ _ c.fetch-b.ensures c.kind.ensures c.in-13.is tt refl c.ends-in-13.ensures
 
 pub returns-in-14 : goal.returns-in-14
-unfolding instruction_of constant_of length_of if◌then◌else◌
+unfolding instruction_of constant_of length_of when◌then◌else◌
 returns-in-14 c = is_single _ _ c.fetch-b.ensures c.kind.ensures c.in-14.is tt refl c.ends-in-14.ensures
 
 pub returns-in-15 : goal.returns-in-15
-unfolding instruction_of constant_of length_of if◌then◌else◌
+unfolding instruction_of constant_of length_of when◌then◌else◌
 returns-in-15 c = is_single _ _ c.fetch-b.ensures c.kind.ensures c.in-15.is tt refl c.ends-in-15.ensures
 
 pub returns-in-16 : goal.returns-in-16
-unfolding instruction_of constant_of length_of if◌then◌else◌
+unfolding instruction_of constant_of length_of when◌then◌else◌
 returns-in-16 c = is_single _ _ c.fetch-b.ensures c.kind.ensures c.in-16.is tt refl c.ends-in-16.ensures
 
 pub returns-in-17 : goal.returns-in-17
-unfolding instruction_of constant_of length_of if◌then◌else◌
+unfolding instruction_of constant_of length_of when◌then◌else◌
 returns-in-17 c = is_single _ _ c.fetch-b.ensures c.kind.ensures c.in-17.is tt refl c.ends-in-17.ensures
 
 pub returns-in-18 : goal.returns-in-18
-unfolding instruction_of constant_of length_of if◌then◌else◌
+unfolding instruction_of constant_of length_of when◌then◌else◌
 returns-in-18 c = is_single _ _ c.fetch-b.ensures c.kind.ensures c.in-18.is tt refl c.ends-in-18.ensures
 
 pub returns-in-19 : goal.returns-in-19
 returns-in-19 c = is_unused_low _ _ c.fetch-b.ensures c.kind.ensures c.in-19.is tt c.ends-in-19.ensures
 
 pub returns-in-20 : goal.returns-in-20
-unfolding instruction_of extended_of length_of if◌then◌else◌
+unfolding instruction_of extended_of length_of when◌then◌else◌
 returns-in-20 c =
     is_single _ _ c.fetch-b.ensures c.kind.ensures c.in-20.is tt
     (ap Push (ap place_of (sym c.fetch.ensures) ∙ sym c.place_of.ensures)) c.ends-in-20.ensures
 
 pub returns-in-21 : goal.returns-in-21
-unfolding instruction_of extended_of length_of if◌then◌else◌
+unfolding instruction_of extended_of length_of when◌then◌else◌
 returns-in-21 c =
     is_single _ _ c.fetch-b.ensures c.kind.ensures c.in-21.is tt
     (ap Store (ap place_of (sym c.fetch-in-21.ensures) ∙ sym c.place_of-in-21.ensures)) c.ends-in-21.ensures
 
 pub returns-in-22 : goal.returns-in-22
-unfolding instruction_of extended_of length_of if◌then◌else◌
+unfolding instruction_of extended_of length_of when◌then◌else◌
 returns-in-22 c =
     is_single _ _ c.fetch-b.ensures c.kind.ensures c.in-22.is tt
     (ap PopStore (ap place_of (sym c.fetch-in-22.ensures) ∙ sym c.place_of-in-22.ensures)) c.ends-in-22.ensures
 
 pub returns-in-23 : goal.returns-in-23
-unfolding instruction_of extended_of length_of if◌then◌else◌
+unfolding instruction_of extended_of length_of when◌then◌else◌
 returns-in-23 c =
     is_single _ _ c.fetch-b.ensures c.kind.ensures c.in-23.is tt
     (ap (λ x. Send (x % 32) (x / 32)) (sym c.fetch-x.ensures)) c.ends-in-23.ensures
 
 pub returns-in-24 : goal.returns-in-24
-unfolding instruction_of extended_of length_of if◌then◌else◌
+unfolding instruction_of extended_of length_of when◌then◌else◌
 returns-in-24 c =
     is_single _ _ c.fetch-b.ensures c.kind.ensures c.in-24.is tt
     (λ i. Send (sym c.fetch-y.ensures i) (sym c.fetch-x-in-24.ensures i)) c.ends-in-24.ensures
 
 pub returns-in-25 : goal.returns-in-25
-unfolding instruction_of extended_of length_of if◌then◌else◌
+unfolding instruction_of extended_of length_of when◌then◌else◌
 returns-in-25 c =
     is_single _ _ c.fetch-b.ensures c.kind.ensures c.in-25.is tt
     (ap (λ x. SuperSend (x % 32) (x / 32)) (sym c.fetch-x-in-25.ensures)) c.ends-in-25.ensures
 
 pub returns-in-26 : goal.returns-in-26
-unfolding instruction_of extended_of length_of if◌then◌else◌
+unfolding instruction_of extended_of length_of when◌then◌else◌
 returns-in-26 c =
     is_single _ _ c.fetch-b.ensures c.kind.ensures c.in-26.is tt
     (λ i. SuperSend (sym c.fetch-y-in-26.ensures i) (sym c.fetch-x-in-26.ensures i)) c.ends-in-26.ensures
 
 pub returns-in-27 : goal.returns-in-27
-unfolding instruction_of extended_of length_of if◌then◌else◌
+unfolding instruction_of extended_of length_of when◌then◌else◌
 returns-in-27 c = is_single _ _ c.fetch-b.ensures c.kind.ensures c.in-27.is tt refl c.ends-in-27.ensures
 
 pub returns-in-28 : goal.returns-in-28
-unfolding instruction_of extended_of length_of if◌then◌else◌
+unfolding instruction_of extended_of length_of when◌then◌else◌
 returns-in-28 c = is_single _ _ c.fetch-b.ensures c.kind.ensures c.in-28.is tt refl c.ends-in-28.ensures
 
 pub returns-in-29 : goal.returns-in-29

@@ -1,22 +1,22 @@
 -- `store_fits` is the rule on the place of an extended store.
 use borrow.Author.Tests.{lt-ltb, le-ltb}
-use Rattle.bytecode.specs.Test.{if◌then◌else◌}
+use Rattle.bytecode.specs.Test.{when◌then◌else◌}
 use Rattle.bytecode.specs.Code.{place_of}
 use Rattle.flow.specs.Index.{placeIndexed}
 use Rattle.flow.proofs.store_fits.Goals as goal
 
 pub returns-then-x-lt64 : goal.returns-then-x-lt64
-unfolding place_of placeIndexed if◌then◌else◌
+unfolding place_of placeIndexed when◌then◌else◌
 returns-then-x-lt64 c = rw (lt-ltb _ _ c.if-x-lt64.true)
 
 pub returns-then-x-lt128 : goal.returns-then-x-lt128
-unfolding place_of placeIndexed if◌then◌else◌
+unfolding place_of placeIndexed when◌then◌else◌
 returns-then-x-lt128 c = rw (le-ltb _ _ c.if-x-lt64.false, lt-ltb _ _ c.if-x-lt128.true)
 
 pub returns-then-x-lt192 : goal.returns-then-x-lt192
-unfolding place_of placeIndexed if◌then◌else◌
+unfolding place_of placeIndexed when◌then◌else◌
 returns-then-x-lt192 c = rw (le-ltb _ _ c.if-x-lt64.false, le-ltb _ _ c.if-x-lt128.false, lt-ltb _ _ c.if-x-lt192.true)
 
 pub returns : goal.returns
-unfolding place_of placeIndexed if◌then◌else◌
+unfolding place_of placeIndexed when◌then◌else◌
 returns c = rw (le-ltb _ _ c.if-x-lt64.false, le-ltb _ _ c.if-x-lt128.false, le-ltb _ _ c.if-x-lt192.false)
