@@ -17,7 +17,8 @@ const MOST: usize = 655361;
 
 // Standard input, to its end or until the buffer is full. An error is that of the read that failed; the buffer keeps what was read before it.
 fn read_all(rt: &impl Input, image: &mut [u8]) -> io::Result<usize>
-    ensures { bytes_read result ≤ length image.new }
+    ensures read { bytes_read result ≤ length image.new }
+    ensures kept { length image.new ≡ length image.old }
 {
     let mut input = rt.reader();
     let mut done: usize = 0;
