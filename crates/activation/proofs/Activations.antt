@@ -10,8 +10,7 @@ use lib.Dec.{T, leb, ltb, leb→le}
 use lib.ListN.{length, get_or}
 use Rattle.bytecode.proofs.Choice.{if_yes, if_no}
 use Rattle.bytecode.proofs.TestLaws.{true→T, and_left, and_right}
-use Rattle.model.specs.declared.Computed.{Computed}
-use Rattle.model.specs.declared.Computed.TheVariants.{Word, Failed}
+use Rattle.std.specs.Prelude.{Option, Some, None}
 use Rattle.model.specs.Limits.{entry_words, fields_kind, method_kind, last_count_flag, receiver_flag, field_flag, primitive_flag}
 use Rattle.model.specs.Word.{object_number}
 use Rattle.model.specs.Objects.{Objects, objects_at, is_kind, size, body_word}
@@ -52,7 +51,7 @@ one_argument : (k : ℕ) → k ≤ 17 → primitive_count k ≡ 1
 one_argument k h =
     sym (count_one {k = k} (λ q. omega arith) (λ q. omega arith) (λ q. omega arith) (λ q. omega arith))
 
-pub arithmetic_is : (edition : ℕ) (room : Room) (o : Objects) (k count w x y : ℕ) (r : Computed) → (1 ≤ k) × (k ≤ 17) → count ≡ 1 → r ≡ arithmetic k w x
+pub arithmetic_is : (edition : ℕ) (room : Room) (o : Objects) (k count w x y : ℕ) (r : Option ℕ) → (1 ≤ k) × (k ≤ 17) → count ≡ 1 → r ≡ arithmetic k w x
     → computed o r ≡ primitive edition room o k count w (x ∷ y ∷ [])
 unfolding perform
 arithmetic_is edition room o k count w x y r h c e = ap (computed o) e ∙ here ∙ own_count edition room o k w x y count (c ∙ sym (one_argument k h.1))
@@ -148,13 +147,13 @@ module _ {n b : ℕ} {contents bodies : List ℕ} {m receiver : ℕ} (a : Activa
       is_outcome = by_primitive h ∙ ap (primitive_answered o m receiver) (sym (primitive_same edition room contents bodies o (primitive_number o m) (argument_count o m) receiver arguments s t))
 
       module _ (d : Does o done r contents bodies contents' bodies') where
-        primitive_word : (w : ℕ) → r.answer ≡ Word w → Answers (activate edition room o m receiver arguments) w r.n r.b contents bodies contents' bodies'
+        primitive_word : (w : ℕ) → r.answer ≡ Some w → Answers (activate edition room o m receiver arguments) w r.n r.b contents bodies contents' bodies'
         unfolding answer_of objects_after
         primitive_word w g = go done refl (sym g ∙ d.answer)
           where
-            go : (z : Outcome) → done ≡ z → Word w ≡ answer_of done → Answers (activate edition room o m receiver arguments) w r.n r.b contents bodies contents' bodies'
+            go : (z : Outcome) → done ≡ z → Some w ≡ answer_of done → Answers (activate edition room o m receiver arguments) w r.n r.b contents bodies contents' bodies'
             go (answers v o') z y =
-                let u : Word w ≡ answer_of (answers v o') = y ∙ ap answer_of z in
+                let u : Some w ≡ answer_of (answers v o') = y ∙ ap answer_of z in
                 let after : objects_after o done ≡ o' = ap (objects_after o) z in
                 let wv : v ≡ w = cc in
                 record {
@@ -166,16 +165,16 @@ module _ {n b : ℕ} {contents bodies : List ℕ} {m receiver : ℕ} (a : Activa
                   words = d.words ∙ ap (λ (k : Objects). at_front k.bodies bodies) after;
                 }
             go fails z y =
-                let u : Word w ≡ answer_of fails = y ∙ ap answer_of z in
+                let u : Some w ≡ answer_of fails = y ∙ ap answer_of z in
                 let bad : ◌≡◌ {A = ℕ} 0 1 = cc in absurd (omega arith)
 
-        primitive_failed : r.answer ≡ Failed → Leaves (activate edition room o m receiver arguments) (entering o m receiver) contents bodies contents' bodies'
+        primitive_failed : r.answer ≡ None → Leaves (activate edition room o m receiver arguments) (entering o m receiver) contents bodies contents' bodies'
         unfolding answer_of objects_after
         primitive_failed g = go done refl (sym g ∙ d.answer)
           where
-            go : (z : Outcome) → done ≡ z → Failed ≡ answer_of done → Leaves (activate edition room o m receiver arguments) (entering o m receiver) contents bodies contents' bodies'
+            go : (z : Outcome) → done ≡ z → None ≡ answer_of done → Leaves (activate edition room o m receiver arguments) (entering o m receiver) contents bodies contents' bodies'
             go (answers v o') z y =
-                let u : Failed ≡ answer_of (answers v o') = y ∙ ap answer_of z in
+                let u : None ≡ answer_of (answers v o') = y ∙ ap answer_of z in
                 let bad : ◌≡◌ {A = ℕ} 0 1 = cc in absurd (omega arith)
             go fails z y =
                 let after : objects_after o done ≡ o = ap (objects_after o) z in
@@ -191,10 +190,10 @@ module _ {n b : ℕ} {contents bodies : List ℕ} {m receiver : ℕ} (a : Activa
         unfolding outcome
         primitive_led z e = subst (ActivatedIs (activate edition room o m receiver arguments) (entering o m receiver) contents bodies contents' bodies') (sym e) (go r.answer refl)
           where
-            go : (y : Computed) → r.answer ≡ y
+            go : (y : Option ℕ) → r.answer ≡ y
                 → ActivatedIs (activate edition room o m receiver arguments) (entering o m receiver) contents bodies contents' bodies' (outcome y r.n r.b)
-            go (Word w) g = primitive_word w g
-            go Failed g = primitive_failed g
+            go (Some w) g = primitive_word w g
+            go None g = primitive_failed g
 
   -- ---- at: and at:put:
 
@@ -214,7 +213,7 @@ module _ {n b : ℕ} {contents bodies : List ℕ} {m receiver : ℕ} (a : Activa
         ap (λ (i : ℕ). i / 512 % 32) (sym e)
         ∙ sym (if_no _ _ (lt-leb (flag o m) last_count_flag (omega arith)) ∙ if_yes _ _ (eq-eqb (flag o m) primitive_flag seven))
 
-    pub at_done : (r : Computed) → extension o m ≡ 633 → computed o r ≡ at o receiver x → Does o called (done_with r n b) contents bodies contents bodies
+    pub at_done : (r : Option ℕ) → extension o m ≡ 633 → computed o r ≡ at o receiver x → Does o called (done_with r n b) contents bodies contents bodies
     at_done r e d =
         performed edition arguments (numbered 633 e) (counted 633 e) p q
         (does_computed r a.right.1 refl (d ∙ is_60 edition room o 60 receiver x y refl ∙ own_count edition room o 60 receiver x y 1 one))
@@ -222,7 +221,7 @@ module _ {n b : ℕ} {contents bodies : List ℕ} {m receiver : ℕ} (a : Activa
         one : 1 ≡ primitive_count 60
         one = count_one {k = 60} (λ z. omega arith) (λ z. omega arith) (λ z. omega arith) (λ z. omega arith)
 
-    pub put_done : (r : Computed) (after : List ℕ) → extension o m ≡ 1147 → Puts o (at_put o receiver x y) r bodies after
+    pub put_done : (r : Option ℕ) (after : List ℕ) → extension o m ≡ 1147 → Puts o (at_put o receiver x y) r bodies after
         → Does o called (done_with r n b) contents bodies contents after
     put_done r after e d =
         performed edition arguments (numbered 1147 e) (counted 1147 e) p q

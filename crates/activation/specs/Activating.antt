@@ -1,7 +1,5 @@
 -- What the code's answer to an activation says of plain's, and of the buffers.
-use Rattle.std.specs.Prelude.{ℕ, ◌≡◌, List, T, length, get_or}
-use Rattle.model.specs.declared.Computed.{Computed}
-use Rattle.model.specs.declared.Computed.TheVariants.{Word, Failed}
+use Rattle.std.specs.Prelude.{ℕ, ◌≡◌, List, T, length, get_or, Option, Some, None}
 use Rattle.model.specs.Limits.{method_kind}
 use Rattle.model.specs.Word.{is_valid}
 use Rattle.model.specs.Objects.{Objects, objects_at, is_kind}
@@ -34,9 +32,9 @@ pub record Leaves (x y : Activation) (contents bodies contents' bodies' : List �
   pub words : bodies' ≡ bodies
 
 -- What a primitive leads to: its answer, or a frame where it fails
-unfoldable pub outcome : Computed → ℕ → ℕ → Activated
-outcome (Word w) n b = Answer w n b
-outcome Failed n b = Frame
+unfoldable pub outcome : Option ℕ → ℕ → ℕ → Activated
+outcome (Some w) n b = Answer w n b
+outcome None n b = Frame
 
 abbrev pub ActivatedIs : Activation → Activation → List ℕ → List ℕ → List ℕ → List ℕ → Activated → Type 0
 ActivatedIs x frame contents bodies contents' bodies' (Answer w n b) = Answers x w n b contents bodies contents' bodies'

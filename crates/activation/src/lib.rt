@@ -7,8 +7,9 @@ ghost use Rattle.model.specs.Primitive.{primitive};
 ghost use Rattle.primitives.specs.Outcomes.{Receives, DoesAt};
 ghost use Rattle.activation.specs.Activating.{outcome, Activable, Activates};
 
-use model::{Computed, Pointer, limits};
+use model::{Pointer, limits};
 use primitives::Done;
+use readers::Memory;
 
 // An answer, and how many objects and body words there are then; or a frame is needed; or the receiver has no such field.
 #[derive(Clone, Copy)]
@@ -24,23 +25,19 @@ const AT: usize = 512 * 1 + 2 * 60 + 1;
 const AT_PUT: usize = 512 * 2 + 2 * 61 + 1;
 
 // What a primitive leads to: its answer, or a frame where it fails.
-fn outcome(answer: Computed, n: usize, b: usize) -> Activated
+fn outcome(answer: Option<u16>, n: usize, b: usize) -> Activated
     ensures { result ≡ outcome answer n b }
 {
     match answer {
-        Computed::Word(w) => Activated::Answer {
-            word: w,
-            n: n,
-            b: b,
-        },
-        Computed::Failed => Activated::Frame,
+        Some(word) => Activated::Answer { word, n, b },
+        None => Activated::Frame,
     }
 }
 
 fn is_arithmetic(k: usize) -> bool
     ensures { result ≡ (leb 1 k && leb k 17) }
 {
-    (1 <= k) & (k <= 17)
+    (1..=17).contains(&k)
 }
 
 // A primitive on a receiver and two arguments, those that it takes: 1 to 17 only compute.
@@ -66,8 +63,7 @@ pub fn try_primitive(
     if count != 1 {
         return primitives::failed(n, b);
     }
-    let answer = arithmetic::compute(k as u8, w, x);
-    primitives::computed(answer, n, b)
+    primitives::computed(arithmetic::compute(k as u8, w, x), n, b)
 }
 
 // Flag 5 answers the receiver, flag 6 its field T, flag 7 tries a primitive.
@@ -85,39 +81,40 @@ pub fn activate(
     requires { Activable n b contents.old bodies.old method.0 receiver }
     ensures { Activates edition n b contents.old bodies.old method.0 receiver x y contents.new bodies.new result }
 {
-    let header = objects::header(contents, bodies, n, b, method);
+    let memory = &Memory {
+        contents,
+        bodies,
+        n,
+        b,
+    };
+    let header = objects::header(memory, method);
     let flag = readers::flag(header);
-    if flag == limits::ANSWER_SELF {
-        return Activated::Answer {
+    match flag {
+        limits::ANSWER_SELF => Activated::Answer {
             word: receiver,
-            n: n,
-            b: b,
-        };
-    }
-    if flag == limits::ANSWER_FIELD {
-        let i = readers::temporary_count(header);
-        if !readers::is_kind(contents, n, limits::FIELDS, receiver) {
-            return Activated::Unfit;
+            n,
+            b,
+        },
+        limits::ANSWER_FIELD => {
+            let i = readers::temporary_count(header);
+            if !memory.is_kind(limits::FIELDS, receiver) {
+                return Activated::Unfit;
+            }
+            let size = memory.size(receiver as usize / 2) as usize;
+            if size <= i {
+                return Activated::Unfit;
+            }
+            let word = memory.word_of(Pointer(receiver), i);
+            Activated::Answer { word, n, b }
         }
-        let size = readers::size(contents, n, receiver as usize / 2) as usize;
-        if size <= i {
-            return Activated::Unfit;
+        limits::PRIMITIVE => {
+            let k = objects::primitive_number(memory, method);
+            let count = objects::argument_count(memory, method);
+            let done = try_primitive(contents, bodies, edition, n, b, k, count, receiver, x, y);
+            outcome(done.answer, done.n, done.b)
         }
-        let field = readers::word_of(contents, bodies, n, b, Pointer(receiver), i);
-        return Activated::Answer {
-            word: field,
-            n: n,
-            b: b,
-        };
+        _ => Activated::Frame,
     }
-    if flag != limits::PRIMITIVE {
-        return Activated::Frame;
-    }
-    let k = objects::primitive_number(contents, bodies, n, b, method);
-    let count = objects::argument_count(contents, bodies, n, b, method);
-    let done = try_primitive(contents, bodies, edition, n, b, k, count, receiver, x, y);
-    let answer = done.answer;
-    outcome(answer, done.n, done.b)
 }
 
 // The same for the sends of the run loop, into which it is compiled: a frame, at: and at:put: at once, the others by a call.
@@ -135,14 +132,20 @@ pub fn act(
     requires { Activable n b contents.old bodies.old method.0 receiver }
     ensures { Activates edition n b contents.old bodies.old method.0 receiver x y contents.new bodies.new result }
 {
-    let flag = readers::flag(objects::header(contents, bodies, n, b, method));
+    let memory = &Memory {
+        contents,
+        bodies,
+        n,
+        b,
+    };
+    let flag = readers::flag(objects::header(memory, method));
     if flag < limits::ANSWER_SELF {
         return Activated::Frame;
     }
     if flag == limits::PRIMITIVE {
-        let e = objects::extension(contents, bodies, n, b, method);
+        let e = objects::extension(memory, method);
         if e == AT {
-            return outcome(primitives::at(contents, bodies, n, b, receiver, x), n, b);
+            return outcome(primitives::at(memory, receiver, x), n, b);
         }
         if e == AT_PUT {
             return outcome(

@@ -9,16 +9,16 @@ use borrow.Author.Tests.{eq-eqb, ne_eqb, lt-leb}
 use lib.Dec.{leb}
 use lib.Bits.{bit_xor, differ, xor_step, xor_lt}
 use Rattle.bytecode.specs.Test.{when◌then◌else◌}
-use Rattle.model.specs.declared.Computed.TheVariants.{Failed}
+use Rattle.std.specs.Prelude.{None}
 use Rattle.model.specs.Word.{value_of}
 use Rattle.model.specs.Arithmetic.{on_bits, on_integers, arithmetic}
 
-pub receiver_no_integer : (k v w : ℕ) → (v % 2 ≡ 1 → ⊥) → arithmetic k v w ≡ Failed
+pub receiver_no_integer : (k v w : ℕ) → (v % 2 ≡ 1 → ⊥) → arithmetic k v w ≡ None
 unfolding arithmetic when◌then◌else◌
 receiver_no_integer k v w h = rw (ne_eqb (v % 2) 1 h)
 
 module _ (k v w : ℕ) (hv : v % 2 ≡ 1) where
-  pub argument_no_integer : (w % 2 ≡ 1 → ⊥) → arithmetic k v w ≡ Failed
+  pub argument_no_integer : (w % 2 ≡ 1 → ⊥) → arithmetic k v w ≡ None
   unfolding arithmetic when◌then◌else◌
   argument_no_integer h = rw (eq-eqb (v % 2) 1 hv, ne_eqb (w % 2) 1 h)
 
@@ -47,11 +47,11 @@ pub both_integers : (v w : ℕ) → v % 2 * (w % 2) ≡ 1 → (v % 2 ≡ 1) × (
 both_integers v w e = omega (arith, product_most v w)
 
 module _ (k v w : ℕ) (h : v % 2 * (w % 2) ≡ 1 → ⊥) where
-  by_receiver : Dec (v % 2 ≡ 1) → arithmetic k v w ≡ Failed
+  by_receiver : Dec (v % 2 ≡ 1) → arithmetic k v w ≡ None
   by_receiver (yes e) = argument_no_integer k v w e (λ f. h (ap₂ ◌*◌ e f))
   by_receiver (no n) = receiver_no_integer k v w n
 
-  pub not_both_integers : arithmetic k v w ≡ Failed
+  pub not_both_integers : arithmetic k v w ≡ None
   not_both_integers = by_receiver (ℕ_discrete (v % 2) 1)
 
 -- two odd words differ in an even number, so one more is a word

@@ -1,7 +1,7 @@
 -- Quotients and remainders: the definitions by their cases, rounding down from rounding toward zero, and how large they are.
-use Prim.Native.Nat.{ℕ, zero, suc, ◌+◌, ◌*◌, ◌/◌, ◌≤◌}
-use mathlib.Core.Path.{◌≡◌, refl, subst, ap, ◌∙◌}
-use mathlib.Core.Bool.{Bool, true, false}
+use Prim.Native.Nat.{ℕ, zero, suc, ◌+◌, ◌-◌, ◌*◌, ◌/◌, ◌≤◌}
+use mathlib.Core.Path.{◌≡◌, refl, sym, subst, ap, ◌∙◌}
+use mathlib.Core.Bool.{Bool, true, false, not, beq}
 use native.Mathlib.Omega.{arith}
 use native.Mathlib.Nat.{div-le_self, zero-div, add-suc, mul-le-mul_left}
 use borrow.Author.Tests.{ltb-true}
@@ -11,15 +11,14 @@ use lib.Signed.{mag, lt_z, quot_z, rem_z, mag_rem}
 use mir.Syntax.{w32}
 use mir.Val.{SFits}
 use Rattle.bytecode.specs.Test.{when◌then◌else◌}
-use Rattle.model.specs.declared.Computed.{Computed}
-use Rattle.model.specs.declared.Computed.TheVariants.{Failed}
+use Rattle.std.specs.Prelude.{Option, None}
 use Rattle.model.specs.Limits.{largest_integer}
-use Rattle.model.specs.Arithmetic.{is_zero, number, divided, exact_quotient, floor_quotient}
+use Rattle.model.specs.Arithmetic.{is_zero, number, divided, exact_quotient, floor_quotient, on_integers}
 use Rattle.arithmetic.proofs.Magnitude.{fits, neg_natural, sum_mag, difference_mag, product_mag, quotient_mag}
 
 -- ---- the definitions
 
-pub by_zero : {b : ℤ} (z : ℤ) → b ≡ pos 0 → divided b z ≡ Failed
+pub by_zero : {b : ℤ} (z : ℤ) → b ≡ pos 0 → divided b z ≡ None
 unfolding divided when◌then◌else◌
 by_zero z e = rw e
 
@@ -29,14 +28,28 @@ by_other (pos zero) z h = absurd (h refl)
 by_other (pos (suc b)) z h = refl
 by_other (negsuc b) z h = refl
 
-either_way : (t : Bool) → (when t then Failed else Failed) ≡ Failed
+either_way : (t : Bool) → ◌≡◌ {A = Option ℕ} (when t then None else None) None
 unfolding when◌then◌else◌
 either_way true = refl
 either_way false = refl
 
-pub exact_by_zero : (a : ℤ) {b : ℤ} → b ≡ pos 0 → exact_quotient a b ≡ Failed
-unfolding exact_quotient
-exact_by_zero a {b} e = ap (λ (x : Computed). when is_zero (rem_z a b) then x else Failed) (by_zero (quot_z a b) e) ∙ either_way (is_zero (rem_z a b))
+-- 10 to 13 fail on a divisor of zero
+divided_zero : (j : ℕ) (a : ℤ) → j ≤ 3 → on_integers (10 + j) a (pos 0) ≡ None
+unfolding on_integers exact_quotient divided when◌then◌else◌
+divided_zero zero a h = either_way (is_zero (rem_z a (pos 0)))
+divided_zero (suc zero) a h = refl
+divided_zero (suc (suc zero)) a h = refl
+divided_zero (suc (suc (suc zero))) a h = refl
+divided_zero (suc (suc (suc (suc j)))) a h = absurd (omega arith)
+
+pub divided_by_zero : (k : ℕ) (a b : ℤ) → 10 ≤ k → k ≤ 13 → b ≡ pos 0 → on_integers k a b ≡ None
+divided_by_zero k a b l m e =
+    let f : 10 + (k - 10) ≡ k = omega arith in
+    rw e (subst (λ (i : ℕ). on_integers i a (pos 0) ≡ None) f (divided_zero (k - 10) a (omega arith)))
+
+pub last_quotient : (k : ℕ) (a b : ℤ) → k ≡ 13 → on_integers k a b ≡ divided b (quot_z a b)
+unfolding on_integers when◌then◌else◌
+last_quotient k a b e = rw e
 
 pub exact : (a b : ℤ) → rem_z a b ≡ pos 0 → (b ≡ pos 0 → ⊥) → exact_quotient a b ≡ number (quot_z a b)
 unfolding exact_quotient when◌then◌else◌
@@ -47,7 +60,7 @@ not_zero (pos zero) h = absurd (h refl)
 not_zero (pos (suc n)) h = refl
 not_zero (negsuc n) h = refl
 
-pub inexact : (a b : ℤ) → (rem_z a b ≡ pos 0 → ⊥) → exact_quotient a b ≡ Failed
+pub inexact : (a b : ℤ) → (rem_z a b ≡ pos 0 → ⊥) → exact_quotient a b ≡ None
 unfolding exact_quotient when◌then◌else◌
 inexact a b h = rw (not_zero (rem_z a b) h)
 
@@ -93,6 +106,26 @@ unfolding floor_quotient
 down_naturals (negsuc a) b p q = natural_neg a p
 down_naturals (pos a) (negsuc b) p q = natural_neg b q
 down_naturals (pos a) (pos b) p q = refl
+
+-- two signs, by whether they are the same
+same_sign : (x y : Bool) → beq x y ≡ true → y ≡ x
+same_sign true true e = refl
+same_sign false false e = refl
+same_sign true false e = absurd (subst T (sym e) tt)
+same_sign false true e = absurd (subst T (sym e) tt)
+
+pub other_sign : (x y : Bool) → beq x y ≡ false → y ≡ not x
+other_sign true false e = refl
+other_sign false true e = refl
+other_sign true true e = absurd (subst T e tt)
+other_sign false false e = absurd (subst T e tt)
+
+pub down_alike : (a b : ℤ) → beq (lt_z a (pos 0)) (lt_z b (pos 0)) ≡ true → quot_z a b ≡ floor_quotient a b
+down_alike a b e = by_sign (lt_z a (pos 0)) refl
+  where
+    by_sign : (x : Bool) → lt_z a (pos 0) ≡ x → quot_z a b ≡ floor_quotient a b
+    by_sign true p = down_negatives a b p (same_sign _ _ e ∙ p)
+    by_sign false p = down_naturals a b p (same_sign _ _ e ∙ p)
 
 -- ---- that they fit
 

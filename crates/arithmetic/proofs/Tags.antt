@@ -1,17 +1,16 @@
 -- The signed numbers of integers' words: their sums, differences and order are those of the integers.
 use Prim.Native.Nat.{ℕ, zero, suc, ◌+◌, ◌-◌, ◌*◌, ◌%◌, ◌<◌, ◌≤◌}
 use mathlib.Core.Path.{◌≡◌, refl, sym, subst, ap, ◌∙◌}
-use mathlib.Core.Bool.{true, false}
 use native.Mathlib.Omega.{arith}
 use native.Mathlib.Decide.{dec_lt}
-use borrow.Author.Tests.{lt-ltb, le-ltb, le-leb, lt-leb, ltb-true, ltb-false}
-use lib.Dec.{T, leb, ltb}
+use borrow.Author.Tests.{lt-ltb, le-ltb, le-leb, lt-leb}
+use lib.Dec.{leb, ltb}
 use lib.IntN.{ℤ, pos, negsuc, neg_ℤ, ◌+ℤ◌, ◌-ℤ◌, +ℤ_comm, +ℤ_assoc}
 use lib.Signed.{mag, lt_z, le_z}
 use mir.Syntax.{w32}
 use mir.Val.{SFits, to_z, of_z}
 use Rattle.bytecode.specs.Test.{when◌then◌else◌}
-use Rattle.model.specs.declared.Computed.TheVariants.{Word, Failed}
+use Rattle.std.specs.Prelude.{Some, None}
 use Rattle.model.specs.Limits.{largest_integer}
 use Rattle.model.specs.Word.{value_of, word_of}
 use Rattle.model.specs.Arithmetic.{number}
@@ -128,19 +127,10 @@ tagged_most (negsuc a) (negsuc b) = same_le a b (2 * a) (2 * b) (λ l. omega ari
 
 -- ---- the word of a signed number
 
-pub fit_below : (a : ℤ) → lt_z (tagged a) (negsuc 32767) ≡ true → number a ≡ Failed
+pub fit_outside : (a : ℤ) → 32767 < mag (tagged a) → number a ≡ None
 unfolding tagged
-fit_below (pos n) e = absurd (subst T (sym e) tt)
-fit_below (negsuc n) e = out_of_range (negsuc n) (let h = ltb-true 32767 (2 * n) e in omega arith)
-
-pub fit_above : (a : ℤ) → lt_z (pos 32767) (tagged a) ≡ true → number a ≡ Failed
-unfolding tagged
-fit_above (pos n) e = out_of_range (pos n) (let h = ltb-true 32767 (suc (2 * n)) e in omega arith)
-fit_above (negsuc n) e = absurd (subst T (sym e) tt)
-
-pub within_word : (z : ℤ) → lt_z z (negsuc 32767) ≡ false → lt_z (pos 32767) z ≡ false → mag z ≤ 32767
-within_word (pos n) e f = ltb-false 32767 n f
-within_word (negsuc n) e f = ltb-false 32767 n e
+fit_outside (pos n) h = out_of_range (pos n) (omega arith)
+fit_outside (negsuc n) h = out_of_range (negsuc n) (omega arith)
 
 abbrev pub wrap : ℤ → ℕ
 wrap (pos n) = n + 65536
@@ -154,10 +144,10 @@ pub wrap_below : (z : ℤ) → mag z ≤ 32767 → wrap z < 131072
 wrap_below (pos n) h = omega arith
 wrap_below (negsuc n) h = omega arith
 
-fit_within : (a : ℤ) → mag (tagged a) ≤ 32767 → Word (wrap (tagged a) % 65536) ≡ number a
+fit_within : (a : ℤ) → mag (tagged a) ≤ 32767 → Some (wrap (tagged a) % 65536) ≡ number a
 unfolding tagged word_of
-fit_within (pos n) h = ap Word (omega arith) ∙ sym (in_range (pos n) (omega arith))
-fit_within (negsuc n) h = ap Word (omega arith) ∙ sym (in_range (negsuc n) (omega arith))
+fit_within (pos n) h = ap Some (omega arith) ∙ sym (in_range (pos n) (omega arith))
+fit_within (negsuc n) h = ap Some (omega arith) ∙ sym (in_range (negsuc n) (omega arith))
 
-pub fitted : {z : ℤ} (a : ℤ) → z ≡ tagged a → mag z ≤ 32767 → Word (wrap z % 65536) ≡ number a
-fitted a e h = ap (λ (x : ℤ). Word (wrap x % 65536)) e ∙ fit_within a (subst (λ (x : ℤ). mag x ≤ 32767) e h)
+pub fitted : {z : ℤ} (a : ℤ) → z ≡ tagged a → mag z ≤ 32767 → Some (wrap z % 65536) ≡ number a
+fitted a e h = ap (λ (x : ℤ). Some (wrap x % 65536)) e ∙ fit_within a (subst (λ (x : ℤ). mag x ≤ 32767) e h)

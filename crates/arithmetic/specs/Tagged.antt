@@ -1,6 +1,5 @@
 -- An integer's word as a signed number.
-use Rattle.std.specs.Prelude.{suc, ◌*◌, ◌≡◌, ℤ, pos, negsuc}
-use Rattle.model.specs.declared.Computed.{Computed}
+use Rattle.std.specs.Prelude.{ℕ, suc, ◌*◌, ◌≡◌, ℤ, pos, negsuc, Option}
 use Rattle.model.specs.Arithmetic.{number}
 
 -- Twice the integer and 1
@@ -9,5 +8,5 @@ tagged (pos n) = pos (suc (2 * n))
 tagged (negsuc n) = negsuc (2 * n)
 
 -- The number whose signed word this is. Of an even one it says nothing.
-abbrev pub Fitted : ℤ → Computed → Type 0
+abbrev pub Fitted : ℤ → Option ℕ → Type 0
 Fitted z r = (a : ℤ) → z ≡ tagged a → r ≡ number a

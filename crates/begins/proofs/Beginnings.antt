@@ -9,12 +9,13 @@ use borrow.Author.Tests.{eq-eqb, ne_eqb, le-leb, lt-leb}
 use lib.Dec.{T, eqb, leb}
 use lib.ListN.{length, get_or, take, replicate}
 use lib.Seq.{sets, take_all}
+use Rattle.std.proofs.lemmas.Bool.{false≢true}
 use Rattle.bytecode.specs.Test.{every}
 use Rattle.bytecode.specs.Constant.{nil_word}
 use Rattle.bytecode.proofs.Choice.{if_yes, if_no}
 use Rattle.bytecode.proofs.TestLaws.{and_left, true→T, T→true}
-use Rattle.model.specs.declared.Found.{Found}
-use Rattle.model.specs.declared.Found.TheVariants.{Nothing}
+use Rattle.std.specs.Prelude.{Option, None, Ok, Err}
+use Rattle.model.specs.declared.Pointer.{Pointer}
 use Rattle.model.specs.Limits.{bytes_kind, class_kind}
 use Rattle.model.specs.Word.{is_valid}
 use Rattle.model.specs.Objects.{Objects, objects_at, class_of, is_kind, is_nil_or}
@@ -36,21 +37,28 @@ use Rattle.plain.proofs.FramedLaws.{temporaries_fit}
 use Rattle.plain.proofs.RunningLaws.{words_cases}
 use Rattle.frames.specs.Words.{new_words}
 use Rattle.activation.specs.declared.Activated.{Activated}
+use Rattle.model.specs.declared.numbers.Refusal.TheVariants as Refused
 use Rattle.begins.specs.Begins.{Starts, state_over, Begins}
 
--- rule 8, by its three tests
-pub no_receiver : (o : Objects) (receiver selector : ℕ) (arguments : List ℕ) → is_valid o.n receiver ≡ false → false ≡ rule8 o receiver selector arguments
-unfolding rule8
-no_receiver o receiver selector arguments e = sym (ap (λ (x : Bool). x && (is_kind o bytes_kind selector && every (is_valid o.n) arguments)) e)
+-- two tests and no more, then a third
+tested : (x y z : Bool) → (x && (y && true)) ≡ true → z ≡ (x && (y && z))
+tested true true z e = refl
+tested true false z e = absurd (false≢true e)
+tested false y z e = absurd (false≢true e)
 
-pub no_selector : (o : Objects) (receiver selector : ℕ) (arguments : List ℕ) → is_valid o.n receiver ≡ true → is_kind o bytes_kind selector ≡ false → false ≡ rule8 o receiver selector arguments
-unfolding rule8
-no_selector o receiver selector arguments e f = sym (ap₂ (λ (x y : Bool). x && (y && every (is_valid o.n) arguments)) e f)
+untested : (x y z : Bool) → (x && (y && true)) ≡ false → false ≡ (x && (y && z))
+untested true true z e = absurd (false≢true (sym e))
+untested true false z e = refl
+untested false y z e = refl
 
-pub arguments_left : (o : Objects) (receiver selector : ℕ) (arguments : List ℕ) → is_valid o.n receiver ≡ true → is_kind o bytes_kind selector ≡ true
-    → every (is_valid o.n) arguments ≡ rule8 o receiver selector arguments
+-- rule 8 of arguments, by that of none
+pub arguments_left : (o : Objects) (receiver selector : ℕ) (arguments : List ℕ) → rule8 o receiver selector [] ≡ true → every (is_valid o.n) arguments ≡ rule8 o receiver selector arguments
 unfolding rule8
-arguments_left o receiver selector arguments e f = sym (ap₂ (λ (x y : Bool). x && (y && every (is_valid o.n) arguments)) e f)
+arguments_left o receiver selector arguments = tested (is_valid o.n receiver) (is_kind o bytes_kind selector) (every (is_valid o.n) arguments)
+
+pub no_start : (o : Objects) (receiver selector : ℕ) (arguments : List ℕ) → rule8 o receiver selector [] ≡ false → false ≡ rule8 o receiver selector arguments
+unfolding rule8
+no_start o receiver selector arguments = untested (is_valid o.n receiver) (is_kind o bytes_kind selector) (every (is_valid o.n) arguments)
 
 module _ {e n b : ℕ} {contents bodies stack : List ℕ} {w s : ℕ} {arguments : List ℕ} (starts : Starts e n b contents bodies stack w s arguments)
     (receiver selector phase top value cache : ℕ) (frames : List Frame) (rests : eqb phase running ≡ false) where
@@ -68,12 +76,12 @@ module _ {e n b : ℕ} {contents bodies stack : List ℕ} {w s : ℕ} {arguments
   begin_8 e = if_no _ _ rests ∙ if_no _ _ e
 
   module _ (fine : rule8 o w s arguments ≡ true) where
-    begin_found_lem : (x : Found) → lookup o s (class_of o w) ≡ x → begin room p w s arguments ≡ begin_found room p w arguments x
+    begin_found_lem : (x : Option Pointer) → lookup o s (class_of o w) ≡ x → begin room p w s arguments ≡ begin_found room p w arguments x
     unfolding begin
     begin_found_lem x q = if_no _ _ rests ∙ if_yes _ _ fine ∙ ap (begin_found room p w arguments) q
 
-    pub begin_9 : lookup o s (class_of o w) ≡ Nothing → begin room p w s arguments ≡ declined 9
-    begin_9 q = begin_found_lem Nothing q
+    pub begin_9 : lookup o s (class_of o w) ≡ None → begin room p w s arguments ≡ declined 9
+    begin_9 q = begin_found_lem None q
 
     module _ (m : ℕ) (q : lookup o s (class_of o w) ≡ found m) where
       pub begin_10 : argument_count o m ≢ length arguments → begin room p w s arguments ≡ declined 10
@@ -137,7 +145,7 @@ module _ {e n b : ℕ} {contents bodies stack : List ℕ} {w s : ℕ} {arguments
       (a arguments ex ey (roomOver cache) refl refl)
 
   pub begun_answer : (v n' b' : ℕ) → r ≡ Rattle.activation.specs.declared.Activated.TheVariants.Answer v n' b' → Begins e n b contents bodies stack w s
-      arguments contents' bodies' stack (Rattle.begins.specs.declared.Beginning.TheVariants.Answered v n' b')
+      arguments contents' bodies' stack (Ok (Rattle.begins.specs.declared.Beginning.TheVariants.Answered v n' b'))
   begun_answer v n' b' h receiver selector phase top value cache frames rests =
       let z = activated cache (Rattle.activation.specs.declared.Activated.TheVariants.Answer v n' b') h in
       record {
@@ -152,7 +160,7 @@ module _ {e n b : ℕ} {contents bodies stack : List ℕ} {w s : ℕ} {arguments
       }
 
   pub begun_unfit : r ≡ Rattle.activation.specs.declared.Activated.TheVariants.Unfit → Begins e n b contents bodies stack w s arguments contents' bodies' stack
-      (Rattle.begins.specs.declared.Beginning.TheVariants.Refused 9)
+      (Err Refused.NoMethod)
   begun_unfit h receiver selector phase top value cache frames rests =
       let z = activated cache Rattle.activation.specs.declared.Activated.TheVariants.Unfit h in
       record {
@@ -164,7 +172,7 @@ module _ {e n b : ℕ} {contents bodies stack : List ℕ} {w s : ℕ} {arguments
       }
 
   pub begun_full : r ≡ Rattle.activation.specs.declared.Activated.TheVariants.Frame → length stack < 6 + frame_words oₐ m → Begins e n b contents bodies stack w
-      s arguments contents' bodies' stack (Rattle.begins.specs.declared.Beginning.TheVariants.Refused 13)
+      s arguments contents' bodies' stack (Err Refused.StackRoom)
   begun_full g h receiver selector phase top value cache frames rests =
       let z = activated cache Rattle.activation.specs.declared.Activated.TheVariants.Frame g in
       record {
@@ -185,7 +193,7 @@ module _ {e n b : ℕ} {contents bodies stack : List ℕ} {w s : ℕ} {arguments
 
   pub begun_enters : r ≡ Rattle.activation.specs.declared.Activated.TheVariants.Frame → 6 + frame_words oₐ m ≤ length stack → (stack' : List ℕ)
       → stack' ≡ sets stack 0 (new_words 0 m w (temporary_count oₐ m) arguments)
-      → Begins e n b contents bodies stack w s arguments contents' bodies' stack' Rattle.begins.specs.declared.Beginning.TheVariants.Entered
+      → Begins e n b contents bodies stack w s arguments contents' bodies' stack' (Ok Rattle.begins.specs.declared.Beginning.TheVariants.Entered)
   begun_enters g h stack' l receiver selector phase top value cache frames rests =
       let z = activated cache Rattle.activation.specs.declared.Activated.TheVariants.Frame g in
       record {
@@ -201,18 +209,18 @@ module _ {e n b : ℕ} {contents bodies stack : List ℕ} {w s : ℕ} {arguments
 -- Refusals before a method is found
 module _ {e n b : ℕ} {contents bodies stack : List ℕ} {w s : ℕ} {arguments : List ℕ} (starts : Starts e n b contents bodies stack w s arguments) where
   pub refused_8 : rule8 (objects_at n b contents bodies) w s arguments ≡ false → Begins e n b contents bodies stack w s arguments contents bodies stack
-      (Rattle.begins.specs.declared.Beginning.TheVariants.Refused 8)
+      (Err Refused.Start)
   refused_8 h receiver selector phase top value cache frames rests =
       record { leads = begin_8 starts receiver selector phase top value cache frames rests h; entries = refl; words = refl; frames = refl }
 
-  pub refused_9 : rule8 (objects_at n b contents bodies) w s arguments ≡ true → lookup (objects_at n b contents bodies) s (class_of (objects_at n b contents bodies) w) ≡ Nothing
-      → Begins e n b contents bodies stack w s arguments contents bodies stack (Rattle.begins.specs.declared.Beginning.TheVariants.Refused 9)
+  pub refused_9 : rule8 (objects_at n b contents bodies) w s arguments ≡ true → lookup (objects_at n b contents bodies) s (class_of (objects_at n b contents bodies) w) ≡ None
+      → Begins e n b contents bodies stack w s arguments contents bodies stack (Err Refused.NoMethod)
   refused_9 h q receiver selector phase top value cache frames rests =
       record { leads = begin_9 starts receiver selector phase top value cache frames rests h q; entries = refl; words = refl; frames = refl }
 
   pub refused_10 : rule8 (objects_at n b contents bodies) w s arguments ≡ true → (m : ℕ) → lookup (objects_at n b contents bodies) s (class_of (objects_at n b contents bodies) w) ≡ found m
       → argument_count (objects_at n b contents bodies) m ≢ length arguments → Begins e n b contents bodies stack w s arguments contents bodies stack
-      (Rattle.begins.specs.declared.Beginning.TheVariants.Refused 10)
+      (Err Refused.ArgumentCount)
   refused_10 h m q d receiver selector phase top value cache frames rests =
       record { leads = begin_10 starts receiver selector phase top value cache frames rests h m q d; entries = refl; words = refl; frames = refl }
 

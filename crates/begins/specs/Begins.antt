@@ -1,5 +1,5 @@
 -- What a begin leads to, in the answer and in the buffers.
-use Rattle.std.specs.Prelude.{ℕ, ◌*◌, ◌≡◌, false, List, [], ◌∷◌, eqb, length, take}
+use Rattle.std.specs.Prelude.{ℕ, ◌*◌, ◌≡◌, false, List, [], ◌∷◌, eqb, length, take, Result, Ok, Err}
 use Rattle.model.specs.Limits.{entry_words}
 use Rattle.model.specs.Objects.{Objects, objects_at}
 use Rattle.model.specs.Rules.{Right}
@@ -8,7 +8,9 @@ use Rattle.plain.specs.State.{Frame, Plain, with_objects, with_frames}
 use Rattle.plain.specs.Calls.{Begun, begun, declined, begin}
 use Rattle.plain.specs.FlatCalls.{at_front, laid}
 use Rattle.begins.specs.declared.Beginning.{Beginning}
-use Rattle.begins.specs.declared.Beginning.TheVariants.{Answered, Entered, Refused}
+use Rattle.begins.specs.declared.Beginning.TheVariants.{Answered, Entered}
+use Rattle.model.specs.declared.numbers.Refusal.{Refusal}
+use Rattle.model.specs.Numbers.{number_of}
 
 -- Right objects, and the words of a message to them
 pub record Starts (e n b : ℕ) (contents bodies stack : List ℕ) (w s : ℕ) (arguments : List ℕ) : Type 0 where
@@ -49,13 +51,13 @@ pub record Refuses (x : Begun) (k : ℕ) (contents bodies stack contents' bodies
   pub words : bodies' ≡ bodies
   pub frames : stack' ≡ stack
 
-abbrev pub BeginIs : Begun → Plain → List ℕ → List ℕ → List ℕ → List ℕ → List ℕ → List ℕ → Beginning → Type 0
-BeginIs x p contents bodies stack contents' bodies' stack' (Answered w n b) = Answers x p w n b contents bodies stack contents' bodies' stack'
-BeginIs x p contents bodies stack contents' bodies' stack' Entered = Enters x p contents bodies stack contents' bodies' stack'
-BeginIs x p contents bodies stack contents' bodies' stack' (Refused k) = Refuses x k contents bodies stack contents' bodies' stack'
+abbrev pub BeginIs : Begun → Plain → List ℕ → List ℕ → List ℕ → List ℕ → List ℕ → List ℕ → Result Beginning Refusal → Type 0
+BeginIs x p contents bodies stack contents' bodies' stack' (Ok (Answered w n b)) = Answers x p w n b contents bodies stack contents' bodies' stack'
+BeginIs x p contents bodies stack contents' bodies' stack' (Ok Entered) = Enters x p contents bodies stack contents' bodies' stack'
+BeginIs x p contents bodies stack contents' bodies' stack' (Err k) = Refuses x (number_of k) contents bodies stack contents' bodies' stack'
 
 -- in every state over these objects that does not run
-abbrev pub Begins : ℕ → ℕ → ℕ → List ℕ → List ℕ → List ℕ → ℕ → ℕ → List ℕ → List ℕ → List ℕ → List ℕ → Beginning → Type 0
+abbrev pub Begins : ℕ → ℕ → ℕ → List ℕ → List ℕ → List ℕ → ℕ → ℕ → List ℕ → List ℕ → List ℕ → List ℕ → Result Beginning Refusal → Type 0
 Begins e n b contents bodies stack w s arguments contents' bodies' stack' r =
     (receiver selector phase top value cache : ℕ) (frames : List Frame) → eqb phase running ≡ false
     → BeginIs (begin (record { contents = length contents; bodies = length bodies; stack = length stack; cache = cache })

@@ -9,38 +9,29 @@ ghost use Rattle.model.specs.Rules.{rule8};
 ghost use Rattle.begins.specs.Begins.{Starts, Begins};
 
 use activation::Activated;
-use model::{Found, StackPosition, limits};
+use model::{Refusal, StackPosition, limits};
+use readers::Memory;
 
-// What a begin leads to: an answer without a frame, with N and B after it; the first frame; or the number of a refusal.
+// What a begin leads to: an answer without a frame, with N and B after it, or the first frame.
 #[derive(Clone, Copy)]
 pub enum Beginning {
     Answered { word: u16, n: usize, b: usize },
     Entered,
-    Refused(u32),
 }
 
-// Rule 8: a valid receiver, a kind 1 selector, valid arguments.
-fn words_fine(contents: &[u16], n: usize, receiver: u16, selector: u16, arguments: &[u16]) -> bool
-    requires { entry_words * n ≤ length contents.now }
-    ensures { (b : ℕ) (bodies : List ℕ) → result ≡ rule8 (objects_at n b contents.now bodies) receiver selector arguments.now }
+// Rule 8: start words as in an image, and valid arguments.
+fn words_fine(memory: &Memory, receiver: u16, selector: u16, arguments: &[u16]) -> bool
+    requires { entry_words * memory.now.n ≤ length memory.now.contents.now }
+    ensures { (b : ℕ) (bodies : List ℕ) → result ≡ rule8 (objects_at memory.now.n b memory.now.contents.now bodies) receiver selector arguments.now }
 {
-    if !readers::is_valid(n, receiver) {
-        return false;
-    }
-    if !readers::is_kind(contents, n, limits::BYTES, selector) {
-        return false;
-    }
-    readers::valid_words(n, arguments)
+    store::starts_fine(memory, receiver, selector) && readers::valid_words(memory.n, arguments)
 }
 
 // Argument i, 0 where there is none.
 fn argument(arguments: &[u16], i: usize) -> u16
     ensures { result ≡ get_or arguments.now i 0 }
 {
-    if arguments.len() <= i {
-        return 0;
-    }
-    arguments[i]
+    arguments.get(i).copied().unwrap_or(0)
 }
 
 // A send from no frame: 8, 9, 10, 13.
@@ -54,37 +45,38 @@ pub fn begin(
     receiver: u16,
     selector: u16,
     arguments: &[u16],
-) -> Beginning
+) -> Result<Beginning, Refusal>
     requires { Starts edition n b contents.old bodies.old stack.old receiver selector arguments.now }
     ensures { Begins edition n b contents.old bodies.old stack.old receiver selector arguments.now
         contents.new bodies.new stack.new result }
 {
-    if !words_fine(contents, n, receiver, selector, arguments) {
-        return Beginning::Refused(8);
-    }
-    let class = objects::class_of(contents, n, receiver);
-    let search = objects::lookup(contents, bodies, n, b, selector, class);
-    let found = search.found;
-    let Found::Method(method) = found else {
-        return Beginning::Refused(9);
+    let memory = &Memory {
+        contents,
+        bodies,
+        n,
+        b,
     };
-    let count = objects::argument_count(contents, bodies, n, b, method);
-    if count != arguments.len() {
-        return Beginning::Refused(10);
+    if !words_fine(memory, receiver, selector, arguments) {
+        return Err(Refusal::Start);
     }
-    let header = objects::header(contents, bodies, n, b, method);
+    let class = objects::class_of(memory, receiver);
+    let search = objects::lookup(memory, selector, class);
+    let Some(method) = search.found else {
+        return Err(Refusal::NoMethod);
+    };
+    let count = objects::argument_count(memory, method);
+    if count != arguments.len() {
+        return Err(Refusal::ArgumentCount);
+    }
+    let header = objects::header(memory, method);
     let x = argument(arguments, 0);
     let y = argument(arguments, 1);
     match activation::activate(contents, bodies, edition, n, b, method, receiver, x, y) {
-        Activated::Answer { word, n, b } => Beginning::Answered {
-            word: word,
-            n: n,
-            b: b,
-        },
-        Activated::Unfit => Beginning::Refused(9),
+        Activated::Answer { word, n, b } => Ok(Beginning::Answered { word, n, b }),
+        Activated::Unfit => Err(Refusal::NoMethod),
         Activated::Frame => {
             if stack.len() < limits::FRAME_HEADER + readers::frame_words(header) {
-                return Beginning::Refused(13);
+                return Err(Refusal::StackRoom);
             }
             let temporaries = readers::temporary_count(header);
             frames::write_frame(
@@ -96,7 +88,7 @@ pub fn begin(
                 count,
                 arguments,
             );
-            Beginning::Entered
+            Ok(Beginning::Entered)
         }
     }
 }

@@ -9,7 +9,8 @@ use lib.ListN.{length, get_or}
 use Rattle.bytecode.specs.Test.{when◌then◌else◌}
 use Rattle.bytecode.specs.Constant.{nil_word}
 use Rattle.bytecode.proofs.TestLaws.{true→T}
-use Rattle.model.specs.declared.Found.{Found}
+use Rattle.std.specs.Prelude.{Option}
+use Rattle.model.specs.declared.Pointer.{Pointer}
 use Rattle.model.specs.Limits.{entry_words, class_kind}
 use Rattle.model.specs.Objects.{Objects, objects_at, is_kind, is_nil_or}
 use Rattle.model.specs.Lookup.{lookup, dictionaries_read, pairs_read}
@@ -58,7 +59,7 @@ module _ (words contents bodies stack cache : List ℕ) (selector class m p d : 
       pub starts : not x ≡ false → T (is_nil_or o class_kind class)
       starts q = or_right (eqb class nil_word) (is_kind o class_kind class) (true→T (is_class q))
 
-      pub looked : {f g : Found} {j k : ℕ} → not x ≡ false → f ≡ lookup o selector class → j ≡ pairs_read o selector class → k ≡ dictionaries_read o selector class → f ≡ g
+      pub looked : {f g : Option Pointer} {j k : ℕ} → not x ≡ false → f ≡ lookup o selector class → j ≡ pairs_read o selector class → k ≡ dictionaries_read o selector class → f ≡ g
           → LookupIs s selector class m p d (word_found g) j k true
       unfolding registers_at when◌then◌else◌
       looked q a b w c =

@@ -1,8 +1,7 @@
 -- What a lookup that is compared from outside gives.
-use Rattle.std.specs.Prelude.{ℕ, ◌≡◌, Bool, true, false, ◌&&◌}
+use Rattle.std.specs.Prelude.{ℕ, ◌≡◌, Bool, true, false, ◌&&◌, Option, Some, None}
 use Rattle.bytecode.specs.Test.{when◌then◌else◌}
-use Rattle.model.specs.declared.Found.{Found}
-use Rattle.model.specs.declared.Found.TheVariants.{Method, Nothing}
+use Rattle.model.specs.declared.Pointer.{Pointer}
 use Rattle.model.specs.Limits.{class_kind}
 use Rattle.model.specs.Objects.{is_kind}
 use Rattle.model.specs.Lookup.{lookup, dictionaries_read, pairs_read}
@@ -15,9 +14,9 @@ is_accepted accepted = true
 is_accepted (refused k) = false
 
 -- The word of a method, 0 for none
-abbrev pub word_found : Found → ℕ
-word_found (Method m) = m.0
-word_found Nothing = 0
+abbrev pub word_found : Option Pointer → ℕ
+word_found (Some m) = m.0
+word_found None = 0
 
 -- A method, pairs and dictionaries that stood there are written over where a lookup was made.
 pub record LookupIs (s : Flat) (selector class method pairs dictionaries method' pairs' dictionaries' : ℕ) (r : Bool) : Type 0 where

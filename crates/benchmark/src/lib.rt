@@ -12,8 +12,9 @@ ghost use Rattle.objects.specs.Searches.{SearchIs};
 ghost use Rattle.sofaduck.specs.Border.{state_of};
 ghost use Rattle.benchmark.specs.Lookups.{LookupIs};
 
-use model::{Found, Pointer, limits};
+use model::{Pointer, limits};
 use objects::Search;
+use readers::Memory;
 
 #[unsafe(no_mangle)]
 pub extern "C" fn bench_table(table: &mut [u16; 256])
@@ -27,7 +28,13 @@ fn is_class(contents: &[u16], n: u16, class: u16) -> bool
     requires { entry_words * n ≤ length contents.now }
     ensures { (b : ℕ) (bodies : List ℕ) → result ≡ is_kind (objects_at n b contents.now bodies) class_kind class }
 {
-    readers::is_kind(contents, n as usize, limits::CLASS, class)
+    Memory {
+        contents,
+        bodies: &[],
+        n: n as usize,
+        b: 0,
+    }
+    .is_kind(limits::CLASS, class)
 }
 
 fn lookup(contents: &[u16], bodies: &[u16], n: u16, b: u16, selector: u16, class: u16) -> Search
@@ -37,10 +44,12 @@ fn lookup(contents: &[u16], bodies: &[u16], n: u16, b: u16, selector: u16, class
         (pairs_read (objects_at n b contents.now bodies.now) selector class) result }
 {
     objects::lookup(
-        contents,
-        bodies,
-        n as usize,
-        b as usize,
+        &Memory {
+            contents,
+            bodies,
+            n: n as usize,
+            b: b as usize,
+        },
         selector,
         Pointer(class),
     )
@@ -74,14 +83,9 @@ pub extern "C" fn bench_lookup(
     let search = lookup(contents, bodies, n, b, selector, class);
     *pairs = search.pairs;
     *dictionaries = search.dictionaries;
-    let found = search.found;
-    match found {
-        Found::Method(m) => {
-            *method = m.0;
-        }
-        Found::Nothing => {
-            *method = 0;
-        }
+    match search.found {
+        Some(m) => *method = m.0,
+        None => *method = 0,
     }
     true
 }

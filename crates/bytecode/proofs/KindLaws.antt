@@ -4,12 +4,13 @@ use mathlib.Core.Path.{◌≡◌, sym, ap, ◌∙◌}
 use mathlib.Core.Bool.{Bool, true, false, ◌&&◌}
 use mathlib.Core.List.{List}
 use native.Mathlib.Omega.{arith}
-use native.Mathlib.Decide.{dec_lt}
 use borrow.Author.Tests.{ltb-true, leb-true}
 use lib.Dec.{ltb, leb, T}
-use lib.ListN.{get_or, length, get_or-eq_default}
+use lib.ListN.{length}
 use Rattle.bytecode.specs.Code.{byte_at, bytes_after, jump_of, send_of, instruction_of, length_of, next_at}
-use Rattle.bytecode.specs.Kinds.{firsts, first, OfKind}
+use Rattle.bytecode.specs.Kinds.{first, behind, OfKind}
+use Rattle.bytecode.specs.declared.kinds.Kind.{Kind}
+use Rattle.bytecode.specs.declared.kinds.Kind.TheVariants.{SendTwo}
 use Rattle.bytecode.specs.declared.Place.TheVariants.{Field, Temporary, Literal, LiteralVariable}
 use Rattle.bytecode.specs.declared.Instruction.{Instruction}
 use Rattle.bytecode.specs.declared.Instruction.TheVariants.{Push, PopStore, Jump, JumpOn, Send, SpecialSend, Unused}
@@ -20,42 +21,28 @@ use Rattle.bytecode.proofs.CodeLaws.{constant_unused, extended_unused, length_lo
 use Rattle.bytecode.proofs.DecodeLaws.{next_range, next_here}
 
 -- the bytes of kind k are from l on and below h
-abbrev pub inside : ℕ → ℕ → ℕ → Bool
-inside k l h = leb l (get_or firsts k 256) && leb (get_or firsts (suc k) 256) h
+abbrev pub inside : Kind → ℕ → ℕ → Bool
+inside k l h = leb l (first k) && leb (behind k) h
 
-pub between : {b κ k : ℕ} (l h : ℕ) → OfKind b κ → κ ≡ k → T (inside k l h) → (l ≤ b) × (b < h)
-unfolding first
+pub between : {b : ℕ} {κ k : Kind} (l h : ℕ) → OfKind b κ → κ ≡ k → T (inside k l h) → (l ≤ b) × (b < h)
 between {b} {κ} {k} l h of e t =
-    let from : first k ≤ b = rw e at of.from in
-    let below : b < first (suc k) = rw e at of.below in
-    let low = leb-true l (first k) (T→true _ (and_left (leb l (first k)) (leb (first (suc k)) h) t)) in
-    let high = leb-true (first (suc k)) h (T→true _ (and_right (leb l (first k)) (leb (first (suc k)) h) t)) in
+    let from : first k ≤ b = rw (sym e) of.from in
+    let below : b < behind k = rw (sym e) of.below in
+    let low = leb-true l (first k) (T→true _ (and_left (leb l (first k)) (leb (behind k) h) t)) in
+    let high = leb-true (behind k) h (T→true _ (and_right (leb l (first k)) (leb (behind k) h) t)) in
     omega arith
 
 -- a byte that the test puts into kind k
-pub lies : {b n k : ℕ} → b ≡ n → T (leb (get_or firsts k 256) n && ltb n (get_or firsts (suc k) 256)) → OfKind b k
-unfolding first
+pub lies : {b n : ℕ} {k : Kind} → b ≡ n → T (leb (first k) n && ltb n (behind k)) → OfKind b k
 lies {b} {n} {k} e t =
-    let l = leb-true (first k) n (T→true _ (and_left (leb (first k) n) (ltb n (first (suc k))) t)) in
-    let h = ltb-true n (first (suc k)) (T→true _ (and_right (leb (first k) n) (ltb n (first (suc k))) t)) in
+    let l = leb-true (first k) n (T→true _ (and_left (leb (first k) n) (ltb n (behind k)) t)) in
+    let h = ltb-true n (behind k) (T→true _ (and_right (leb (first k) n) (ltb n (behind k)) t)) in
     record { from = rw e l; below = rw e h }
 
 -- the last arm of a `match` on the bytes below 255
-pub lies_last : {b : ℕ} → 255 ≤ b → b < 256 → OfKind b 69
-unfolding first
+pub lies_last : {b : ℕ} → 255 ≤ b → b < 256 → OfKind b SendTwo
+unfolding first behind
 lies_last l h = record { from = omega arith; below = omega arith }
-
--- the last arm of a `match` on the kinds below 69
-pub last_kind_lem : {b κ : ℕ} → OfKind b κ → 69 ≤ κ → b < 256 → κ ≡ 69
-unfolding first
-last_kind_lem {b} {κ} of h small = by (dec_lt κ 70)
-  where
-    by : Dec (κ < 70) → κ ≡ 69
-    by (yes l) = omega arith
-    by (no l) =
-        let past : first κ ≡ 256 = get_or-eq_default firsts 256 {n = κ} (omega arith) in
-        let from = of.from in
-        absurd (omega arith)
 
 -- What `instruction_at` promises
 abbrev pub IsAt : List ℕ → ℕ → Decoded → Type 0
@@ -66,35 +53,35 @@ abbrev pub Builds : Instruction → ℕ → ℕ → Decoded → Type 0
 Builds i p n r = r ≡ record { instruction = i; next = p + n }
 
 -- The kind has one byte.
-abbrev pub single : ℕ → Bool
-single k = inside k (get_or firsts k 256) (suc (get_or firsts k 256))
+abbrev pub single : Kind → Bool
+single k = inside k (first k) (suc (first k))
 
 pub first_there : (words : List ℕ) (p : ℕ) → next_at words p ≤ 2 * length words → p / 2 < length words
 first_there words p w = omega (arith, next_range words p)
 
 -- b is the byte at p, of kind κ, which the arm knows as k.
-module _ (words : List ℕ) (p : ℕ) {b κ k : ℕ} (here : b ≡ byte_at words p) (of : OfKind b κ) (key : κ ≡ k) where
-  one_byte : T (single k) → b ≡ get_or firsts k 256
-  one_byte t = let h = between (get_or firsts k 256) (suc (get_or firsts k 256)) of key t in omega arith
+module _ (words : List ℕ) (p : ℕ) {b : ℕ} {κ k : Kind} (here : b ≡ byte_at words p) (of : OfKind b κ) (key : κ ≡ k) where
+  one_byte : T (single k) → b ≡ first k
+  one_byte t = let h = between (first k) (suc (first k)) of key t in omega arith
 
   -- further bytes stand in the words, where the whole instruction does
   further : (j : ℕ) → j < length_of b → next_at words p ≤ 2 * length words → (p + j) / 2 < length words
   further j l w = omega (arith, next_here words p here)
 
-  pub further_extended : (j : ℕ) → T (single k) → T (ltb j (length_of (get_or firsts k 256))) → next_at words p ≤ 2 * length words → (p + j) / 2 < length words
+  pub further_extended : (j : ℕ) → T (single k) → T (ltb j (length_of (first k))) → next_at words p ≤ 2 * length words → (p + j) / 2 < length words
   further_extended j t l = let q = ap length_of (one_byte t) in further j (rw q (ltb-true j _ (T→true _ l)))
 
   pub further_jump : T (inside k 160 176) → next_at words p ≤ 2 * length words → (p + 1) / 2 < length words
   further_jump t w = let h = between 160 176 of key t in further 1 (omega (arith, length_jump b (omega arith) h.0 h.1)) w
 
-module _ (words : List ℕ) (p : ℕ) {b κ k : ℕ} {r : Decoded} (here : b ≡ byte_at words p) (of : OfKind b κ) (key : κ ≡ k) where
+module _ (words : List ℕ) (p : ℕ) {b : ℕ} {κ k : Kind} {r : Decoded} (here : b ≡ byte_at words p) (of : OfKind b κ) (key : κ ≡ k) where
   is : {i : Instruction} (n : ℕ) → instruction_of b (bytes_after words p) ≡ i → length_of b ≡ n → Builds i p n r → IsAt words p r
   is n e l d =
       let read = ap (λ x. x.instruction) d ∙ sym e ∙ ap (λ x. instruction_of x (bytes_after words p)) here in
       (read, ap (λ x. x.next) d ∙ ap (λ x. p + x) (sym l) ∙ sym (next_here words p here))
 
   -- instruction and length are computed at the kind's only byte
-  pub is_single : {i : Instruction} → T (single k) → instruction_of (get_or firsts k 256) (bytes_after words p) ≡ i → Builds i p (length_of (get_or firsts k 256)) r → IsAt words p r
+  pub is_single : {i : Instruction} → T (single k) → instruction_of (first k) (bytes_after words p) ≡ i → Builds i p (length_of (first k)) r → IsAt words p r
   is_single t e = let q = one_byte words p here of key t in is _ (ap (λ x. instruction_of x (bytes_after words p)) q ∙ e) (ap length_of q)
 
   pub is_push_field : T (inside k 0 16) → Builds (Push (Field (b % 16))) p 1 r → IsAt words p r

@@ -1,22 +1,155 @@
 -- The kinds of first bytes: runs of consecutive bytes, each read by one arm of the decoder.
-use Rattle.std.specs.Prelude.{ℕ, suc, ◌≤◌, ◌<◌, List, [], ◌∷◌, get_or}
+use Rattle.std.specs.Prelude.{ℕ, ◌≤◌, ◌<◌}
+use Rattle.bytecode.specs.declared.kinds.Kind.{Kind}
+use Rattle.bytecode.specs.declared.kinds.Kind.TheVariants as Is
 
--- The first byte of each kind
-abbrev pub firsts : List ℕ
-firsts =
-    0 ∷ 16 ∷ 32 ∷ 64 ∷ 96 ∷ 104
-    ∷ 112 ∷ 113 ∷ 114 ∷ 115 ∷ 116 ∷ 117 ∷ 118 ∷ 119 ∷ 120 ∷ 121 ∷ 122 ∷ 123 ∷ 124 ∷ 125
-    ∷ 128 ∷ 129 ∷ 130 ∷ 131 ∷ 132 ∷ 133 ∷ 134 ∷ 135 ∷ 136 ∷ 137
-    ∷ 144 ∷ 152 ∷ 160 ∷ 168 ∷ 172
-    ∷ 176 ∷ 177 ∷ 178 ∷ 179 ∷ 180 ∷ 181 ∷ 182 ∷ 183 ∷ 184 ∷ 185 ∷ 186 ∷ 187 ∷ 188 ∷ 189 ∷ 190 ∷ 191
-    ∷ 192 ∷ 193 ∷ 194 ∷ 195 ∷ 196 ∷ 197 ∷ 198 ∷ 199 ∷ 200 ∷ 201 ∷ 202 ∷ 203 ∷ 204 ∷ 205 ∷ 206 ∷ 207
-    ∷ 208 ∷ 224 ∷ 240 ∷ []
+-- The first byte of a kind
+abbrev pub first : Kind → ℕ
+first Is.PushField = 0
+first Is.PushTemporary = 16
+first Is.PushLiteral = 32
+first Is.PushLiteralVariable = 64
+first Is.PopField = 96
+first Is.PopTemporary = 104
+first Is.PushSelf = 112
+first Is.PushTrue = 113
+first Is.PushFalse = 114
+first Is.PushNil = 115
+first Is.PushMinusOne = 116
+first Is.PushZero = 117
+first Is.PushOne = 118
+first Is.PushTwo = 119
+first Is.ReturnSelf = 120
+first Is.ReturnTrue = 121
+first Is.ReturnFalse = 122
+first Is.ReturnNil = 123
+first Is.ReturnTop = 124
+first Is.UnusedShort = 125
+first Is.ExtendedPush = 128
+first Is.ExtendedStore = 129
+first Is.ExtendedPop = 130
+first Is.ExtendedSend = 131
+first Is.LongSend = 132
+first Is.ExtendedSuper = 133
+first Is.LongSuper = 134
+first Is.Pop = 135
+first Is.Duplicate = 136
+first Is.UnusedLong = 137
+first Is.ShortJump = 144
+first Is.ShortJumpOn = 152
+first Is.Jump = 160
+first Is.JumpOnTrue = 168
+first Is.JumpOnFalse = 172
+first Is.Special0 = 176
+first Is.Special1 = 177
+first Is.Special2 = 178
+first Is.Special3 = 179
+first Is.Special4 = 180
+first Is.Special5 = 181
+first Is.Special6 = 182
+first Is.Special7 = 183
+first Is.Special8 = 184
+first Is.Special9 = 185
+first Is.Special10 = 186
+first Is.Special11 = 187
+first Is.Special12 = 188
+first Is.Special13 = 189
+first Is.Special14 = 190
+first Is.Special15 = 191
+first Is.Special16 = 192
+first Is.Special17 = 193
+first Is.Special18 = 194
+first Is.Special19 = 195
+first Is.Special20 = 196
+first Is.Special21 = 197
+first Is.Special22 = 198
+first Is.Special23 = 199
+first Is.Special24 = 200
+first Is.Special25 = 201
+first Is.Special26 = 202
+first Is.Special27 = 203
+first Is.Special28 = 204
+first Is.Special29 = 205
+first Is.Special30 = 206
+first Is.Special31 = 207
+first Is.SendNone = 208
+first Is.SendOne = 224
+first Is.SendTwo = 240
 
--- The first byte of kind k; 256 past the last kind
-unfoldable pub first : ℕ → ℕ
-first k = get_or firsts k 256
+-- The byte behind its last
+abbrev pub behind : Kind → ℕ
+behind Is.PushField = 16
+behind Is.PushTemporary = 32
+behind Is.PushLiteral = 64
+behind Is.PushLiteralVariable = 96
+behind Is.PopField = 104
+behind Is.PopTemporary = 112
+behind Is.PushSelf = 113
+behind Is.PushTrue = 114
+behind Is.PushFalse = 115
+behind Is.PushNil = 116
+behind Is.PushMinusOne = 117
+behind Is.PushZero = 118
+behind Is.PushOne = 119
+behind Is.PushTwo = 120
+behind Is.ReturnSelf = 121
+behind Is.ReturnTrue = 122
+behind Is.ReturnFalse = 123
+behind Is.ReturnNil = 124
+behind Is.ReturnTop = 125
+behind Is.UnusedShort = 128
+behind Is.ExtendedPush = 129
+behind Is.ExtendedStore = 130
+behind Is.ExtendedPop = 131
+behind Is.ExtendedSend = 132
+behind Is.LongSend = 133
+behind Is.ExtendedSuper = 134
+behind Is.LongSuper = 135
+behind Is.Pop = 136
+behind Is.Duplicate = 137
+behind Is.UnusedLong = 144
+behind Is.ShortJump = 152
+behind Is.ShortJumpOn = 160
+behind Is.Jump = 168
+behind Is.JumpOnTrue = 172
+behind Is.JumpOnFalse = 176
+behind Is.Special0 = 177
+behind Is.Special1 = 178
+behind Is.Special2 = 179
+behind Is.Special3 = 180
+behind Is.Special4 = 181
+behind Is.Special5 = 182
+behind Is.Special6 = 183
+behind Is.Special7 = 184
+behind Is.Special8 = 185
+behind Is.Special9 = 186
+behind Is.Special10 = 187
+behind Is.Special11 = 188
+behind Is.Special12 = 189
+behind Is.Special13 = 190
+behind Is.Special14 = 191
+behind Is.Special15 = 192
+behind Is.Special16 = 193
+behind Is.Special17 = 194
+behind Is.Special18 = 195
+behind Is.Special19 = 196
+behind Is.Special20 = 197
+behind Is.Special21 = 198
+behind Is.Special22 = 199
+behind Is.Special23 = 200
+behind Is.Special24 = 201
+behind Is.Special25 = 202
+behind Is.Special26 = 203
+behind Is.Special27 = 204
+behind Is.Special28 = 205
+behind Is.Special29 = 206
+behind Is.Special30 = 207
+behind Is.Special31 = 208
+behind Is.SendNone = 224
+behind Is.SendOne = 240
+behind Is.SendTwo = 256
 
--- b is of kind k.
-pub record OfKind (b k : ℕ) : Type 0 where
+-- b is of the kind k.
+pub record OfKind (b : ℕ) (k : Kind) : Type 0 where
   pub from : first k ≤ b
-  pub below : b < first (suc k)
+  pub below : b < behind k

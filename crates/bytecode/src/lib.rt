@@ -8,6 +8,8 @@ ghost use Rattle.bytecode.specs.Table.{group_part, length_part, need_part, leave
 mod entries;
 mod kinds;
 
+use kinds::Kind;
+
 // Where a push or a store finds its operand. The number is a usize so that a place has more than 8 bytes: one of 2, 4 or 8 bytes is copied
 // as a single number, which hides its case from the compiler.
 #[derive(Clone, Copy)]
@@ -47,91 +49,91 @@ pub fn table() -> [u16; 256]
     entries::ENTRIES
 }
 
-fn wide(x: u16) -> usize
-    ensures { result ≡ x }
-{
-    x as usize
-}
+// A byte's entry in the table, widened: its parts stand in it from the high end, as specs/Table.antt says.
+#[derive(Clone, Copy)]
+pub struct TableEntry(pub usize);
 
-// A byte's entry in a lent table, widened: its parts are read by the functions below.
-pub fn entry(table: &[u16; 256], b: u8) -> usize
-    requires { IsTable table.now }
-    ensures { Entry b result }
-{
-    let i = b as usize;
-    wide(table[i])
-}
+impl TableEntry {
+    // A byte's entry in a lent table.
+    pub fn of(table: &[u16; 256], b: u8) -> TableEntry
+        requires { IsTable table.now }
+        ensures { Entry b result.0 }
+    {
+        TableEntry(usize::from(table[usize::from(b)]))
+    }
 
-pub fn entry_group(entry: usize) -> usize
-    ensures { result ≡ group_part entry }
-{
-    entry / 16384
-}
+    pub fn group(self) -> usize
+        ensures { result ≡ group_part self.0 }
+    {
+        self.0 / 16384
+    }
 
-pub fn entry_length(entry: usize) -> usize
-    ensures { result ≡ length_part entry }
-{
-    entry / 2048 % 8
-}
+    pub fn bytes(self) -> usize
+        ensures { result ≡ length_part self.0 }
+    {
+        self.0 / 2048 % 8
+    }
 
-pub fn entry_need(entry: usize) -> usize
-    ensures { result ≡ need_part entry }
-{
-    entry / 512 % 4
-}
+    pub fn need(self) -> usize
+        ensures { result ≡ need_part self.0 }
+    {
+        self.0 / 512 % 4
+    }
 
-pub fn entry_leaves(entry: usize) -> usize
-    ensures { result ≡ leaves_part entry }
-{
-    entry / 128 % 4
-}
+    pub fn leaves(self) -> usize
+        ensures { result ≡ leaves_part self.0 }
+    {
+        self.0 / 128 % 4
+    }
 
-pub fn entry_bound(entry: usize) -> usize
-    ensures { result ≡ bound_part entry }
-{
-    entry / 32 % 4
-}
+    pub fn bound(self) -> usize
+        ensures { result ≡ bound_part self.0 }
+    {
+        self.0 / 32 % 4
+    }
 
-pub fn entry_index(entry: usize) -> usize
-    ensures { result ≡ index_part entry }
-{
-    entry % 32
+    pub fn index(self) -> usize
+        ensures { result ≡ index_part self.0 }
+    {
+        self.0 % 32
+    }
 }
 
 // The operands that the sends 131 to 134 need beside those of their entry: `x` is the byte after b.
+#[tactic(auto, using(crate::proofs::Choice::ranges), unfolding(crate::specs::Table::extra_of))]
 pub fn extra(b: u8, x: u8) -> usize
     ensures { result ≡ extra_of b x }
 {
     match b {
-        131 => (x / 32) as usize,
-        132 => x as usize,
-        133 => (x / 32) as usize,
-        134 => x as usize,
+        131 | 133 => (x / 32) as usize,
+        132 | 134 => x as usize,
         _ => 0,
     }
 }
 
 // The code's byte at a position, high byte of a word first, with no test.
+#[tactic(auto, using(crate::proofs::Choice::ranges), unfolding(crate::specs::Code::byte_at))]
 pub fn fetch(words: &[u16], at: usize) -> u8
     requires { at / 2 < length words.now }
     ensures { result ≡ byte_at words.now at }
 {
-    let i = at / 2;
-    let w = words[i];
+    let w = words[at / 2];
     if at % 2 == 0 {
-        return (w / 256) as u8;
+        (w / 256) as u8
+    } else {
+        (w % 256) as u8
     }
-    (w % 256) as u8
 }
 
 // The same at every position: 0 past the end.
 pub fn byte(words: &[u16], at: usize) -> u8
     ensures { result ≡ byte_at words.now at }
 {
-    if words.len() <= at / 2 {
-        return 0;
+    if at / 2 < words.len() {
+        fetch(words, at)
+    } else {
+        0
     }
-    fetch(words, at)
 }
 
 // The byte `k` further on; 0 where no word stands, so that the sum is made only where it fits.
@@ -139,25 +141,29 @@ fn byte_after(words: &[u16], at: usize, k: usize) -> u8
     requires { k ≤ 2 }
     ensures { result ≡ byte_at words.now (at + k) }
 {
-    if words.len() <= at / 2 {
-        return 0;
+    if at / 2 < words.len() {
+        byte(words, at + k)
+    } else {
+        0
     }
-    byte(words, at + k)
 }
 
-// The byte of 128, 129 and 130 that names a place.
+// The byte of 128, 129 and 130 that names a place. By `x / 64`: single numbers become a jump by a table, ranges a row of tests.
+#[tactic(auto, using(crate::proofs::Choice::ranges), unfolding(crate::specs::Code::place_of))]
 pub fn place_of(x: u8) -> Place
     ensures { result ≡ place_of x }
 {
+    let i = (x % 64) as usize;
     match x / 64 {
-        0 => Place::Field((x % 64) as usize),
-        1 => Place::Temporary((x % 64) as usize),
-        2 => Place::Literal((x % 64) as usize),
-        _ => Place::LiteralVariable((x % 64) as usize),
+        0 => Place::Field(i),
+        1 => Place::Temporary(i),
+        2 => Place::Literal(i),
+        _ => Place::LiteralVariable(i),
     }
 }
 
 // 112 to 127.
+#[tactic(auto, using(crate::proofs::Choice::ranges), unfolding(crate::specs::Code::constant_of))]
 fn constant(b: u8) -> Instruction
     requires { 112 ≤ b }
     ensures { result ≡ constant_of b }
@@ -192,7 +198,7 @@ fn pop_store(b: u8) -> Instruction
     Instruction::PopStore(Place::Temporary(i))
 }
 
-// 0 to 127, by rows of 16.
+// 0 to 127, by rows of 16: single numbers become a jump by a table, ranges and `2 | 3` a row of tests.
 fn short(b: u8) -> Instruction
     requires { b < 128 }
     ensures { (following : ℕ → ℕ) → result ≡ instruction_of b following }
@@ -212,41 +218,32 @@ fn short(b: u8) -> Instruction
 }
 
 // 128 to 131 and 133, which one byte follows.
+#[tactic(auto, using(crate::proofs::Choice::ranges), unfolding(crate::specs::Code::extended_of))]
 fn extended(b: u8, x: u8) -> Instruction
     requires { (128 ≤ b) × (b < 134) × (b ≡ 132 → ⊥) }
     ensures { (following : ℕ → ℕ) → x ≡ following 1 → result ≡ extended_of b following }
 {
-    let low = x % 32;
-    let high = x / 32;
+    let literal = x % 32;
+    let arguments = x / 32;
     match b {
         128 => Instruction::Push(place_of(x)),
         129 => Instruction::Store(place_of(x)),
         130 => Instruction::PopStore(place_of(x)),
-        131 => Instruction::Send {
-            literal: low,
-            arguments: high,
-        },
-        _ => Instruction::SuperSend {
-            literal: low,
-            arguments: high,
-        },
+        131 => Instruction::Send { literal, arguments },
+        _ => Instruction::SuperSend { literal, arguments },
     }
 }
 
 // 132 and 134, which two bytes follow.
+#[tactic(auto, using(crate::proofs::Choice::ranges), unfolding(crate::specs::Code::extended_of))]
 fn double_extended(b: u8, x: u8, y: u8) -> Instruction
     requires { (132 ≤ b) × (b < 135) × (b ≡ 133 → ⊥) }
     ensures { (following : ℕ → ℕ) → x ≡ following 1 → y ≡ following 2 → result ≡ extended_of b following }
 {
-    if b == 132 {
-        return Instruction::Send {
-            literal: y,
-            arguments: x,
-        };
-    }
-    Instruction::SuperSend {
-        literal: y,
-        arguments: x,
+    let (literal, arguments) = (y, x);
+    match b {
+        132 => Instruction::Send { literal, arguments },
+        _ => Instruction::SuperSend { literal, arguments },
     }
 }
 
@@ -272,6 +269,7 @@ fn extended_at(words: &[u16], size: usize, at: usize, b: u8) -> Instruction
 }
 
 // 135 to 143.
+#[tactic(auto, using(crate::proofs::Choice::ranges), unfolding(crate::specs::Code::extended_of))]
 fn pop_or_duplicate(b: u8) -> Instruction
     requires { 135 ≤ b }
     ensures { (following : ℕ → ℕ) → result ≡ extended_of b following }
@@ -290,14 +288,11 @@ fn near(b: u8) -> Instruction
 {
     let ahead = (b % 8) as u16 + 1;
     if b < 152 {
-        return Instruction::Jump {
-            ahead: ahead,
-            back: 0,
-        };
+        return Instruction::Jump { ahead, back: 0 };
     }
     Instruction::JumpOn {
         condition: false,
-        ahead: ahead,
+        ahead,
     }
 }
 
@@ -316,12 +311,12 @@ fn far(b: u8, x: u8) -> Instruction
     if b < 172 {
         return Instruction::JumpOn {
             condition: true,
-            ahead: ahead,
+            ahead,
         };
     }
     Instruction::JumpOn {
         condition: false,
-        ahead: ahead,
+        ahead,
     }
 }
 
@@ -340,7 +335,7 @@ fn send(b: u8) -> Instruction
 }
 
 // The instruction at a position of code of `size` bytes: `Unused` outside, and where it is not whole. A byte is fetched only where the
-// instruction has it.
+// instruction has it. By tests one after another: as a match of ranges the walk of check takes a quarter more time.
 pub fn decode(words: &[u16], size: usize, at: usize) -> Instruction
     ensures { result ≡ decode_at words.now size at }
 {
@@ -380,10 +375,7 @@ pub struct Decoded {
 fn ends(instruction: Instruction, next: usize) -> Decoded
     ensures { result ≡ record { instruction = instruction; next = next } }
 {
-    Decoded {
-        instruction: instruction,
-        next: next,
-    }
+    Decoded { instruction, next }
 }
 
 // The decoder of the run loop, its only caller: see docs/DECISIONS.md, "The run loop". Each kind of byte has an arm, which
@@ -394,46 +386,46 @@ pub fn instruction_at(words: &[u16], at: usize) -> Decoded
         × (result.next ≡ next_at words.now at) }
 {
     let b = fetch(words, at);
-    match kinds::kind(b) {
-        0 => ends(Instruction::Push(Place::Field((b % 16) as usize)), at + 1),
-        1 => ends(
+    match Kind::of(b) {
+        Kind::PushField => ends(Instruction::Push(Place::Field((b % 16) as usize)), at + 1),
+        Kind::PushTemporary => ends(
             Instruction::Push(Place::Temporary((b % 16) as usize)),
             at + 1,
         ),
-        2 => ends(Instruction::Push(Place::Literal((b % 32) as usize)), at + 1),
-        3 => ends(
+        Kind::PushLiteral => ends(Instruction::Push(Place::Literal((b % 32) as usize)), at + 1),
+        Kind::PushLiteralVariable => ends(
             Instruction::Push(Place::LiteralVariable((b % 32) as usize)),
             at + 1,
         ),
-        4 => ends(
+        Kind::PopField => ends(
             Instruction::PopStore(Place::Field((b % 8) as usize)),
             at + 1,
         ),
-        5 => ends(
+        Kind::PopTemporary => ends(
             Instruction::PopStore(Place::Temporary((b % 8) as usize)),
             at + 1,
         ),
-        6 => ends(Instruction::PushSelf, at + 1),
-        7 => ends(Instruction::PushConstant(6), at + 1),
-        8 => ends(Instruction::PushConstant(4), at + 1),
-        9 => ends(Instruction::PushConstant(2), at + 1),
-        10 => ends(Instruction::PushConstant(65535), at + 1),
-        11 => ends(Instruction::PushConstant(1), at + 1),
-        12 => ends(Instruction::PushConstant(3), at + 1),
-        13 => ends(Instruction::PushConstant(5), at + 1),
-        14 => ends(Instruction::ReturnSelf, at + 1),
-        15 => ends(Instruction::ReturnConstant(6), at + 1),
-        16 => ends(Instruction::ReturnConstant(4), at + 1),
-        17 => ends(Instruction::ReturnConstant(2), at + 1),
-        18 => ends(Instruction::ReturnTop, at + 1),
-        19 => ends(Instruction::Unused, at + 1),
-        20 => ends(Instruction::Push(place_of(fetch(words, at + 1))), at + 2),
-        21 => ends(Instruction::Store(place_of(fetch(words, at + 1))), at + 2),
-        22 => ends(
+        Kind::PushSelf => ends(Instruction::PushSelf, at + 1),
+        Kind::PushTrue => ends(Instruction::PushConstant(6), at + 1),
+        Kind::PushFalse => ends(Instruction::PushConstant(4), at + 1),
+        Kind::PushNil => ends(Instruction::PushConstant(2), at + 1),
+        Kind::PushMinusOne => ends(Instruction::PushConstant(65535), at + 1),
+        Kind::PushZero => ends(Instruction::PushConstant(1), at + 1),
+        Kind::PushOne => ends(Instruction::PushConstant(3), at + 1),
+        Kind::PushTwo => ends(Instruction::PushConstant(5), at + 1),
+        Kind::ReturnSelf => ends(Instruction::ReturnSelf, at + 1),
+        Kind::ReturnTrue => ends(Instruction::ReturnConstant(6), at + 1),
+        Kind::ReturnFalse => ends(Instruction::ReturnConstant(4), at + 1),
+        Kind::ReturnNil => ends(Instruction::ReturnConstant(2), at + 1),
+        Kind::ReturnTop => ends(Instruction::ReturnTop, at + 1),
+        Kind::UnusedShort => ends(Instruction::Unused, at + 1),
+        Kind::ExtendedPush => ends(Instruction::Push(place_of(fetch(words, at + 1))), at + 2),
+        Kind::ExtendedStore => ends(Instruction::Store(place_of(fetch(words, at + 1))), at + 2),
+        Kind::ExtendedPop => ends(
             Instruction::PopStore(place_of(fetch(words, at + 1))),
             at + 2,
         ),
-        23 => {
+        Kind::ExtendedSend => {
             let x = fetch(words, at + 1);
             ends(
                 Instruction::Send {
@@ -443,7 +435,7 @@ pub fn instruction_at(words: &[u16], at: usize) -> Decoded
                 at + 2,
             )
         },
-        24 => {
+        Kind::LongSend => {
             let x = fetch(words, at + 1);
             let y = fetch(words, at + 2);
             ends(
@@ -454,7 +446,7 @@ pub fn instruction_at(words: &[u16], at: usize) -> Decoded
                 at + 3,
             )
         },
-        25 => {
+        Kind::ExtendedSuper => {
             let x = fetch(words, at + 1);
             ends(
                 Instruction::SuperSend {
@@ -464,7 +456,7 @@ pub fn instruction_at(words: &[u16], at: usize) -> Decoded
                 at + 2,
             )
         },
-        26 => {
+        Kind::LongSuper => {
             let x = fetch(words, at + 1);
             let y = fetch(words, at + 2);
             ends(
@@ -475,91 +467,91 @@ pub fn instruction_at(words: &[u16], at: usize) -> Decoded
                 at + 3,
             )
         },
-        27 => ends(Instruction::Pop, at + 1),
-        28 => ends(Instruction::Duplicate, at + 1),
-        29 => ends(Instruction::Unused, at + 1),
-        30 => ends(
+        Kind::Pop => ends(Instruction::Pop, at + 1),
+        Kind::Duplicate => ends(Instruction::Duplicate, at + 1),
+        Kind::UnusedLong => ends(Instruction::Unused, at + 1),
+        Kind::ShortJump => ends(
             Instruction::Jump {
                 ahead: (b % 8) as u16 + 1,
                 back: 0,
             },
             at + 1,
         ),
-        31 => ends(
+        Kind::ShortJumpOn => ends(
             Instruction::JumpOn {
                 condition: false,
                 ahead: (b % 8) as u16 + 1,
             },
             at + 1,
         ),
-        32 => ends(
+        Kind::Jump => ends(
             Instruction::Jump {
                 ahead: (b % 8) as u16 * 256 + fetch(words, at + 1) as u16,
                 back: 1024,
             },
             at + 2,
         ),
-        33 => ends(
+        Kind::JumpOnTrue => ends(
             Instruction::JumpOn {
                 condition: true,
                 ahead: (b % 4) as u16 * 256 + fetch(words, at + 1) as u16,
             },
             at + 2,
         ),
-        34 => ends(
+        Kind::JumpOnFalse => ends(
             Instruction::JumpOn {
                 condition: false,
                 ahead: (b % 4) as u16 * 256 + fetch(words, at + 1) as u16,
             },
             at + 2,
         ),
-        35 => ends(Instruction::SpecialSend(0), at + 1),
-        36 => ends(Instruction::SpecialSend(1), at + 1),
-        37 => ends(Instruction::SpecialSend(2), at + 1),
-        38 => ends(Instruction::SpecialSend(3), at + 1),
-        39 => ends(Instruction::SpecialSend(4), at + 1),
-        40 => ends(Instruction::SpecialSend(5), at + 1),
-        41 => ends(Instruction::SpecialSend(6), at + 1),
-        42 => ends(Instruction::SpecialSend(7), at + 1),
-        43 => ends(Instruction::SpecialSend(8), at + 1),
-        44 => ends(Instruction::SpecialSend(9), at + 1),
-        45 => ends(Instruction::SpecialSend(10), at + 1),
-        46 => ends(Instruction::SpecialSend(11), at + 1),
-        47 => ends(Instruction::SpecialSend(12), at + 1),
-        48 => ends(Instruction::SpecialSend(13), at + 1),
-        49 => ends(Instruction::SpecialSend(14), at + 1),
-        50 => ends(Instruction::SpecialSend(15), at + 1),
-        51 => ends(Instruction::SpecialSend(16), at + 1),
-        52 => ends(Instruction::SpecialSend(17), at + 1),
-        53 => ends(Instruction::SpecialSend(18), at + 1),
-        54 => ends(Instruction::SpecialSend(19), at + 1),
-        55 => ends(Instruction::SpecialSend(20), at + 1),
-        56 => ends(Instruction::SpecialSend(21), at + 1),
-        57 => ends(Instruction::SpecialSend(22), at + 1),
-        58 => ends(Instruction::SpecialSend(23), at + 1),
-        59 => ends(Instruction::SpecialSend(24), at + 1),
-        60 => ends(Instruction::SpecialSend(25), at + 1),
-        61 => ends(Instruction::SpecialSend(26), at + 1),
-        62 => ends(Instruction::SpecialSend(27), at + 1),
-        63 => ends(Instruction::SpecialSend(28), at + 1),
-        64 => ends(Instruction::SpecialSend(29), at + 1),
-        65 => ends(Instruction::SpecialSend(30), at + 1),
-        66 => ends(Instruction::SpecialSend(31), at + 1),
-        67 => ends(
+        Kind::Special0 => ends(Instruction::SpecialSend(0), at + 1),
+        Kind::Special1 => ends(Instruction::SpecialSend(1), at + 1),
+        Kind::Special2 => ends(Instruction::SpecialSend(2), at + 1),
+        Kind::Special3 => ends(Instruction::SpecialSend(3), at + 1),
+        Kind::Special4 => ends(Instruction::SpecialSend(4), at + 1),
+        Kind::Special5 => ends(Instruction::SpecialSend(5), at + 1),
+        Kind::Special6 => ends(Instruction::SpecialSend(6), at + 1),
+        Kind::Special7 => ends(Instruction::SpecialSend(7), at + 1),
+        Kind::Special8 => ends(Instruction::SpecialSend(8), at + 1),
+        Kind::Special9 => ends(Instruction::SpecialSend(9), at + 1),
+        Kind::Special10 => ends(Instruction::SpecialSend(10), at + 1),
+        Kind::Special11 => ends(Instruction::SpecialSend(11), at + 1),
+        Kind::Special12 => ends(Instruction::SpecialSend(12), at + 1),
+        Kind::Special13 => ends(Instruction::SpecialSend(13), at + 1),
+        Kind::Special14 => ends(Instruction::SpecialSend(14), at + 1),
+        Kind::Special15 => ends(Instruction::SpecialSend(15), at + 1),
+        Kind::Special16 => ends(Instruction::SpecialSend(16), at + 1),
+        Kind::Special17 => ends(Instruction::SpecialSend(17), at + 1),
+        Kind::Special18 => ends(Instruction::SpecialSend(18), at + 1),
+        Kind::Special19 => ends(Instruction::SpecialSend(19), at + 1),
+        Kind::Special20 => ends(Instruction::SpecialSend(20), at + 1),
+        Kind::Special21 => ends(Instruction::SpecialSend(21), at + 1),
+        Kind::Special22 => ends(Instruction::SpecialSend(22), at + 1),
+        Kind::Special23 => ends(Instruction::SpecialSend(23), at + 1),
+        Kind::Special24 => ends(Instruction::SpecialSend(24), at + 1),
+        Kind::Special25 => ends(Instruction::SpecialSend(25), at + 1),
+        Kind::Special26 => ends(Instruction::SpecialSend(26), at + 1),
+        Kind::Special27 => ends(Instruction::SpecialSend(27), at + 1),
+        Kind::Special28 => ends(Instruction::SpecialSend(28), at + 1),
+        Kind::Special29 => ends(Instruction::SpecialSend(29), at + 1),
+        Kind::Special30 => ends(Instruction::SpecialSend(30), at + 1),
+        Kind::Special31 => ends(Instruction::SpecialSend(31), at + 1),
+        Kind::SendNone => ends(
             Instruction::Send {
                 literal: b % 16,
                 arguments: 0,
             },
             at + 1,
         ),
-        68 => ends(
+        Kind::SendOne => ends(
             Instruction::Send {
                 literal: b % 16,
                 arguments: 1,
             },
             at + 1,
         ),
-        _ => ends(
+        Kind::SendTwo => ends(
             Instruction::Send {
                 literal: b % 16,
                 arguments: 2,

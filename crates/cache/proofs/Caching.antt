@@ -1,17 +1,17 @@
 -- An entry of the cache that has a selector and a class, and one that is filled.
 use Prim.Native.Nat.{ℕ, suc, ◌+◌, ◌/◌, ◌%◌, ◌≤◌, ◌<◌}
 use mathlib.Core.Path.{◌≡◌, refl, sym, ap, ◌∙◌, subst}
-use mathlib.Core.Bool.{Bool, true, false, ◌&&◌}
+use mathlib.Core.Bool.{Bool, true, ◌&&◌}
 use mathlib.Core.List.{List}
 use native.Mathlib.Omega.{arith}
-use borrow.Author.Tests.{eq-eqb, ne_eqb}
+use borrow.Author.Tests.{ne_eqb}
 use lib.Dec.{T, eqb, eqb→eq}
 use lib.ListN.{get_or, set}
 use lib.Seq.{set-get_or}
 use lib.Bits.{bit_and}
 use Rattle.bytecode.proofs.TestLaws.{true→T, and_left, and_right, below_at}
-use Rattle.model.specs.declared.Found.{Found}
-use Rattle.model.specs.declared.Found.TheVariants.{Method, Nothing}
+use Rattle.std.specs.Prelude.{Option, Some, None}
+use Rattle.model.specs.declared.Pointer.{Pointer}
 use Rattle.model.specs.Limits.{cache_entries}
 use Rattle.model.specs.Objects.{Objects, objects_at}
 use Rattle.model.specs.Lookup.{found, lookup, dictionaries_read}
@@ -24,21 +24,15 @@ unfolding cache_entry_of
 entry_is s c = refl
 
 -- the test of an entry, and what it says
-pub test_no : (x y s c : ℕ) → (x ≡ s → ⊥) → false ≡ (eqb x s && eqb y c)
-test_no x y s c h = ap (λ (b : Bool). b && eqb y c) (sym (ne_eqb x s h))
-
-pub test_yes : (x y s c : ℕ) → x ≡ s → eqb y c ≡ (eqb x s && eqb y c)
-test_yes x y s c h = ap (λ (b : Bool). b && eqb y c) (sym (eq-eqb x s h))
-
 pub entry_of : {b : Bool} (x y s c : ℕ) → b ≡ (eqb x s && eqb y c) → b ≡ true → (x ≡ s) × (y ≡ c)
 entry_of x y s c e h =
     let t : T (eqb x s && eqb y c) = true→T (sym e ∙ h) in
     (eqb→eq x s (and_left (eqb x s) (eqb y c) t), eqb→eq y c (and_right (eqb x s) (eqb y c) t))
 
 module _ (o : Objects) where
-  found_is : (x : Found) (m : ℕ) → T (finds x m) → found m ≡ x
-  found_is (Method k) m t = ap found (sym (eqb→eq k.0 m t))
-  found_is Nothing m t = absurd t
+  found_is : (x : Option Pointer) (m : ℕ) → T (finds x m) → found m ≡ x
+  found_is (Some k) m t = ap found (sym (eqb→eq k.0 m t))
+  found_is None m t = absurd t
 
   -- no selector is 0, so the entry is not an empty one
   fine_found : (s c m k : ℕ) → 1 ≤ s → T (cached_right o s c m k) → (found m ≡ lookup o s c) × (k ≡ dictionaries_read o s c)
@@ -93,9 +87,9 @@ found_kept {cache = cache} {selector = s} {class = c} k named f d =
           let h = cached_found _ cache s c (cache_entry_of s c) k.fine named (entry_below s c) p q in (ap method_of (h.0 ∙ f), h.1 ∙ sym d);
     }
   where
-    method_of : Found → ℕ
-    method_of (Method x) = x.0
-    method_of Nothing = 0
+    method_of : Option Pointer → ℕ
+    method_of (Some x) = x.0
+    method_of None = 0
 
 -- what is filled in then is there
 words_same : (l : List ℕ) (i j k h : ℕ) {x y z w : ℕ} → get_or l i 0 ≡ x → get_or l j 0 ≡ y → get_or l k 0 ≡ z → get_or l h 0 ≡ w → set (set (set (set l i x) j y) k z) h w ≡ l

@@ -3,22 +3,24 @@
 
 ghost use Rattle.std.specs.Prelude.{◌≡◌, ◌&&◌, ◌+◌, ◌<◌, eqb, length, get_or};
 ghost use Rattle.model.specs.Limits.{cache_entries, cache_words};
-ghost use Rattle.model.specs.Objects.{objects_at};
 ghost use Rattle.model.specs.Rules.{IsRight};
 ghost use Rattle.plain.specs.Step.{looked};
 ghost use Rattle.plain.specs.Cache.{cache_entry_of, filled, cached_right, cache_fine};
 ghost use Rattle.cache.specs.Caches.{Asks, LookupIs, Kept};
+ghost use Rattle.readers.specs.Lent.{objects_in, In};
 
-use model::{Found, Pointer, limits};
+use model::{Pointer, limits};
+use readers::Memory;
 
 const CACHE_ENTRIES: usize = 64;
 // selector, class, method, dictionaries
 const CACHE_ENTRY_WORDS: usize = 4;
 
-// What a lookup comes to, by the cache or not: what it found, and how many dictionaries the plain walk reads.
+// What a lookup comes to, by the cache or not: what it found, and how many dictionaries the plain walk reads. It is no `objects::Search`: the cache does not know
+// how many pairs were read.
 #[derive(Clone, Copy)]
 pub struct Lookup {
-    pub found: Found,
+    pub found: Option<Pointer>,
     pub dictionaries: usize,
 }
 
@@ -34,37 +36,25 @@ fn is_of(cache: &[u16], at: usize, selector: u16, class: u16) -> bool
     requires { at + 1 < length cache.now }
     ensures { result ≡ (eqb (get_or cache.now at 0) selector && eqb (get_or cache.now (at + 1) 0) class) }
 {
-    if cache[at] != selector {
-        return false;
-    }
-    cache[at + 1] == class
+    cache[at] == selector && cache[at + 1] == class
 }
 
 // A lookup, by the cache where it has it.
-pub fn cached(
-    contents: &[u16],
-    bodies: &[u16],
-    cache: &[u16],
-    n: usize,
-    b: usize,
-    selector: u16,
-    class: Pointer,
-) -> Lookup
-    requires { Asks n b contents.now bodies.now cache.now selector class.0 }
-    ensures { LookupIs (objects_at n b contents.now bodies.now) selector class.0 result }
+pub fn cached(memory: &Memory, cache: &[u16], selector: u16, class: Pointer) -> Lookup
+    requires { In Asks memory.now cache.now selector class.0 }
+    ensures { LookupIs (objects_in memory.now) selector class.0 result }
 {
     let at = CACHE_ENTRY_WORDS * entry(selector, class.0);
     if is_of(cache, at, selector, class.0) {
         return Lookup {
-            found: Found::Method(Pointer(cache[at + 2])),
+            found: Some(Pointer(cache[at + 2])),
             dictionaries: cache[at + 3] as usize,
         };
     }
     // called at one place: from a second the compiler would put the walk into the run loop once more
-    let search = objects::lookup(contents, bodies, n, b, selector, class);
-    let found = search.found;
+    let search = objects::lookup(memory, selector, class);
     Lookup {
-        found: found,
+        found: search.found,
         dictionaries: search.dictionaries,
     }
 }
@@ -87,64 +77,36 @@ pub fn fill(cache: &mut [u16], selector: u16, class: Pointer, method: Pointer, d
 fn is_empty(s: u16, class: u16, m: u16, k: u16) -> bool
     ensures { result ≡ (eqb s 0 && (eqb class 0 && (eqb m 0 && eqb k 0))) }
 {
-    if s != 0 {
-        return false;
-    }
-    if class != 0 {
-        return false;
-    }
-    if m != 0 {
-        return false;
-    }
-    k == 0
+    s == 0 && class == 0 && m == 0 && k == 0
 }
 
 // An entry of the cache: selector, class, method, dictionaries.
-fn cached_right(
-    contents: &[u16],
-    bodies: &[u16],
-    n: usize,
-    b: usize,
-    s: u16,
-    class: u16,
-    m: u16,
-    k: u16,
-) -> bool
-    requires { IsRight (objects_at n b contents.now bodies.now) }
-    ensures { result ≡ cached_right (objects_at n b contents.now bodies.now) s class m k }
+fn cached_right(memory: &Memory, s: u16, class: u16, m: u16, k: u16) -> bool
+    requires { IsRight (objects_in memory.now) }
+    ensures { result ≡ cached_right (objects_in memory.now) s class m k }
 {
     if is_empty(s, class, m, k) {
         return true;
     }
-    if !readers::is_kind(contents, n, limits::CLASS, class) {
+    if !memory.is_kind(limits::CLASS, class) {
         return false;
     }
-    let search = objects::lookup(contents, bodies, n, b, s, Pointer(class));
-    let found = search.found;
-    match found {
-        Found::Method(held) => {
-            if held.0 != m {
-                return false;
-            }
-            k as usize == search.dictionaries
-        }
-        Found::Nothing => false,
+    let search = objects::lookup(memory, s, Pointer(class));
+    match search.found {
+        Some(held) => held.0 == m && k as usize == search.dictionaries,
+        None => false,
     }
 }
 
 // Every entry of the cache is empty or what lookup finds.
-pub fn cache_fine(contents: &[u16], bodies: &[u16], cache: &[u16], n: usize, b: usize) -> bool
-    requires { IsRight (objects_at n b contents.now bodies.now) × (length cache.now ≡ cache_words) }
-    ensures { result ≡ cache_fine (objects_at n b contents.now bodies.now) cache.now }
+pub fn cache_fine(memory: &Memory, cache: &[u16]) -> bool
+    requires { IsRight (objects_in memory.now) × (length cache.now ≡ cache_words) }
+    ensures { result ≡ cache_fine (objects_in memory.now) cache.now }
 {
-    let mut i = 0;
-    while i < CACHE_ENTRIES {
+    for i in 0..CACHE_ENTRIES {
         let at = CACHE_ENTRY_WORDS * i;
         if !cached_right(
-            contents,
-            bodies,
-            n,
-            b,
+            memory,
             cache[at],
             cache[at + 1],
             cache[at + 2],
@@ -152,7 +114,6 @@ pub fn cache_fine(contents: &[u16], bodies: &[u16], cache: &[u16], n: usize, b: 
         ) {
             return false;
         }
-        i += 1;
     }
     true
 }

@@ -1,13 +1,15 @@
 -- Lists of calls in words, and the words of their answers.
 use Prim.Native.Nat.{ℕ, zero, suc, ◌+◌, ◌*◌, ◌-◌, ◌≤◌, ◌<◌}
 use mathlib.Core.Path.{◌≡◌, refl, sym, ap, ◌∙◌}
-use mathlib.Core.List.{List, [], ◌∷◌, ◌++◌}
+use mathlib.Core.List.{List, [], ◌∷◌, ◌++◌, append_assoc}
 use native.Mathlib.Omega.{arith}
 use native.Mathlib.Decide.{dec_lt, ℕ_discrete}
 use borrow.Author.Tests.{lt-ltb, le-ltb, le-leb, lt-leb, eq-eqb, ne_eqb}
 use lib.Dec.{ltb, eqb}
-use lib.ListN.{length, get_or, set, take, drop, length-append}
-use lib.Seq.{sets, sets-eq, take_at, drop_at, length-take-le}
+use lib.ListN.{length, get_or, take, drop, length-append}
+use lib.Seq.{sets, sets-eq, drop-drop, take_at, drop_at, length-take-le}
+use borrow.Rule.Slice.PartMut.{put_mid}
+use Rattle.std.specs.Prelude.{Option, Some, None, MatchOption, SomeIff}
 use Rattle.bytecode.specs.Test.{when◌then◌else◌}
 use Rattle.bytecode.proofs.Choice.{if_yes, if_no}
 use Rattle.model.specs.Objects.{part}
@@ -32,7 +34,18 @@ unknown_example = refl
 
 -- ---- the call at a position
 
+not_le : (m n : ℕ) → (m ≤ n → ⊥) → n < m
+not_le m n h = go (dec_lt n m)
+  where
+    go : Dec (n < m) → n < m
+    go (yes l) = l
+    go (no l) = absurd (h (omega arith))
+
 module _ (words : List ℕ) (i : ℕ) where
+  -- the size, where a call stands at i
+  abbrev Sized : Option ℕ → Type 0
+  Sized r = MatchOption r (size_at words i ≡ 0) (λ size. (size ≡ size_at words i) × (1 ≤ size))
+
   pub size_past : length words ≤ i → size_at words i ≡ 0
   unfolding size_at
   size_past h = if_yes _ _ (le-leb (length words) i h)
@@ -61,6 +74,10 @@ module _ (words : List ℕ) (i : ℕ) where
           size_in ∙ if_yes _ _ (eq-eqb (get_or words i 0) 0 k) ∙ if_no _ _ (le-ltb (length words - i) 4 h)
           ∙ if_no _ _ (le-ltb (length words - i) (4 + get_or words (i + 3) 0) l)
 
+      pub sized_begin : 4 ≤ length words - i → (r : Option ℕ) → SomeIff r (4 + get_or words (i + 3) 0 ≤ length words - i) (4 + get_or words (i + 3) 0) → Sized r
+      sized_begin h None e = size_begin_cut h (not_le _ _ e)
+      sized_begin h (Some n) e = (e.1 ∙ sym (size_begin h e.0), let q = e.1 in omega arith)
+
       pub begin_fits : 1 ≤ size_at words i → i + (4 + get_or words (i + 3) 0) ≤ length words
       begin_fits s = go (dec_lt (length words - i) 4) (dec_lt (length words - i) (4 + get_or words (i + 3) 0))
         where
@@ -80,6 +97,10 @@ module _ (words : List ℕ) (i : ℕ) where
       pub size_run : 3 ≤ length words - i → size_at words i ≡ 3
       size_run h =
           size_in ∙ if_no _ _ (ne_eqb (get_or words i 0) 0 not_0) ∙ if_yes _ _ (eq-eqb (get_or words i 0) 1 k) ∙ if_no _ _ (le-ltb (length words - i) 3 h)
+
+      pub sized_run : (r : Option ℕ) → SomeIff r (3 ≤ length words - i) 3 → Sized r
+      sized_run None e = size_run_short (not_le _ _ e)
+      sized_run (Some n) e = (e.1 ∙ sym (size_run e.0), let q = e.1 in omega arith)
 
       pub run_fits : 1 ≤ size_at words i → i + 3 ≤ length words
       run_fits s = go (dec_lt (length words - i) 3)
@@ -101,6 +122,14 @@ module _ (words : List ℕ) (i : ℕ) where
 
         pub size_other : (get_or words i 0 ≡ 3 → ⊥) → size_at words i ≡ 0
         size_other k = size_later ∙ if_no _ _ (ne_eqb (get_or words i 0) 2 c) ∙ if_no _ _ (ne_eqb (get_or words i 0) 3 k)
+
+    -- drop or forget
+    pub size_one : 2 ≤ get_or words i 0 → get_or words i 0 ≤ 3 → size_at words i ≡ 1
+    size_one l m = go (ℕ_discrete (get_or words i 0) 2)
+      where
+        go : Dec (get_or words i 0 ≡ 2) → size_at words i ≡ 1
+        go (yes k) = size_drop (λ z. omega arith) (λ z. omega arith) k
+        go (no k) = size_forget (λ z. omega arith) (λ z. omega arith) k (omega arith)
 
   -- a call has a place, and ends within the words
   pub within : 1 ≤ size_at words i → i < length words
@@ -207,27 +236,13 @@ module _ (l ws : List ℕ) (at n : ℕ) (count : length ws ≡ n) (room : at + n
   pub put_behind : drop (at + n) (sets l at ws) ≡ drop (at + n) l
   put_behind = ap (drop (at + n)) put_is ∙ drop_at (take at l ++ ws) (drop (at + n) l) (at + n) long
 
-pub puts : (l : List ℕ) (at a b c d e f g : ℕ)
-    → set (set (set (set (set (set (set l at a) (at + 1) b) (at + 2) c) (at + 3) d) (at + 4) e) (at + 5) f) (at + 6) g ≡ sets l at (a ∷ b ∷ c ∷ d ∷ e ∷ f ∷ g ∷ [])
-puts l at a b c d e f g = λ i. set (set (set (set (set (set (set l at a) (one at i) b) (two at i) c) (three at i) d) (four at i) e) (five at i) f) (six at i) g
-  where
-    one : (x : ℕ) → x + 1 ≡ suc x
-    one x = omega arith
-
-    two : (x : ℕ) → x + 2 ≡ suc (suc x)
-    two x = omega arith
-
-    three : (x : ℕ) → x + 3 ≡ suc (suc (suc x))
-    three x = omega arith
-
-    four : (x : ℕ) → x + 4 ≡ suc (suc (suc (suc x)))
-    four x = omega arith
-
-    five : (x : ℕ) → x + 5 ≡ suc (suc (suc (suc (suc x))))
-    five x = omega arith
-
-    six : (x : ℕ) → x + 6 ≡ suc (suc (suc (suc (suc (suc x)))))
-    six x = omega arith
+-- words written over a part
+pub put_part : (l ws : List ℕ) (at n k : ℕ) → length ws ≡ n → k ≡ n → at + n ≤ length l → put_mid at k l ws ≡ sets l at ws
+put_part l ws at n k count q room =
+    ap (λ (x : ℕ). put_mid at x l ws) (q ∙ sym count)
+    ∙ ap (λ (x : List ℕ). take at l ++ (ws ++ x)) (drop-drop (length ws) at l)
+    ∙ sym (append_assoc (take at l) ws (drop (at + length ws) l))
+    ∙ sym (sets-eq ws l at (omega arith))
 
 -- The two words of a number are the number, and each fits in 32 bits.
 pub words_are : (n : ℕ) → n < 18446744073709551616 → (4294967296 * high_word n + low_word n ≡ n) × (high_word n < 4294967296) × (low_word n < 4294967296)

@@ -87,11 +87,11 @@ module _ (words answers₀ : List ℕ) (s₀ s : Flat) (answers : List ℕ) (i k
   pub ends_full : (room : ℕ) → room ≡ answer_room answers₀ → room ≤ k → Plays words answers₀ s₀ k s answers
   ends_full room is h = ended (left_full (answer_room answers₀ - k) (length words - k) i words (omega arith))
 
-  pub ends_none : (n : ℕ) → n ≡ size_at words i → n ≡ 0 → Plays words answers₀ s₀ k s answers
-  ends_none n e z = ended (left_none (answer_room answers₀ - k) (length words - k) i words (sym e ∙ z))
+  pub ends_none : size_at words i ≡ 0 → Plays words answers₀ s₀ k s answers
+  ends_none z = ended (left_none (answer_room answers₀ - k) (length words - k) i words z)
 
   -- one more call
-  module _ (room : ℕ) (is : room ≡ answer_room answers₀) (below : k < room) (n : ℕ) (sized : n ≡ size_at words i) (some : n ≡ 0 → ⊥) where
+  module _ (room : ℕ) (is : room ≡ answer_room answers₀) (below : k < room) (n : ℕ) (sized : n ≡ size_at words i) (some : 1 ≤ n) where
     free : k < answer_room answers₀
     free = subst (λ (m : ℕ). k < m) is below
 

@@ -1,15 +1,12 @@
 // A list of calls in words, and the words of their answers: specs/Encoding.antt has both.
 #![tactic(auto)]
 
-ghost use Rattle.std.specs.Prelude.{◌≡◌, [], ◌∷◌, ◌+◌, ◌/◌, ◌≤◌, min, length, get_or};
+ghost use Rattle.std.specs.Prelude.{◌≡◌, [], ◌∷◌, ◌+◌, ◌/◌, ◌≤◌, min, length, get_or, MatchOption, SomeIff};
 ghost use Rattle.std.proofs.lemmas.List.Edits.{sets};
 ghost use Rattle.plain.specs.Calls.{run_call};
 ghost use Rattle.calls.specs.Encoding.{size_at, begin_at, run_length, call_at, answer_size, high_word, low_word};
 ghost use Rattle.calls.specs.Plays.{most_calls};
 ghost use Rattle.calls.specs.Listing.{listed, Inside};
-
-// What 32 bits count.
-const MOST_CALLS: u32 = 4294967295;
 
 // How many words an answer has.
 pub const ANSWER_SIZE: usize = 7;
@@ -28,38 +25,55 @@ pub enum Listed {
     Forget,
 }
 
-// The number of words of the call at i, 0 where none stands there whole.
-pub fn size_at(calls: &[u16], i: usize) -> usize
-    ensures { result ≡ size_at calls.now i }
+// The answer of a call, as its words say it.
+#[derive(Clone, Copy)]
+pub struct Answer {
+    pub number: u32,
+    pub phase: u32,
+    pub count: u32,
+    pub value: u32,
+    pub reach: u32,
+    pub dictionaries: u64,
+}
+
+impl Answer {
+    // Of a call that was made and has nothing to say.
+    pub const DONE: Answer = Answer {
+        number: 0,
+        phase: 0,
+        count: 0,
+        value: 0,
+        reach: 0,
+        dictionaries: 0,
+    };
+}
+
+// A size, where so many words are left.
+fn within(size: usize, left: usize) -> Option<usize>
+    ensures { SomeIff result (size ≤ left) size }
+{
+    if size <= left { Some(size) } else { None }
+}
+
+// The number of words of the call at i, where one stands there whole.
+pub fn size_at(calls: &[u16], i: usize) -> Option<usize>
+    ensures { MatchOption result (size_at calls.now i ≡ 0) (λ size. (size ≡ size_at calls.now i) × (1 ≤ size)) }
 {
     if calls.len() <= i {
-        return 0;
+        return None;
     }
     let left = calls.len() - i;
-    let kind = calls[i];
-    if kind == 0 {
-        if left < 4 {
-            return 0;
+    match calls[i] {
+        0 => {
+            if left < 4 {
+                return None;
+            }
+            within(4 + calls[i + 3] as usize, left)
         }
-        let size = 4 + calls[i + 3] as usize;
-        if left < size {
-            return 0;
-        }
-        return size;
+        1 => within(3, left),
+        2 | 3 => Some(1),
+        _ => None,
     }
-    if kind == 1 {
-        if left < 3 {
-            return 0;
-        }
-        return 3;
-    }
-    if kind == 2 {
-        return 1;
-    }
-    if kind == 3 {
-        return 1;
-    }
-    0
 }
 
 fn begin_at(calls: &[u16], i: usize) -> Listed
@@ -71,10 +85,10 @@ fn begin_at(calls: &[u16], i: usize) -> Listed
     let from = i + 4;
     let end = from + calls[i + 3] as usize;
     Listed::Begin {
-        receiver: receiver,
-        selector: selector,
-        from: from,
-        end: end,
+        receiver,
+        selector,
+        from,
+        end,
     }
 }
 
@@ -93,50 +107,33 @@ pub fn call_at(calls: &[u16], i: usize) -> Listed
     requires { 1 ≤ size_at calls.now i }
     ensures { (listed result calls.now ≡ call_at calls.now i) × Inside result (length calls.now) }
 {
-    let kind = calls[i];
-    if kind == 0 {
-        return begin_at(calls, i);
+    match calls[i] {
+        0 => begin_at(calls, i),
+        1 => run_at(calls, i),
+        2 => Listed::Drop,
+        _ => Listed::Forget,
     }
-    if kind == 1 {
-        return run_at(calls, i);
-    }
-    if kind == 2 {
-        return Listed::Drop;
-    }
-    Listed::Forget
 }
 
 // How many calls are made at most: those whose answers have room in so many words, and no more than 32 bits count.
 pub fn answer_room(words: usize) -> u32
     ensures { result ≡ min (words / answer_size) most_calls }
 {
-    let room = words / ANSWER_SIZE;
-    let most = MOST_CALLS as usize;
-    if most < room {
-        return MOST_CALLS;
-    }
-    room as u32
+    (words / ANSWER_SIZE).min(u32::MAX as usize) as u32
 }
 
 // The words of an answer.
-pub fn write_answer(
-    answers: &mut [u32],
-    at: usize,
-    number: u32,
-    phase: u32,
-    count: u32,
-    value: u32,
-    reach: u32,
-    dictionaries: u64,
-)
+pub fn write_answer(answers: &mut [u32], at: usize, answer: Answer)
     requires { at + answer_size ≤ length answers.old }
-    ensures { answers.new ≡ sets answers.old at (number ∷ phase ∷ count ∷ value ∷ reach ∷ high_word dictionaries ∷ low_word dictionaries ∷ []) }
+    ensures { answers.new ≡ sets answers.old at (answer.number ∷ answer.phase ∷ answer.count ∷ answer.value ∷ answer.reach ∷ high_word answer.dictionaries ∷ low_word answer.dictionaries ∷ []) }
 {
-    answers[at] = number;
-    answers[at + 1] = phase;
-    answers[at + 2] = count;
-    answers[at + 3] = value;
-    answers[at + 4] = reach;
-    answers[at + 5] = (dictionaries / 4294967296) as u32;
-    answers[at + 6] = (dictionaries % 4294967296) as u32;
+    answers[at..at + ANSWER_SIZE].copy_from_slice(&[
+        answer.number,
+        answer.phase,
+        answer.count,
+        answer.value,
+        answer.reach,
+        (answer.dictionaries / 4294967296) as u32,
+        (answer.dictionaries % 4294967296) as u32,
+    ]);
 }

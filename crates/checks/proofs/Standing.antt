@@ -7,16 +7,16 @@ use native.Mathlib.Omega.{arith}
 use borrow.Author.Tests.{not-true, not-false}
 use lib.Dec.{T}
 use lib.ListN.{length}
-use Rattle.bytecode.proofs.TestLaws.{true→T, T→true, and_left, and_right, and_both, never}
-use Rattle.bytecode.proofs.Choice.{if_yes, if_no, if_either}
+use Rattle.bytecode.proofs.TestLaws.{true→T, and_left, and_right, and_both, never}
+use Rattle.bytecode.proofs.Choice.{if_either}
 use Rattle.model.specs.Limits.{method_kind, most_stack_words, large_frame_words, small_frame_words}
 use Rattle.model.specs.Objects.{Objects, is_kind}
-use Rattle.model.specs.Method.{header, is_large, frame_words, frame_size}
+use Rattle.model.specs.Method.{is_large, frame_words, frame_size}
 use Rattle.readers.proofs.Loops.{failed}
 use Rattle.plain.specs.State.{fits_stack}
 use Rattle.plain.specs.Flat.{frame_method}
 use Rattle.plain.proofs.FrameLaws.{Fits, fits, fitting}
-use Rattle.checks.specs.Frame.{stands_at_of, frame_end}
+use Rattle.checks.specs.Frame.{stands_at_of, EndsAt}
 
 pub positive : (k : ℕ) → (k ≡ 0 → ⊥) → 0 < k
 positive zero h = absurd (h refl)
@@ -50,46 +50,27 @@ module _ (o : Objects) (stack : List ℕ) (base : ℕ) where
       let m = frame_method stack base in
       and_both (is_kind o method_kind m) (fits_stack (length stack) base (frame_size o m)) k (fitting (length stack) base (frame_size o m) f)
 
-  end_none : (Standing → ⊥) → 0 ≡ frame_end o stack base
-  unfolding frame_end
-  end_none h = sym (if_no _ _ (never (stands_at_of o stack base) (λ t. h (standing t))))
+  end_none : (Standing → ⊥) → stands_at_of o stack base ≡ false
+  end_none h = never (stands_at_of o stack base) (λ t. h (standing t))
 
-  end_some : T (stands_at_of o stack base) → frame_end o stack base ≡ base + frame_size o (frame_method stack base)
-  unfolding frame_end
-  end_some t = if_yes _ _ (T→true (stands_at_of o stack base) t)
-
-  pub end_high : 65518 < base → 0 ≡ frame_end o stack base
+  pub end_high : 65518 < base → stands_at_of o stack base ≡ false
   end_high h = end_none (λ s. let i = s.low in absurd (omega arith))
 
-  pub end_short : length stack < base + 18 → 0 ≡ frame_end o stack base
+  pub end_short : length stack < base + 18 → stands_at_of o stack base ≡ false
   end_short h = end_none (λ s. let i = s.header in absurd (omega arith))
 
-  pub end_other : (x : Bool) → x ≡ is_kind o method_kind (frame_method stack base) → not x ≡ true → 0 ≡ frame_end o stack base
+  pub end_other : (x : Bool) → x ≡ is_kind o method_kind (frame_method stack base) → not x ≡ true → stands_at_of o stack base ≡ false
   end_other x k q = end_none (λ s. failed (sym k ∙ not-true x q) s.kinds)
 
   -- where a frame of its method would end
   module _ (end : ℕ) (e : end ≡ base + frame_size o (frame_method stack base)) where
-    pub end_outside : length stack < end → 0 ≡ frame_end o stack base
+    pub end_outside : length stack < end → stands_at_of o stack base ≡ false
     end_outside l = end_none (λ s. let i = s.inside in absurd (omega arith))
 
-    pub end_far : 65536 < end → 0 ≡ frame_end o stack base
+    pub end_far : 65536 < end → stands_at_of o stack base ≡ false
     end_far l = end_none (λ s. let i = s.most in absurd (omega arith))
 
-    pub end_here : (x : Bool) → x ≡ is_kind o method_kind (frame_method stack base) → not x ≡ false → end ≤ length stack → end ≤ 65536 → end ≡ frame_end o stack base
+    pub end_here : (x : Bool) → x ≡ is_kind o method_kind (frame_method stack base) → not x ≡ false → end ≤ length stack → end ≤ 65536 → EndsAt o stack base end
     end_here x k r l g =
         let f : Fits (length stack) base (frame_size o (frame_method stack base)) = record { inside = omega arith; most = omega arith } in
-        e ∙ sym (end_some (stands (true→T (sym k ∙ not-false x r)) f))
-
-  -- what an end says
-  pub end_no : (e : ℕ) → e ≡ frame_end o stack base → e ≡ 0 → stands_at_of o stack base ≡ false
-  end_no e p z = never (stands_at_of o stack base) (λ t. let q = end_some t in absurd (omega arith))
-
-  pub end_stands : (e : ℕ) → e ≡ frame_end o stack base → 0 < e → T (stands_at_of o stack base)
-  end_stands e p h = go (stands_at_of o stack base) refl
-    where
-      go : (x : Bool) → stands_at_of o stack base ≡ x → T (stands_at_of o stack base)
-      go true q = true→T q
-      go false q = let z = end_none (λ s. failed q (stands s.kinds (record { inside = s.inside; most = s.most }))) in absurd (omega arith)
-
-  pub end_is : (e : ℕ) → e ≡ frame_end o stack base → T (stands_at_of o stack base) → e ≡ base + frame_size o (frame_method stack base)
-  end_is e p t = p ∙ end_some t
+        record { stands = stands (true→T (sym k ∙ not-false x r)) f; ends = e }

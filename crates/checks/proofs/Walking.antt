@@ -17,8 +17,8 @@ use Rattle.plain.specs.State.{Frame, fits_stack}
 use Rattle.plain.specs.Flat.{frame_at, frame_method, frame_sender, frames_from, unless_bottom}
 use Rattle.plain.specs.Check.{frame_rules, frames_fine}
 use Rattle.plain.proofs.FrameLaws.{frame_right, fits}
-use Rattle.checks.specs.Frame.{stands_at_of, frame_end}
-use Rattle.checks.proofs.Standing.{positive, stands, end_stands, end_is, frame_least}
+use Rattle.checks.specs.Frame.{stands_at_of, EndsAt}
+use Rattle.checks.proofs.Standing.{positive, stands, frame_least}
 
 -- the first frame keeps its rules and fits
 first : (edition : ℕ) (o : Objects) (stack : ℕ) (is_top : Bool) (base : ℕ) (f : Frame) (fs : List Frame) → T (frames_fine edition o stack is_top base (f ∷ fs))
@@ -107,8 +107,8 @@ module _ (edition : ℕ) (o : Objects) (stack : List ℕ) where
     pub stands : T (stands_at_of o stack base)
     pub rest : fineFrom is_top left base ≡ fineFrom true top top
 
-  pub going_first : (top e : ℕ) → e ≡ frame_end o stack top → (e ≡ 0 → ⊥) → Going top top true
-  going_first top e p q = record { left = top; enough = omega arith; stands = end_stands o stack top e p (positive e q); rest = refl }
+  pub going_first : (top : ℕ) → T (stands_at_of o stack top) → Going top top true
+  going_first top s = record { left = top; enough = omega arith; stands = s; rest = refl }
 
   module _ {top base : ℕ} {is_top : Bool} (g : Going top base is_top) where
     pub going_wrong : (x : Bool) → x ≡ all_of (frame_rules edition o is_top (frame_at o stack base)) → not x ≡ true → false ≡ fineFrom true top top
@@ -117,8 +117,7 @@ module _ (edition : ℕ) (o : Objects) (stack : List ℕ) where
     pub going_bottom : (x : Bool) → x ≡ all_of (frame_rules edition o is_top (frame_at o stack base)) → not x ≡ false → base ≡ 0 → eqb (get_or stack base 0) 0 ≡ fineFrom true top top
     going_bottom x f q z = from_bottom is_top g.left base z g.stands (sym f ∙ not-false x q) ∙ g.rest
 
-    module _ (x : Bool) (f : x ≡ all_of (frame_rules edition o is_top (frame_at o stack base))) (n : not x ≡ false) (z : base ≡ 0 → ⊥) (e : ℕ)
-        (p : e ≡ frame_end o stack (get_or stack base 0))
+    module _ (x : Bool) (f : x ≡ all_of (frame_rules edition o is_top (frame_at o stack base))) (n : not x ≡ false) (z : base ≡ 0 → ⊥)
       where
         h : 0 < base
         h = positive base z
@@ -130,33 +129,39 @@ module _ (edition : ℕ) (o : Objects) (stack : List ℕ) where
         sender = get_or stack base 0
 
         -- no frame below ends where this one begins
-        pub going_apart : (e ≡ base → ⊥) → false ≡ fineFrom true top top
-        going_apart d =
+        apart : (T (stands_at_of o stack sender) → base ≡ sender + frame_size o (frame_method stack sender) → ⊥) → false ≡ fineFrom true top top
+        apart d =
             sym (above is_top g.left base h g.enough g.stands r ∙ never (eqb base (sender + frame_size o (frame_method stack sender)) && fineFrom false (g.left - 1) sender) go) ∙ g.rest
           where
             go : T (eqb base (sender + frame_size o (frame_method stack sender)) && fineFrom false (g.left - 1) sender) → ⊥
             go t =
                 let a = and_left (eqb base (sender + frame_size o (frame_method stack sender))) (fineFrom false (g.left - 1) sender) t in
                 let s = (from_first false (g.left - 1) sender (and_right (eqb base (sender + frame_size o (frame_method stack sender))) (fineFrom false (g.left - 1) sender) t)).1 in
-                d (end_is o stack sender e p s ∙ sym (eqb→eq base (sender + frame_size o (frame_method stack sender)) a))
+                d s (eqb→eq base (sender + frame_size o (frame_method stack sender)) a)
 
-        below_ends : e ≡ base → base ≡ sender + frame_size o (frame_method stack sender)
-        below_ends q = sym q ∙ end_is o stack sender e p (end_stands o stack sender e p (omega arith))
+        pub going_alone : stands_at_of o stack sender ≡ false → false ≡ fineFrom true top top
+        going_alone q = apart (λ s e. failed q s)
 
-        pub going_lower : e ≡ base → sender < base
-        going_lower q = let z = below_ends q in let w = frame_least o (frame_method stack sender) in omega arith
+        pub going_apart : {end : ℕ} → EndsAt o stack sender end → (end ≡ base → ⊥) → false ≡ fineFrom true top top
+        going_apart at d = apart (λ s e. d (at.ends ∙ sym e))
 
-        pub going_down : e ≡ base → Going top sender false
-        going_down q =
-            let z = going_lower q in
+        below_ends : {end : ℕ} → EndsAt o stack sender end → end ≡ base → base ≡ sender + frame_size o (frame_method stack sender)
+        below_ends at q = sym q ∙ at.ends
+
+        pub going_lower : {end : ℕ} → EndsAt o stack sender end → end ≡ base → sender < base
+        going_lower at q = let z = below_ends at q in let w = frame_least o (frame_method stack sender) in omega arith
+
+        pub going_down : {end : ℕ} → EndsAt o stack sender end → end ≡ base → Going top sender false
+        going_down at q =
+            let z = going_lower at q in
             let l = g.enough in
             record {
               left = g.left - 1;
               enough = omega arith;
-              stands = end_stands o stack sender e p (omega arith);
+              stands = at.stands;
               rest =
                   sym (above is_top g.left base h g.enough g.stands r
                   ∙ pass (eqb base (sender + frame_size o (frame_method stack sender))) (fineFrom false (g.left - 1) sender)
-                  (eq-eqb base (sender + frame_size o (frame_method stack sender)) (below_ends q)))
+                  (eq-eqb base (sender + frame_size o (frame_method stack sender)) (below_ends at q)))
                   ∙ g.rest;
             }

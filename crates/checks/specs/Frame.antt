@@ -1,6 +1,5 @@
 -- The tests of one frame in the order in which the code makes them.
-use Rattle.std.specs.Prelude.{ℕ, suc, ◌+◌, ◌*◌, ◌≤◌, Bool, ◌&&◌, List, T, eqb, length}
-use Rattle.bytecode.specs.Test.{when◌then◌else◌}
+use Rattle.std.specs.Prelude.{ℕ, suc, ◌+◌, ◌*◌, ◌≤◌, ◌≡◌, Bool, ◌&&◌, List, T, eqb, length}
 use Rattle.model.specs.Limits.{method_kind}
 use Rattle.model.specs.Word.{is_valid}
 use Rattle.model.specs.Objects.{Objects, objects_at, class_of, is_kind}
@@ -18,9 +17,10 @@ unfoldable pub stands_at_of : Objects → List ℕ → ℕ → Bool
 stands_at_of o stack base =
     is_kind o method_kind (frame_method stack base) && fits_stack (length stack) base (frame_size o (frame_method stack base))
 
--- Where it ends; 0 where none stands
-unfoldable pub frame_end : Objects → List ℕ → ℕ → ℕ
-frame_end o stack base = when stands_at_of o stack base then base + frame_size o (frame_method stack base) else 0
+-- It stands there, up to an end.
+pub record EndsAt (o : Objects) (stack : List ℕ) (base end : ℕ) : Type 0 where
+  pub stands : T (stands_at_of o stack base)
+  pub ends : end ≡ base + frame_size o (frame_method stack base)
 
 -- Its words but for temporaries and operands
 unfoldable pub six_words_fine : ℕ → Objects → Bool → Frame → Bool

@@ -3,6 +3,7 @@ use Prim.Native.Nat.{ℕ, ◌+◌, ◌-◌, ◌/◌, ◌<◌}
 use mathlib.Core.Path.{◌≡◌, refl, sym, ap, ap₂, ◌∙◌, subst}
 use mathlib.Core.Bool.{Bool, true, ◌||◌}
 use mathlib.Core.List.{List}
+use mathlib.Core.Logic.{◌⊎◌, inl, inr}
 use native.Mathlib.Omega.{arith}
 use borrow.Author.Tests.{ne_eqb}
 use Rattle.bytecode.specs.Code.{send_of, decode_at}
@@ -10,8 +11,8 @@ use Rattle.bytecode.specs.Effect.{special_count, need}
 use Rattle.bytecode.specs.Table.{place_index, need_part, Entry as TableEntry}
 use Rattle.bytecode.specs.declared.Instruction.{Instruction}
 use Rattle.bytecode.specs.declared.Place.{Place}
-use Rattle.bytecode.specs.declared.Place.TheVariants.{LiteralVariable}
-use Rattle.bytecode.specs.declared.Instruction.TheVariants.{SpecialSend}
+use Rattle.bytecode.specs.declared.Place.TheVariants.{Field, Temporary, Literal, LiteralVariable}
+use Rattle.bytecode.specs.declared.Instruction.TheVariants.{Push, Store, PopStore, PushSelf, PushConstant, ReturnSelf, ReturnConstant, ReturnTop, Pop, Duplicate, Jump, JumpOn, Send, SuperSend, SpecialSend, Unused}
 use Rattle.bytecode.proofs.Choice.{if_lt}
 use Rattle.bytecode.proofs.CodeLaws.{is_send}
 use Rattle.model.specs.Limits.{method_kind, selectors_object, special_selectors}
@@ -59,6 +60,12 @@ module _ (o : Objects) (m : ℕ) {p : Place} where
   pub place_free : {q : Place} → p ≡ q → true ≡ place_linked o m q → true ≡ place_linked o m p
   place_free e f = f ∙ ap (place_linked o m) (sym e)
 
+  pub place_alone : ((x : ℕ) × (p ≡ Field x)) ⊎ (((x : ℕ) × (p ≡ Temporary x)) ⊎ ((x : ℕ) × (p ≡ Literal x))) → true ≡ place_linked o m p
+  unfolding place_linked
+  place_alone (inl h) = place_free h.1 refl
+  place_alone (inr (inl h)) = place_free h.1 refl
+  place_alone (inr (inr h)) = place_free h.1 refl
+
   pub place_variable : {i w : ℕ} → p ≡ LiteralVariable i → w ≡ body_word o (m / 2) (2 + i) → variable_fine o w ≡ place_linked o m p
   unfolding place_linked
   place_variable e f = ap (variable_fine o) f ∙ ap (place_linked o m) (sym e)
@@ -66,6 +73,39 @@ module _ (o : Objects) (m : ℕ) {p : Place} where
 -- an instruction that is told
 pub told : (o : Objects) (m : ℕ) {i j : Instruction} {b : Bool} → i ≡ j → b ≡ linked o m j → b ≡ linked o m i
 told o m e f = f ∙ ap (linked o m) (sym e)
+
+module _ (o : Objects) (m : ℕ) where
+  pub told_place : {i : Instruction} {p : Place} {b : Bool} → (i ≡ Push p) ⊎ ((i ≡ Store p) ⊎ (i ≡ PopStore p)) → b ≡ place_linked o m p → b ≡ linked o m i
+  unfolding linked
+  told_place (inl e) f = told o m e f
+  told_place (inr (inl e)) f = told o m e f
+  told_place (inr (inr e)) f = told o m e f
+
+  pub told_send : {i : Instruction} {l n : ℕ} {b : Bool} → (i ≡ Send l n) ⊎ (i ≡ SuperSend l n) → b ≡ send_fine o (literal o m l) n → b ≡ linked o m i
+  unfolding linked
+  told_send (inl e) f = told o m e f
+  told_send (inr e) f = told o m e f
+
+  -- the others ask nothing
+  pub told_nothing : (i : Instruction) → ((p : Place) → i ≡ Push p → ⊥) → ((p : Place) → i ≡ Store p → ⊥) → ((p : Place) → i ≡ PopStore p → ⊥)
+      → ((l n : ℕ) → i ≡ Send l n → ⊥) → ((l n : ℕ) → i ≡ SuperSend l n → ⊥) → ((k : ℕ) → i ≡ SpecialSend k → ⊥) → true ≡ linked o m i
+  unfolding linked
+  told_nothing (Push p) h1 h2 h3 h4 h5 h6 = absurd (h1 p refl)
+  told_nothing (Store p) h1 h2 h3 h4 h5 h6 = absurd (h2 p refl)
+  told_nothing (PopStore p) h1 h2 h3 h4 h5 h6 = absurd (h3 p refl)
+  told_nothing PushSelf h1 h2 h3 h4 h5 h6 = refl
+  told_nothing (PushConstant w) h1 h2 h3 h4 h5 h6 = refl
+  told_nothing ReturnSelf h1 h2 h3 h4 h5 h6 = refl
+  told_nothing (ReturnConstant w) h1 h2 h3 h4 h5 h6 = refl
+  told_nothing ReturnTop h1 h2 h3 h4 h5 h6 = refl
+  told_nothing Pop h1 h2 h3 h4 h5 h6 = refl
+  told_nothing Duplicate h1 h2 h3 h4 h5 h6 = refl
+  told_nothing (Jump a b) h1 h2 h3 h4 h5 h6 = refl
+  told_nothing (JumpOn x a) h1 h2 h3 h4 h5 h6 = refl
+  told_nothing (Send l n) h1 h2 h3 h4 h5 h6 = absurd (h4 l n refl)
+  told_nothing (SuperSend l n) h1 h2 h3 h4 h5 h6 = absurd (h5 l n refl)
+  told_nothing (SpecialSend k) h1 h2 h3 h4 h5 h6 = absurd (h6 k refl)
+  told_nothing Unused h1 h2 h3 h4 h5 h6 = refl
 
 -- the words that are read of a method and of object 5
 module _ {table contents bodies counts : List ℕ} {n b m : ℕ} (a : Asked table n b contents bodies counts m) where

@@ -4,14 +4,15 @@
 ghost use Rattle.std.specs.Prelude.{◌≡◌, ◌+◌, ◌≤◌, ◌<◌, length, set, take};
 ghost use Rattle.std.proofs.lemmas.List.Edits.{sets};
 ghost use Rattle.model.specs.Limits.{frame_header_words, method_kind};
-ghost use Rattle.model.specs.Objects.{objects_at};
 ghost use Rattle.model.specs.Method.{frame_size};
 ghost use Rattle.plain.specs.Flat.{frame_sender};
 ghost use Rattle.objects.specs.Lent.{Holds};
 ghost use Rattle.frames.specs.Words.{new_words};
 ghost use Rattle.frames.specs.Active.{written, Holdable, Held, Leaving};
+ghost use Rattle.readers.specs.Lent.{objects_in, In, On};
 
 use model::{CodePosition, Pointer, StackPosition, limits};
+use readers::Memory;
 
 // The running frame as the run loop holds it: its base, where its method's code starts and ends in bodies, the position of its next bytecode,
 // the place behind its last operand, and its first. Its own words for position and depth are written when the loop leaves it.
@@ -46,18 +47,11 @@ pub fn first_temporary(base: StackPosition) -> usize
 }
 
 // Where a frame of a method ends.
-pub fn end_of(
-    contents: &[u16],
-    bodies: &[u16],
-    n: usize,
-    b: usize,
-    base: StackPosition,
-    method: Pointer,
-) -> usize
-    requires { Holds method_kind n b contents.now bodies.now method.0 × (base.0 ≤ 131072) }
-    ensures { (result ≡ base.0 + frame_size (objects_at n b contents.now bodies.now) method.0) × (result ≤ base.0 + 38) }
+pub fn end_of(memory: &Memory, base: StackPosition, method: Pointer) -> usize
+    requires { In (Holds method_kind) memory.now method.0 × (base.0 ≤ 131072) }
+    ensures { (result ≡ base.0 + frame_size (objects_in memory.now) method.0) × (result ≤ base.0 + 38) }
 {
-    let words = readers::frame_words(objects::header(contents, bodies, n, b, method));
+    let words = readers::frame_words(objects::header(memory, method));
     base.0 + (limits::FRAME_HEADER + words)
 }
 
@@ -66,36 +60,28 @@ pub fn sender(stack: &[u16], top: StackPosition) -> StackPosition
     requires { (top.0 < length stack.now) × (top.0 < 65536) × (frame_sender stack.now top.0 < 65536) }
     ensures { result.0 ≡ frame_sender stack.now top.0 }
 {
-    let base = top.0;
-    StackPosition(stack[base + limits::FRAME_SENDER] as usize)
+    StackPosition(stack[top.0 + limits::FRAME_SENDER] as usize)
 }
 
 // A frame, taken from its words.
-pub fn hold(
-    contents: &[u16],
-    bodies: &[u16],
-    stack: &[u16],
-    n: usize,
-    b: usize,
-    top: StackPosition,
-) -> Active
-    requires { Holdable n b top.0 contents.now bodies.now stack.now }
-    ensures { Held n b top.0 contents.now bodies.now stack.now result }
+pub fn hold(memory: &Memory, stack: &[u16], top: StackPosition) -> Active
+    requires { On Holdable memory.now top.0 stack.now }
+    ensures { On Held memory.now top.0 stack.now result }
 {
     let base = top.0;
     let method = Pointer(stack[base + limits::FRAME_METHOD]);
-    let code = objects::code_of(contents, bodies, n, b, method);
-    let temporaries = readers::temporary_count(objects::header(contents, bodies, n, b, method));
-    let operands = first_temporary(top) + temporaries;
+    let code = objects::code_of(memory, method);
+    let temporaries = readers::temporary_count(objects::header(memory, method));
+    let operands = StackPosition(first_temporary(top) + temporaries);
     let position = stack[base + limits::FRAME_POSITION] as usize;
     let depth = stack[base + limits::FRAME_DEPTH] as usize;
     Active {
         base: top,
         code: code.from,
         limit: code.end,
-        operands: StackPosition(operands),
+        operands,
         position: CodePosition(position),
-        end: StackPosition(operands + depth),
+        end: StackPosition(operands.0 + depth),
     }
 }
 
@@ -112,12 +98,10 @@ pub fn write_frame(
     requires { (frame_header_words + temporaries ≤ length words.old) × (count ≤ temporaries) × (count ≤ length arguments.now) × (sender.0 < 65536) }
     ensures { words.new ≡ sets words.old 0 (new_words sender.0 method.0 receiver temporaries (take count arguments.now)) }
 {
-    let base = sender.0;
-    let pointer = method.0;
-    words[limits::FRAME_SENDER] = base as u16;
+    words[limits::FRAME_SENDER] = sender.0 as u16;
     words[limits::FRAME_POSITION] = 0;
     words[limits::FRAME_DEPTH] = 0;
-    words[limits::FRAME_METHOD] = pointer;
+    words[limits::FRAME_METHOD] = method.0;
     words[limits::FRAME_ZERO] = 0;
     words[limits::FRAME_RECEIVER] = receiver;
     words::copy(words, limits::FRAME_HEADER, arguments, 0, count);
@@ -134,17 +118,21 @@ pub fn move_to(stack: &mut [u16], base: StackPosition, position: CodePosition, d
     requires { (base.0 + 2 < length stack.old) × (position.0 < 65536) × (depth < 65536) }
     ensures { stack.new ≡ set (set stack.old (base.0 + 1) position.0) (base.0 + 2) depth }
 {
-    let at = base.0;
-    let next = position.0;
-    stack[at + limits::FRAME_POSITION] = next as u16;
-    stack[at + limits::FRAME_DEPTH] = depth as u16;
+    stack[base.0 + limits::FRAME_POSITION] = position.0 as u16;
+    stack[base.0 + limits::FRAME_DEPTH] = depth as u16;
 }
 
-// The running frame's position and depth, written to its words.
-pub fn leave(stack: &mut [u16], active: Active)
-    requires { Leaving stack.old active }
-    ensures { stack.new ≡ written active stack.old }
-{
-    let depth = active.end.0 - active.operands.0;
-    move_to(stack, active.base, active.position, depth);
+impl Active {
+    // Its position and depth, written to its words.
+    pub fn leave(self, stack: &mut [u16])
+        requires { Leaving stack.old self }
+        ensures { stack.new ≡ written self stack.old }
+    {
+        move_to(
+            stack,
+            self.base,
+            self.position,
+            self.end.0 - self.operands.0,
+        );
+    }
 }

@@ -12,15 +12,18 @@ use Rattle.plain.specs.RunLoop.{runs_from, Turn}
 use Rattle.plain.proofs.LoopLaws.{turn_then, over_then}
 use Rattle.plain.proofs.MadeLaws.{made_as}
 use Rattle.frames.specs.declared.Message.{Message}
+use Rattle.std.specs.Prelude.{Result, Ok, Err}
+use Rattle.model.specs.Numbers.{phase_of}
+use Rattle.model.specs.declared.numbers.Halt.{Halt}
 use Rattle.messages.specs.declared.Resent.{Resent}
-use Rattle.messages.specs.declared.Resent.TheVariants as R
 use Rattle.messages.specs.Resends.{Resends, ResentIs}
 use Rattle.runs.specs.declared.Ended.{Ended}
+use Rattle.runs.specs.declared.Failed.{Failed}
 use Rattle.runs.specs.declared.Stretched.{Stretched}
 use Rattle.runs.specs.declared.Stretched.TheVariants as S
 use Rattle.runs.specs.Ends.{start_of, ended_with, Goes, RunsTo, RunsFail, StretchedIs}
 use Rattle.runs.proofs.Looping.{LoopAt, loop_right, loop_caches, loop_small, loop_lengths, halted_at, other_at}
-use Rattle.grants.specs.Grants.{AgainIs}
+use Rattle.grants.specs.Grants.{FailsAt, AgainIs}
 
 module _ {s₀ : Flat} {grant e receiver selector : ℕ} {contents bodies stack cache : List ℕ} {m : Message} {n b top left reach read : ℕ} (f : RunsFail s₀ grant e receiver selector contents bodies stack cache m n b top left reach read) where
   at : LoopAt s₀ grant e receiver selector n b top contents bodies stack cache (grant - left) reach read
@@ -48,28 +51,28 @@ module _ {s₀ : Flat} {grant e receiver selector : ℕ} {contents bodies stack 
   one_less : grant - left + 1 ≡ grant - (left - 1)
   one_less = let w = f.within in let k = f.more in omega arith
 
-  module _ (contents' bodies' stack' cache' : List ℕ) (y : Resent) (z : ResentIs e receiver selector n b top m contents bodies stack cache contents' bodies' stack' cache' y) where
-    resent : (y' : Resent) → y ≡ y' → ResentIs e receiver selector n b top m contents bodies stack cache contents' bodies' stack' cache' y'
+  module _ (contents' bodies' stack' cache' : List ℕ) (y : Result Resent Halt) (z : ResentIs e receiver selector n b top m contents bodies stack cache contents' bodies' stack' cache' y) where
+    resent : (y' : Result Resent Halt) → y ≡ y' → ResentIs e receiver selector n b top m contents bodies stack cache contents' bodies' stack' cache' y'
     resent y' d = subst (ResentIs e receiver selector n b top m contents bodies stack cache contents' bodies' stack' cache') d z
 
-    pub resent_halted : (k : ℕ) → y ≡ R.Halted k
-        → RunsTo s₀ grant e receiver selector contents' bodies' stack' cache' (record { n = n; b = b; phase = k; top = top; value = 0; count = grant - left; reach = reach; dictionaries = read })
-    resent_halted k d =
-        let h : ResentIs e receiver selector n b top m contents bodies stack cache contents' bodies' stack' cache' (R.Halted k) = resent (R.Halted k) d in
-        halted_at s₀ grant e receiver selector n b top contents bodies stack cache (grant - left) reach read at fewer contents' bodies' stack' cache' k
-        (record { cause = h.cause; steps = f.steps ∙ h.steps; phase = h.phase; stays = h.stays })
+    pub resent_halted : (h : Halt) → y ≡ Err h
+        → RunsTo s₀ grant e receiver selector contents' bodies' stack' cache' (record { n = n; b = b; phase = phase_of h; top = top; value = 0; count = grant - left; reach = reach; dictionaries = read })
+    resent_halted h d =
+        let x : ResentIs e receiver selector n b top m contents bodies stack cache contents' bodies' stack' cache' (Err h) = resent (Err h) d in
+        halted_at s₀ grant e receiver selector n b top contents bodies stack cache (grant - left) reach read at fewer contents' bodies' stack' cache' (phase_of h)
+        (record { cause = x.cause; steps = f.steps ∙ x.steps; phase = x.phase; stays = x.stays })
 
     -- The handler runs on, with one bytecode less to make.
-    pub resent_at : (n' b' : ℕ) (t : StackPosition) (end more-read : ℕ) → y ≡ R.Sent n' b' t end more-read → (high : ℕ) → high ≡ max reach end
-        → LoopAt s₀ grant e receiver selector n' b' t.0 contents' bodies' stack' cache' (grant - (left - 1)) high (read + more-read)
-    resent_at n' b' t end more-read d high h =
-        let x : ResentIs e receiver selector n b top m contents bodies stack cache contents' bodies' stack' cache' (R.Sent n' b' t end more-read) = resent (R.Sent n' b' t end more-read) d in
-        subst (λ (k : ℕ). LoopAt s₀ grant e receiver selector n' b' t.0 contents' bodies' stack' cache' k high (read + more-read)) one_less
-        (other_at s₀ grant e receiver selector n b top contents bodies stack cache (grant - left) reach read at fewer contents' bodies' stack' cache' n' b' t.0
-        (made_as f.steps x.0) high (read + more-read) (h ∙ ap (max reach) x.1) refl)
+    pub resent_at : (r : Resent) → y ≡ Ok r → (high : ℕ) → high ≡ max reach r.end
+        → LoopAt s₀ grant e receiver selector r.n r.b r.top.0 contents' bodies' stack' cache' (grant - (left - 1)) high (read + r.dictionaries)
+    resent_at r d high h =
+        let x : ResentIs e receiver selector n b top m contents bodies stack cache contents' bodies' stack' cache' (Ok r) = resent (Ok r) d in
+        subst (λ (k : ℕ). LoopAt s₀ grant e receiver selector r.n r.b r.top.0 contents' bodies' stack' cache' k high (read + r.dictionaries)) one_less
+        (other_at s₀ grant e receiver selector n b top contents bodies stack cache (grant - left) reach read at fewer contents' bodies' stack' cache' r.n r.b r.top.0
+        (made_as f.steps x.0) high (read + r.dictionaries) (h ∙ ap (max reach) x.1) refl)
 
-    pub resent_goes : (n' b' : ℕ) (t : StackPosition) (end more-read : ℕ) → y ≡ R.Sent n' b' t end more-read → Goes e n' b' t.0 contents' bodies' stack' cache'
-    resent_goes n' b' t end more-read d = record { receiver = receiver; selector = selector; checks = (resent_at n' b' t end more-read d (max reach end) (λ i. max reach end)).turn.checked }
+    pub resent_goes : (r : Resent) → y ≡ Ok r → Goes e r.n r.b r.top.0 contents' bodies' stack' cache'
+    resent_goes r d = record { receiver = receiver; selector = selector; checks = (resent_at r d (max reach r.end) (λ i. max reach r.end)).turn.checked }
 
 -- ---- the stretch behind it, which is granted what is left
 
@@ -78,9 +81,8 @@ module _ (s : Flat) (grant e receiver selector : ℕ) (contents bodies stack cac
   pub stretched_over : (r : Ended) → y ≡ S.Over r → RunsTo s grant e receiver selector contents bodies stack cache r
   stretched_over r d = subst (StretchedIs s grant e receiver selector contents bodies stack cache) d z
 
-  pub stretched_failed : (m : Message) (n b : ℕ) (top : StackPosition) (left reach read : ℕ) → y ≡ S.Failed m n b top left reach read
-      → RunsFail s grant e receiver selector contents bodies stack cache m n b top.0 left reach read
-  stretched_failed m n b top left reach read d = subst (StretchedIs s grant e receiver selector contents bodies stack cache) d z
+  pub stretched_failed : (f : Failed) → y ≡ S.Failed f → FailsAt s grant e receiver selector contents bodies stack cache f
+  stretched_failed f d = subst (StretchedIs s grant e receiver selector contents bodies stack cache) d z
 
 module _ {s₀ : Flat} {grant e receiver selector n b top : ℕ} {contents bodies stack cache : List ℕ} {rest high read : ℕ} (l : LoopAt s₀ grant e receiver selector n b top contents bodies stack cache (grant - rest) high read) (within : rest ≤ grant) where
   abbrev s : Flat
@@ -126,6 +128,5 @@ module _ (s : Flat) (grant e receiver selector left : ℕ) (contents bodies stac
   pub again_over : (r : Ended) → y ≡ S.Over r → RunsTo s grant e receiver selector contents bodies stack cache r
   again_over r d = subst (AgainIs s grant e receiver selector left contents bodies stack cache) d z
 
-  pub again_failed : (m : Message) (n b : ℕ) (top : StackPosition) (still reach read : ℕ) → y ≡ S.Failed m n b top still reach read
-      → RunsFail s grant e receiver selector contents bodies stack cache m n b top.0 still reach read × (still < left)
-  again_failed m n b top still reach read d = subst (AgainIs s grant e receiver selector left contents bodies stack cache) d z
+  pub again_failed : (f : Failed) → y ≡ S.Failed f → FailsAt s grant e receiver selector contents bodies stack cache f × (f.left < left)
+  again_failed f d = subst (AgainIs s grant e receiver selector left contents bodies stack cache) d z

@@ -25,10 +25,7 @@ fn word(image: &[u8], i: usize) -> u16
     requires { 2 * i + 1 < length image.now }
     ensures { result ≡ get_or (words_of image.now) i 0 }
 {
-    let at = 2 * i;
-    let high = image[at] as u16;
-    let low = image[at + 1] as u16;
-    high * 256 + low
+    u16::from_be_bytes([image[2 * i], image[2 * i + 1]])
 }
 
 // The same for a word of the header: 0 where the image ends before it.
@@ -36,26 +33,22 @@ fn header_word(image: &[u8], i: usize) -> u16
     requires { i < header_words }
     ensures { result ≡ get_or (words_of image.now) i 0 }
 {
-    if image.len() <= 2 * i + 1 {
-        return 0;
+    if 2 * i + 1 < image.len() {
+        word(image, i)
+    } else {
+        0
     }
-    word(image, i)
 }
 
 pub fn header_of(image: &[u8]) -> Header
     ensures { as_header result ≡ image_header image.now }
 {
-    let edition = header_word(image, 0);
-    let n = header_word(image, 1);
-    let b = header_word(image, 2);
-    let receiver = header_word(image, 3);
-    let selector = header_word(image, 4);
     Header {
-        edition: edition,
-        n: n,
-        b: b,
-        receiver: receiver,
-        selector: selector,
+        edition: header_word(image, 0),
+        n: header_word(image, 1),
+        b: header_word(image, 2),
+        receiver: header_word(image, 3),
+        selector: header_word(image, 4),
     }
 }
 
@@ -70,25 +63,17 @@ pub fn length_of(n: u16, b: u16) -> usize
 pub fn length_fine(image: &[u8]) -> bool
     ensures { result ≡ length_fine image.now }
 {
-    if image.len() < limits::HEADER_BYTES {
-        return false;
-    }
-    let n = header_word(image, 1);
-    let b = header_word(image, 2);
-    let asked = length_of(n, b);
-    image.len() == asked
+    let header = header_of(image);
+    limits::HEADER_BYTES <= image.len() && image.len() == length_of(header.n, header.b)
 }
 
-// As many words of the image, from one on, to the front of `words`.
-fn read_words(image: &[u8], from: usize, count: usize, words: &mut [u16])
-    requires { (2 * (from + count) ≤ length image.now) × (count ≤ length words.old) }
-    ensures { words.new ≡ sets words.old 0 (part (words_of image.now) from count) }
+// As many words of the image as `words` has, from one on.
+fn read_words(image: &[u8], from: usize, words: &mut [u16])
+    requires { 2 * (from + length words.old) ≤ length image.now }
+    ensures { words.new ≡ part (words_of image.now) from (length words.old) }
 {
-    let mut i: usize = 0;
-    while i < count {
-        let w = word(image, from + i);
-        words[i] = w;
-        i += 1;
+    for i in 0..words.len() {
+        words[i] = word(image, from + i);
     }
 }
 
@@ -102,18 +87,9 @@ pub fn place(image: &[u8], n: usize, b: usize, contents: &mut [u16], bodies: &mu
     ensures { (contents.new ≡ (image_objects image.now).contents ++ drop (entry_words * n) contents.old)
         × (bodies.new ≡ (image_objects image.now).bodies ++ drop b bodies.old) }
 {
-    read_words(
-        image,
-        limits::HEADER_WORDS,
-        limits::ENTRY_WORDS * n,
-        contents,
-    );
-    read_words(
-        image,
-        limits::HEADER_WORDS + limits::ENTRY_WORDS * n,
-        b,
-        bodies,
-    );
+    let entries = limits::ENTRY_WORDS * n;
+    read_words(image, limits::HEADER_WORDS, &mut contents[..entries]);
+    read_words(image, limits::HEADER_WORDS + entries, &mut bodies[..b]);
 }
 
 // Zeros in place of n objects and b body words; what lies behind them stays.
@@ -131,20 +107,18 @@ fn write_word(output: &mut [u8], i: usize, w: u16)
     requires { 2 * i + 1 < length output.old }
     ensures { output.new ≡ sets output.old (2 * i) (bytes_of (w ∷ [])) }
 {
-    let at = 2 * i;
-    output[at] = (w / 256) as u8;
-    output[at + 1] = (w % 256) as u8;
+    let [high, low] = w.to_be_bytes();
+    output[2 * i] = high;
+    output[2 * i + 1] = low;
 }
 
-// The first words of `words`, from the place of word `at` on.
-fn write_words(words: &[u16], count: usize, at: usize, output: &mut [u8])
-    requires { (count ≤ length words.now) × (2 * (at + count) ≤ length output.old) }
-    ensures { output.new ≡ sets output.old (2 * at) (bytes_of (take count words.now)) }
+// The words from the place of word `at` on.
+fn write_words(words: &[u16], at: usize, output: &mut [u8])
+    requires { 2 * (at + length words.now) ≤ length output.old }
+    ensures { output.new ≡ sets output.old (2 * at) (bytes_of words.now) }
 {
-    let mut i: usize = 0;
-    while i < count {
+    for i in 0..words.len() {
         write_word(output, at + i, words[i]);
-        i += 1;
     }
 }
 
@@ -168,21 +142,13 @@ pub fn write(header: Header, contents: &[u16], bodies: &[u16], output: &mut [u8]
         ≡ image_of (as_header header) (objects_at header.n header.b contents.now bodies.now) ++ drop
         (image_bytes header.n header.b) output.old) }
 {
-    let bytes = length_of(header.n, header.b);
-    let n = header.n as usize;
-    let b = header.b as usize;
+    let entries = limits::ENTRY_WORDS * (header.n as usize);
     write_header(header, output);
+    write_words(&contents[..entries], limits::HEADER_WORDS, output);
     write_words(
-        contents,
-        limits::ENTRY_WORDS * n,
-        limits::HEADER_WORDS,
+        &bodies[..header.b as usize],
+        limits::HEADER_WORDS + entries,
         output,
     );
-    write_words(
-        bodies,
-        b,
-        limits::HEADER_WORDS + limits::ENTRY_WORDS * n,
-        output,
-    );
-    bytes
+    length_of(header.n, header.b)
 }

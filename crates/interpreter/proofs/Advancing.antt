@@ -7,6 +7,9 @@ use lib.ListN.{set}
 use lib.Seq.{get_or-set_other}
 use Rattle.model.specs.Objects.{objects_at}
 use Rattle.model.specs.Method.{temporary_count, frame_size}
+use Rattle.model.specs.Numbers.{phase_of as halt_phase}
+use Rattle.model.specs.declared.numbers.Halt.{Halt}
+use Rattle.model.specs.declared.numbers.Halt.TheVariants.{NoStackRoom}
 use Rattle.model.specs.declared.CodePosition.{CodePosition}
 use Rattle.model.specs.declared.StackPosition.{StackPosition}
 use Rattle.plain.specs.Registers.{no_stack_room, phase_of}
@@ -22,7 +25,8 @@ use Rattle.frames.proofs.Standing.{noted_small}
 use Rattle.frames.proofs.ActiveLaws.{depth_read, leaving}
 use Rattle.cache.specs.Caches.{Caches}
 use Rattle.steps.specs.declared.Event.{Event}
-use Rattle.steps.specs.declared.Event.TheVariants.{Next, Send, Return, Halt}
+use Rattle.steps.specs.declared.Event.TheVariants.{Next, Send, Return}
+use Rattle.steps.specs.declared.Event.TheVariants as E
 use Rattle.steps.specs.Events.{Says, Becomes, Halting}
 use Rattle.sends.specs.declared.Sent.{Sent}
 use Rattle.sends.specs.declared.Sent.TheVariants.{Answered, Entered, Full, Failed}
@@ -61,15 +65,15 @@ module _ {n b : ℕ} {contents bodies stack : List ℕ} {a : Active} (r : IsActi
       (moved_made n b top contents bodies v cache bodies₁ (written (moved_on a q z) stack₁) r.runs x.0 edition receiver selector (room_at contents bodies v cache), x.1)
 
   -- A halt
-  module _ (k : ℕ) (e : event ≡ Halt k) where
-    halting : Halting n b contents a bodies stack bodies₁ stack₁ k
-    halting = by_event (Halt k) e
+  module _ (h : Halt) (e : event ≡ E.Halt h) where
+    halting : Halting n b contents a bodies stack bodies₁ stack₁ (halt_phase h)
+    halting = by_event (E.Halt h) e
 
     pub leaves_halt : Leaving stack₁ a
     leaves_halt = subst (λ (s : List ℕ). Leaving s a) (sym halting.becomes.frames) (leaving r)
 
     pub halted : (cache stack' : List ℕ) → stack' ≡ written a stack₁ → (edition receiver selector : ℕ)
-        → AdvancedIs edition receiver selector n b a contents bodies stack cache contents bodies₁ stack' cache (A.Halted k)
+        → AdvancedIs edition receiver selector n b a contents bodies stack cache contents bodies₁ stack' cache (A.Halted h)
     halted cache stack' l edition receiver selector =
         let x = halting in
         record {
@@ -206,7 +210,7 @@ module _ {n b : ℕ} {contents bodies stack : List ℕ} {a : Active} (r : IsActi
           leaves_stopped = subst (λ (s : List ℕ). Leaving s a) (sym (stopped 0 0).stays.frames) (leaving r)
 
           pub stops : (stack'' : List ℕ) → stack'' ≡ written a stack' → (receiver selector : ℕ)
-              → AdvancedIs edition receiver selector n b a contents bodies stack cache contents' bodies' stack'' cache' (A.Halted (phase_of no_stack_room))
+              → AdvancedIs edition receiver selector n b a contents bodies stack cache contents' bodies' stack'' cache' (A.Halted NoStackRoom)
           stops stack'' l receiver selector =
               let x = stopped receiver selector in
               record {

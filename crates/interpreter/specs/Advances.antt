@@ -1,5 +1,6 @@
 -- What a whole bytecode leads to.
 use Rattle.std.specs.Prelude.{ℕ, suc, ◌+◌, ◌≤◌, ◌≡◌, List, set}
+use Rattle.model.specs.Numbers.{phase_of}
 use Rattle.model.specs.Objects.{objects_at}
 use Rattle.model.specs.Method.{temporary_count}
 use Rattle.plain.specs.Flat.{frame_sender, frame_depth, frame_method}
@@ -50,8 +51,8 @@ AdvancedIs edition receiver selector n b a contents bodies stack cache contents'
     × (frame_end n b f.base.0 contents' bodies' (written f stack') ≤ a.base.0)
 AdvancedIs edition receiver selector n b a contents bodies stack cache contents' bodies' stack' cache' (Finished w) =
     Made (step_of edition receiver selector n b a contents bodies stack cache) 0 (finished_with edition receiver selector n b w) contents bodies (written a stack) cache contents' bodies' stack' cache'
-AdvancedIs edition receiver selector n b a contents bodies stack cache contents' bodies' stack' cache' (Halted k) =
-    Halts (step_of edition receiver selector n b a contents bodies stack cache) k contents bodies (written a stack) cache contents' bodies' stack' cache'
+AdvancedIs edition receiver selector n b a contents bodies stack cache contents' bodies' stack' cache' (Halted h) =
+    Halts (step_of edition receiver selector n b a contents bodies stack cache) (phase_of h) contents bodies (written a stack) cache contents' bodies' stack' cache'
 AdvancedIs edition receiver selector n b a contents bodies stack cache contents' bodies' stack' cache' (Failed m) =
     Fails (step_of edition receiver selector n b a contents bodies stack cache)
     (failed_step (room_at contents bodies (written a stack) cache) edition receiver selector n b a.base.0 contents bodies (written a stack) m.selector m.count m.class.0 m.next.0)

@@ -6,15 +6,17 @@ ghost use Rattle.plain.specs.Running.{Runs};
 ghost use Rattle.cache.specs.Caches.{Caches};
 ghost use Rattle.frames.specs.Active.{IsActive};
 ghost use Rattle.interpreter.specs.Advances.{Returned, AdvancedIs};
+ghost use Rattle.readers.specs.Lent.{On};
 
 use frames::{Active, Message};
-use model::{CodePosition, StackPosition, limits};
+use model::{CodePosition, Halt, StackPosition};
+use readers::Memory;
 use sends::Sent;
 use steps::Event;
 
 // What a bytecode leads to: the running frame goes on, at another position and with operands up to another end, after a send that was
 // answered with the number of objects and body words then; or a new frame is on top, which ends at `end`; both with the dictionaries that the lookup read; or the frame below is, after a
-// return; or the value that the run finishes with; or a send that failed, whose message may be sent; or a halt, with the phase that says why.
+// return; or the value that the run finishes with; or a send that failed, whose message may be sent; or a halt.
 #[derive(Clone, Copy)]
 pub enum Advanced {
     Next {
@@ -36,28 +38,19 @@ pub enum Advanced {
     Below(Active),
     Finished(u16),
     Failed(Message),
-    Halted(u16),
+    Halted(Halt),
 }
 
 // A return above the bottom: the sender's frame is taken, and the word is pushed on it.
-fn return_to(
-    contents: &[u16],
-    bodies: &[u16],
-    stack: &mut [u16],
-    n: usize,
-    b: usize,
-    top: StackPosition,
-    w: u16,
-) -> Active
-    requires { Runs n b top.0 contents.now bodies.now stack.old × (0 < top.0) }
-    ensures { Returned n b top.0 contents.now bodies.now stack.old stack.new w result }
+fn return_to(memory: &Memory, stack: &mut [u16], top: StackPosition, w: u16) -> Active
+    requires { On Runs memory.now top.0 stack.old × (0 < top.0) }
+    ensures { On Returned memory.now top.0 stack.old stack.new w result }
 {
     let sender = frames::sender(stack, top);
-    let mut active = frames::hold(contents, bodies, stack, n, b, sender);
+    let mut active = frames::hold(memory, stack, sender);
     let end = active.end.0;
     stack[end] = w;
-    let behind = StackPosition(end + 1);
-    active.end = behind;
+    active.end = StackPosition(end + 1);
     active
 }
 
@@ -78,59 +71,53 @@ pub fn advance(
         contents.new bodies.new stack.new cache.new result }
 {
     match steps::step(contents, bodies, stack, n, b, active) {
-        Event::Next { position, end } => Advanced::Next {
-            position: position,
-            end: end,
-        },
+        Event::Next { position, end } => Advanced::Next { position, end },
         Event::Send(message) => {
             match sends::send(
                 contents, bodies, stack, cache, edition, n, b, active, message,
             ) {
-                Sent::Answered {
-                    n: objects,
-                    b: words,
-                    dictionaries: read,
-                } => {
-                    let next = message.next;
-                    Advanced::Answered {
-                        n: objects,
-                        b: words,
-                        position: next,
-                        end: StackPosition(active.end.0 - message.count),
-                        dictionaries: read,
-                    }
-                }
+                Sent::Answered { n, b, dictionaries } => Advanced::Answered {
+                    n,
+                    b,
+                    position: message.next,
+                    end: StackPosition(active.end.0 - message.count),
+                    dictionaries,
+                },
                 Sent::Entered {
                     frame,
                     end,
-                    dictionaries: read,
+                    dictionaries,
                 } => Advanced::Top {
-                    frame: frame,
-                    end: end,
-                    dictionaries: read,
+                    frame,
+                    end,
+                    dictionaries,
                 },
                 Sent::Full => {
-                    frames::leave(stack, active);
-                    Advanced::Halted(limits::NO_STACK_ROOM)
+                    active.leave(stack);
+                    Advanced::Halted(Halt::NoStackRoom)
                 }
                 Sent::Failed => {
-                    frames::leave(stack, active);
+                    active.leave(stack);
                     Advanced::Failed(message)
                 }
             }
         }
         Event::Return(w) => {
-            frames::leave(stack, active);
-            let top = active.base;
-            let base = top.0;
-            if base == 0 {
+            active.leave(stack);
+            if active.base.0 == 0 {
                 return Advanced::Finished(w);
             }
-            Advanced::Below(return_to(contents, bodies, stack, n, b, top, w))
+            let memory = &Memory {
+                contents,
+                bodies,
+                n,
+                b,
+            };
+            Advanced::Below(return_to(memory, stack, active.base, w))
         }
-        Event::Halt(k) => {
-            frames::leave(stack, active);
-            Advanced::Halted(k)
+        Event::Halt(halt) => {
+            active.leave(stack);
+            Advanced::Halted(halt)
         }
     }
 }

@@ -1,11 +1,11 @@
 -- Texts stored one behind the other.
-use Prim.Native.Nat.{ℕ, ◌+◌, ◌/◌, ◌%◌, ◌≤◌, ◌<◌}
+use Prim.Native.Nat.{ℕ, ◌+◌, ◌-◌, ◌/◌, ◌%◌, ◌≤◌, ◌<◌}
 use mathlib.Core.Path.{◌≡◌, refl, sym, ap, ap₂, subst, ◌∙◌}
-use mathlib.Core.List.{List, [], ◌∷◌, ◌++◌}
+use mathlib.Core.List.{List, [], ◌∷◌, ◌++◌, append_assoc}
+use borrow.Rule.Slice.PartMut.{put_mid}
 use native.Mathlib.Omega.{arith}
-use native.Mathlib.Numerals.{add-one}
-use lib.ListN.{length, get_or, take, drop, set, length-append}
-use lib.Seq.{sets, sets-eq, take-suc, length-take-le}
+use lib.ListN.{length, take, drop, set, length-append}
+use lib.Seq.{sets, sets-eq, drop-drop}
 use Rattle.model.proofs.Parts.{sets_append}
 use Rattle.plain.specs.Text.{decimal}
 use Rattle.lines.proofs.Digits.{one_digit, more_digits}
@@ -27,17 +27,16 @@ at_front old out vs e h p = (there, p.1 ∙ sets-eq vs old 0 (omega arith) ∙ a
     there : e ≡ length vs
     there = let a = p.0 in omega arith
 
--- one byte more of a text
-pub text_next : (old out text : List ℕ) (at i : ℕ) → i < length text → out ≡ sets old at (take i text)
-    → set out (at + i) (get_or text i 0) ≡ sets old at (take (i + 1) text)
-text_next old out text at i h p =
-    let l = length-take-le i text (omega arith) in
-    ap₂ (λ (o : List ℕ) (k : ℕ). set o k (get_or text i 0)) p (there l)
-    ∙ sym (sets_append old at (take i text) (get_or text i 0 ∷ []))
-    ∙ ap (sets old at) (sym (take-suc text i 0 h) ∙ ap (λ (k : ℕ). take k text) (sym (add-one i)))
+-- a text written over a part
+pub put_part : (old text new : List ℕ) (at : ℕ) → new ≡ text → at + length text ≤ length old → put_mid at (at + length text - at) old new ≡ sets old at text
+put_part old text new at p h =
+    ap₂ (λ (k : ℕ) (o : List ℕ). put_mid at k old o) (there at (length text)) p
+    ∙ ap (λ (x : List ℕ). take at old ++ (text ++ x)) (drop-drop (length text) at old)
+    ∙ sym (append_assoc (take at old) text (drop (at + length text) old))
+    ∙ sym (sets-eq text old at h)
   where
-    there : length (take i text) ≡ i → at + i ≡ at + length (take i text)
-    there l = omega arith
+    there : (x y : ℕ) → x + y - x ≡ y
+    there x y = omega arith
 
 pub put_one : (old : List ℕ) (at n : ℕ) → n < 10 → Put old at (decimal n) (at + 1) (set old at (48 + n))
 put_one old at n h = subst (λ (ds : List ℕ). Put old at ds (at + 1) (set old at (48 + n))) (sym (one_digit n h)) (refl, refl)

@@ -7,35 +7,24 @@ use lib.Dec.{T, leb, eqb, le→leb}
 use lib.ListN.{length, drop, replicate, length-replicate}
 use native.Mathlib.Omega.{arith}
 use borrow.Author.Tests.{eq-eqb}
-use lib.Seq.{sets}
 use Rattle.bytecode.proofs.TestLaws.{and_both, true→T}
 use Rattle.bytecode.specs.Test.{when◌then◌else◌}
 use Rattle.model.specs.Limits.{entry_words, header_words}
 use Rattle.model.specs.Image.{Room, Header, Verdict, accepted, refused, image_header, image_objects, image_bytes, length_fine, buffers_fine, load_verdict}
 use Rattle.image.proofs.RoundTrip.{objects_fit}
-use Rattle.store.specs.declared.Reading.{Reading}
-use Rattle.store.specs.declared.Reading.TheVariants.{Accepted, Refused}
 use Rattle.store.specs.Answer.{room_for, Stored, stored, in_front, stored_by}
-use Rattle.store.specs.Readings.{reading_number, reading_of}
 use Rattle.plain.specs.Registers as R
 use Rattle.plain.specs.Flat.{Flat, flat, room_of}
 use Rattle.plain.specs.Calls.{loaded, done, refused_by, result, wrote}
 use Rattle.plain.specs.FlatCalls.{Given, gives, no_answer, with_registers, zeroed, after_load, flat_load}
 use Rattle.plain.proofs.LoadLaws.{accepts}
-use Rattle.machine.specs.declared.Registers.{Registers}
-use Rattle.loads.specs.declared.Loaded.TheVariants as L
-use Rattle.machine.specs.State.{registers_of}
+use Rattle.std.specs.Prelude.{Ok, Err}
+use Rattle.model.specs.declared.numbers.Refusal.{Refusal}
+use Rattle.model.specs.Numbers.{number_of}
+use Rattle.image.specs.declared.Header as Read
+use Rattle.image.specs.Heads.{as_header}
 use Rattle.loads.specs.Answers.{loadGives}
 use Rattle.machine.proofs.Calling.{emptied}
-
--- parts of a reading
-abbrev h_of : Reading → Header
-h_of (Accepted edition n b receiver selector) = record { edition = edition; n = n; b = b; receiver = receiver; selector = selector }
-h_of (Refused k) = record { edition = 0; n = k; b = 0; receiver = 0; selector = 0 }
-
-abbrev is_accepted : Reading → Type 0
-is_accepted (Accepted edition n b receiver selector) = Unit {0}
-is_accepted (Refused k) = ⊥
 
 given_eq : {k k' : Rattle.plain.specs.Calls.Answer} {r r' : R.Registers} {c c' b b' s s' x x' : List ℕ} → k ≡ k' → r ≡ r' → c ≡ c' → b ≡ b' → s ≡ s' → x ≡ x'
     → gives k (flat r c b s x) ≡ gives k' (flat r' c' b' s' x')
@@ -69,57 +58,32 @@ module _ (image contents bodies cache contents' bodies' : List ℕ) where
     unfolding flat_load
     load_is v e = ap (after_load s image) (same_verdict ∙ e)
 
-    load_accepted : (edition n b receiver selector : ℕ) (cache' : List ℕ) → Accepted edition n b receiver selector ≡ reading_of verdict h
-        → stored 0 contents' bodies' ≡ stored_by verdict image contents bodies
-        → cache' ≡ sets cache 0 (replicate (length cache) 0)
-        → loadGives (L.Accepted (record { n = n; b = b; receiver = receiver; selector = selector; phase = 0; top = 0; value = 0; edition = edition })) contents' bodies' stack cache' ≡ flat_load s image
-    load_accepted edition n b receiver selector cache' e q c = go verdict refl e q
-      where
-        go : (v : Verdict) → verdict ≡ v → Accepted edition n b receiver selector ≡ reading_of v h → stored 0 contents' bodies' ≡ stored_by v image contents bodies
-            → loadGives (L.Accepted (record { n = n; b = b; receiver = receiver; selector = selector; phase = 0; top = 0; value = 0; edition = edition })) contents' bodies' stack cache' ≡
-            flat_load s image
-        go (refused k) p e q = absurd (unfold reading_of in subst is_accepted e tt)
-        go accepted p e q = unfold loadGives reading_of stored_by loaded in (
-            let x : h_of (Accepted edition n b receiver selector) ≡ h_of (Accepted h.edition h.n h.b h.receiver h.selector) = ap h_of e in
-            let a = accepts (room_of s) image (same_verdict ∙ p) in
-            let f = objects_fit image (long (room_of s) image a) in
-            given_eq refl (λ i. record { n = (x i).n; b = (x i).b; start_receiver = (x i).receiver; start_selector = (x i).selector; phase = 0; top = 0; value = 0; edition = (x i).edition })
-            (ap (λ (z : Stored). z.contents) q ∙ ap (λ (k : ℕ). (image_objects image).contents ++ drop k contents) (sym f.contents))
-            (ap (λ (z : Stored). z.bodies) q ∙ ap (λ (k : ℕ). (image_objects image).bodies ++ drop k bodies) (sym f.bodies))
-            refl (c ∙ emptied cache a.cache)
-            ∙ sym (load_is accepted p))
+    pub load_accepted : (x : Read.Header) (cache' : List ℕ) → accepted ≡ verdict → as_header x ≡ h
+        → stored 0 contents' bodies' ≡ stored_by verdict image contents bodies → cache' ≡ replicate (length cache) 0
+        → loadGives (Ok (record { n = x.n; b = x.b; receiver = x.receiver; selector = x.selector; phase = 0; top = 0; value = 0; edition = x.edition })) contents' bodies' stack cache' ≡ flat_load s image
+    load_accepted x cache' e z q c = unfold loadGives stored_by loaded in (
+        let a = accepts (room_of s) image (same_verdict ∙ sym e) in
+        let f = objects_fit image (long (room_of s) image a) in
+        let w = q ∙ ap (λ (v : Verdict). stored_by v image contents bodies) (sym e) in
+        given_eq refl (λ i. record { n = (z i).n; b = (z i).b; start_receiver = (z i).receiver; start_selector = (z i).selector; phase = 0; top = 0; value = 0; edition = (z i).edition })
+        (ap (λ (y : Stored). y.contents) w ∙ ap (λ (k : ℕ). (image_objects image).contents ++ drop k contents) (sym f.contents))
+        (ap (λ (y : Stored). y.bodies) w ∙ ap (λ (k : ℕ). (image_objects image).bodies ++ drop k bodies) (sym f.bodies))
+        refl (c ∙ emptied cache a.cache)
+        ∙ sym (load_is accepted (sym e)))
 
-    load_refused : (k : ℕ) (r : Registers) → registers_of r ≡ R.no_registers → Refused k ≡ reading_of verdict h → stored k contents' bodies' ≡ stored_by verdict image contents bodies
-        → loadGives (L.Refused k r) contents' bodies' stack cache ≡ flat_load s image
-    load_refused k r z e q = go verdict refl e q
+    pub load_refused : (k : Refusal) → refused (number_of k) ≡ verdict → stored (number_of k) contents' bodies' ≡ stored_by verdict image contents bodies
+        → loadGives (Err k) contents' bodies' stack cache ≡ flat_load s image
+    load_refused k e q = unfold loadGives stored_by in
+        (by_number (leb (number_of k) 3) (q ∙ ap (λ (v : Verdict). stored_by v image contents bodies) (sym e)) ∙ sym (load_is (refused (number_of k)) (sym e)))
       where
-        by_number : (j : ℕ) (b : Bool) → stored k contents' bodies' ≡ (when b then stored j contents bodies else in_front j h.n h.b
+        by_number : (b : Bool) → stored (number_of k) contents' bodies' ≡ (when b then stored (number_of k) contents bodies else in_front (number_of k) h.n h.b
             (replicate (entry_words * h.n) 0) (replicate h.b 0) contents bodies)
-            → gives (refused_by k) (flat R.no_registers contents' bodies' stack cache) ≡ gives (refused_by j) (when b then with_registers s R.no_registers else zeroed s h.n h.b)
-        by_number j true q = unfold when◌then◌else◌ in given_eq (ap (λ (z : Stored). refused_by z.number) q) refl (ap (λ (z : Stored). z.contents) q) (ap (λ (z : Stored). z.bodies) q) refl refl
-        by_number j false q = unfold when◌then◌else◌ zeroed in
-            given_eq (ap (λ (z : Stored). refused_by z.number) q) refl
+            → gives (refused_by (number_of k)) (flat R.no_registers contents' bodies' stack cache) ≡ gives (refused_by (number_of k)) (when b then with_registers s R.no_registers else zeroed s h.n h.b)
+        by_number true q = unfold when◌then◌else◌ in given_eq refl refl (ap (λ (z : Stored). z.contents) q) (ap (λ (z : Stored). z.bodies) q) refl refl
+        by_number false q = unfold when◌then◌else◌ zeroed in
+            given_eq refl refl
             (ap (λ (z : Stored). z.contents) q ∙ ap (λ (l : ℕ). replicate (entry_words * h.n) 0 ++ drop l contents) (sym (length-replicate {A = ℕ} (entry_words * h.n) 0)))
             (ap (λ (z : Stored). z.bodies) q ∙ ap (λ (l : ℕ). replicate h.b 0 ++ drop l bodies) (sym (length-replicate {A = ℕ} h.b 0))) refl refl
-
-        go : (v : Verdict) → verdict ≡ v → Refused k ≡ reading_of v h → stored k contents' bodies' ≡ stored_by v image contents bodies
-            → loadGives (L.Refused k r) contents' bodies' stack cache ≡ flat_load s image
-        go accepted p e q = absurd (unfold reading_of in subst is_accepted (sym e) tt)
-        go (refused j) p e q = unfold loadGives stored_by in ((λ i. gives (refused_by k) (flat (z i) contents' bodies' stack cache)) ∙ by_number j (leb j 3) q ∙ sym (load_is (refused j) p))
-
-    -- as the reading gives it
-    pub read_accepted : (r : Reading) (edition n b receiver selector : ℕ) (cache' : List ℕ) → r ≡ Accepted edition n b receiver selector → r ≡ reading_of verdict h
-        → stored (reading_number r) contents' bodies' ≡ stored_by verdict image contents bodies → cache' ≡ sets cache 0 (replicate (length cache) 0)
-        → loadGives (L.Accepted (record { n = n; b = b; receiver = receiver; selector = selector; phase = 0; top = 0; value = 0; edition = edition })) contents' bodies' stack cache' ≡ flat_load s image
-    unfolding reading_number
-    read_accepted r edition n b receiver selector cache' x e q c =
-        load_accepted edition n b receiver selector cache' (sym x ∙ e) (ap (λ (y : Reading). stored (reading_number y) contents' bodies') (sym x) ∙ q) c
-
-    pub read_refused : (y : Reading) (k : ℕ) (r : Registers) → registers_of r ≡ R.no_registers → y ≡ Refused k → y ≡ reading_of verdict h
-        → stored (reading_number y) contents' bodies' ≡ stored_by verdict image contents bodies
-        → loadGives (L.Refused k r) contents' bodies' stack cache ≡ flat_load s image
-    unfolding reading_number
-    read_refused y k r z x e q = load_refused k r z (sym x ∙ e) (ap (λ (w : Reading). stored (reading_number w) contents' bodies') (sym x) ∙ q)
 
 -- A refused load gives no registers.
 pub none_given : (s : Flat) (image : List ℕ) (k : ℕ) (t : Flat) → gives (refused_by k) t ≡ flat_load s image → t.registers ≡ R.no_registers

@@ -26,10 +26,8 @@ use Rattle.plain.proofs.FlatLaws.{check_right}
 use Rattle.plain.proofs.LoadLaws.{Accepted, accepts}
 use Rattle.plain.proofs.Theorem.{from_load}
 use Rattle.machine.specs.declared.Registers.{Registers}
-use Rattle.loads.specs.declared.Loaded.{Loaded}
-use Rattle.loads.specs.declared.Saved.{Saved}
-use Rattle.loads.specs.declared.Loaded.TheVariants as L
-use Rattle.loads.specs.declared.Saved.TheVariants as S
+use Rattle.std.specs.Prelude.{Result, Ok, Err}
+use Rattle.model.specs.declared.numbers.Refusal.{Refusal}
 use Rattle.machine.specs.State.{state}
 use Rattle.loads.specs.Answers.{loadGives, saveGives}
 use Rattle.loads.specs.SaveLoad.{saved_bytes, Reloaded, SaveThenLoad, Resaved, LoadThenSave, idle_again, SavedLoaded, LoadedSaved}
@@ -181,9 +179,9 @@ load_then_save t s image output bytes g long =
 
 -- ---- the answers of the functions
 
-saves_as : (a : Saved) (output output' : List ℕ) (k : ℕ) → saveGives a output ≡ saved (wrote k) output' → (a ≡ S.Wrote k) × (output ≡ output')
+saves_as : (a : Result ℕ Refusal) (output output' : List ℕ) (k : ℕ) → saveGives a output ≡ saved (wrote k) output' → (a ≡ Ok k) × (output ≡ output')
 unfolding saveGives
-saves_as (S.Wrote j) output output' k e = (ap S.Wrote (ap number e), ap written e)
+saves_as (Ok j) output output' k e = (ap Ok (ap number e), ap written e)
   where
     number : A.Saved → ℕ
     number (saved (wrote i) l) = i
@@ -193,7 +191,7 @@ saves_as (S.Wrote j) output output' k e = (ap S.Wrote (ap number e), ap written 
 
     written : A.Saved → List ℕ
     written (saved x l) = l
-saves_as (S.Refused j) output output' k e = absurd (subst is_refused e tt)
+saves_as (Err j) output output' k e = absurd (subst is_refused e tt)
   where
     is_refused : A.Saved → Type 0
     is_refused (saved (refused_by i) l) = Unit {0}
@@ -201,11 +199,11 @@ saves_as (S.Refused j) output output' k e = absurd (subst is_refused e tt)
     is_refused (saved (result p i v h d) l) = ⊥
     is_refused (saved done l) = ⊥
 
-loads_as : (a : Loaded) (contents bodies stack cache : List ℕ) (t : Flat) → loadGives a contents bodies stack cache ≡ gives done t
-    → (r : Registers) × (a ≡ L.Accepted r) × (state r contents bodies stack cache ≡ t)
+loads_as : (a : Result Registers Refusal) (contents bodies stack cache : List ℕ) (t : Flat) → loadGives a contents bodies stack cache ≡ gives done t
+    → (r : Registers) × (a ≡ Ok r) × (state r contents bodies stack cache ≡ t)
 unfolding loadGives
-loads_as (L.Accepted r) contents bodies stack cache t e = (r, refl, ap (next_state t) e)
-loads_as (L.Refused k r) contents bodies stack cache t e = absurd (subst is_refused e tt)
+loads_as (Ok r) contents bodies stack cache t e = (r, refl, ap (next_state t) e)
+loads_as (Err k) contents bodies stack cache t e = absurd (subst is_refused e tt)
   where
     is_refused : Given → Type 0
     is_refused (gives (refused_by i) x) = Unit {0}
@@ -228,16 +226,16 @@ saved_loaded r contents bodies stack cache output a output' contents₁ bodies�
     both : (stack₁ : List ℕ) → (output'' : List ℕ) × (t' : Flat) × Reloaded s output (t stack₁) output'' t'
     both stack₁ = save_then_load s (t stack₁) output e long room
 
-    writes : (stack₁ : List ℕ) → (a ≡ S.Wrote (saved_bytes s)) × (output' ≡ (both stack₁).0)
+    writes : (stack₁ : List ℕ) → (a ≡ Ok (saved_bytes s)) × (output' ≡ (both stack₁).0)
     writes stack₁ = saves_as a output' (both stack₁).0 (saved_bytes s) (p ∙ (both stack₁).2.saves)
 
-    w : (a ≡ S.Wrote (saved_bytes s)) × (output' ≡ (both []).0)
+    w : (a ≡ Ok (saved_bytes s)) × (output' ≡ (both []).0)
     w = writes []
 
-    at : (stack₁ : List ℕ) → (l ≡ L.Accepted (idle_again r)) × (objects_at r.n r.b contents' bodies' ≡ objects_at r.n r.b contents bodies) × (cache' ≡ empty_cache)
+    at : (stack₁ : List ℕ) → (l ≡ Ok (idle_again r)) × (objects_at r.n r.b contents' bodies' ≡ objects_at r.n r.b contents bodies) × (cache' ≡ empty_cache)
         × (check (state (idle_again r) contents' bodies' stack₁ cache') ≡ accepted)
     at stack₁ = (
-      x.1 ∙ ap L.Accepted same,
+      x.1 ∙ ap Ok same,
       ap (λ (y : Registers). objects_at y.n y.b contents' bodies') (sym same) ∙ ap flat_objects x.2
           ∙ b.objects,
       ap (λ (y : Flat). y.cache) x.2 ∙ b.cache,
@@ -251,7 +249,7 @@ saved_loaded r contents bodies stack cache output a output' contents₁ bodies�
         b : Reloaded s output (t stack₁) (both stack₁).0 t'
         b = (both stack₁).2
 
-        x : (r' : Registers) × (l ≡ L.Accepted r') × (state r' contents' bodies' stack₁ cache' ≡ t')
+        x : (r' : Registers) × (l ≡ Ok r') × (state r' contents' bodies' stack₁ cache' ≡ t')
         x = loads_as l contents' bodies' stack₁ cache' t' (q R.no_registers stack₁ ∙ ap (λ (y : List ℕ). flat_load (t stack₁) (take (saved_bytes s) y)) (writes stack₁).1 ∙ b.loads)
 
         again : R.Registers → Registers

@@ -16,13 +16,13 @@ use Rattle.plain.specs.Check.{check, state_fine}
 use Rattle.plain.specs.Calls.{refused_by, wrote}
 use Rattle.plain.specs.FlatCalls.{saved_image, save_verdict, after_save, flat_save, saved}
 use Rattle.plain.proofs.FlatLaws.{check_right}
+use Rattle.std.specs.Prelude.{Ok, Err}
+use Rattle.model.specs.declared.numbers.Refusal.{Refusal}
+use Rattle.model.specs.declared.numbers.Refusal.TheVariants as Refused
+use Rattle.model.specs.Numbers.{number_of}
 use Rattle.machine.specs.declared.Registers.{Registers}
-use Rattle.machine.specs.declared.Checked.{Checked}
-use Rattle.machine.specs.State.{registers_of, state, check_gives}
-use Rattle.machine.proofs.Answers.{was-refused, was-right}
+use Rattle.machine.specs.State.{registers_of, state}
 use Rattle.loads.specs.Answers.{saveGives}
-use Rattle.machine.specs.declared.Checked.TheVariants as C
-use Rattle.loads.specs.declared.Saved.TheVariants as S
 
 module _ (r : R.Registers) (contents bodies stack cache output : List ℕ) where
   abbrev s : Flat
@@ -76,23 +76,23 @@ module _ (r : R.Registers) (contents bodies stack cache output : List ℕ) where
     save_room e = let f = check_right s (sym e) in (f.contents, f.bodies)
 
 -- as the code answers
-module _ (r : Registers) (contents bodies stack cache : List ℕ) where
-  module _ (x : Checked) (e : check_gives x ≡ check (state r contents bodies stack cache)) where
-    module _ (output : List ℕ) (long : image_bytes r.n r.b ≤ length output) where
-      pub saves_not : (k : ℕ) → x ≡ C.Refused k → saveGives (S.Refused k) output ≡ flat_save (state r contents bodies stack cache) output
-      unfolding saveGives
-      saves_not k q = save_refused (registers_of r) contents bodies stack cache output long k (was-refused r contents bodies stack cache x e k q)
+module _ (r : Registers) (contents bodies stack cache output : List ℕ) where
+  module _ (long : image_bytes r.n r.b ≤ length output) where
+    pub saves_not : (k : Refusal) → refused (number_of k) ≡ check (state r contents bodies stack cache) → saveGives (Err k) output ≡ flat_save (state r contents bodies stack cache) output
+    unfolding saveGives
+    saves_not k q = save_refused (registers_of r) contents bodies stack cache output long (number_of k) q
 
-      pub saves_room : x ≡ C.Right → (entry_words * r.n ≤ length contents) × (r.b ≤ length bodies)
-      saves_room q = save_room (registers_of r) contents bodies stack cache output long (was-right r contents bodies stack cache x e q)
+    module _ (yes : accepted ≡ check (state r contents bodies stack cache)) where
+      pub saves_room : (entry_words * r.n ≤ length contents) × (r.b ≤ length bodies)
+      saves_room = save_room (registers_of r) contents bodies stack cache output long yes
 
-      pub saves : x ≡ C.Right → (k : ℕ) (output' : List ℕ) → k ≡ image_bytes r.n r.b
+      pub saves : (k : ℕ) (output' : List ℕ) → k ≡ image_bytes r.n r.b
           → output' ≡ image_of (record { edition = r.edition; n = r.n; b = r.b; receiver = r.receiver; selector = r.selector })
           (objects_at r.n r.b contents bodies) ++ drop (image_bytes r.n r.b) output
-          → saveGives (S.Wrote k) output' ≡ flat_save (state r contents bodies stack cache) output
+          → saveGives (Ok k) output' ≡ flat_save (state r contents bodies stack cache) output
       unfolding saveGives
-      saves q k output' p w = save_done (registers_of r) contents bodies stack cache output long k output' (was-right r contents bodies stack cache x e q) p w
+      saves k output' p w = save_done (registers_of r) contents bodies stack cache output long k output' yes p w
 
-  pub saves_short : (output : List ℕ) → length output < image_bytes r.n r.b → saveGives (S.Refused 3) output ≡ flat_save (state r contents bodies stack cache) output
+  pub saves_short : length output < image_bytes r.n r.b → saveGives (Err Refused.Buffers) output ≡ flat_save (state r contents bodies stack cache) output
   unfolding saveGives
-  saves_short output h = save_short (registers_of r) contents bodies stack cache output h
+  saves_short h = save_short (registers_of r) contents bodies stack cache output h

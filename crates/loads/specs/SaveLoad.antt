@@ -1,5 +1,6 @@
 -- Save and load undo each other. The proofs are save-then-load, load-then-save, saved-loaded and loaded-saved of proofs/SavedLoaded.antt.
-use Rattle.std.specs.Prelude.{ℕ, ◌≤◌, ◌<◌, ◌≡◌, true, List, ◌++◌, length, get_or, take, drop}
+use Rattle.std.specs.Prelude.{ℕ, ◌≤◌, ◌<◌, ◌≡◌, true, List, ◌++◌, length, get_or, take, drop, Result, Ok}
+use Rattle.model.specs.declared.numbers.Refusal.{Refusal}
 use Rattle.model.specs.Objects.{objects_at}
 use Rattle.model.specs.Image.{accepted, buffers_fine, image_bytes}
 use Rattle.store.specs.Answer.{room_for}
@@ -10,10 +11,6 @@ use Rattle.plain.specs.Check.{check}
 use Rattle.plain.specs.Calls.{done, wrote}
 use Rattle.plain.specs.FlatCalls.{gives, saved, flat_load, flat_save}
 use Rattle.machine.specs.declared.Registers.{Registers}
-use Rattle.loads.specs.declared.Loaded.{Loaded}
-use Rattle.loads.specs.declared.Saved.{Saved}
-use Rattle.loads.specs.declared.Loaded.TheVariants as L
-use Rattle.loads.specs.declared.Saved.TheVariants as S
 use Rattle.machine.specs.State.{state}
 use Rattle.loads.specs.Answers.{PromisedLoad, saveGives}
 
@@ -54,7 +51,7 @@ LoadThenSave =
 
 -- The same of the answers of `save` and `load` (src/lib.rt), by what the two promise: `PromisedSave` of the answer and the output afterwards,
 -- `PromisedLoad` (State) of the answer and the buffers afterwards.
-abbrev pub PromisedSave : Registers → (contents bodies stack cache output : List ℕ) → Saved → List ℕ → Type 0
+abbrev pub PromisedSave : Registers → (contents bodies stack cache output : List ℕ) → Result ℕ Refusal → List ℕ → Type 0
 PromisedSave r contents bodies stack cache output a output' = saveGives a output' ≡ flat_save (state r contents bodies stack cache) output
 
 -- The registers of a state that was saved, as load gives them
@@ -62,17 +59,17 @@ abbrev pub idle_again : Registers → Registers
 idle_again r = record { n = r.n; b = r.b; receiver = r.receiver; selector = r.selector; phase = 0; top = 0; value = 0; edition = r.edition }
 
 -- Save answers with the length, load of so many bytes with the registers.
-pub record LoadedAgain (r : Registers) (contents bodies : List ℕ) (a : Saved) (l : Loaded) (contents' bodies' cache' : List ℕ) : Type 0 where
-  pub wrote : a ≡ S.Wrote (image_bytes r.n r.b)
-  pub accepts : l ≡ L.Accepted (idle_again r)
+pub record LoadedAgain (r : Registers) (contents bodies : List ℕ) (a : Result ℕ Refusal) (l : Result Registers Refusal) (contents' bodies' cache' : List ℕ) : Type 0 where
+  pub wrote : a ≡ Ok (image_bytes r.n r.b)
+  pub accepts : l ≡ Ok (idle_again r)
   pub objects : objects_at r.n r.b contents' bodies' ≡ objects_at r.n r.b contents bodies
   pub cache : cache' ≡ empty_cache
   pub checks : (stack : List ℕ) → check (state (idle_again r) contents' bodies' stack cache') ≡ accepted
 
 abbrev pub SavedLoaded : Type 0
 SavedLoaded =
-    (r : Registers) (contents bodies stack cache output : List ℕ) (a : Saved) (output' : List ℕ)
-    (contents₁ bodies₁ cache₁ : List ℕ) (l : Loaded) (contents' bodies' cache' : List ℕ)
+    (r : Registers) (contents bodies stack cache output : List ℕ) (a : Result ℕ Refusal) (output' : List ℕ)
+    (contents₁ bodies₁ cache₁ : List ℕ) (l : Result Registers Refusal) (contents' bodies' cache' : List ℕ)
     → PromisedSave r contents bodies stack cache output a output'
     → PromisedLoad (take (image_bytes r.n r.b) output') contents₁ bodies₁ cache₁ l contents' bodies' cache'
     → check (state r contents bodies stack cache) ≡ accepted
@@ -83,9 +80,9 @@ SavedLoaded =
 -- Load answers with registers, save of the state that they are with the image's length, and the output begins with the image.
 abbrev pub LoadedSaved : Type 0
 LoadedSaved =
-    (image contents bodies cache : List ℕ) (r : Registers) (contents' bodies' cache' stack output : List ℕ) (a : Saved) (output' : List ℕ)
+    (image contents bodies cache : List ℕ) (r : Registers) (contents' bodies' cache' stack output : List ℕ) (a : Result ℕ Refusal) (output' : List ℕ)
     → Bytes image
-    → PromisedLoad image contents bodies cache (L.Accepted r) contents' bodies' cache'
+    → PromisedLoad image contents bodies cache (Ok r) contents' bodies' cache'
     → PromisedSave r contents' bodies' stack cache' output a output'
     → length image ≤ length output
-    → (a ≡ S.Wrote (length image)) × (output' ≡ image ++ drop (length image) output)
+    → (a ≡ Ok (length image)) × (output' ≡ image ++ drop (length image) output)

@@ -9,25 +9,11 @@ ghost use Rattle.machine.specs.State.{registers_of, state};
 ghost use Rattle.loads.specs.Answers.{PromisedLoad, saveGives};
 
 use image::Header;
-use machine::{Checked, Registers};
-use store::Reading;
+use machine::Registers;
+use model::Refusal;
 
-// The answer of load. Refused, the registers are all zero.
-#[derive(Clone, Copy)]
-pub enum Loaded {
-    Accepted(Registers),
-    Refused(u32, Registers),
-}
-
-// The answer of save.
-#[derive(Clone, Copy)]
-pub enum Saved {
-    Wrote(u32),
-    Refused(u32),
-}
-
-// Registers of no image.
-fn no_registers() -> Registers
+// Registers of no image: what a refused load leaves.
+pub fn no_registers() -> Registers
     ensures { registers_of result ≡ R.no_registers }
 {
     Registers {
@@ -43,35 +29,30 @@ fn no_registers() -> Registers
 }
 
 // An image put in place and the cache emptied, or nothing but zeros where its objects are refused.
-pub fn load(image: &[u8], contents: &mut [u16], bodies: &mut [u16], cache: &mut [u16]) -> Loaded
+pub fn load(
+    image: &[u8],
+    contents: &mut [u16],
+    bodies: &mut [u16],
+    cache: &mut [u16],
+) -> Result<Registers, Refusal>
     ensures { PromisedLoad image.now contents.old bodies.old cache.old result contents.new
         bodies.new cache.new }
 {
-    match store::read(image, contents, bodies, cache.len()) {
-        Reading::Accepted {
-            edition,
-            n,
-            b,
-            receiver,
-            selector,
-        } => {
-            words::fill(cache, 0, cache.len(), 0); // lookups of what stood here before
-            Loaded::Accepted(Registers {
-                n: n,
-                b: b,
-                receiver: receiver,
-                selector: selector,
-                phase: 0,
-                top: 0,
-                value: 0,
-                edition: edition,
-            })
-        }
-        Reading::Refused(k) => Loaded::Refused(k, no_registers()),
-    }
+    let header = store::read(image, contents, bodies, cache.len())?;
+    cache.fill(0); // lookups of what stood here before
+    Ok(Registers {
+        n: header.n,
+        b: header.b,
+        receiver: header.receiver,
+        selector: header.selector,
+        phase: 0,
+        top: 0,
+        value: 0,
+        edition: header.edition,
+    })
 }
 
-// The image written at the front of the output. An output too short is 3, before 11.
+// The image written at the front of the output, and how many bytes it has. An output too short is 3, before 11.
 pub fn save(
     registers: Registers,
     contents: &[u16],
@@ -79,27 +60,21 @@ pub fn save(
     stack: &[u16],
     cache: &[u16],
     output: &mut [u8],
-) -> Saved
+) -> Result<u32, Refusal>
     ensures { saveGives result output.new
         ≡ flat_save (state registers contents.now bodies.now stack.now cache.now) output.old }
 {
-    let n = registers.n;
-    let b = registers.b;
-    if output.len() < image::length_of(n, b) {
-        return Saved::Refused(3);
+    if output.len() < image::length_of(registers.n, registers.b) {
+        return Err(Refusal::Buffers);
     }
-    match machine::check(registers, contents, bodies, stack, cache) {
-        Checked::Refused(k) => Saved::Refused(k),
-        Checked::Right => {
-            let header = Header {
-                edition: registers.edition,
-                n: n,
-                b: b,
-                receiver: registers.receiver,
-                selector: registers.selector,
-            };
-            let bytes = image::write(header, contents, bodies, output);
-            Saved::Wrote(bytes as u32)
-        }
-    }
+    machine::check(registers, contents, bodies, stack, cache)?;
+    let header = Header {
+        edition: registers.edition,
+        n: registers.n,
+        b: registers.b,
+        receiver: registers.receiver,
+        selector: registers.selector,
+    };
+    let bytes = image::write(header, contents, bodies, output);
+    Ok(bytes as u32)
 }

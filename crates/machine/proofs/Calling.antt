@@ -2,13 +2,10 @@
 use Prim.Native.Nat.{ℕ, ◌*◌}
 use mathlib.Core.Path.{◌≡◌, sym, ap, ap₂, ◌∙◌}
 use mathlib.Core.Bool.{Bool, true, false}
-use mathlib.Core.List.{List, ◌++◌, append-nil}
-use native.Mathlib.Omega.{arith}
+use mathlib.Core.List.{List}
 use lib.ListN.{length, replicate}
-use lib.Seq.{sets, drop-length}
 use Rattle.model.specs.Limits.{entry_words, cache_words}
 use Rattle.model.specs.Image.{Verdict, accepted, refused, unless, ◌then◌, buffers_fine}
-use Rattle.words.proofs.Runs.{filled_front}
 use Rattle.plain.specs.Registers.{Registers, with_phase}
 use Rattle.plain.specs.Flat.{Flat, flat, room_of, plain_of}
 use Rattle.plain.specs.Cache.{empty_cache}
@@ -19,10 +16,8 @@ use Rattle.plain.proofs.FlatLaws.{check_right}
 use Rattle.model.proofs.Lent.{front_same}
 
 -- A cache of its length, cleared
-pub emptied : (cache : List ℕ) → length cache ≡ cache_words → sets cache 0 (replicate (length cache) 0) ≡ empty_cache
-emptied cache y =
-    filled_front cache (length cache) 0 (omega arith) ∙ ap (λ (l : List ℕ). replicate (length cache) 0 ++ l) (drop-length cache)
-    ∙ append-nil (replicate (length cache) 0) ∙ ap (λ (k : ℕ). replicate {A = ℕ} k 0) y
+pub emptied : (cache : List ℕ) → length cache ≡ cache_words → replicate (length cache) 0 ≡ empty_cache
+emptied cache y = ap (λ (k : ℕ). replicate {A = ℕ} k 0) y
 
 -- ---- check: 3, then 11
 pub check_3 : (s : Flat) → buffers_fine (room_of s) s.registers.n s.registers.b ≡ false → refused 3 ≡ check s
@@ -60,7 +55,7 @@ pub forget_refused : (s : Flat) (k : ℕ) → refused k ≡ check s → gives (r
 unfolding flat_forget
 forget_refused s k e = refuses s k _ e
 
-pub forget_done : (r : Registers) (contents bodies stack cache cache' : List ℕ) → accepted ≡ check (flat r contents bodies stack cache) → cache' ≡ sets cache 0 (replicate (length cache) 0)
+pub forget_done : (r : Registers) (contents bodies stack cache cache' : List ℕ) → accepted ≡ check (flat r contents bodies stack cache) → cache' ≡ replicate (length cache) 0
     → gives done (flat r contents bodies stack cache') ≡ flat_forget (flat r contents bodies stack cache)
 unfolding flat_forget
 forget_done r contents bodies stack cache cache' e c =

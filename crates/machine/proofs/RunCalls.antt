@@ -11,7 +11,7 @@ use Rattle.model.specs.Image.{Verdict, accepted, refused}
 use Rattle.plain.specs.Registers as R
 use Rattle.plain.specs.Registers.{running, with_phase, with_sizes}
 use Rattle.plain.specs.Flat.{Flat, flat, plain_of}
-use Rattle.plain.specs.Calls.{result}
+use Rattle.plain.specs.Calls.{result, refused_by}
 use Rattle.plain.specs.Check.{check}
 use Rattle.plain.specs.FlatCalls.{gives, checked, flat_run_if, flat_run}
 use Rattle.plain.specs.RunLoop.{runs_from}
@@ -24,7 +24,8 @@ use Rattle.runs.specs.declared.Ended.{Ended}
 use Rattle.runs.specs.Ends.{start_of, ended_with, Goes, RunsTo}
 use Rattle.grants.specs.Grants.{RunsOn}
 use Rattle.machine.specs.State.{registers_of, state, run_gives}
-use Rattle.machine.specs.declared.Ran.TheVariants as N
+use Rattle.std.specs.Prelude.{Ok, Err}
+use Rattle.model.specs.declared.numbers.Refusal.TheVariants as Refused
 
 value_none : (s : Flat) → FlatRight s → s.registers.phase ≡ running → s.registers.value ≡ 0
 unfolding plain_of
@@ -40,13 +41,12 @@ module _ (r : Registers) (contents bodies stack cache : List ℕ) (n : ℕ) wher
   abbrev s : Flat
   s = state r contents bodies stack cache
 
-  pub runs_not : (k : ℕ) → refused k ≡ check s → run_gives (N.Refused k r) contents bodies stack cache ≡ flat_run s n
-  unfolding run_gives flat_run
+  pub runs_not : (k : ℕ) → refused k ≡ check s → gives (refused_by k) s ≡ flat_run s n
+  unfolding flat_run
   runs_not k q = ap (λ (v : Verdict). checked s v (flat_run_if s n (eqb r.phase running))) q
 
   module _ (yes : check s ≡ accepted) where
-    pub runs_12 : (r.phase ≡ 1 → ⊥) → run_gives (N.Refused 12 r) contents bodies stack cache ≡ flat_run s n
-    unfolding run_gives
+    pub runs_12 : (r.phase ≡ 1 → ⊥) → run_gives r (Err Refused.Phase) contents bodies stack cache ≡ flat_run s n
     runs_12 p = sym (run_passes s yes n false (ne_eqb r.phase running p))
 
     module _ (p : r.phase ≡ 1) where
@@ -70,8 +70,7 @@ module _ (r : Registers) (contents bodies stack cache : List ℕ) (n : ℕ) wher
         runs_small = ran.small
 
         pub runs_done : (r₁ r₂ : Registers) → registers_of r₁ ≡ with_sizes (registers_of r) z.n z.b → registers_of r₂ ≡ with_phase (registers_of r₁) z.phase z.top z.value
-            → run_gives (N.Done r₂ z.count z.reach z.dictionaries) contents' bodies' stack' cache' ≡ flat_run s n
-        unfolding run_gives
+            → run_gives r (Ok (record { registers = r₂; count = z.count; reach = z.reach; dictionaries = z.dictionaries })) contents' bodies' stack' cache' ≡ flat_run s n
         runs_done r₁ r₂ d f =
             let e : registers_of r₂ ≡ ended_with r.edition r.receiver r.selector z = f ∙ ap (λ (x : R.Registers). with_phase x z.phase z.top z.value) d in
             (λ i. gives (result (e i).phase z.count (e i).value z.reach z.dictionaries) (flat (e i) contents' bodies' stack' cache')) ∙ ran.gave

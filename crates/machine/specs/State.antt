@@ -1,21 +1,13 @@
 -- The registers as the code holds them, and the answers of the calls as 01's numbers and values.
-use Rattle.std.specs.Prelude.{ℕ, List}
+use Rattle.std.specs.Prelude.{ℕ, List, Result, Ok, Err}
+use Rattle.model.specs.declared.numbers.Refusal.{Refusal}
+use Rattle.model.specs.Numbers.{number_of}
 use Rattle.plain.specs.Flat.{Flat, flat}
 use Rattle.plain.specs.Calls.{done, refused_by, result}
 use Rattle.plain.specs.FlatCalls.{Given, gives}
-use Rattle.machine.specs.declared.Registers.{Registers}
-use Rattle.machine.specs.declared.Checked.{Checked}
-use Rattle.machine.specs.declared.Begun.{Begun}
-use Rattle.machine.specs.declared.Ran.{Ran}
-use Rattle.machine.specs.declared.Dropped.{Dropped}
-use Rattle.machine.specs.declared.Forgotten.{Forgotten}
-use Rattle.model.specs.Image.{Verdict, accepted, refused}
 use Rattle.plain.specs.Registers as R
-use Rattle.machine.specs.declared.Checked.TheVariants as C
-use Rattle.machine.specs.declared.Begun.TheVariants as B
-use Rattle.machine.specs.declared.Ran.TheVariants as N
-use Rattle.machine.specs.declared.Dropped.TheVariants as D
-use Rattle.machine.specs.declared.Forgotten.TheVariants as F
+use Rattle.machine.specs.declared.Registers.{Registers}
+use Rattle.machine.specs.declared.Ran.{Ran}
 
 abbrev pub registers_of : Registers → R.Registers
 registers_of r =
@@ -25,27 +17,22 @@ registers_of r =
 abbrev pub state : Registers → List ℕ → List ℕ → List ℕ → List ℕ → Flat
 state r contents bodies stack cache = flat (registers_of r) contents bodies stack cache
 
--- Check: yes, 3 or 11
-unfoldable pub check_gives : Checked → Verdict
-check_gives C.Right = accepted
-check_gives (C.Refused k) = refused k
+-- Refused: the registers are as they were.
+abbrev pub declines : Registers → Refusal → List ℕ → List ℕ → List ℕ → List ℕ → Given
+declines before k contents bodies stack cache = gives (refused_by (number_of k)) (state before contents bodies stack cache)
 
--- Begin: the registers come back, those of the state that began or as they were.
-unfoldable pub begin_gives : Begun → List ℕ → List ℕ → List ℕ → List ℕ → Given
-begin_gives (B.Started r) contents bodies stack cache = gives done (state r contents bodies stack cache)
-begin_gives (B.Refused k r) contents bodies stack cache = gives (refused_by k) (state r contents bodies stack cache)
+-- Begin and drop: the registers after them.
+abbrev pub call_gives : Registers → Result Registers Refusal → List ℕ → List ℕ → List ℕ → List ℕ → Given
+call_gives before (Ok r) contents bodies stack cache = gives done (state r contents bodies stack cache)
+call_gives before (Err k) contents bodies stack cache = declines before k contents bodies stack cache
 
--- Run: phase and value are in the registers that come back, count, reach and dictionaries beside them.
-unfoldable pub run_gives : Ran → List ℕ → List ℕ → List ℕ → List ℕ → Given
-run_gives (N.Done r count reach dictionaries) contents bodies stack cache = gives (result r.phase count r.value reach dictionaries) (state r contents bodies stack cache)
-run_gives (N.Refused k r) contents bodies stack cache = gives (refused_by k) (state r contents bodies stack cache)
-
--- Drop: the registers come back, changed or as they were.
-unfoldable pub drop_gives : Dropped → List ℕ → List ℕ → List ℕ → List ℕ → Given
-drop_gives (D.Dropped r) contents bodies stack cache = gives done (state r contents bodies stack cache)
-drop_gives (D.Refused k r) contents bodies stack cache = gives (refused_by k) (state r contents bodies stack cache)
+-- Run: phase and value are in the registers after it, count, reach and dictionaries beside them.
+abbrev pub run_gives : Registers → Result Ran Refusal → List ℕ → List ℕ → List ℕ → List ℕ → Given
+run_gives before (Ok x) contents bodies stack cache =
+    gives (result x.registers.phase x.count x.registers.value x.reach x.dictionaries) (state x.registers contents bodies stack cache)
+run_gives before (Err k) contents bodies stack cache = declines before k contents bodies stack cache
 
 -- Forget takes the registers and leaves them.
-unfoldable pub forget_gives : Forgotten → Registers → List ℕ → List ℕ → List ℕ → List ℕ → Given
-forget_gives F.Emptied r contents bodies stack cache = gives done (state r contents bodies stack cache)
-forget_gives (F.Refused k) r contents bodies stack cache = gives (refused_by k) (state r contents bodies stack cache)
+abbrev pub forget_gives : {A : Type 0} → Registers → Result A Refusal → List ℕ → List ℕ → List ℕ → List ℕ → Given
+forget_gives r (Ok x) contents bodies stack cache = gives done (state r contents bodies stack cache)
+forget_gives r (Err k) contents bodies stack cache = declines r k contents bodies stack cache

@@ -14,12 +14,14 @@ ghost use Rattle.plain.specs.FlatCalls.{flat_begin, flat_run, flat_drop, flat_fo
 ghost use Rattle.calls.specs.Encoding.{size_at, call_at, answer_size, answer_words};
 ghost use Rattle.calls.specs.Plays.{Plays};
 ghost use Rattle.machine.specs.Parts.{FirstParts};
-ghost use Rattle.machine.specs.State.{registers_of, state, check_gives, begin_gives, run_gives, drop_gives, forget_gives};
+ghost use Rattle.machine.specs.State.{registers_of, state, call_gives, run_gives, forget_gives};
 ghost use Rattle.machine.specs.Lists.{registers_in, answer_in, reply_gives, PromisedPlay};
+ghost use Rattle.store.specs.Readings.{verdict_by};
 
 use begins::Beginning;
-use calls::Listed;
-use model::limits;
+use calls::{Answer, Listed};
+use model::{Refusal, limits};
+use readers::Memory;
 
 // `receiver` and `selector` are the start words, `edition` is the image's.
 #[derive(Clone, Copy)]
@@ -34,41 +36,13 @@ pub struct Registers {
     pub edition: u16,
 }
 
-// The answer of check.
+// What a run left. Its phase and value are those of the registers.
 #[derive(Clone, Copy)]
-pub enum Checked {
-    Right,
-    Refused(u32),
-}
-
-// The answers of begin, run, drop and forget. What passes registers by value gives them back.
-#[derive(Clone, Copy)]
-pub enum Begun {
-    Started(Registers),
-    Refused(u32, Registers),
-}
-
-#[derive(Clone, Copy)]
-pub enum Ran {
-    Done {
-        registers: Registers,
-        count: u32,
-        reach: u32,
-        dictionaries: u64,
-    },
-    Refused(u32, Registers),
-}
-
-#[derive(Clone, Copy)]
-pub enum Dropped {
-    Dropped(Registers),
-    Refused(u32, Registers),
-}
-
-#[derive(Clone, Copy)]
-pub enum Forgotten {
-    Emptied,
-    Refused(u32),
+pub struct Ran {
+    pub registers: Registers,
+    pub count: u32,
+    pub reach: u32,
+    pub dictionaries: u64,
 }
 
 // What the calls of a list left: the registers, and how many were made.
@@ -78,20 +52,11 @@ pub struct Made {
     pub calls: u32,
 }
 
-// The answer of play.
-#[derive(Clone, Copy)]
-pub enum Played {
-    Made(Made),
-    Refused(u32, Registers),
-}
-
-// A call of a list that was made: its answer, and the registers that it left. Phase and value of a run are those of the registers; beside them it
-// has its count, its reach and its sum of dictionaries.
+// A call of a list that was made.
 #[derive(Clone, Copy)]
 enum Reply {
     Done(Registers),
-    Refused(u32, Registers),
-    Ran(u32, u32, u64, Registers),
+    Ran(Ran),
 }
 
 // The image's rules, the frames and the cache of a state whose buffers are long enough and whose counts and registers are right. The notes
@@ -111,37 +76,35 @@ fn noted_fine(
     let edition = registers.edition;
     let n = registers.n as usize;
     let b = registers.b as usize;
-    if store::judge(
-        edition,
+    let memory = &Memory {
         contents,
         bodies,
         n,
         b,
+    };
+    if store::judge(
+        edition,
+        memory,
         registers.receiver,
         registers.selector,
         notes,
-    ) != 0
+    )
+    .is_err()
     {
         return false;
     }
-    if !state::standing_fine(
-        contents,
-        bodies,
+    state::standing_fine(
+        memory,
         stack,
         notes,
         edition,
-        n,
-        b,
         registers.phase,
         registers.top,
-    ) {
-        return false;
-    }
-    cache::cache_fine(contents, bodies, cache, n, b)
+    ) && cache::cache_fine(memory, cache)
 }
 
-// With notes for a small image: less to clear. Each size has a function of its own, so that the arrays share their place on the stack.
-fn few_noted(
+// With so many bytes of notes: the fewer, the less to clear. Each size is a function of its own, so that the arrays share their place on the stack.
+fn noted<const BYTES: usize>(
     registers: Registers,
     contents: &[u16],
     bodies: &[u16],
@@ -149,42 +112,10 @@ fn few_noted(
     cache: &[u16],
 ) -> bool
     requires t { T (buffers_fine (room_at contents.now bodies.now stack.now cache.now) registers.n registers.b) }
-    requires first_parts { FirstParts (registers_of registers) × (registers.b ≤ 2000) }
+    requires first_parts { FirstParts (registers_of registers) × (2 * registers.b ≤ BYTES) × (BYTES ≤ 48000) }
     ensures { result ≡ K.state_fine (state registers contents.now bodies.now stack.now cache.now) }
 {
-    let mut notes = [0u8; 4000];
-    noted_fine(registers, contents, bodies, stack, cache, &mut notes)
-}
-
-// For a larger one.
-fn some_noted(
-    registers: Registers,
-    contents: &[u16],
-    bodies: &[u16],
-    stack: &[u16],
-    cache: &[u16],
-) -> bool
-    requires t { T (buffers_fine (room_at contents.now bodies.now stack.now cache.now) registers.n registers.b) }
-    requires first_parts { FirstParts (registers_of registers) × (registers.b ≤ 8000) }
-    ensures { result ≡ K.state_fine (state registers contents.now bodies.now stack.now cache.now) }
-{
-    let mut notes = [0u8; 16000];
-    noted_fine(registers, contents, bodies, stack, cache, &mut notes)
-}
-
-// For any image.
-fn most_noted(
-    registers: Registers,
-    contents: &[u16],
-    bodies: &[u16],
-    stack: &[u16],
-    cache: &[u16],
-) -> bool
-    requires t { T (buffers_fine (room_at contents.now bodies.now stack.now cache.now) registers.n registers.b) }
-    requires first_parts { FirstParts (registers_of registers) }
-    ensures { result ≡ K.state_fine (state registers contents.now bodies.now stack.now cache.now) }
-{
-    let mut notes = [0u8; limits::MOST_BODY_BYTES];
+    let mut notes = [0u8; BYTES];
     noted_fine(registers, contents, bodies, stack, cache, &mut notes)
 }
 
@@ -199,21 +130,19 @@ fn state_fine(
     requires { T (buffers_fine (room_at contents.now bodies.now stack.now cache.now) registers.n registers.b) }
     ensures { result ≡ K.state_fine (state registers contents.now bodies.now stack.now cache.now) }
 {
-    let edition = registers.edition;
-    if !store::header_fine(edition, registers.n, registers.b) {
+    if !store::header_fine(registers.edition, registers.n, registers.b) {
         return false;
     }
     if !state::registers_fine(registers.n as usize, registers.phase, registers.value) {
         return false;
     }
-    let b = registers.b;
-    if b <= 2000 {
-        return few_noted(registers, contents, bodies, stack, cache);
+    if registers.b <= 2000 {
+        return noted::<4000>(registers, contents, bodies, stack, cache);
     }
-    if b <= 8000 {
-        return some_noted(registers, contents, bodies, stack, cache);
+    if registers.b <= 8000 {
+        return noted::<16000>(registers, contents, bodies, stack, cache);
     }
-    most_noted(registers, contents, bodies, stack, cache)
+    noted::<{ limits::MOST_BODY_BYTES }>(registers, contents, bodies, stack, cache)
 }
 
 // 3, then 11.
@@ -223,8 +152,8 @@ pub fn check(
     bodies: &[u16],
     stack: &[u16],
     cache: &[u16],
-) -> Checked
-    ensures { check_gives result ≡ K.check (state registers contents.now bodies.now stack.now cache.now) }
+) -> Result<(), Refusal>
+    ensures { verdict_by result ≡ K.check (state registers contents.now bodies.now stack.now cache.now) }
 {
     if !store::buffers_fine(
         contents.len(),
@@ -233,12 +162,12 @@ pub fn check(
         registers.n,
         registers.b,
     ) {
-        return Checked::Refused(3);
+        return Err(Refusal::Buffers);
     }
     if !state_fine(registers, contents, bodies, stack, cache) {
-        return Checked::Refused(11);
+        return Err(Refusal::State);
     }
-    Checked::Right
+    Ok(())
 }
 
 // The cache emptied.
@@ -248,45 +177,49 @@ pub fn forget(
     bodies: &[u16],
     stack: &[u16],
     cache: &mut [u16],
-) -> Forgotten
-    ensures { forget_gives result registers contents.now bodies.now stack.now cache.new
+) -> Result<(), Refusal>
+    ensures { forget_gives registers result contents.now bodies.now stack.now cache.new
         ≡ flat_forget (state registers contents.now bodies.now stack.now cache.old) }
 {
-    match check(registers, contents, bodies, stack, cache) {
-        Checked::Refused(k) => Forgotten::Refused(k),
-        Checked::Right => {
-            words::fill(cache, 0, cache.len(), 0); // every entry
-            Forgotten::Emptied
-        }
-    }
+    check(registers, contents, bodies, stack, cache)?;
+    cache.fill(0); // every entry
+    Ok(())
 }
 
-// The answer of a call written down; its registers.
-fn write_reply(reply: Reply, answers: &mut [u32], at: usize) -> Registers
+// The answer of a call written down; the registers after it, which are those before it where it is refused.
+fn write_reply(
+    before: Registers,
+    reply: Result<Reply, Refusal>,
+    answers: &mut [u32],
+    at: usize,
+) -> Registers
     requires { at + answer_size ≤ length answers.old }
-    ensures { (result ≡ registers_in reply) × (answers.new ≡ sets answers.old at (answer_words (answer_in reply))) }
+    ensures { (result ≡ registers_in before reply) × (answers.new ≡ sets answers.old at (answer_words (answer_in reply))) }
 {
     match reply {
-        Reply::Done(registers) => {
-            calls::write_answer(answers, at, 0, 0, 0, 0, 0, 0);
+        Ok(Reply::Done(registers)) => {
+            calls::write_answer(answers, at, Answer::DONE);
             registers
         }
-        Reply::Refused(k, registers) => {
-            calls::write_answer(answers, at, k, 0, 0, 0, 0, 0);
-            registers
+        Ok(Reply::Ran(ran)) => {
+            let answer = Answer {
+                phase: ran.registers.phase as u32,
+                count: ran.count,
+                value: ran.registers.value as u32,
+                reach: ran.reach,
+                dictionaries: ran.dictionaries,
+                ..Answer::DONE
+            };
+            calls::write_answer(answers, at, answer);
+            ran.registers
         }
-        Reply::Ran(count, reach, dictionaries, registers) => {
-            calls::write_answer(
-                answers,
-                at,
-                0,
-                registers.phase as u32,
-                count,
-                registers.value as u32,
-                reach,
-                dictionaries,
-            );
-            registers
+        Err(refusal) => {
+            let answer = Answer {
+                number: refusal.number(),
+                ..Answer::DONE
+            };
+            calls::write_answer(answers, at, answer);
+            before
         }
     }
 }
@@ -297,14 +230,10 @@ impl Registers {
         ensures { registers_of result ≡ R.with_phase (registers_of self) phase top value }
     {
         Registers {
-            n: self.n,
-            b: self.b,
-            receiver: self.receiver,
-            selector: self.selector,
-            phase: phase,
-            top: top,
-            value: value,
-            edition: self.edition,
+            phase,
+            top,
+            value,
+            ..self
         }
     }
 
@@ -312,16 +241,7 @@ impl Registers {
     fn with_sizes(self, n: u16, b: u16) -> Registers
         ensures { registers_of result ≡ R.with_sizes (registers_of self) n b }
     {
-        Registers {
-            n: n,
-            b: b,
-            receiver: self.receiver,
-            selector: self.selector,
-            phase: self.phase,
-            top: self.top,
-            value: self.value,
-            edition: self.edition,
-        }
+        Registers { n, b, ..self }
     }
 
     // A send from no frame, all frames removed: 12 in phase 1, then 8, 9, 10, 13. The cache is not touched: it belongs to the state that was checked.
@@ -334,16 +254,16 @@ impl Registers {
         receiver: u16,
         selector: u16,
         arguments: &[u16],
-    ) -> Begun
+    ) -> Result<Registers, Refusal>
         requires { K.check (state self contents.old bodies.old stack.old cache.now) ≡ accepted }
-        ensures { begin_gives result contents.new bodies.new stack.new cache.now
+        ensures { call_gives self result contents.new bodies.new stack.new cache.now
             ≡ flat_begin (state self contents.old bodies.old stack.old cache.now) receiver selector
             arguments.now }
     {
         if self.phase == 1 {
-            return Begun::Refused(12, self);
+            return Err(Refusal::Phase);
         }
-        match begins::begin(
+        let beginning = begins::begin(
             contents,
             bodies,
             stack,
@@ -353,13 +273,13 @@ impl Registers {
             receiver,
             selector,
             arguments,
-        ) {
+        )?;
+        match beginning {
             Beginning::Answered { word, n, b } => {
                 let grown = self.with_sizes(n as u16, b as u16);
-                Begun::Started(grown.with_phase(2, 0, word))
+                Ok(grown.with_phase(2, 0, word))
             }
-            Beginning::Entered => Begun::Started(self.with_phase(1, 0, 0)),
-            Beginning::Refused(k) => Begun::Refused(k, self),
+            Beginning::Entered => Ok(self.with_phase(1, 0, 0)),
         }
     }
 
@@ -373,17 +293,15 @@ impl Registers {
         receiver: u16,
         selector: u16,
         arguments: &[u16],
-    ) -> Begun
-        ensures { begin_gives result contents.new bodies.new stack.new cache.now
+    ) -> Result<Registers, Refusal>
+        ensures { call_gives self result contents.new bodies.new stack.new cache.now
             ≡ flat_begin (state self contents.old bodies.old stack.old cache.now) receiver selector
             arguments.now }
     {
-        match check(self, contents, bodies, stack, cache) {
-            Checked::Refused(k) => Begun::Refused(k, self),
-            Checked::Right => self.begin_checked(
-                contents, bodies, stack, cache, receiver, selector, arguments,
-            ),
-        }
+        check(self, contents, bodies, stack, cache)?;
+        self.begin_checked(
+            contents, bodies, stack, cache, receiver, selector, arguments,
+        )
     }
 
     // At most `grant` bytecodes; 12 outside phase 1. It alone calls `grants::run`, so that the loop is compiled once.
@@ -394,13 +312,13 @@ impl Registers {
         stack: &mut [u16],
         cache: &mut [u16],
         grant: u32,
-    ) -> Ran
+    ) -> Result<Ran, Refusal>
         requires { K.check (state self contents.old bodies.old stack.old cache.old) ≡ accepted }
-        ensures { run_gives result contents.new bodies.new stack.new cache.new
+        ensures { run_gives self result contents.new bodies.new stack.new cache.new
             ≡ flat_run (state self contents.old bodies.old stack.old cache.old) grant }
     {
         if self.phase != 1 {
-            return Ran::Refused(12, self);
+            return Err(Refusal::Phase);
         }
         let ended = grants::run(
             contents,
@@ -414,13 +332,12 @@ impl Registers {
             grant,
         );
         let grown = self.with_sizes(ended.n, ended.b);
-        let registers = grown.with_phase(ended.phase, ended.top, ended.value);
-        Ran::Done {
-            registers: registers,
+        Ok(Ran {
+            registers: grown.with_phase(ended.phase, ended.top, ended.value),
             count: ended.count,
             reach: ended.reach as u32,
             dictionaries: ended.dictionaries,
-        }
+        })
     }
 
     // The same behind a check.
@@ -431,25 +348,27 @@ impl Registers {
         stack: &mut [u16],
         cache: &mut [u16],
         grant: u32,
-    ) -> Ran
-        ensures { run_gives result contents.new bodies.new stack.new cache.new
+    ) -> Result<Ran, Refusal>
+        ensures { run_gives self result contents.new bodies.new stack.new cache.new
             ≡ flat_run (state self contents.old bodies.old stack.old cache.old) grant }
     {
-        match check(self, contents, bodies, stack, cache) {
-            Checked::Refused(k) => Ran::Refused(k, self),
-            Checked::Right => self.run_checked(contents, bodies, stack, cache, grant),
-        }
+        check(self, contents, bodies, stack, cache)?;
+        self.run_checked(contents, bodies, stack, cache, grant)
     }
 
     // All frames removed.
-    pub fn drop(self, contents: &[u16], bodies: &[u16], stack: &[u16], cache: &[u16]) -> Dropped
-        ensures { drop_gives result contents.now bodies.now stack.now cache.now
+    pub fn drop(
+        self,
+        contents: &[u16],
+        bodies: &[u16],
+        stack: &[u16],
+        cache: &[u16],
+    ) -> Result<Registers, Refusal>
+        ensures { call_gives self result contents.now bodies.now stack.now cache.now
             ≡ flat_drop (state self contents.now bodies.now stack.now cache.now) }
     {
-        match check(self, contents, bodies, stack, cache) {
-            Checked::Refused(k) => Dropped::Refused(k, self),
-            Checked::Right => Dropped::Dropped(self.with_phase(0, 0, 0)),
-        }
+        check(self, contents, bodies, stack, cache)?; // only frames that it accepts go
+        Ok(self.with_phase(0, 0, 0))
     }
 
     // The call at i of a list, which stands there whole.
@@ -461,10 +380,10 @@ impl Registers {
         cache: &mut [u16],
         calls: &[u16],
         i: usize,
-    ) -> Reply
+    ) -> Result<Reply, Refusal>
         requires bound { 1 ≤ size_at calls.now i }
         requires cache_value { K.check (state self contents.old bodies.old stack.old cache.old) ≡ accepted }
-        ensures { reply_gives result contents.new bodies.new stack.new cache.new
+        ensures { reply_gives self result contents.new bodies.new stack.new cache.new
             ≡ flat_call (state self contents.old bodies.old stack.old cache.old)
             (call_at calls.now i) }
     {
@@ -476,26 +395,19 @@ impl Registers {
                 end,
             } => {
                 let arguments = &calls[from..end];
-                match self.begin_checked(
+                let registers = self.begin_checked(
                     contents, bodies, stack, cache, receiver, selector, arguments,
-                ) {
-                    Begun::Started(next) => Reply::Done(next),
-                    Begun::Refused(k, next) => Reply::Refused(k, next),
-                }
+                )?;
+                Ok(Reply::Done(registers))
             }
-            Listed::Run(grant) => match self.run_checked(contents, bodies, stack, cache, grant) {
-                Ran::Done {
-                    registers: next,
-                    count,
-                    reach,
-                    dictionaries,
-                } => Reply::Ran(count, reach, dictionaries, next),
-                Ran::Refused(k, next) => Reply::Refused(k, next),
-            },
-            Listed::Drop => Reply::Done(self.with_phase(0, 0, 0)),
+            Listed::Run(grant) => {
+                let ran = self.run_checked(contents, bodies, stack, cache, grant)?;
+                Ok(Reply::Ran(ran))
+            }
+            Listed::Drop => Ok(Reply::Done(self.with_phase(0, 0, 0))),
             Listed::Forget => {
-                words::fill(cache, 0, cache.len(), 0);
-                Reply::Done(self)
+                cache.fill(0);
+                Ok(Reply::Done(self))
             }
         }
     }
@@ -519,23 +431,25 @@ impl Registers {
         let room = calls::answer_room(answers.len());
         let mut registers = self;
         let mut i = 0;
-        let mut made = 0;
-        while made < room {
-            let size = calls::size_at(calls, i);
-            if size == 0 {
+        for made in 0..room {
+            let Some(size) = calls::size_at(calls, i) else {
                 return Made {
-                    registers: registers,
+                    registers,
                     calls: made,
                 };
-            }
+            };
             let reply = registers.call_checked(contents, bodies, stack, cache, calls, i);
-            registers = write_reply(reply, answers, calls::ANSWER_SIZE * made as usize);
+            registers = write_reply(
+                registers,
+                reply,
+                answers,
+                calls::ANSWER_SIZE * made as usize,
+            );
             i += size;
-            made += 1;
         }
         Made {
-            registers: registers,
-            calls: made,
+            registers,
+            calls: room,
         }
     }
 
@@ -548,17 +462,12 @@ impl Registers {
         cache: &mut [u16],
         calls: &[u16],
         answers: &mut [u32],
-    ) -> Played
-        ensures { PromisedPlay (state self contents.old bodies.old stack.old cache.old)
+    ) -> Result<Made, Refusal>
+        ensures { PromisedPlay self contents.old bodies.old stack.old cache.old
             calls.now answers.old result contents.new bodies.new stack.new cache.new
             answers.new }
     {
-        match check(self, contents, bodies, stack, cache) {
-            Checked::Refused(k) => Played::Refused(k, self),
-            Checked::Right => {
-                let made = self.play_checked(contents, bodies, stack, cache, calls, answers);
-                Played::Made(made)
-            }
-        }
+        check(self, contents, bodies, stack, cache)?;
+        Ok(self.play_checked(contents, bodies, stack, cache, calls, answers))
     }
 }

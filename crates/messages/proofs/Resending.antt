@@ -13,8 +13,7 @@ use Rattle.bytecode.specs.Constant.{false_word}
 use Rattle.bytecode.proofs.Choice.{if_yes, if_no}
 use Rattle.bytecode.proofs.TestLaws.{true→T, T→true, and_left, and_right}
 use Rattle.model.specs.declared.Pointer.{Pointer}
-use Rattle.model.specs.declared.Found.{Found}
-use Rattle.model.specs.declared.Found.TheVariants.{Method, Nothing}
+use Rattle.std.specs.Prelude.{Option, Some, None, Ok}
 use Rattle.model.specs.Limits.{has_messages, entry_words, method_kind, primitive_flag}
 use Rattle.model.specs.Word.{object_number, failure_selector}
 use Rattle.model.specs.Objects.{Objects, objects_at, start, body_words, is_kind, class_of, part}
@@ -56,27 +55,25 @@ use Rattle.messages.specs.declared.Receiver.{Receiver}
 use Rattle.model.proofs.LookupLaws.{read_few}
 use Rattle.cache.specs.declared.Lookup.{Lookup}
 use Rattle.messages.specs.Resends.{Resends, Seeks, FailureFound, FoundIs, SoughtIs, ReceiverIs, FrameFits, PlacedIs, Enters, ResentIs}
-use Rattle.messages.specs.declared.Placed.{Placed}
-use Rattle.messages.specs.declared.Placed.TheVariants as P
-use Rattle.messages.specs.declared.Resent.TheVariants as R
+use Rattle.messages.specs.declared.Fitting.{Fitting}
 
 -- what was found, by cases
-pub sought_found : (e : ℕ) (o : Objects) (contents bodies class count read : ℕ) (f : Found) → f ≡ lookup o failure_selector class → read ≡ dictionaries_read o failure_selector class
+pub sought_found : (e : ℕ) (o : Objects) (contents bodies class count read : ℕ) (f : Option Pointer) → f ≡ lookup o failure_selector class → read ≡ dictionaries_read o failure_selector class
     → has_messages e ≡ true → has_message_room (room_for contents bodies) o count ≡ true → FoundIs e o contents bodies class count read f
-sought_found e o contents bodies class count read (Method m) p q t h = record { messages = t; finds = sym p; reads = q; room = h }
-sought_found e o contents bodies class count read Nothing p q t h = inr (inl (sym p))
+sought_found e o contents bodies class count read (Some m) p q t h = record { messages = t; finds = sym p; reads = q; room = h }
+sought_found e o contents bodies class count read None p q t h = inr (inl (sym p))
 
-pub not_sought : (e : ℕ) (o : Objects) (contents bodies class count : ℕ) (r : Lookup) → r.found ≡ Nothing → FoundIs e o contents bodies class count r.dictionaries Nothing
+pub not_sought : (e : ℕ) (o : Objects) (contents bodies class count : ℕ) (r : Lookup) → r.found ≡ None → FoundIs e o contents bodies class count r.dictionaries None
     → SoughtIs e o contents bodies class count r
 not_sought e o contents bodies class count r p s = subst (FoundIs e o contents bodies class count r.dictionaries) (sym p) s
 
 -- what an answer says, in a case of it
-pub sought_method : {e : ℕ} {o : Objects} {contents bodies class count : ℕ} (y : Lookup) (m : Pointer) → y.found ≡ Method m → SoughtIs e o contents bodies class count y
+pub sought_method : {e : ℕ} {o : Objects} {contents bodies class count : ℕ} (y : Lookup) (m : Pointer) → y.found ≡ Some m → SoughtIs e o contents bodies class count y
     → FailureFound e o contents bodies class count m.0 y.dictionaries
 sought_method {e} {o} {contents} {bodies} {class} {count} y m p s = subst (FoundIs e o contents bodies class count y.dictionaries) p s
 
-pub placed_at : {o : Objects} {room base m : ℕ} (y : Placed) (temporaries end : ℕ) → y ≡ P.At temporaries end → PlacedIs o room base m y → FrameFits o room base m temporaries end
-placed_at {o} {room} {base} {m} y temporaries end p s = subst (PlacedIs o room base m) p s
+pub placed_at : {o : Objects} {room base m : ℕ} (y : Option Fitting) (f : Fitting) → y ≡ Some f → PlacedIs o room base m y → FrameFits o room base m f.temporaries f.end
+placed_at {o} {room} {base} {m} y f p s = subst (PlacedIs o room base m) p s
 
 module _ {e n b top : ℕ} {contents bodies stack cache : List ℕ} {q : Message} (r : Resends e n b top contents bodies stack cache q) where
   abbrev o : Objects
@@ -122,15 +119,15 @@ module _ {e n b top : ℕ} {contents bodies stack cache : List ℕ} {q : Message
       record { cause = not_understood; steps = s; phase = refl; stays = record { entries = refl; words = refl; frames = refl; cached = refl } }
 
   -- no message is sent
-  pub unsent : (y : Lookup) → y.found ≡ Nothing → SoughtIs e o (length contents) (length bodies) class count y → (receiver₀ selector₀ : ℕ)
+  pub unsent : (y : Lookup) → y.found ≡ None → SoughtIs e o (length contents) (length bodies) class count y → (receiver₀ selector₀ : ℕ)
       → Halts (x receiver₀ selector₀) 3 contents bodies stack cache contents bodies stack cache
   unsent y i s receiver₀ selector₀ = halts_3 receiver₀ selector₀ (go (has_messages e) refl (subst (FoundIs e o (length contents) (length bodies) class count y.dictionaries) i s))
     where
-      sought : (t : has_messages e ≡ true) (f : Found) → lookup o failure_selector class ≡ f → has_message_room room o count ≡ false → x receiver₀ selector₀ ≡ halts not_understood
-      sought t Nothing p h = message_none r.sending room e receiver₀ selector₀ t p
-      sought t (Method m) p h = message_roomless r.sending room e receiver₀ selector₀ t m.0 p h
+      sought : (t : has_messages e ≡ true) (f : Option Pointer) → lookup o failure_selector class ≡ f → has_message_room room o count ≡ false → x receiver₀ selector₀ ≡ halts not_understood
+      sought t None p h = message_none r.sending room e receiver₀ selector₀ t p
+      sought t (Some m) p h = message_roomless r.sending room e receiver₀ selector₀ t m.0 p h
 
-      go : (t : Bool) → has_messages e ≡ t → FoundIs e o (length contents) (length bodies) class count y.dictionaries Nothing → x receiver₀ selector₀ ≡ halts not_understood
+      go : (t : Bool) → has_messages e ≡ t → FoundIs e o (length contents) (length bodies) class count y.dictionaries None → x receiver₀ selector₀ ≡ halts not_understood
       go false p s = no_messages r.sending room e receiver₀ selector₀ p
       go true p (inl h) = no_messages r.sending room e receiver₀ selector₀ h
       go true p (inr (inl h)) = message_none r.sending room e receiver₀ selector₀ p h
@@ -263,7 +260,7 @@ module _ {e n b top : ℕ} {contents bodies stack cache : List ℕ} {q : Message
               ∙ get_or-set_other stack p.place (top + 3) false_word 0 (λ i. omega arith)
 
           pub answer_sent : (end receiver₀ selector₀ : ℕ) → end ≡ top + frame_size o running
-              → ResentIs e receiver₀ selector₀ n b top q contents bodies stack cache contents' bodies' stack' cache' (R.Sent (n + 2) (b + (count + 2)) (record { 0 = top }) end read)
+              → ResentIs e receiver₀ selector₀ n b top q contents bodies stack cache contents' bodies' stack' cache' (Ok (record { n = n + 2; b = b + (count + 2); top = record { 0 = top }; end = end; dictionaries = read }))
           answer_sent end receiver₀ selector₀ z₁ = (
             message_answer_made r.sending room e receiver₀ selector₀ f.messages m f.finds has_room f.reads cache false_word o₁ (n + 2) (b + (count + 2)) contents' bodies' stack' cache' word
                 answers_false objects_are words_are stands.entries stands.words
@@ -307,7 +304,7 @@ module _ {e n b top : ℕ} {contents bodies stack cache : List ℕ} {q : Message
           fits_same = ap₂ (fits_stack (length stack)) (sym based₁) (frame_size_lem m facts.method)
 
           -- none fits
-          pub full_sent : (y : Placed) → y ≡ P.Full → PlacedIs o (length stack) base m y → (receiver₀ selector₀ : ℕ)
+          pub full_sent : (y : Option Fitting) → y ≡ None → PlacedIs o (length stack) base m y → (receiver₀ selector₀ : ℕ)
               → Halts (x receiver₀ selector₀) 5 contents bodies stack cache contents bodies stack cache
           full_sent y i h receiver₀ selector₀ =
               record {
@@ -368,7 +365,7 @@ module _ {e n b top : ℕ} {contents bodies stack cache : List ℕ} {q : Message
                   temporaries (message_word o ∷ []) es (omega arith)
 
               pub frame_sent : (receiver₀ selector₀ : ℕ)
-                  → ResentIs e receiver₀ selector₀ n b top q contents bodies stack cache contents' bodies' stack' cache' (R.Sent (n + 2) (b + (count + 2)) (record { 0 = base }) end read)
+                  → ResentIs e receiver₀ selector₀ n b top q contents bodies stack cache contents' bodies' stack' cache' (Ok (record { n = n + 2; b = b + (count + 2); top = record { 0 = base }; end = end; dictionaries = read }))
               frame_sent receiver₀ selector₀ =
                   let u = stands contents' bodies' d in (
                     message_frame_made r.sending room e receiver₀ selector₀ f.messages m f.finds has_room f.reads cache base (n + 2) (b + (count + 2)) contents' bodies' stack' cache' based₁

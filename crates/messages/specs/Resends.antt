@@ -1,7 +1,8 @@
 -- What the functions of a message ask of the buffers, and what their answers say.
-use Rattle.std.specs.Prelude.{ℕ, suc, ◌+◌, ◌-◌, ◌≤◌, ◌<◌, ◌≡◌, true, false, ◌⊎◌, List, T, length}
-use Rattle.model.specs.declared.Found.{Found}
-use Rattle.model.specs.declared.Found.TheVariants.{Method, Nothing}
+use Rattle.std.specs.Prelude.{ℕ, suc, ◌+◌, ◌-◌, ◌≤◌, ◌<◌, ◌≡◌, true, false, ◌⊎◌, List, T, length, Option, Some, None, Result, Ok, Err}
+use Rattle.model.specs.declared.Pointer.{Pointer}
+use Rattle.model.specs.Numbers.{phase_of}
+use Rattle.model.specs.declared.numbers.Halt.{Halt}
 use Rattle.model.specs.Limits.{has_messages, class_kind}
 use Rattle.model.specs.Word.{failure_selector}
 use Rattle.model.specs.Objects.{Objects, objects_at, is_nil_or}
@@ -19,10 +20,8 @@ use Rattle.cache.specs.Caches.{Caches}
 use Rattle.primitives.specs.Outcomes.{room_for}
 use Rattle.sends.specs.Sends.{Halts}
 use Rattle.messages.specs.declared.Receiver.{Receiver}
-use Rattle.messages.specs.declared.Placed.{Placed}
-use Rattle.messages.specs.declared.Placed.TheVariants as P
+use Rattle.messages.specs.declared.Fitting.{Fitting}
 use Rattle.messages.specs.declared.Resent.{Resent}
-use Rattle.messages.specs.declared.Resent.TheVariants as R
 
 -- A send that failed: the objects are right in their edition, and the cache is.
 pub record Resends (e n b top : ℕ) (contents bodies stack cache : List ℕ) (m : Message) : Type 0 where
@@ -44,10 +43,10 @@ pub record FailureFound (e : ℕ) (o : Objects) (contents bodies class count m r
   pub reads : read ≡ dictionaries_read o failure_selector class
   pub room : has_message_room (room_for contents bodies) o count ≡ true
 
-abbrev pub FoundIs : ℕ → Objects → ℕ → ℕ → ℕ → ℕ → ℕ → Found → Type 0
-FoundIs e o contents bodies class count read (Method m) = FailureFound e o contents bodies class count m.0 read
-FoundIs e o contents bodies class count read Nothing =
-    (has_messages e ≡ false) ⊎ ((lookup o failure_selector class ≡ Nothing) ⊎ (has_message_room (room_for contents bodies) o count ≡ false))
+abbrev pub FoundIs : ℕ → Objects → ℕ → ℕ → ℕ → ℕ → ℕ → Option Pointer → Type 0
+FoundIs e o contents bodies class count read (Some m) = FailureFound e o contents bodies class count m.0 read
+FoundIs e o contents bodies class count read None =
+    (has_messages e ≡ false) ⊎ ((lookup o failure_selector class ≡ None) ⊎ (has_message_room (room_for contents bodies) o count ≡ false))
 
 abbrev pub SoughtIs : ℕ → Objects → ℕ → ℕ → ℕ → ℕ → Lookup → Type 0
 SoughtIs e o contents bodies class count r = FoundIs e o contents bodies class count r.dictionaries r.found
@@ -63,9 +62,9 @@ pub record FrameFits (o : Objects) (room base m temporaries end : ℕ) : Type 0 
   pub ends : end ≡ base + frame_size o m
   pub fits : fits_stack room base (frame_size o m) ≡ true
 
-abbrev pub PlacedIs : Objects → ℕ → ℕ → ℕ → Placed → Type 0
-PlacedIs o room base m (P.At temporaries end) = FrameFits o room base m temporaries end
-PlacedIs o room base m P.Full = fits_stack room base (frame_size o m) ≡ false
+abbrev pub PlacedIs : Objects → ℕ → ℕ → ℕ → Option Fitting → Type 0
+PlacedIs o room base m (Some f) = FrameFits o room base m f.temporaries f.end
+PlacedIs o room base m None = fits_stack room base (frame_size o m) ≡ false
 
 -- The stack with room for the frame
 pub record Enters (stack : List ℕ) (top next left base temporaries : ℕ) : Type 0 where
@@ -77,13 +76,13 @@ pub record Enters (stack : List ℕ) (top next left base temporaries : ℕ) : Ty
   pub one : 1 ≤ temporaries
 
 -- What a message leads to: the step of the send that failed is made, or it halts and nothing changes.
-abbrev pub ResentIs : (e receiver selector n b top : ℕ) (m : Message) (contents bodies stack cache contents' bodies' stack' cache' : List ℕ) → Resent → Type 0
-ResentIs e receiver selector n b top m contents bodies stack cache contents' bodies' stack' cache' (R.Sent n' b' t end read) =
+abbrev pub ResentIs : (e receiver selector n b top : ℕ) (m : Message) (contents bodies stack cache contents' bodies' stack' cache' : List ℕ) → Result Resent Halt → Type 0
+ResentIs e receiver selector n b top m contents bodies stack cache contents' bodies' stack' cache' (Ok r) =
     Made
-    (failed_step (room_at contents bodies stack cache) e receiver selector n b top contents bodies stack m.selector m.count m.class.0 m.next.0) read
-    (running_with e receiver selector n' b' t.0) contents bodies stack cache contents' bodies' stack' cache'
-    × (end ≡ frame_end n' b' t.0 contents' bodies' stack')
-ResentIs e receiver selector n b top m contents bodies stack cache contents' bodies' stack' cache' (R.Halted k) =
+    (failed_step (room_at contents bodies stack cache) e receiver selector n b top contents bodies stack m.selector m.count m.class.0 m.next.0) r.dictionaries
+    (running_with e receiver selector r.n r.b r.top.0) contents bodies stack cache contents' bodies' stack' cache'
+    × (r.end ≡ frame_end r.n r.b r.top.0 contents' bodies' stack')
+ResentIs e receiver selector n b top m contents bodies stack cache contents' bodies' stack' cache' (Err h) =
     Halts
     (failed_step (room_at contents bodies stack cache) e receiver selector n b top contents bodies stack m.selector m.count m.class.0 m.next.0)
-    k contents bodies stack cache contents' bodies' stack' cache'
+    (phase_of h) contents bodies stack cache contents' bodies' stack' cache'

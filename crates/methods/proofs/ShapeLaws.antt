@@ -32,14 +32,6 @@ module _ (o : Objects) (m : ℕ) where
       ap (λ (x : ℕ). ltb x (w / 2)) et ∙ ap (λ (x : ℕ). ltb (temporary_count o m) (x / 2)) (ew ∙ ap (fields_word o) ec)
       ∙ sym (ap (λ (x : Bool). implies x (ltb (temporary_count o m) (field_count o (home o m)))) (eq-eqb (flag o m) field_flag (sym e ∙ d)))
 
-  pub no_primitive_flag : {f : ℕ} → f ≡ flag o m → (f ≡ primitive_flag → ⊥) → true ≡ primitive_rule o m
-  unfolding primitive_rule
-  no_primitive_flag e d = sym (ap (λ (x : Bool). implies x (extension_fine o m)) (ne_eqb (flag o m) primitive_flag (λ q. d (e ∙ q))))
-
-  pub primitive_flag_lem : {f : ℕ} {r : Bool} → f ≡ flag o m → f ≡ primitive_flag → r ≡ extension_fine o m → r ≡ primitive_rule o m
-  unfolding primitive_rule
-  primitive_flag_lem e d q = q ∙ sym (ap (λ (x : Bool). implies x (extension_fine o m)) (eq-eqb (flag o m) primitive_flag (sym e ∙ d)))
-
   -- the extension is where the last but one literal is
   pub extension_word : {l w : ℕ} → l ≡ literal_count o m → 2 ≤ l → w ≡ body_word o (m / 2) l → w ≡ extension o m
   extension_word {l} e h q = q ∙ ap (body_word o (m / 2)) (omega arith)
@@ -57,20 +49,6 @@ module _ (o : Objects) (m : ℕ) where
       ∙ ap₂ (λ (x y : ℕ). leb 4 z && (eqb (x % 2) 1 && (leb (4 + 2 * y) z &&
       (is_kind o class_kind (home o m) && (below y (λ i. is_valid o.n (literal o m i)) && flag_rules o m))))) (sym eh) (sym el)
       ∙ ap (λ (x : ℕ). leb 4 z && (eqb (h % 2) 1 && (leb (4 + 2 * l) z && (is_kind o class_kind x && (below l (λ i. is_valid o.n (literal o m i)) && flag_rules o m))))) (sym ec)
-
--- five tests that passed leave the sixth
-pub passed_five : (a b c d e x : Bool) → a ≡ true → b ≡ true → c ≡ true → d ≡ true → e ≡ true → (a && (b && (c && (d && (e && x))))) ≡ x
-passed_five a b c d e x p q r s t =
-    ap (λ (y : Bool). y && (b && (c && (d && (e && x))))) p ∙ ap (λ (y : Bool). y && (c && (d && (e && x)))) q ∙ ap (λ (y : Bool). y && (d && (e && x))) r
-    ∙ ap (λ (y : Bool). y && (e && x)) s ∙ ap (λ (y : Bool). y && x) t
-
-pub no_method_here : (o : Objects) (k : ℕ) → (kind o k ≡ method_kind → ⊥) → true ≡ shape_fine o k
-unfolding shape_fine
-no_method_here o k f = sym (ap (λ (x : Bool). implies x (all_of (shape_rules o (pointer k)))) (ne_eqb (kind o k) method_kind f))
-
-pub method_here : (o : Objects) (k : ℕ) (r : Bool) → kind o k ≡ method_kind → r ≡ all_of (shape_rules o (2 * k)) → r ≡ shape_fine o k
-unfolding shape_fine
-method_here o k r e q = q ∙ sym (ap (λ (x : Bool). implies x (all_of (shape_rules o (pointer k)))) (eq-eqb (kind o k) method_kind e))
 
 -- what the shape of a method says of the words that are read of it
 module _ (o : Objects) (m : ℕ) where

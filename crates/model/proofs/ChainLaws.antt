@@ -7,8 +7,8 @@ use native.Mathlib.Omega.{arith}
 use borrow.Author.Tests.{eq-eqb}
 use lib.Dec.{T, eqb, leb, eqb→eq, leb→le}
 use Rattle.bytecode.proofs.TestLaws.{true→T, and_left, and_right, or_cases}
-use Rattle.model.specs.declared.Found.{Found}
-use Rattle.model.specs.declared.Found.TheVariants.{Method, Nothing}
+use Rattle.std.specs.Prelude.{Option, Some, None}
+use Rattle.model.specs.declared.Pointer.{Pointer}
 use Rattle.model.specs.Limits.{class_kind}
 use Rattle.model.specs.Word.{is_pointer}
 use Rattle.model.specs.Objects.{Objects, superclass_word, dictionary_word, is_kind, kind}
@@ -41,9 +41,9 @@ no_both : {b : Bool} → b ≡ true → b ≡ false → ⊥
 no_both p q = subst T (sym p ∙ q) tt
 
 -- what a lookup comes to and how much it reads, said otherwise
-looked : {o : Objects} {s c j k p q : ℕ} {f g : Found} → g ≡ f → j ≡ k → q ≡ p → Looks o s c f k p → Looks o s c g j q
+looked : {o : Objects} {s c j k p q : ℕ} {f g : Option Pointer} → g ≡ f → j ≡ k → q ≡ p → Looks o s c f k p → Looks o s c g j q
 looked {o = o} {s = s} {c = c} {j = j} {k = k} {p = p} {g = g} e d h l =
-    subst (λ (x : ℕ). Looks o s c g j x) (sym h) (subst (λ (x : ℕ). Looks o s c g x p) (sym d) (subst (λ (x : Found). Looks o s c x k p) (sym e) l))
+    subst (λ (x : ℕ). Looks o s c g j x) (sym h) (subst (λ (x : ℕ). Looks o s c g x p) (sym d) (subst (λ (x : Option Pointer). Looks o s c x k p) (sym e) l))
 
 module _ (o : Objects) where
   -- How a lookup and a chain turn
@@ -51,12 +51,12 @@ module _ (o : Objects) where
   unfolding lookup_within
   class_hit left s c m e h = rw (e, h, lookup_within)
 
-  pub class_miss : (left s c : ℕ) → is_kind o class_kind c ≡ true → find_in o (dictionary_word o c) s ≡ Nothing
+  pub class_miss : (left s c : ℕ) → is_kind o class_kind c ≡ true → find_in o (dictionary_word o c) s ≡ None
       → lookup_within (suc left) o s c ≡ lookup_within left o s (superclass_word o c)
   unfolding lookup_within
   class_miss left s c e h = rw (e, h, lookup_within)
 
-  pub no_class : (left s c : ℕ) → is_kind o class_kind c ≡ false → lookup_within left o s c ≡ Nothing
+  pub no_class : (left s c : ℕ) → is_kind o class_kind c ≡ false → lookup_within left o s c ≡ None
   unfolding lookup_within
   no_class zero s c e = refl
   no_class (suc left) s c e = rw (e, lookup_within)
@@ -66,7 +66,7 @@ module _ (o : Objects) where
   unfolding dictionaries_within
   read_hit left s c m e h = rw (e, h, dictionaries_within)
 
-  pub read_miss : (left s c : ℕ) → is_kind o class_kind c ≡ true → find_in o (dictionary_word o c) s ≡ Nothing
+  pub read_miss : (left s c : ℕ) → is_kind o class_kind c ≡ true → find_in o (dictionary_word o c) s ≡ None
       → dictionaries_within (suc left) o s c ≡ suc (dictionaries_within left o s (superclass_word o c))
   unfolding dictionaries_within
   read_miss left s c e h = rw (e, h, dictionaries_within)
@@ -82,10 +82,10 @@ module _ (o : Objects) where
   read_within zero s c = omega arith
   read_within (suc n) s c = go (is_kind o class_kind c) (find_in o (dictionary_word o c) s) refl refl (read_within n s (superclass_word o c))
     where
-      go : (b : Bool) (f : Found) → is_kind o class_kind c ≡ b → find_in o (dictionary_word o c) s ≡ f → dictionaries_within n o s (superclass_word o c) ≤ n
+      go : (b : Bool) (f : Option Pointer) → is_kind o class_kind c ≡ b → find_in o (dictionary_word o c) s ≡ f → dictionaries_within n o s (superclass_word o c) ≤ n
           → dictionaries_within (suc n) o s c ≤ suc n
-      go true (Method m) p q ih = let e = read_hit n s c m.0 p q in omega arith
-      go true Nothing p q ih = let e = read_miss n s c p q in omega arith
+      go true (Some m) p q ih = let e = read_hit n s c m.0 p q in omega arith
+      go true None p q ih = let e = read_miss n s c p q in omega arith
       go false f p q ih = let e = read_none (suc n) s c p in omega arith
 
   pub chain_class : (left a c : ℕ) → is_kind o class_kind c ≡ true → in_chain_within (suc left) o a c ≡ (eqb a c || in_chain_within left o a (superclass_word o c))
@@ -169,18 +169,18 @@ module _ (o : Objects) where
       go false p = looked (no_class 0 s c p) (read_none 0 s c p) (pairs_none o 0 s c p) (ended p)
   looks (suc n) s c t = go (is_kind o class_kind c) (find_in o (dictionary_word o c) s) refl refl (looks n s (superclass_word o c))
     where
-      go : (b : Bool) (f : Found) → is_kind o class_kind c ≡ b → find_in o (dictionary_word o c) s ≡ f
+      go : (b : Bool) (f : Option Pointer) → is_kind o class_kind c ≡ b → find_in o (dictionary_word o c) s ≡ f
           → (T (ends_within n o (superclass_word o c))
           → Looks o s (superclass_word o c) (lookup_within n o s (superclass_word o c)) (dictionaries_within n o s (superclass_word o c)) (pairs_within n o s (superclass_word o c)))
           → Looks o s c (lookup_within (suc n) o s c) (dictionaries_within (suc n) o s c) (pairs_within (suc n) o s c)
-      go true (Method m) p q ih =
+      go true (Some m) p q ih =
           looked (class_hit n s c m.0 p q) (read_hit n s c m.0 p q) (pairs_hit o n s c m.0 p q) (here p q (pairs_up_to o (dictionary_word o c) s))
-      go true Nothing p q ih =
+      go true None p q ih =
           looked (class_miss n s c p q) (read_miss n s c p q) (pairs_miss o n s c p q)
           (above p q (pairs_up_to o (dictionary_word o c) s) (ih (subst T (ends_class n c p) t)))
       go false f p q ih = looked (no_class (suc n) s c p) (read_none (suc n) s c p) (pairs_none o (suc n) s c p) (ended p)
 
-  pub looks_few : (n s c k : ℕ) (f : Found) {p : ℕ} → T (ends_within n o c) → Looks o s c f k p
+  pub looks_few : (n s c k : ℕ) (f : Option Pointer) {p : ℕ} → T (ends_within n o c) → Looks o s c f k p
       → (f ≡ lookup_within n o s c) × (k ≡ dictionaries_within n o s c) × (k ≤ n) × (p ≡ pairs_within n o s c)
   looks_few n s c zero f t (ended p) = (sym (no_class n s c p), sym (read_none n s c p), omega arith, sym (pairs_none o n s c p))
   looks_few zero s c (suc k) f t (here p q u) = absurd (subst T (ends_last c p) t)

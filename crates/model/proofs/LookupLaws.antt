@@ -5,7 +5,7 @@ use mathlib.Core.Logic.{◌↔◌}
 use mathlib.Core.Bool.{Bool, true, false}
 use lib.Dec.{T}
 use Rattle.bytecode.proofs.TestLaws.{true→T}
-use Rattle.model.specs.declared.Found.TheVariants.{Nothing}
+use Rattle.std.specs.Prelude.{None}
 use Rattle.model.specs.Limits.{class_kind, longest_chain}
 use Rattle.model.specs.Objects.{Objects, is_kind, superclass_word}
 use Rattle.model.specs.Lookup.{lookup, dictionaries_read, pairs_read, in_chain, ends_within, Chain, InChain, same, higher, ReadsFew}
@@ -18,7 +18,7 @@ decides_chains o =
     (λ t c q. (decides_chain o longest_chain c).0 (short_chain o t c q), λ f. chains_rule o (λ c q. (decides_chain o longest_chain c).1 (f c q)))
 
 -- from a word that names no class
-pub lookup_none : (o : Objects) (s c : ℕ) → is_kind o class_kind c ≡ false → lookup o s c ≡ Nothing
+pub lookup_none : (o : Objects) (s c : ℕ) → is_kind o class_kind c ≡ false → lookup o s c ≡ None
 unfolding lookup
 lookup_none o s c p = no_class o longest_chain s c p
 

@@ -5,7 +5,7 @@ use mathlib.Core.Bool.{Bool, true, false}
 use native.Mathlib.Omega.{arith}
 use borrow.Author.Tests.{ltb-true, ltb-false}
 use lib.Dec.{ltb}
-use Rattle.model.specs.declared.Found.TheVariants.{Nothing}
+use Rattle.std.specs.Prelude.{None}
 use Rattle.model.specs.Limits.{class_kind}
 use Rattle.model.specs.Objects.{Objects, is_kind, superclass_word, dictionary_word, pair_count, pair_selector}
 use Rattle.model.specs.Lookup.{found, find_in, pairs_from, pairs_in, pairs_within, PairsUpTo, first, all}
@@ -81,7 +81,7 @@ module _ (o : Objects) where
   unfolding pairs_within
   pairs_hit left s c m e h = rw (e, h, pairs_within) (omega arith)
 
-  pub pairs_miss : (left s c : ℕ) → is_kind o class_kind c ≡ true → find_in o (dictionary_word o c) s ≡ Nothing
+  pub pairs_miss : (left s c : ℕ) → is_kind o class_kind c ≡ true → find_in o (dictionary_word o c) s ≡ None
       → pairs_within (suc left) o s c ≡ pairs_in o (dictionary_word o c) s + pairs_within left o s (superclass_word o c)
   unfolding pairs_within
   pairs_miss left s c e h = rw (e, h, pairs_within)

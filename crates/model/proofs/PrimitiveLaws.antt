@@ -15,8 +15,7 @@ use Rattle.bytecode.specs.Test.{every}
 use Rattle.bytecode.specs.Constant.{nil_word, false_word, true_word}
 use Rattle.bytecode.proofs.Choice.{if_yes, if_cases}
 use Rattle.bytecode.proofs.TestLaws.{true→T, and_left, and_right, every_at}
-use Rattle.model.specs.declared.Computed.{Computed}
-use Rattle.model.specs.declared.Computed.TheVariants.{Word, Failed}
+use Rattle.std.specs.Prelude.{Option, Some, None}
 use Rattle.model.specs.Limits.{entry_words, fields_kind, bytes_kind, class_kind, fixed_form, indexed_form, bytes_form, largest_integer}
 use Rattle.model.specs.Word.{is_integer, is_natural, is_valid, in_range, word_of, value_of, pointer, boolean_word}
 use Rattle.model.specs.Objects.{Objects, kind, size, body_word, is_kind, class_of, field_count, form}
@@ -44,9 +43,9 @@ Kept room e o (answers v o') = Performed room e o v o'
 Kept room e o fails = Unit {0}
 
 -- Arithmetic: an odd word, or true or false
-abbrev pub ValidWord : Objects → Computed → Type 0
-ValidWord o (Word w) = T (is_valid o.n w)
-ValidWord o Failed = Unit {0}
+abbrev pub ValidWord : Objects → Option ℕ → Type 0
+ValidWord o (Some w) = T (is_valid o.n w)
+ValidWord o None = Unit {0}
 
 module _ {e : ℕ} {o : Objects} (r : Right e o) where
   boolean_valid : (b : Bool) → T (is_valid o.n (boolean_word b))
@@ -63,15 +62,15 @@ module _ {e : ℕ} {o : Objects} (r : Right e o) where
 
   number_valid : (z : ℤ) → ValidWord o (number z)
   unfolding number
-  number_valid z = if_cases (ValidWord o) (in_range z) (Word (word_of z)) Failed (λ p. valid_odd o.n (word_of z) (word_odd z (true→T p))) (λ p. tt)
+  number_valid z = if_cases (ValidWord o) (in_range z) (Some (word_of z)) None (λ p. valid_odd o.n (word_of z) (word_odd z (true→T p))) (λ p. tt)
 
   divided_valid : (b z : ℤ) → ValidWord o (divided b z)
   unfolding divided
-  divided_valid b z = if_cases (ValidWord o) _ Failed (number z) (λ p. tt) (λ p. number_valid z)
+  divided_valid b z = if_cases (ValidWord o) _ None (number z) (λ p. tt) (λ p. number_valid z)
 
   exact_valid : (a b : ℤ) → ValidWord o (exact_quotient a b)
   unfolding exact_quotient
-  exact_valid a b = if_cases (ValidWord o) _ _ Failed (λ p. divided_valid b _) (λ p. tt)
+  exact_valid a b = if_cases (ValidWord o) _ _ None (λ p. divided_valid b _) (λ p. tt)
 
   integers_valid : (k : ℕ) (a b : ℤ) → ValidWord o (on_integers k a b)
   unfolding on_integers
@@ -111,7 +110,7 @@ module _ {e : ℕ} {o : Objects} (r : Right e o) where
   pub arithmetic_valid : (k v w : ℕ) → ValidWord o (arithmetic k v w)
   unfolding arithmetic
   arithmetic_valid k v w =
-      if_cases (ValidWord o) (is_integer v && is_integer w) _ Failed
+      if_cases (ValidWord o) (is_integer v && is_integer w) _ None
       (λ p. if_cases (ValidWord o) _ _ _ (λ q. bits_valid k v w (eqb→eq (v % 2) 1 (and_left (is_integer v) (is_integer w) (true→T p)))
       (eqb→eq (w % 2) 1 (and_right (is_integer v) (is_integer w) (true→T p)))) (λ q. integers_valid k (value_of v) (value_of w)))
       (λ p. tt)
@@ -121,9 +120,9 @@ module _ {e : ℕ} {o : Objects} (r : Right e o) where
     same_objects : (v : ℕ) → T (is_valid o.n v) → Performed room e o v o
     same_objects v t = record { right = r; extends = extends_refl o; valid = t; contents = λ h. h; bodies = λ h. h }
 
-    computed_law : (z : Computed) → ValidWord o z → Kept room e o (computed o z)
-    computed_law (Word w) t = same_objects w t
-    computed_law Failed t = tt
+    computed_law : (z : Option ℕ) → ValidWord o z → Kept room e o (computed o z)
+    computed_law (Some w) t = same_objects w t
+    computed_law None t = tt
 
     -- 60 to 62: the receiver is an object of fields or of bytes
     module _ (w : ℕ) (v : T (is_valid o.n w)) where

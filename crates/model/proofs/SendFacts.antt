@@ -10,8 +10,8 @@ use Rattle.bytecode.specs.Constant.{nil_word}
 use Rattle.bytecode.specs.Test.{below, implies}
 use Rattle.bytecode.proofs.Choice.{if_yes, if_no}
 use Rattle.bytecode.proofs.TestLaws.{true→T, and_left, and_right, or_cases, implied, up_to_at, below_at}
-use Rattle.model.specs.declared.Found.{Found}
-use Rattle.model.specs.declared.Found.TheVariants.{Method, Nothing}
+use Rattle.std.specs.Prelude.{Option, Some, None}
+use Rattle.model.specs.declared.Pointer.{Pointer}
 use Rattle.model.specs.Limits.{fields_kind, bytes_kind, class_kind, method_kind}
 use Rattle.model.specs.Word.{is_valid, pointer, integer_class}
 use Rattle.model.specs.Objects.{Objects, class_word, kind, size, body_word, is_kind, is_nil_or, class_of, superclass_word, dictionary_word, field_count, form, pair_count, pair_selector, pair_method}
@@ -23,15 +23,15 @@ use Rattle.model.proofs.Facts.{Right, Valid, odd, names, naming, valid_cases, va
 use Rattle.model.proofs.LookupLaws.{reads_few, decides_in}
 use Rattle.model.proofs.Unchanged.{find_hit, find_miss}
 
-abbrev IsMethod : Found → Type 0
-IsMethod (Method w) = Unit {0}
-IsMethod Nothing = ⊥
+abbrev IsMethod : Option Pointer → Type 0
+IsMethod (Some w) = Unit {0}
+IsMethod None = ⊥
 
-abbrev word_found : Found → ℕ
-word_found (Method w) = w.0
-word_found Nothing = 0
+abbrev word_found : Option Pointer → ℕ
+word_found (Some w) = w.0
+word_found None = 0
 
-nothing_found : (m : ℕ) → Nothing ≡ found m → ⊥
+nothing_found : (m : ℕ) → None ≡ found m → ⊥
 nothing_found m p = subst IsMethod (sym p) tt
 
 -- a pair of a dictionary
@@ -68,7 +68,7 @@ pub record FoundFacts (o : Objects) (s c m : ℕ) : Type 0 where
   pub counts : (n : ℕ) → T (takes_count o s n) → argument_count o m ≡ n
 
 module _ {e : ℕ} {o : Objects} (r : Right e o) where
-  holder_by : (s c m k : ℕ) (f : Found) {p : ℕ} → Looks o s c f k p → f ≡ found m → Holder o s c m
+  holder_by : (s c m k : ℕ) (f : Option Pointer) {p : ℕ} → Looks o s c f k p → f ≡ found m → Holder o s c m
   holder_by s c m k f (ended p) e = absurd (nothing_found m e)
   holder_by s c m k f (here p q u) e = record { holder = c; classes = true→T p; chain = same p refl; pair = found_in o (dictionary_word o c) s m (q ∙ e) }
   holder_by s c m k f (above {k = j} p q u l) e =
@@ -110,12 +110,12 @@ module _ {e : ℕ} {o : Objects} (r : Right e o) where
       }
 
   -- nil as a selector finds nothing (01, "Image"): selectors of dictionaries have kind 1, and nil has kind 0.
-  pub nil_finds_nothing : (c : ℕ) → lookup o nil_word c ≡ Nothing
+  pub nil_finds_nothing : (c : ℕ) → lookup o nil_word c ≡ None
   nil_finds_nothing c = go (lookup o nil_word c) refl
     where
-      go : (f : Found) → lookup o nil_word c ≡ f → f ≡ Nothing
-      go Nothing p = refl
-      go (Method m) p =
+      go : (f : Option Pointer) → lookup o nil_word c ≡ f → f ≡ None
+      go None p = refl
+      go (Some m) p =
           let h = holder_of nil_word c m.0 p in
           let q = h.pair in
           let t = subst (λ (x : ℕ). T (is_kind o bytes_kind x)) q.selector (pair_facts r h.holder q.place h.classes q.inside).selector in

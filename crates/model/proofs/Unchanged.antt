@@ -17,8 +17,8 @@ use Rattle.bytecode.specs.declared.Instruction.{Instruction}
 use Rattle.bytecode.specs.declared.Instruction.TheVariants.{Push, Store, PopStore, PushSelf, PushConstant, ReturnSelf, ReturnConstant, ReturnTop, Pop, Duplicate, Jump, JumpOn, Send, SuperSend, SpecialSend, Unused}
 use Rattle.bytecode.proofs.Choice.{if_cases, if_either}
 use Rattle.bytecode.proofs.TestLaws.{true→T, and_left, and_right, and_both}
-use Rattle.model.specs.declared.Found.{Found}
-use Rattle.model.specs.declared.Found.TheVariants.{Method, Nothing}
+use Rattle.std.specs.Prelude.{Option, Some, None}
+use Rattle.model.specs.declared.Pointer.{Pointer}
 use Rattle.model.specs.Limits.{fields_kind, bytes_kind, class_kind, list_kind, method_kind, longest_chain, selectors_object, special_selectors}
 use Rattle.model.specs.Word.{is_valid, pointer}
 use Rattle.model.specs.Objects.{Objects, kind, size, is_kind, superclass_word, dictionary_word, pair_count, pair_selector, pair_method}
@@ -82,13 +82,13 @@ module _ {e : ℕ} {o o' : Objects} (x : Extends o o') (r : Right e o) where
       same : is_kind o' class_kind c ≡ is_kind o class_kind c
       same = kind_same x class_kind c (omega arith) (omega arith)
 
-      go : (b : Bool) (f : Found) → is_kind o class_kind c ≡ b → find_in o (dictionary_word o c) s ≡ f
+      go : (b : Bool) (f : Option Pointer) → is_kind o class_kind c ≡ b → find_in o (dictionary_word o c) s ≡ f
           → ((a : ℕ) → (lookup_within left o' s a ≡ lookup_within left o s a) × (dictionaries_within left o' s a ≡ dictionaries_within left o s a))
           → (lookup_within (suc left) o' s c ≡ lookup_within (suc left) o s c) × (dictionaries_within (suc left) o' s c ≡ dictionaries_within (suc left) o s c)
-      go true (Method w) p q ih =
+      go true (Some w) p q ih =
           let f' = find_same c s (true→T p) ∙ q in
           (class_hit o' left s c w.0 (same ∙ p) f' ∙ sym (class_hit o left s c w.0 p q), read_hit o' left s c w.0 (same ∙ p) f' ∙ sym (read_hit o left s c w.0 p q))
-      go true Nothing p q ih =
+      go true None p q ih =
           let f' = find_same c s (true→T p) ∙ q in
           let up = superclass_same x r c (true→T p) in (
             class_miss o' left s c (same ∙ p) f' ∙ ap (lookup_within left o' s) up ∙ (ih (superclass_word o c)).0 ∙ sym (class_miss o left s c p q),

@@ -1,10 +1,8 @@
 -- Primitives 1 to 17, on two words (01, "Plain machine": "Primitives").
-use Rattle.std.specs.Prelude.{ℕ, zero, suc, ◌+◌, ◌/◌, ◌^◌, Bool, true, false, ◌&&◌, not, leb, eqb, ℤ, pos, negsuc, neg_ℤ, ◌+ℤ◌, ◌-ℤ◌, ◌*ℤ◌}
+use Rattle.std.specs.Prelude.{ℕ, zero, suc, ◌+◌, ◌/◌, ◌^◌, Bool, true, false, ◌&&◌, not, leb, eqb, ℤ, pos, negsuc, neg_ℤ, ◌+ℤ◌, ◌-ℤ◌, ◌*ℤ◌, Option, Some, None}
 use Rattle.std.specs.Int.Signed.{lt_z, le_z, quot_z, rem_z, shr_z}
 use Rattle.std.specs.Int.Bits.{bit_and, bit_or, bit_xor}
 use Rattle.bytecode.specs.Test.{when◌then◌else◌}
-use Rattle.model.specs.declared.Computed.{Computed}
-use Rattle.model.specs.declared.Computed.TheVariants.{Word, Failed}
 use Rattle.model.specs.Word.{is_integer, in_range, word_of, value_of, boolean_word}
 
 -- The quotient rounded down, and the remainder that belongs to it. (The library's `quot_z` rounds toward zero, `rem_z` is its remainder.)
@@ -28,21 +26,21 @@ is_zero (pos (suc n)) = false
 is_zero (negsuc n) = false
 
 -- A number out of range fails, and so does a zero divisor.
-unfoldable pub number : ℤ → Computed
-number z = when in_range z then Word (word_of z) else Failed
+unfoldable pub number : ℤ → Option ℕ
+number z = when in_range z then Some (word_of z) else None
 
-abbrev pub truth : Bool → Computed
-truth x = Word (boolean_word x)
+abbrev pub truth : Bool → Option ℕ
+truth x = Some (boolean_word x)
 
-unfoldable pub divided : ℤ → ℤ → Computed
-divided divisor z = when is_zero divisor then Failed else number z
+unfoldable pub divided : ℤ → ℤ → Option ℕ
+divided divisor z = when is_zero divisor then None else number z
 
 -- 10 fails on a remainder too.
-unfoldable pub exact_quotient : ℤ → ℤ → Computed
-exact_quotient a b = when is_zero (rem_z a b) then divided b (quot_z a b) else Failed
+unfoldable pub exact_quotient : ℤ → ℤ → Option ℕ
+exact_quotient a b = when is_zero (rem_z a b) then divided b (quot_z a b) else None
 
 -- The primitive of a number on two integers
-unfoldable pub on_integers : ℕ → ℤ → ℤ → Computed
+unfoldable pub on_integers : ℕ → ℤ → ℤ → Option ℕ
 on_integers k a b =
     when eqb k 1 then number (a +ℤ b) else
     when eqb k 2 then number (a -ℤ b) else
@@ -58,15 +56,15 @@ on_integers k a b =
     when eqb k 12 then divided b (floor_quotient a b) else
     when eqb k 13 then divided b (quot_z a b) else
     when eqb k 17 then number (shifted a b) else
-    Failed
+    None
 
 -- 14 and, 15 or, 16 exclusive or, in two's complement: on the words themselves, whose tags are one
-unfoldable pub on_bits : ℕ → ℕ → ℕ → Computed
-on_bits k v w = when eqb k 14 then Word (bit_and v w) else when eqb k 15 then Word (bit_or v w) else Word (bit_xor v w + 1)
+unfoldable pub on_bits : ℕ → ℕ → ℕ → Option ℕ
+on_bits k v w = when eqb k 14 then Some (bit_and v w) else when eqb k 15 then Some (bit_or v w) else Some (bit_xor v w + 1)
 
 -- All of them fail on a word that is no integer. Numbers other than 1 to 17 fail.
-unfoldable pub arithmetic : ℕ → ℕ → ℕ → Computed
+unfoldable pub arithmetic : ℕ → ℕ → ℕ → Option ℕ
 arithmetic k v w =
     when is_integer v && is_integer w
     then (when leb 14 k && leb k 16 then on_bits k v w else on_integers k (value_of v) (value_of w))
-    else Failed
+    else None

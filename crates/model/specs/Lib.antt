@@ -1,4 +1,5 @@
 pub mod Limits
+pub mod Numbers
 pub mod Word
 pub mod Objects
 pub mod Method

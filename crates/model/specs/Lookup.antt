@@ -1,33 +1,32 @@
 -- Lookup and the class chain (01, "Plain machine": lookup; 02, M-101, M-102, M-105). Classes are given by their words. A chain has at most 24 classes,
 -- so lookups and tests of a chain need no more turns.
-use Rattle.std.specs.Prelude.{ℕ, zero, suc, ◌+◌, ◌≤◌, ◌<◌, ◌≡◌, Bool, true, false, ◌||◌, not, eqb, ltb}
-use Rattle.model.specs.declared.Found.{Found}
-use Rattle.model.specs.declared.Found.TheVariants.{Method, Nothing}
+use Rattle.std.specs.Prelude.{ℕ, zero, suc, ◌+◌, ◌≤◌, ◌<◌, ◌≡◌, Bool, true, false, ◌||◌, not, eqb, ltb, Option, Some, None}
+use Rattle.model.specs.declared.Pointer.{Pointer}
 use Rattle.model.specs.Limits.{class_kind, longest_chain}
 use Rattle.model.specs.Objects.{Objects, is_kind, superclass_word, dictionary_word, pair_count, pair_selector, pair_method}
 
-abbrev pub found : ℕ → Found
-found m = Method (record { 0 = m })
+abbrev pub found : ℕ → Option Pointer
+found m = Some (record { 0 = m })
 
 -- The method under a selector in a dictionary, sought in the pairs i, i + 1, .., `left` of them
-unfoldable pub find_from : Objects → ℕ → ℕ → ℕ → ℕ → Found
-find_from o d s i zero = Nothing
+unfoldable pub find_from : Objects → ℕ → ℕ → ℕ → ℕ → Option Pointer
+find_from o d s i zero = None
 find_from o d s i (suc left) =
     elim (eqb (pair_selector o d i) s) [ true ↦ found (pair_method o d i) | false ↦ find_from o d s (suc i) left ]
 
-unfoldable pub find_in : Objects → ℕ → ℕ → Found
+unfoldable pub find_in : Objects → ℕ → ℕ → Option Pointer
 find_in o d s = find_from o d s 0 (pair_count o d)
 
 -- Dictionaries along a chain, at most `left` of them
-unfoldable pub lookup_within : ℕ → Objects → ℕ → ℕ → Found
-lookup_within zero o s c = Nothing
+unfoldable pub lookup_within : ℕ → Objects → ℕ → ℕ → Option Pointer
+lookup_within zero o s c = None
 lookup_within (suc left) o s c =
     elim (is_kind o class_kind c) [
-      | true ↦ elim (find_in o (dictionary_word o c) s) [ Method m ↦ Method m | Nothing ↦ lookup_within left o s (superclass_word o c) ]
-      | false ↦ Nothing
+      | true ↦ elim (find_in o (dictionary_word o c) s) [ Some m ↦ Some m | None ↦ lookup_within left o s (superclass_word o c) ]
+      | false ↦ None
     ]
 
-unfoldable pub lookup : Objects → ℕ → ℕ → Found
+unfoldable pub lookup : Objects → ℕ → ℕ → Option Pointer
 lookup o s c = lookup_within longest_chain o s c
 
 -- How many dictionaries a lookup reads (02, M-105): those from the class where it starts to the one that has the method, both counted, a shared one each time. 02
@@ -36,7 +35,7 @@ unfoldable pub dictionaries_within : ℕ → Objects → ℕ → ℕ → ℕ
 dictionaries_within zero o s c = 0
 dictionaries_within (suc left) o s c =
     elim (is_kind o class_kind c) [
-      | true ↦ suc (elim (find_in o (dictionary_word o c) s) [ Method m ↦ 0 | Nothing ↦ dictionaries_within left o s (superclass_word o c) ])
+      | true ↦ suc (elim (find_in o (dictionary_word o c) s) [ Some m ↦ 0 | None ↦ dictionaries_within left o s (superclass_word o c) ])
       | false ↦ 0
     ]
 
@@ -58,7 +57,7 @@ unfoldable pub pairs_within : ℕ → Objects → ℕ → ℕ → ℕ
 pairs_within zero o s c = 0
 pairs_within (suc left) o s c =
     elim (is_kind o class_kind c) [
-      | true ↦ pairs_in o (dictionary_word o c) s + elim (find_in o (dictionary_word o c) s) [ Method m ↦ 0 | Nothing ↦ pairs_within left o s (superclass_word o c) ]
+      | true ↦ pairs_in o (dictionary_word o c) s + elim (find_in o (dictionary_word o c) s) [ Some m ↦ 0 | None ↦ pairs_within left o s (superclass_word o c) ]
       | false ↦ 0
     ]
 
@@ -92,10 +91,10 @@ pub data PairsUpTo (o : Objects) (d s : ℕ) : ℕ → Type 0 where
   all : ((j : ℕ) → j < pair_count o d → pair_selector o d j < s) → PairsUpTo o d s (pair_count o d)
 
 -- A lookup from c comes to f, and reads k dictionaries and p of their pairs.
-pub data Looks (o : Objects) (s : ℕ) : ℕ → Found → ℕ → ℕ → Type 0 where
-  ended : {c : ℕ} → is_kind o class_kind c ≡ false → Looks o s c Nothing 0 0
+pub data Looks (o : Objects) (s : ℕ) : ℕ → Option Pointer → ℕ → ℕ → Type 0 where
+  ended : {c : ℕ} → is_kind o class_kind c ≡ false → Looks o s c None 0 0
   here : {c m p : ℕ} → is_kind o class_kind c ≡ true → find_in o (dictionary_word o c) s ≡ found m → PairsUpTo o (dictionary_word o c) s p → Looks o s c (found m) 1 p
-  above : {c k p q : ℕ} {f : Found} → is_kind o class_kind c ≡ true → find_in o (dictionary_word o c) s ≡ Nothing → PairsUpTo o (dictionary_word o c) s p
+  above : {c k p q : ℕ} {f : Option Pointer} → is_kind o class_kind c ≡ true → find_in o (dictionary_word o c) s ≡ None → PairsUpTo o (dictionary_word o c) s p
       → Looks o s (superclass_word o c) f k q → Looks o s c f (suc k) (p + q)
 
 -- Class a is c or above it.
@@ -107,4 +106,4 @@ pub data InChain (o : Objects) (a : ℕ) : ℕ → Type 0 where
 -- their pairs as `pairs_read` says, whether it finds or fails.
 pub record ReadsFew (o : Objects) (s c : ℕ) : Type 0 where
   pub ends : Looks o s c (lookup o s c) (dictionaries_read o s c) (pairs_read o s c)
-  pub few : (f : Found) (k p : ℕ) → Looks o s c f k p → (f ≡ lookup o s c) × (k ≡ dictionaries_read o s c) × (k ≤ longest_chain) × (p ≡ pairs_read o s c)
+  pub few : (f : Option Pointer) (k p : ℕ) → Looks o s c f k p → (f ≡ lookup o s c) × (k ≡ dictionaries_read o s c) × (k ≤ longest_chain) × (p ≡ pairs_read o s c)

@@ -1,10 +1,8 @@
 -- The primitives (01, "Plain machine": "Primitives"): 1 to 17 by specs/Arithmetic.antt, 60 to 62, 70, 71, 110, 111. One that fails
 -- changes nothing; every other number fails.
-use Rattle.std.specs.Prelude.{ℕ, ◌+◌, ◌-◌, ◌*◌, ◌/◌, ◌%◌, Bool, ◌&&◌, ◌||◌, not, List, [], ◌∷◌, ◌++◌, leb, ltb, eqb, length, get_or, set, replicate}
+use Rattle.std.specs.Prelude.{ℕ, ◌+◌, ◌-◌, ◌*◌, ◌/◌, ◌%◌, Bool, ◌&&◌, ◌||◌, not, List, [], ◌∷◌, ◌++◌, leb, ltb, eqb, length, get_or, set, replicate, Option, Some, None}
 use Rattle.bytecode.specs.Test.{when◌then◌else◌}
 use Rattle.bytecode.specs.Constant.{nil_word}
-use Rattle.model.specs.declared.Computed.{Computed}
-use Rattle.model.specs.declared.Computed.TheVariants.{Word, Failed}
 use Rattle.model.specs.Limits.{most_objects, most_body_words, largest_integer, most_elements, entry_words, fields_kind, bytes_kind, class_kind, fixed_form, indexed_form, bytes_form, message_fields}
 use Rattle.model.specs.Word.{is_integer, is_natural, pointer, object_number, boolean_word, message_class, array_class}
 use Rattle.model.specs.Objects.{Objects, class_of, form, size, start, body_word, field_count, is_kind}
@@ -123,9 +121,9 @@ new_with room o c x =
     else (when eqb (form o c) bytes_form then make room o c bytes_kind (x / 2) ((x / 2 + 1) / 2) 0 else fails))
     else fails
 
-abbrev pub computed : Objects → Computed → Outcome
-computed o (Word w) = answers w o
-computed o Failed = fails
+abbrev pub computed : Objects → Option ℕ → Outcome
+computed o (Some w) = answers w o
+computed o None = fails
 
 -- Primitive k on a receiver w and two arguments, those that it takes; `e` is the edition, which has all of them today
 unfoldable pub perform : ℕ → Room → Objects → ℕ → ℕ → ℕ → ℕ → Outcome

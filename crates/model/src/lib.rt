@@ -1,7 +1,13 @@
 // The types that the definitions of specs/ speak of, and the numbers of 01.
 #![tactic(auto)]
 
+ghost use Rattle.std.specs.Prelude.{◌≡◌};
+ghost use Rattle.model.specs.Word.{boolean_word};
+
 pub mod limits;
+pub mod numbers;
+
+pub use numbers::{Halt, Refusal};
 
 // An even word: twice an object number.
 #[derive(Clone, Copy)]
@@ -15,16 +21,9 @@ pub struct CodePosition(pub usize);
 #[derive(Clone, Copy)]
 pub struct StackPosition(pub usize);
 
-// What a lookup finds.
-#[derive(Clone, Copy)]
-pub enum Found {
-    Method(Pointer),
-    Nothing,
-}
-
-// What an arithmetic primitive gives.
-#[derive(Clone, Copy)]
-pub enum Computed {
-    Word(u16),
-    Failed,
+// The word of true or of false.
+pub fn boolean_word(x: bool) -> u16
+    ensures { result ≡ boolean_word x }
+{
+    if x { limits::TRUE } else { limits::FALSE }
 }

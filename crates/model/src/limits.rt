@@ -1,5 +1,4 @@
-// The numbers that 01 fixes, as specs/Limits.antt names them; the places of a frame's words and the phases of a halt are those of plain's specs/Flat.antt
-// and Registers.antt. What depends on the edition is in `readers::edition`.
+// The numbers that 01 fixes, as specs/Limits.antt names them; the places of a frame's words are those of plain's specs/Flat.antt. What depends on the edition is in `readers::edition`.
 
 // Words and bytes of an image's header; most objects, body words and body bytes.
 pub const HEADER_WORDS: usize = 5;
@@ -15,7 +14,7 @@ pub const MOST_BODY_BYTES: usize = 48000;
 // An entry: class, kind, start, size.
 pub const ENTRY_WORDS: usize = 4;
 
-// Kinds of objects.
+// Kinds of objects. They, forms and flags stay numbers: they are compared with words of images that are not judged yet, which can be any.
 pub const FIELDS: u16 = 0;
 
 pub const BYTES: u16 = 1;
@@ -89,13 +88,6 @@ pub const FRAME_RECEIVER: usize = 5;
 
 // A frame ends here or below.
 pub const MOST_STACK_WORDS: usize = 65536;
-
-// The phases of a halt: not understood, no boolean, no room in the stack.
-pub const NOT_UNDERSTOOD: u16 = 3;
-
-pub const NO_BOOLEAN: u16 = 4;
-
-pub const NO_STACK_ROOM: u16 = 5;
 
 // Objects with a fixed number, and the words of some.
 pub const NIL_OBJECT: usize = 1;

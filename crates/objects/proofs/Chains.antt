@@ -10,8 +10,7 @@ use lib.Dec.{T, eqb, eqb→eq}
 use Rattle.bytecode.specs.Constant.{nil_word}
 use Rattle.bytecode.proofs.TestLaws.{true→T, T→true, or_cases}
 use Rattle.model.specs.declared.Pointer.{Pointer}
-use Rattle.model.specs.declared.Found.{Found}
-use Rattle.model.specs.declared.Found.TheVariants.{Method, Nothing}
+use Rattle.std.specs.Prelude.{Option, Some, None}
 use Rattle.model.specs.Limits.{class_kind, longest_chain}
 use Rattle.model.specs.Objects.{Objects, objects_at, is_kind, is_nil_or, superclass_word, dictionary_word}
 use Rattle.model.specs.Lookup.{found, find_in, lookup_within, lookup, dictionaries_within, dictionaries_read, pairs_in, pairs_within, pairs_read, in_chain_within, in_chain}
@@ -23,6 +22,10 @@ use Rattle.objects.specs.Searches.{IsDictionary}
 
 one_left : (left : ℕ) → 0 < left → suc (left - 1) ≡ left
 one_left left h = omega arith
+
+-- one turn more, one left less
+turn_less : (P : ℕ → Type 0) (turn : ℕ) → P (longest_chain - turn - 1) → P (longest_chain - (turn + 1))
+turn_less P turn h = subst P (omega arith) h
 
 -- A class chain: nil ends it, and all before is a class with a dictionary.
 module _ {e : ℕ} {o : Objects} (r : Right e o) where
@@ -52,12 +55,17 @@ module _ {e : ℕ} {o : Objects} (r : Right e o) where
       sym (chain_class o (left - 1) a c (T→true (is_kind o class_kind c) h) ∙ ap (λ (x : Bool). x || in_chain_within (left - 1) o a (superclass_word o c)) (eq-eqb a c e))
       ∙ ap (λ (k : ℕ). in_chain_within k o a c) (one_left left l)
 
-  pub chain_up : (left a c d : ℕ) → 0 < left → T (is_kind o class_kind c) → (a ≡ c → ⊥) → d ≡ superclass_word o c
+  chain_up : (left a c d : ℕ) → 0 < left → T (is_kind o class_kind c) → (a ≡ c → ⊥) → d ≡ superclass_word o c
       → in_chain_within (left - 1) o a d ≡ in_chain_within left o a c
   chain_up left a c d l h e g =
       ap (in_chain_within (left - 1) o a) g
       ∙ sym (chain_class o (left - 1) a c (T→true (is_kind o class_kind c) h) ∙ ap (λ (x : Bool). x || in_chain_within (left - 1) o a (superclass_word o c)) (ne_eqb a c e))
       ∙ ap (λ (k : ℕ). in_chain_within k o a c) (one_left left l)
+
+  pub chain_turn : (turn a c d : ℕ) → turn < longest_chain → T (is_kind o class_kind c) → (a ≡ c → ⊥) → d ≡ superclass_word o c
+      → in_chain_within (longest_chain - (turn + 1)) o a d ≡ in_chain_within (longest_chain - turn) o a c
+  chain_turn turn a c d l h e g =
+      turn_less (λ (k : ℕ). in_chain_within k o a d ≡ in_chain_within (longest_chain - turn) o a c) turn (chain_up (longest_chain - turn) a c d (omega arith) h e g)
 
 -- a class's dictionary
 pub dictionary_of : {n b : ℕ} {contents bodies : List ℕ} {d : ℕ} (c : ℕ) → IsRight (objects_at n b contents bodies) → d ≡ dictionary_word (objects_at n b contents bodies) c
@@ -94,7 +102,7 @@ lookup_first t = record { classes = t; finds = refl; walks = omega arith; reads 
 
 module _ {e : ℕ} {o : Objects} (r : Right e o) {s a left pairs c : ℕ} (t : LookupAt o s a left pairs c) where
   -- the chain is over, or no turn is left
-  pub lookup_nil : c ≡ 2 → (Nothing ≡ lookup o s a) × (longest_chain - left ≡ dictionaries_read o s a) × (pairs ≡ pairs_read o s a)
+  pub lookup_nil : c ≡ 2 → (None ≡ lookup o s a) × (longest_chain - left ≡ dictionaries_read o s a) × (pairs ≡ pairs_read o s a)
   lookup_nil h =
       let k = nil_none r c h in
       let z = pairs_none o left s c k in
@@ -103,7 +111,7 @@ module _ {e : ℕ} {o : Objects} (r : Right e o) {s a left pairs c : ℕ} (t : L
       let w = t.reads in
       (sym (no_class o left s c k) ∙ t.finds, omega arith, omega arith)
 
-  pub lookup_over : left ≤ 0 → (Nothing ≡ lookup o s a) × (longest_chain ≡ dictionaries_read o s a) × (pairs ≡ pairs_read o s a)
+  pub lookup_over : left ≤ 0 → (None ≡ lookup o s a) × (longest_chain ≡ dictionaries_read o s a) × (pairs ≡ pairs_read o s a)
   unfolding lookup_within dictionaries_within pairs_within
   lookup_over h = (ap (λ (k : ℕ). lookup_within k o s c) none ∙ t.finds, all, sum)
     where
@@ -123,7 +131,7 @@ module _ {e : ℕ} {o : Objects} (r : Right e o) {s a left pairs c : ℕ} (t : L
           omega arith
 
   -- a class whose dictionary was searched
-  module _ {d p : ℕ} {f : Found} (l : 0 < left) (h : T (is_kind o class_kind c)) (g : d ≡ dictionary_word o c) (x : f ≡ find_in o d s) (y : p ≡ pairs_in o d s) where
+  module _ {d p : ℕ} {f : Option Pointer} (l : 0 < left) (h : T (is_kind o class_kind c)) (g : d ≡ dictionary_word o c) (x : f ≡ find_in o d s) (y : p ≡ pairs_in o d s) where
     search_here : f ≡ find_in o (dictionary_word o c) s
     search_here = x ∙ ap (λ (w : ℕ). find_in o w s) g
 
@@ -133,7 +141,7 @@ module _ {e : ℕ} {o : Objects} (r : Right e o) {s a left pairs c : ℕ} (t : L
     is_class : is_kind o class_kind c ≡ true
     is_class = T→true (is_kind o class_kind c) h
 
-    pub lookup_hit : (m : Pointer) → f ≡ Method m → (Method m ≡ lookup o s a) × (longest_chain - left + 1 ≡ dictionaries_read o s a) × (pairs + p ≡ pairs_read o s a)
+    pub lookup_hit : (m : Pointer) → f ≡ Some m → (Some m ≡ lookup o s a) × (longest_chain - left + 1 ≡ dictionaries_read o s a) × (pairs + p ≡ pairs_read o s a)
     lookup_hit m q =
         let k : find_in o (dictionary_word o c) s ≡ found m.0 = sym search_here ∙ q in
         let z = pairs_hit o (left - 1) s c m.0 is_class k in
@@ -145,9 +153,9 @@ module _ {e : ℕ} {o : Objects} (r : Right e o) {s a left pairs c : ℕ} (t : L
         let j = t.walks in
         (sym (class_hit o (left - 1) s c m.0 is_class k) ∙ ap (λ (k : ℕ). lookup_within k o s c) (one_left left l) ∙ t.finds, omega arith, omega arith)
 
-    pub lookup_up : (w : ℕ) → p ≤ 12000 → w ≡ superclass_word o c → f ≡ Nothing → LookupAt o s a (left - 1) (pairs + p) w
+    pub lookup_up : (w : ℕ) → p ≤ 12000 → w ≡ superclass_word o c → f ≡ None → LookupAt o s a (left - 1) (pairs + p) w
     lookup_up w few e q =
-        let k : find_in o (dictionary_word o c) s ≡ Nothing = sym search_here ∙ q in
+        let k : find_in o (dictionary_word o c) s ≡ None = sym search_here ∙ q in
         let z = pairs_miss o (left - 1) s c is_class k in
         let u = ap (λ (k : ℕ). pairs_within k o s c) (one_left left l) in
         let v = pairs_here in
@@ -167,3 +175,6 @@ module _ {e : ℕ} {o : Objects} (r : Right e o) {s a left pairs c : ℕ} (t : L
           turns = omega arith;
           few = omega arith;
         }
+
+pub lookup_turn : {o : Objects} {s a pairs c : ℕ} (turn : ℕ) → LookupAt o s a (longest_chain - turn - 1) pairs c → LookupAt o s a (longest_chain - (turn + 1)) pairs c
+lookup_turn {o = o} {s} {a} {pairs} {c} turn = turn_less (λ (k : ℕ). LookupAt o s a k pairs c) turn

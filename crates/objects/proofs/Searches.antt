@@ -9,7 +9,7 @@ use borrow.Author.Tests.{eq-eqb, ne_eqb, ltb-true, ltb-false}
 use borrow.Author.Count.{below_more}
 use lib.Dec.{ltb}
 use lib.ListN.{length, get_or}
-use Rattle.model.specs.declared.Found.TheVariants.{Nothing}
+use Rattle.std.specs.Prelude.{None}
 use Rattle.model.specs.Limits.{list_kind}
 use Rattle.model.specs.Word.{object_number}
 use Rattle.model.specs.Objects.{Objects, objects_at, start, size, pair_selector, pair_method}
@@ -68,41 +68,20 @@ module _ {n b : ℕ} {contents bodies : List ℕ} {d : ℕ} (h : Holds list_kind
       ∙ sym (find_hit (objects_at n b contents bodies) d s i (count - (i + 1)) (eq-eqb (pair_selector (objects_at n b contents bodies) d i) s (sym (selector_at i l) ∙ e)))
       ∙ ap (find_from (objects_at n b contents bodies) d s i) (sym (left_one count i l)) ∙ skipped i (omega arith) f
 
-  no_pair : (i : ℕ) → i ≤ count → count ≤ i → ((k : ℕ) → k < i → get_or bodies (from + 2 * k) 0 ≡ s → ⊥) → Nothing ≡ find_in (objects_at n b contents bodies) d s
+  no_pair : (i : ℕ) → i ≤ count → count ≤ i → ((k : ℕ) → k < i → get_or bodies (from + 2 * k) 0 ≡ s → ⊥) → None ≡ find_in (objects_at n b contents bodies) d s
   unfolding find_from
   no_pair i l g f = ap (find_from (objects_at n b contents bodies) d s i) none ∙ skipped i l f
     where
       none : 0 ≡ count - i
       none = omega arith
 
--- The search in a dictionary: it has come to the place of a pair, and all before that have smaller selectors.
-pub record Passed (bodies : List ℕ) (from count s at : ℕ) : Type 0 where
-  pub index : ℕ
-  pub place : at ≡ from + 2 * index
-  pub inside : index < count
-  pub below : (j : ℕ) → j < index → get_or bodies (from + 2 * j) 0 < s
-
+-- The search in a dictionary: pair `index` is the first whose selector is not smaller, or the last.
 module _ {bodies : List ℕ} {from count s : ℕ} where
-  pub passed_none : 0 < count → Passed bodies from count s from
-  passed_none h = record { index = 0; place = omega arith; inside = h; below = λ j l. absurd (omega arith) }
+  pub passed_stop : (i : ℕ) → i < count → ((j : ℕ) → j < i → get_or bodies (from + 2 * j) 0 < s) → s ≤ get_or bodies (from + 2 * i) 0 → FirstPlace bodies from count s (from + 2 * i)
+  passed_stop i h b l = record { index = i; place = refl; inside = h; below = b; stops = λ _. l }
 
-  pub passed_more : {at : ℕ} → Passed bodies from count s at → at < from + 2 * (count - 1) → get_or bodies at 0 < s → Passed bodies from count s (at + 2)
-  passed_more {at = at} x l g =
-      record {
-        index = x.index + 1;
-        place = let e = x.place in omega arith;
-        inside = let e = x.place in omega arith;
-        below = below_more (λ (j : ℕ). get_or bodies (from + 2 * j) 0 < s) x.index x.below (subst (λ (k : ℕ). get_or bodies k 0 < s) x.place g);
-      }
-
-  pub passed_stop : {at : ℕ} → Passed bodies from count s at → s ≤ get_or bodies at 0 → FirstPlace bodies from count s at
-  passed_stop x l = record { index = x.index; place = x.place; inside = x.inside; below = x.below; stops = λ _. l }
-
-  pub passed_all : {at : ℕ} → Passed bodies from count s at → from + 2 * (count - 1) ≤ at → FirstPlace bodies from count s (from + 2 * (count - 1))
-  passed_all {at = at} x l =
-      let e = x.place in
-      let i = x.inside in
-      record { index = x.index; place = omega arith; inside = i; below = x.below; stops = λ h. absurd (omega arith) }
+  pub passed_all : (i : ℕ) → i < count → ((j : ℕ) → j < i → get_or bodies (from + 2 * j) 0 < s) → count ≤ i + 1 → FirstPlace bodies from count s (from + 2 * (count - 1))
+  passed_all i h b l = record { index = i; place = omega arith; inside = h; below = b; stops = λ g. absurd (omega arith) }
 
 -- What it leaves, by the definitions
 module _ {n b : ℕ} {contents bodies : List ℕ} {d : ℕ} (h : IsDictionary n b contents bodies d) (s : ℕ) {from count : ℕ} (p : from ≡ start (objects_at n b contents bodies) (object_number d))
@@ -131,7 +110,7 @@ module _ {n b : ℕ} {contents bodies : List ℕ} {d : ℕ} (h : IsDictionary n 
       go false e = let l = ltb-false 0 count e in let g = few in omega arith
 
   -- a dictionary without pairs
-  pub none_found : count ≡ 0 → Nothing ≡ find_in (objects_at n b contents bodies) d s
+  pub none_found : count ≡ 0 → None ≡ find_in (objects_at n b contents bodies) d s
   none_found e = no_pair h.holds s p q 0 (omega arith) (omega arith) (λ k l. absurd (omega arith))
 
   pub none_read : count ≡ 0 → 0 ≡ pairs_in (objects_at n b contents bodies) d s
@@ -150,7 +129,7 @@ module _ {n b : ℕ} {contents bodies : List ℕ} {d : ℕ} (h : IsDictionary n 
         ∙ found_pair h.holds s p q f.index f.inside (λ k l g. let x = f.below k l in absurd (omega arith)) (at_place ∙ e)
 
     -- the selectors behind it are above the one sought
-    pub place_missed : (get_or bodies at 0 ≡ s → ⊥) → Nothing ≡ find_in (objects_at n b contents bodies) d s
+    pub place_missed : (get_or bodies at 0 ≡ s → ⊥) → None ≡ find_in (objects_at n b contents bodies) d s
     place_missed e = no_pair h.holds s p q count (omega arith) (omega arith) other
       where
         other : (k : ℕ) → k < count → get_or bodies (from + 2 * k) 0 ≡ s → ⊥

@@ -1,6 +1,6 @@
 -- A search for a method: what it asks of a dictionary, and what its answer says.
-use Rattle.std.specs.Prelude.{ℕ, ◌+◌, ◌*◌, ◌≤◌, ◌<◌, ◌≡◌, List, get_or}
-use Rattle.model.specs.declared.Found.{Found}
+use Rattle.std.specs.Prelude.{ℕ, ◌+◌, ◌*◌, ◌≤◌, ◌<◌, ◌≡◌, List, get_or, Option}
+use Rattle.model.specs.declared.Pointer.{Pointer}
 use Rattle.model.specs.Limits.{list_kind}
 use Rattle.model.specs.Objects.{objects_at, pair_count, pair_selector}
 use Rattle.objects.specs.declared.Search.{Search}
@@ -21,7 +21,7 @@ pub record FirstPlace (bodies : List ℕ) (from count s at : ℕ) : Type 0 where
   pub stops : index + 1 < count → s ≤ get_or bodies at 0
 
 -- What was found, and how many dictionaries and pairs were read
-pub record SearchIs (f : Found) (k p : ℕ) (r : Search) : Type 0 where
+pub record SearchIs (f : Option Pointer) (k p : ℕ) (r : Search) : Type 0 where
   pub finds : r.found ≡ f
   pub walks : r.dictionaries ≡ k
   pub reads : r.pairs ≡ p

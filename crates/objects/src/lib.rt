@@ -14,9 +14,11 @@ ghost use Rattle.model.specs.Primitive.{store_word, object_byte, store_byte};
 ghost use Rattle.readers.specs.Places.{Inside};
 ghost use Rattle.objects.specs.Lent.{Holds, CodeAt};
 ghost use Rattle.objects.specs.Searches.{IsDictionary, FirstPlace, SearchIs};
+ghost use Rattle.readers.specs.Lent.{objects_in, In};
 
 use bytecode::Decoded;
-use model::{Found, Pointer, limits};
+use model::{Pointer, limits};
+use readers::Memory;
 
 // A method's code in bodies: its words stand from `from` up to `end`, `size` counts its bytes.
 #[derive(Clone, Copy)]
@@ -29,21 +31,21 @@ pub struct Code {
 // What a search for a method comes to: what it found, how many dictionaries it read, and how many of their pairs.
 #[derive(Clone, Copy)]
 pub struct Search {
-    pub found: Found,
+    pub found: Option<Pointer>,
     pub dictionaries: usize,
     pub pairs: usize,
 }
 
 // The class of a valid word. No body is read, so it is the same whatever the bodies hold.
-pub fn class_of(contents: &[u16], n: usize, w: u16) -> Pointer
-    requires { T (is_valid n w) × (entry_words * n ≤ length contents.now) }
-    ensures { (b : ℕ) (bodies : List ℕ) → result.0 ≡ class_of (objects_at n b contents.now bodies) w }
+pub fn class_of(memory: &Memory, w: u16) -> Pointer
+    requires { T (is_valid memory.now.n w) × (entry_words * memory.now.n ≤ length memory.now.contents.now) }
+    ensures { (b : ℕ) (bodies : List ℕ) → result.0 ≡ class_of (objects_at memory.now.n b memory.now.contents.now bodies) w }
 {
     if w % 2 == 1 {
-        return Pointer(limits::INTEGER_CLASS);
+        Pointer(limits::INTEGER_CLASS)
+    } else {
+        Pointer(memory.class_word(w as usize / 2))
     }
-    let k = w as usize / 2;
-    Pointer(readers::class_word(contents, n, k))
 }
 
 // The one function that writes a word of an object that stands.
@@ -62,20 +64,27 @@ pub fn store_word(
         bodies.old }
 {
     let k = p.0 as usize / 2;
-    let to = readers::start(contents, n, k) as usize + i;
+    let memory = &Memory {
+        contents,
+        bodies,
+        n,
+        b,
+    };
+    let to = memory.start(k) as usize + i;
     bodies[to] = w;
 }
 
 // Byte i of an object's body, high byte of a word first.
-pub fn byte_of(contents: &[u16], bodies: &[u16], n: usize, b: usize, p: Pointer, i: usize) -> u8
-    requires { Inside n b contents.now bodies.now p.0 (i / 2) }
-    ensures { result ≡ object_byte (objects_at n b contents.now bodies.now) (object_number p.0) i }
+pub fn byte_of(memory: &Memory, p: Pointer, i: usize) -> u8
+    requires { In Inside memory.now p.0 (i / 2) }
+    ensures { result ≡ object_byte (objects_in memory.now) (object_number p.0) i }
 {
-    let w = readers::word_of(contents, bodies, n, b, p, i / 2);
+    let w = memory.word_of(p, i / 2);
     if i % 2 == 0 {
-        return (w / 256) as u8;
+        (w / 256) as u8
+    } else {
+        (w % 256) as u8
     }
-    (w % 256) as u8
 }
 
 pub fn store_byte(
@@ -92,7 +101,13 @@ pub fn store_byte(
         ≡ at_front (store_byte (objects_at n b contents.now bodies.old) (object_number p.0) i v).bodies
         bodies.old }
 {
-    let w = readers::word_of(contents, bodies, n, b, p, i / 2);
+    let memory = &Memory {
+        contents,
+        bodies,
+        n,
+        b,
+    };
+    let w = memory.word_of(p, i / 2);
     if i % 2 == 0 {
         store_word(contents, bodies, n, b, p, i / 2, v as u16 * 256 + w % 256);
     } else {
@@ -101,87 +116,87 @@ pub fn store_byte(
 }
 
 // The four words of a class.
-pub fn superclass(contents: &[u16], bodies: &[u16], n: usize, b: usize, c: Pointer) -> Pointer
-    requires { Holds class_kind n b contents.now bodies.now c.0 }
-    ensures { result.0 ≡ superclass_word (objects_at n b contents.now bodies.now) c.0 }
+pub fn superclass(memory: &Memory, c: Pointer) -> Pointer
+    requires { In (Holds class_kind) memory.now c.0 }
+    ensures { result.0 ≡ superclass_word (objects_in memory.now) c.0 }
 {
-    Pointer(readers::word_of(contents, bodies, n, b, c, limits::SUPERCLASS))
+    Pointer(memory.word_of(c, limits::SUPERCLASS))
 }
 
-pub fn dictionary(contents: &[u16], bodies: &[u16], n: usize, b: usize, c: Pointer) -> Pointer
-    requires { Holds class_kind n b contents.now bodies.now c.0 }
-    ensures { result.0 ≡ dictionary_word (objects_at n b contents.now bodies.now) c.0 }
+pub fn dictionary(memory: &Memory, c: Pointer) -> Pointer
+    requires { In (Holds class_kind) memory.now c.0 }
+    ensures { result.0 ≡ dictionary_word (objects_in memory.now) c.0 }
 {
-    Pointer(readers::word_of(contents, bodies, n, b, c, limits::DICTIONARY))
+    Pointer(memory.word_of(c, limits::DICTIONARY))
 }
 
-pub fn field_count(contents: &[u16], bodies: &[u16], n: usize, b: usize, c: Pointer) -> usize
-    requires { Holds class_kind n b contents.now bodies.now c.0 }
-    ensures { result ≡ field_count (objects_at n b contents.now bodies.now) c.0 }
+pub fn field_count(memory: &Memory, c: Pointer) -> usize
+    requires { In (Holds class_kind) memory.now c.0 }
+    ensures { result ≡ field_count (objects_in memory.now) c.0 }
 {
-    readers::word_of(contents, bodies, n, b, c, limits::FIELDS_WORD) as usize / 2
+    memory.word_of(c, limits::FIELDS_WORD) as usize / 2
 }
 
-pub fn form_of(contents: &[u16], bodies: &[u16], n: usize, b: usize, c: Pointer) -> usize
-    requires { Holds class_kind n b contents.now bodies.now c.0 }
-    ensures { result ≡ form (objects_at n b contents.now bodies.now) c.0 }
+pub fn form_of(memory: &Memory, c: Pointer) -> usize
+    requires { In (Holds class_kind) memory.now c.0 }
+    ensures { result ≡ form (objects_in memory.now) c.0 }
 {
-    readers::word_of(contents, bodies, n, b, c, limits::FORM_WORD) as usize / 2
+    memory.word_of(c, limits::FORM_WORD) as usize / 2
 }
 
 // The words of a method.
-pub fn header(contents: &[u16], bodies: &[u16], n: usize, b: usize, m: Pointer) -> usize
-    requires { Holds method_kind n b contents.now bodies.now m.0 }
-    ensures { result ≡ header (objects_at n b contents.now bodies.now) m.0 }
+pub fn header(memory: &Memory, m: Pointer) -> usize
+    requires { In (Holds method_kind) memory.now m.0 }
+    ensures { result ≡ header (objects_in memory.now) m.0 }
 {
-    readers::word_of(contents, bodies, n, b, m, limits::HEADER) as usize
+    memory.word_of(m, limits::HEADER) as usize
 }
 
-pub fn home(contents: &[u16], bodies: &[u16], n: usize, b: usize, m: Pointer) -> Pointer
-    requires { Holds method_kind n b contents.now bodies.now m.0 }
-    ensures { result.0 ≡ home (objects_at n b contents.now bodies.now) m.0 }
+pub fn home(memory: &Memory, m: Pointer) -> Pointer
+    requires { In (Holds method_kind) memory.now m.0 }
+    ensures { result.0 ≡ home (objects_in memory.now) m.0 }
 {
-    Pointer(readers::word_of(contents, bodies, n, b, m, limits::HOME))
+    Pointer(memory.word_of(m, limits::HOME))
 }
 
-pub fn literal(contents: &[u16], bodies: &[u16], n: usize, b: usize, m: Pointer, i: usize) -> u16
-    requires { Holds method_kind n b contents.now bodies.now m.0 × (i < literal_count (objects_at n b contents.now bodies.now) m.0) }
-    ensures { result ≡ literal (objects_at n b contents.now bodies.now) m.0 i }
+pub fn literal(memory: &Memory, m: Pointer, i: usize) -> u16
+    requires { In (Holds method_kind) memory.now m.0 × (i < literal_count (objects_in memory.now) m.0) }
+    ensures { result ≡ literal (objects_in memory.now) m.0 i }
 {
-    readers::word_of(contents, bodies, n, b, m, limits::LITERALS + i)
+    memory.word_of(m, limits::LITERALS + i)
 }
 
 // The extension of a method with flag 7.
-pub fn extension(contents: &[u16], bodies: &[u16], n: usize, b: usize, m: Pointer) -> usize
-    requires { Holds method_kind n b contents.now bodies.now m.0 × (flag (objects_at n b contents.now bodies.now) m.0 ≡ primitive_flag) }
-    ensures { result ≡ extension (objects_at n b contents.now bodies.now) m.0 }
+pub fn extension(memory: &Memory, m: Pointer) -> usize
+    requires { In (Holds method_kind) memory.now m.0 × (flag (objects_in memory.now) m.0 ≡ primitive_flag) }
+    ensures { result ≡ extension (objects_in memory.now) m.0 }
 {
-    let count = readers::literal_count(header(contents, bodies, n, b, m));
-    literal(contents, bodies, n, b, m, count - 2) as usize
+    let count = readers::literal_count(header(memory, m));
+    literal(memory, m, count - 2) as usize
 }
 
-pub fn primitive_number(contents: &[u16], bodies: &[u16], n: usize, b: usize, m: Pointer) -> usize
-    requires { Holds method_kind n b contents.now bodies.now m.0 × (flag (objects_at n b contents.now bodies.now) m.0 ≡ primitive_flag) }
-    ensures { result ≡ primitive_number (objects_at n b contents.now bodies.now) m.0 }
+pub fn primitive_number(memory: &Memory, m: Pointer) -> usize
+    requires { In (Holds method_kind) memory.now m.0 × (flag (objects_in memory.now) m.0 ≡ primitive_flag) }
+    ensures { result ≡ primitive_number (objects_in memory.now) m.0 }
 {
-    extension(contents, bodies, n, b, m) / 2 % 256
+    extension(memory, m) / 2 % 256
 }
 
-pub fn argument_count(contents: &[u16], bodies: &[u16], n: usize, b: usize, m: Pointer) -> usize
-    requires { Holds method_kind n b contents.now bodies.now m.0 }
-    ensures { result ≡ argument_count (objects_at n b contents.now bodies.now) m.0 }
+pub fn argument_count(memory: &Memory, m: Pointer) -> usize
+    requires { In (Holds method_kind) memory.now m.0 }
+    ensures { result ≡ argument_count (objects_in memory.now) m.0 }
 {
-    readers::argument_count(contents, bodies, n, b, m)
+    memory.argument_count(m)
 }
 
-pub fn code_of(contents: &[u16], bodies: &[u16], n: usize, b: usize, m: Pointer) -> Code
-    requires { Holds method_kind n b contents.now bodies.now m.0 }
-    ensures { CodeAt n b contents.now bodies.now m.0 result }
+pub fn code_of(memory: &Memory, m: Pointer) -> Code
+    requires { In (Holds method_kind) memory.now m.0 }
+    ensures { In CodeAt memory.now m.0 result }
 {
-    let count = readers::literal_count(header(contents, bodies, n, b, m));
+    let count = readers::literal_count(header(memory, m));
     let k = m.0 as usize / 2;
-    let start = readers::start(contents, n, k) as usize;
-    let size = readers::size(contents, n, k) as usize;
+    let start = memory.start(k) as usize;
+    let size = memory.size(k) as usize;
     Code {
         from: start + 2 + count,
         end: start + (size + 1) / 2,
@@ -207,123 +222,96 @@ fn first_place(bodies: &[u16], from: usize, count: usize, s: u16) -> usize
     requires { (0 < count) × (from + 2 * count ≤ length bodies.now) }
     ensures { FirstPlace bodies.now from count s result }
 {
-    let last = from + 2 * (count - 1);
-    let mut at = from;
-    while at < last {
-        if s <= bodies[at] {
-            return at;
+    for i in 0..count - 1 {
+        if s <= bodies[from + 2 * i] {
+            return from + 2 * i;
         }
-        at += 2;
     }
-    last
+    from + 2 * (count - 1)
 }
 
 // The method under a selector in a dictionary. Selectors rise, so none behind the first that is not below is the one sought.
-fn find_in(contents: &[u16], bodies: &[u16], n: usize, b: usize, d: Pointer, s: u16) -> Search
-    requires { IsDictionary n b contents.now bodies.now d.0 }
-    ensures { SearchIs (find_in (objects_at n b contents.now bodies.now) d.0 s) 1
-        (pairs_in (objects_at n b contents.now bodies.now) d.0 s) result }
+fn find_in(memory: &Memory, d: Pointer, s: u16) -> Search
+    requires { In IsDictionary memory.now d.0 }
+    ensures { SearchIs (find_in (objects_in memory.now) d.0 s) 1
+        (pairs_in (objects_in memory.now) d.0 s) result }
 {
     let k = d.0 as usize / 2;
-    let from = readers::start(contents, n, k) as usize;
-    let count = readers::size(contents, n, k) as usize / 2;
+    let from = memory.start(k) as usize;
+    let count = memory.size(k) as usize / 2;
     if count == 0 {
         return Search {
-            found: Found::Nothing,
+            found: None,
             dictionaries: 1,
             pairs: 0,
         };
     }
-    let at = first_place(bodies, from, count, s);
+    let at = first_place(memory.bodies, from, count, s);
     let pairs = (at - from) / 2 + 1;
-    if bodies[at] == s {
-        return Search {
-            found: Found::Method(Pointer(bodies[at + 1])),
-            dictionaries: 1,
-            pairs: pairs,
-        };
-    }
+    let found = if memory.bodies[at] == s {
+        Some(Pointer(memory.bodies[at + 1]))
+    } else {
+        None
+    };
     Search {
-        found: Found::Nothing,
+        found,
         dictionaries: 1,
-        pairs: pairs,
+        pairs,
     }
 }
 
 // The method under a selector in a class or the nearest class above it that has one.
-pub fn lookup(
-    contents: &[u16],
-    bodies: &[u16],
-    n: usize,
-    b: usize,
-    s: u16,
-    class: Pointer,
-) -> Search
-    requires { IsRight (objects_at n b contents.now bodies.now) × T (is_nil_or (objects_at n b contents.now bodies.now) class_kind class.0) }
-    ensures { SearchIs (lookup (objects_at n b contents.now bodies.now) s class.0)
-        (dictionaries_read (objects_at n b contents.now bodies.now) s class.0)
-        (pairs_read (objects_at n b contents.now bodies.now) s class.0) result }
+pub fn lookup(memory: &Memory, s: u16, class: Pointer) -> Search
+    requires { IsRight (objects_in memory.now) × T (is_nil_or (objects_in memory.now) class_kind class.0) }
+    ensures { SearchIs (lookup (objects_in memory.now) s class.0)
+        (dictionaries_read (objects_in memory.now) s class.0)
+        (pairs_read (objects_in memory.now) s class.0) result }
 {
     let mut c = class;
-    let mut left = limits::LONGEST_CHAIN;
-    let mut pairs: usize = 0;
-    while 0 < left {
+    let mut pairs = 0;
+    for read in 0..limits::LONGEST_CHAIN {
         if c.0 == limits::NIL {
             return Search {
-                found: Found::Nothing,
-                dictionaries: limits::LONGEST_CHAIN - left,
-                pairs: pairs,
+                found: None,
+                dictionaries: read,
+                pairs,
             };
         }
         // read before the search, so that the next turn need not wait for its end
-        let above = superclass(contents, bodies, n, b, c);
-        let d = dictionary(contents, bodies, n, b, c);
-        let search = find_in(contents, bodies, n, b, d, s);
+        let above = superclass(memory, c);
+        let d = dictionary(memory, c);
+        let search = find_in(memory, d, s);
         pairs += search.pairs;
-        let found = search.found;
-        match found {
-            Found::Method(m) => {
-                return Search {
-                    found: Found::Method(m),
-                    dictionaries: limits::LONGEST_CHAIN - left + 1,
-                    pairs: pairs,
-                };
-            }
-            Found::Nothing => {}
+        if let Some(m) = search.found {
+            return Search {
+                found: Some(m),
+                dictionaries: read + 1,
+                pairs,
+            };
         }
         c = above;
-        left -= 1;
     }
     Search {
-        found: Found::Nothing,
+        found: None,
         dictionaries: limits::LONGEST_CHAIN,
-        pairs: pairs,
+        pairs,
     }
 }
 
 // Whether class a is another class or above it.
-pub fn in_chain(
-    contents: &[u16],
-    bodies: &[u16],
-    n: usize,
-    b: usize,
-    a: Pointer,
-    class: Pointer,
-) -> bool
-    requires { IsRight (objects_at n b contents.now bodies.now) × T (is_nil_or (objects_at n b contents.now bodies.now) class_kind class.0) }
-    ensures { result ≡ in_chain (objects_at n b contents.now bodies.now) a.0 class.0 }
+pub fn in_chain(memory: &Memory, a: Pointer, class: Pointer) -> bool
+    requires { IsRight (objects_in memory.now) × T (is_nil_or (objects_in memory.now) class_kind class.0) }
+    ensures { result ≡ in_chain (objects_in memory.now) a.0 class.0 }
 {
     let mut c = class;
-    let mut left = limits::LONGEST_CHAIN;
-    while 0 < left {
+    for i in 0..limits::LONGEST_CHAIN {
         if c.0 == limits::NIL {
             return false;
         }
         if a.0 == c.0 {
             return true;
         }
-        c = superclass(contents, bodies, n, b, c);
-        left -= 1;
+        c = superclass(memory, c);
     }
     false
 }

@@ -10,8 +10,8 @@ use lib.ListN.{length}
 use Rattle.bytecode.specs.Test.{every}
 use Rattle.bytecode.proofs.Choice.{if_cases}
 use Rattle.bytecode.proofs.TestLaws.{true→T, and_left, and_right}
-use Rattle.model.specs.declared.Found.{Found}
-use Rattle.model.specs.declared.Found.TheVariants.{Method, Nothing}
+use Rattle.std.specs.Prelude.{Option, Some, None}
+use Rattle.model.specs.declared.Pointer.{Pointer}
 use Rattle.model.specs.Limits.{bytes_kind}
 use Rattle.model.specs.Word.{is_valid}
 use Rattle.model.specs.Objects.{Objects, class_of, is_kind}
@@ -92,9 +92,9 @@ module _ (room : Room) (worlds : Worlds room) (p : Plain) (r : PlainRight room p
         (λ q. record { not_3 = λ z. omega arith; not_11 = λ z. omega arith })
     activated_begins m k c unfit a = record { not_3 = λ z. omega arith; not_11 = λ z. omega arith }
 
-    found_begins : (selector : ℕ) (x : Found) → lookup o selector (class_of o receiver) ≡ x → BeginGoes room p (begin_found room p receiver arguments x)
-    found_begins selector Nothing e = record { not_3 = λ z. omega arith; not_11 = λ z. omega arith }
-    found_begins selector (Method m) e =
+    found_begins : (selector : ℕ) (x : Option Pointer) → lookup o selector (class_of o receiver) ≡ x → BeginGoes room p (begin_found room p receiver arguments x)
+    found_begins selector None e = record { not_3 = λ z. omega arith; not_11 = λ z. omega arith }
+    found_begins selector (Some m) e =
         if_cases (BeginGoes room p) (eqb (argument_count o m.0) (length arguments)) _ _
         (λ q.
         let c = eqb-true (argument_count o m.0) (length arguments) q in

@@ -11,7 +11,8 @@ use lib.ListN.{length, get_or, set, get_or-replicate, length-set}
 use lib.Seq.{sets, length-sets, get_or-set_same, get_or-set_other}
 use borrow.Author.Tests.{eq-eqb}
 use Rattle.bytecode.proofs.TestLaws.{true→T, and_both, below_at, at_below}
-use Rattle.model.specs.declared.Found.{Found}
+use Rattle.std.specs.Prelude.{Option}
+use Rattle.model.specs.declared.Pointer.{Pointer}
 use Rattle.model.specs.Limits.{cache_entries, cache_entry_words, cache_words}
 use Rattle.model.specs.Objects.{Objects}
 use Rattle.model.specs.Lookup.{found, lookup, dictionaries_read}
@@ -50,7 +51,7 @@ or_right false b t = t
 right_same : (o o' : Objects) (s c m k : ℕ) → lookup o' s c ≡ lookup o s c → dictionaries_read o' s c ≡ dictionaries_read o s c → cached_right o' s c m k ≡ cached_right o s c m k
 unfolding cached_right
 right_same o o' s c m k e h =
-    ap₂ (λ (f : Found) (d : ℕ). empty_or (eqb s 0 && (eqb c 0 && (eqb m 0 && eqb k 0))) (finds f m && eqb k d)) e h
+    ap₂ (λ (f : Option Pointer) (d : ℕ). empty_or (eqb s 0 && (eqb c 0 && (eqb m 0 && eqb k 0))) (finds f m && eqb k d)) e h
 
 first : (cache : List ℕ) (i : ℕ) → get_or cache (cache_place i) 0 ≡ get_or cache (cache_place i + 0) 0
 first cache i = ap (λ (x : ℕ). get_or cache x 0) (plus_none (cache_place i))
@@ -71,7 +72,7 @@ module _ (o : Objects) where
   unfolding cached_right
   found_fine s c m k e h =
       or_right (eqb s 0 && (eqb c 0 && (eqb m 0 && eqb k 0))) (finds (lookup o s c) m && eqb k (dictionaries_read o s c))
-      (and_both (finds (lookup o s c) m) (eqb k (dictionaries_read o s c)) (subst (λ (f : Found). T (finds f m)) (sym e) (eqb_refl m)) (true→T (eq-eqb k (dictionaries_read o s c) h)))
+      (and_both (finds (lookup o s c) m) (eqb k (dictionaries_read o s c)) (subst (λ (f : Option Pointer). T (finds f m)) (sym e) (eqb_refl m)) (true→T (eq-eqb k (dictionaries_read o s c) h)))
 
   -- the entry of a lookup that found is filled in
   pub cache_filled : (cache : List ℕ) (l : Looked) → length cache ≡ cache_words → LookedRight o l → T (cache_fine o cache) → T (cache_fine o (filled cache l))

@@ -11,7 +11,7 @@ use Rattle.bytecode.specs.Test.{every}
 use Rattle.bytecode.specs.Constant.{nil_word}
 use Rattle.bytecode.proofs.Choice.{if_yes, if_no}
 use Rattle.bytecode.proofs.TestLaws.{T→true, and_left, and_right, rule}
-use Rattle.model.specs.declared.Found.TheVariants.{Nothing}
+use Rattle.std.specs.Prelude.{None}
 use Rattle.model.specs.Limits.{entry_words, method_kind}
 use Rattle.model.specs.Word.{is_valid}
 use Rattle.model.specs.Objects.{Objects, objects_at, is_kind, part}
@@ -197,7 +197,7 @@ module _ {n b top : ℕ} {contents bodies stack : List ℕ} {selector count clas
     abbrev otherwise : Stepped
     otherwise = failed_step room edition receiver₀ selector₀ n b top contents bodies stack selector count class position
 
-    pub send_none : lookup o selector class ≡ Nothing → x ≡ otherwise
+    pub send_none : lookup o selector class ≡ None → x ≡ otherwise
     send_none e = ap (after_lookup room p (popped f position (suc count)) rest selector class receiver given) e
 
     module _ (m : ℕ) (e : lookup o selector class ≡ found m) where

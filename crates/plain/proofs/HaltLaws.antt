@@ -17,10 +17,7 @@ use Rattle.bytecode.specs.declared.Place.TheVariants.{Field, Temporary, Literal,
 use Rattle.bytecode.specs.declared.Instruction.{Instruction}
 use Rattle.bytecode.specs.declared.Instruction.TheVariants.{Push, Store, PopStore, PushSelf, PushConstant, ReturnSelf, ReturnConstant, ReturnTop, Pop, Duplicate, Jump, JumpOn, Send, SuperSend, SpecialSend, Unused}
 use Rattle.model.specs.declared.Pointer.{Pointer}
-use Rattle.model.specs.declared.Found.{Found}
-use Rattle.model.specs.declared.Found.TheVariants.{Method, Nothing}
-use Rattle.model.specs.declared.Computed.{Computed}
-use Rattle.model.specs.declared.Computed.TheVariants.{Word, Failed}
+use Rattle.std.specs.Prelude.{Some, None}
 use Rattle.model.specs.Limits.{has_messages}
 use Rattle.model.specs.Word.{boolean_word, failure_selector}
 use Rattle.model.specs.Objects.{Objects, class_of}
@@ -92,7 +89,7 @@ module _ (room : Room) (s : Plain) (f : Frame) (rest : List Frame) where
 
     -- the message of a send that failed
     message_halts : (t : Sent (objects s) f i) (q : ℕ) → Fails room s f t → has_messages s.registers.edition ≡ true
-        → has_message_room room (objects s) (length (arguments_of f t.count)) ≡ true → (m : Pointer) → lookup (objects s) failure_selector t.class ≡ Method m
+        → has_message_room room (objects s) (length (arguments_of f t.count)) ≡ true → (m : Pointer) → lookup (objects s) failure_selector t.class ≡ Some m
         → (a : Activation) → activate s.registers.edition room (with_message s f t) m.0 t.receiver (message_word (objects s) ∷ []) ≡ a → (l : Looked)
         → Caused C (activated room (messaged s t.selector (arguments_of f t.count)) (popped f q (suc t.count)) rest m.0 t.receiver (message_word (objects s) ∷ []) l
         (halts not_understood) a)
@@ -104,10 +101,10 @@ module _ (room : Room) (s : Plain) (f : Frame) (rest : List Frame) where
     message_halts t q g h r m e entered d l = if_cases (Caused C) _ _ _ (λ b. tt) (λ b. (t, inr (g, h, r, m, e, (d, b))))
     message_halts t q g h r m e unfit d l = (t, g, inr (inr (inr (m, e, d))))
 
-    resent_halts : (t : Sent (objects s) f i) (q : ℕ) → Fails room s f t → has_messages s.registers.edition ≡ true → (x : Found) → lookup (objects s) failure_selector t.class ≡ x
+    resent_halts : (t : Sent (objects s) f i) (q : ℕ) → Fails room s f t → has_messages s.registers.edition ≡ true → (x : Rattle.std.specs.declared.option.Option.Option Pointer) → lookup (objects s) failure_selector t.class ≡ x
         → Caused C (resent room s (popped f q (suc t.count)) rest t.selector t.class t.receiver (arguments_of f t.count) x)
-    resent_halts t q g h Nothing e = (t, g, inr (inl e))
-    resent_halts t q g h (Method m) e =
+    resent_halts t q g h None e = (t, g, inr (inl e))
+    resent_halts t q g h (Some m) e =
         if_cases (Caused C) (has_message_room room (objects s) (length (arguments_of f t.count))) _ _
         (λ b. message_halts t q g h b m e _ refl (looked_up (objects s) failure_selector t.class m.0)) (λ b. (t, g, inr (inr (inl b))))
 
@@ -116,7 +113,7 @@ module _ (room : Room) (s : Plain) (f : Frame) (rest : List Frame) where
     unfolding failed
     failed_halts t q g = if_cases (Caused C) (has_messages s.registers.edition) _ _ (λ b. resent_halts t q g b _ refl) (λ b. (t, g, inl b))
 
-    found_halts : (t : Sent (objects s) f i) (q : ℕ) (m : Pointer) → lookup (objects s) t.selector t.class ≡ Method m
+    found_halts : (t : Sent (objects s) f i) (q : ℕ) (m : Pointer) → lookup (objects s) t.selector t.class ≡ Some m
         → (a : Activation) → activate s.registers.edition room (objects s) m.0 t.receiver (arguments_of f t.count) ≡ a → (l : Looked)
         → Caused C (activated room s (popped f q (suc t.count)) rest m.0 t.receiver (arguments_of f t.count) l
         (failed room s (popped f q (suc t.count)) rest t.selector t.class t.receiver (arguments_of f t.count)) a)
@@ -127,10 +124,10 @@ module _ (room : Room) (s : Plain) (f : Frame) (rest : List Frame) where
     found_halts t q m e entered h l = if_cases (Caused C) _ _ _ (λ b. tt) (λ b. (t, inl (m, e, (h, b))))
     found_halts t q m e unfit h l = failed_halts t q (inr (m, e, h))
 
-    lookup_halts : (t : Sent (objects s) f i) (q : ℕ) (x : Found) → lookup (objects s) t.selector t.class ≡ x
+    lookup_halts : (t : Sent (objects s) f i) (q : ℕ) (x : Rattle.std.specs.declared.option.Option.Option Pointer) → lookup (objects s) t.selector t.class ≡ x
         → Caused C (after_lookup room s (popped f q (suc t.count)) rest t.selector t.class t.receiver (arguments_of f t.count) x)
-    lookup_halts t q Nothing e = failed_halts t q (inl e)
-    lookup_halts t q (Method m) e = found_halts t q m e _ refl (looked_up (objects s) t.selector t.class m.0)
+    lookup_halts t q None e = failed_halts t q (inl e)
+    lookup_halts t q (Some m) e = found_halts t q m e _ refl (looked_up (objects s) t.selector t.class m.0)
 
     send_halts : (q : ℕ) (from : ℕ → ℕ) (selector count : ℕ) → ((receiver : ℕ) → SendsOf (objects s) f receiver selector (from receiver) count i)
         → Caused C (sends room s f rest q from selector count)
@@ -141,10 +138,10 @@ module _ (room : Room) (s : Plain) (f : Frame) (rest : List Frame) where
 
   -- ---- special sends and jumps
 
-  computes : (k q : ℕ) (x : Computed) (C : Cause → Type 0) → Caused C (sends room s f rest q (class_of (objects s)) (special_selector (objects s) k) 1)
+  computes : (k q : ℕ) (x : Rattle.std.specs.declared.option.Option.Option ℕ) (C : Cause → Type 0) → Caused C (sends room s f rest q (class_of (objects s)) (special_selector (objects s) k) 1)
       → Caused C (or_sends x (λ w. pushed s f rest q (without f 2) w no_lookup) (sends room s f rest q (class_of (objects s)) (special_selector (objects s) k) 1))
-  computes k q (Word w) C h = pushes C f q (without f 2) w no_lookup
-  computes k q Failed C h = h
+  computes k q (Some w) C h = pushes C f q (without f 2) w no_lookup
+  computes k q None C h = h
 
   module _ (k : ℕ) where
     abbrev D : Cause → Type 0

@@ -13,7 +13,7 @@ use Rattle.bytecode.specs.Test.{when◌then◌else◌, every}
 use Rattle.bytecode.specs.Constant.{false_word}
 use Rattle.bytecode.proofs.Choice.{if_yes, if_no, if_eq, if_ne, if_cases}
 use Rattle.bytecode.proofs.TestLaws.{T→true}
-use Rattle.model.specs.declared.Found.TheVariants.{Nothing}
+use Rattle.std.specs.Prelude.{None}
 use Rattle.model.specs.Limits.{has_messages, receiver_flag, field_flag, primitive_flag}
 use Rattle.model.specs.Word.{is_valid, failure_selector}
 use Rattle.model.specs.Objects.{Objects, objects_at}
@@ -108,7 +108,7 @@ module _ {n b top : ℕ} {contents bodies stack : List ℕ} {selector count clas
     sought = if_yes _ _ t
 
     -- object 6 is not found
-    pub message_none : lookup o failure_selector class ≡ Nothing → y ≡ halts not_understood
+    pub message_none : lookup o failure_selector class ≡ None → y ≡ halts not_understood
     message_none e = sought ∙ ap (resent room p (popped f position (suc count)) rest selector class receiver given) e
 
     module _ (m : ℕ) (e : lookup o failure_selector class ≡ found m) where

@@ -17,10 +17,8 @@ use Rattle.bytecode.specs.declared.Instruction.{Instruction}
 use Rattle.bytecode.specs.declared.Instruction.TheVariants.{Push, Store, PopStore, PushSelf, PushConstant, ReturnSelf, ReturnConstant, ReturnTop, Pop, Duplicate, Jump, JumpOn, Send, SuperSend, SpecialSend, Unused}
 use Rattle.bytecode.proofs.Choice.{if_yes, if_lt, if_cases}
 use Rattle.bytecode.proofs.TestLaws.{true→T, T→true, and_left, and_right, and_both}
-use Rattle.model.specs.declared.Found.{Found}
-use Rattle.model.specs.declared.Found.TheVariants.{Method, Nothing}
-use Rattle.model.specs.declared.Computed.{Computed}
-use Rattle.model.specs.declared.Computed.TheVariants.{Word, Failed}
+use Rattle.std.specs.Prelude.{Some, None}
+use Rattle.model.specs.declared.Pointer.{Pointer}
 use Rattle.model.specs.Limits.{has_messages, fields_kind, method_kind, receiver_flag, field_flag, primitive_flag}
 use Rattle.model.specs.Word.{is_pointer, is_valid, object_number, boolean_word, failure_selector}
 use Rattle.model.specs.Objects.{Objects, class_of, is_kind, size, body_word, field_count}
@@ -58,7 +56,7 @@ pub record World (After : Objects → Objects → Type 0) (e : ℕ) (room : Room
   pub lookup_count : (s c m count : ℕ) → lookup o s c ≡ found m → T (takes_count o s count) → argument_count o m ≡ count
   pub arguments : (m : ℕ) → T (is_kind o method_kind m) → argument_count o m ≤ temporary_count o m
   pub runs : (m : ℕ) → T (is_kind o method_kind m) → T (runs_code o m) → T (is_some (method_table e o m))
-  pub computes : (k a b w : ℕ) → arithmetic k a b ≡ Word w → T (is_valid o.n w)
+  pub computes : (k a b w : ℕ) → arithmetic k a b ≡ Some w → T (is_valid o.n w)
   pub stores : (w i v : ℕ) → T (is_kind o fields_kind w && ltb i (size o (object_number w))) → T (is_valid o.n v) → After o (store_word o (object_number w) i v)
   pub trans : (o' o'' : Objects) → After o o' → After o' o'' → After o o''
   pub lookups : (o' : Objects) → After o o' → (s c : ℕ) → lookup o' s c ≡ lookup o s c
@@ -486,9 +484,9 @@ module _ (After : Objects → Objects → Type 0) (room : Room) (s : Plain) wher
 
       -- a send that failed: its message
       resent_goes : (selector class receiver : ℕ) → T (has_messages edition) → T (is_valid o.n selector) → T (is_valid o.n receiver)
-          → (x : Found) → lookup o failure_selector class ≡ x → Goes (resent room s f' rest selector class receiver arguments' x)
-      resent_goes selector class receiver t vs v Nothing e = tt
-      resent_goes selector class receiver t vs v (Method m) e =
+          → (x : Rattle.std.specs.declared.option.Option.Option Pointer) → lookup o failure_selector class ≡ x → Goes (resent room s f' rest selector class receiver arguments' x)
+      resent_goes selector class receiver t vs v None e = tt
+      resent_goes selector class receiver t vs v (Some m) e =
           if_cases Goes (has_message_room room o (length arguments')) _ _
           (λ h.
           let made = world.messages t selector arguments' vs (arguments_valid o f r n) (true→T h) in
@@ -507,10 +505,10 @@ module _ (After : Objects → Objects → Type 0) (room : Room) (s : Plain) wher
       failed_goes selector class receiver vs v =
           if_cases Goes (has_messages edition) _ _ (λ h. resent_goes selector class receiver (true→T h) vs v (lookup o failure_selector class) refl) (λ h. tt)
 
-      found_goes : (selector class receiver : ℕ) → T (takes_count o selector n) → T (is_valid o.n selector) → T (is_valid o.n receiver) → (x : Found) → lookup o selector class ≡ x
+      found_goes : (selector class receiver : ℕ) → T (takes_count o selector n) → T (is_valid o.n selector) → T (is_valid o.n receiver) → (x : Rattle.std.specs.declared.option.Option.Option Pointer) → lookup o selector class ≡ x
           → Goes (after_lookup room s f' rest selector class receiver arguments' x)
-      found_goes selector class receiver t vs v Nothing e = failed_goes selector class receiver vs v
-      found_goes selector class receiver t vs v (Method m) e =
+      found_goes selector class receiver t vs v None e = failed_goes selector class receiver vs v
+      found_goes selector class receiver t vs v (Some m) e =
           let c : argument_count o m.0 ≡ length arguments' = world.lookup_count selector class m.0 n e t ∙ sym (arguments_length o f r n (omega arith)) in
           activated_goes o world.self m.0 receiver arguments' (looked_up o selector class m.0) (e, refl) (world.lookup_method selector class m.0 e) c v (arguments_valid o f r n)
           (failed room s f' rest selector class receiver arguments') (failed_goes selector class receiver vs v)
@@ -536,10 +534,10 @@ module _ (After : Objects → Objects → Type 0) (room : Room) (s : Plain) wher
         let b = operand_finds o f r 0 (omega arith) in
         goes_found (operand f 1) _ a.0 a.1 (goes_found (operand f 0) _ b.0 b.1 (by_answer a.0 b.0 (arithmetic (tried_primitive k) a.0 b.0) refl))
       where
-        by_answer : (a b : ℕ) (x : Computed) → arithmetic (tried_primitive k) a b ≡ x
+        by_answer : (a b : ℕ) (x : Rattle.std.specs.declared.option.Option.Option ℕ) → arithmetic (tried_primitive k) a b ≡ x
             → Goes (or_sends x (λ w. pushed s f rest q (without f 2) w no_lookup) (sends room s f rest q (class_of o) (special_selector o k) 1))
-        by_answer a b (Word w) p = answer_goes q 2 w h e (world.computes (tried_primitive k) a b w p)
-        by_answer a b Failed p = send_goes q 1 h e (class_of o) (special_selector o k) t
+        by_answer a b (Some w) p = answer_goes q 2 w h e (world.computes (tried_primitive k) a b w p)
+        by_answer a b None p = send_goes q 1 h e (class_of o) (special_selector o k) t
 
     boolean_valid : (b : Bool) → T (is_valid o.n (boolean_word b))
     boolean_valid b = small_valid o.n (boolean_word b) world.least (boolean_small b)

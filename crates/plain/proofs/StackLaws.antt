@@ -13,10 +13,8 @@ use Rattle.bytecode.proofs.TestLaws.{true→T, T→true}
 use Rattle.bytecode.specs.declared.Instruction.{Instruction}
 use Rattle.bytecode.specs.declared.Instruction.TheVariants as I
 use Rattle.bytecode.specs.Effect.{special_count}
-use Rattle.model.specs.declared.Computed.{Computed}
-use Rattle.model.specs.declared.Computed.TheVariants.{Word, Failed}
-use Rattle.model.specs.declared.Found.{Found}
-use Rattle.model.specs.declared.Found.TheVariants.{Method, Nothing}
+use Rattle.std.specs.Prelude.{Some, None}
+use Rattle.model.specs.declared.Pointer.{Pointer}
 use Rattle.model.specs.Objects.{Objects, class_of}
 use Rattle.model.specs.Method.{frame_size}
 use Rattle.model.specs.Lookup.{lookup}
@@ -126,11 +124,11 @@ module _ (room : Room) (k : ℕ) where
       subst (λ (x : Activation). Alike room.stack k (activated room s f rest m receiver arguments l y (activate e room (objects s) m receiver arguments)) (activated other s f rest m receiver arguments l y' x))
       (activates e (objects s) m receiver arguments) (activated_alike s f rest m receiver arguments l y y' h (activate e room (objects s) m receiver arguments))
 
-  resent_alike : (s : Plain) (f : Frame) (rest : List Frame) (selector class receiver : ℕ) (arguments : List ℕ) (x : Found)
+  resent_alike : (s : Plain) (f : Frame) (rest : List Frame) (selector class receiver : ℕ) (arguments : List ℕ) (x : Rattle.std.specs.declared.option.Option.Option Pointer)
       → Alike room.stack k (resent room s f rest selector class receiver arguments x) (resent other s f rest selector class receiver arguments x)
   unfolding has_message_room
-  resent_alike s f rest selector class receiver arguments Nothing = same room.stack k _
-  resent_alike s f rest selector class receiver arguments (Method m) =
+  resent_alike s f rest selector class receiver arguments None = same room.stack k _
+  resent_alike s f rest selector class receiver arguments (Some m) =
       choice_alike (has_message_room room (objects s) (length arguments)) _ _ _ _
       (acts_alike (messaged s selector arguments) f rest s.registers.edition m.0 receiver (message_word (objects s) ∷ []) (looked_up (objects s) failure_selector class m.0) (halts not_understood)
       (halts not_understood) (same room.stack k (halts not_understood)))
@@ -143,10 +141,10 @@ module _ (room : Room) (k : ℕ) where
       choice_alike (has_messages s.registers.edition) _ _ _ _ (resent_alike s f rest selector class receiver arguments (lookup (objects s) failure_selector class))
       (same room.stack k (halts not_understood))
 
-  looked_alike : (s : Plain) (f : Frame) (rest : List Frame) (selector class receiver : ℕ) (arguments : List ℕ) (x : Found)
+  looked_alike : (s : Plain) (f : Frame) (rest : List Frame) (selector class receiver : ℕ) (arguments : List ℕ) (x : Rattle.std.specs.declared.option.Option.Option Pointer)
       → Alike room.stack k (after_lookup room s f rest selector class receiver arguments x) (after_lookup other s f rest selector class receiver arguments x)
-  looked_alike s f rest selector class receiver arguments Nothing = failed_alike s f rest selector class receiver arguments
-  looked_alike s f rest selector class receiver arguments (Method m) =
+  looked_alike s f rest selector class receiver arguments None = failed_alike s f rest selector class receiver arguments
+  looked_alike s f rest selector class receiver arguments (Some m) =
       acts_alike s f rest s.registers.edition m.0 receiver arguments (looked_up (objects s) selector class m.0) _ _ (failed_alike s f rest selector class receiver arguments)
 
   sends_alike : (s : Plain) (f : Frame) (rest : List Frame) (position : ℕ) (from : ℕ → ℕ) (selector count : ℕ)
@@ -156,9 +154,9 @@ module _ (room : Room) (k : ℕ) where
       (λ receiver. looked_alike s (popped f position (suc count)) rest selector (from receiver) receiver (drop (f.depth - count) f.operands)
       (lookup (objects s) selector (from receiver)))
 
-  or_alike : (x : Computed) (answer : ℕ → Stepped) (y y' : Stepped) → Alike room.stack k y y' → Alike room.stack k (or_sends x answer y) (or_sends x answer y')
-  or_alike (Word w) answer y y' h = same room.stack k (answer w)
-  or_alike Failed answer y y' h = h
+  or_alike : (x : Rattle.std.specs.declared.option.Option.Option ℕ) (answer : ℕ → Stepped) (y y' : Stepped) → Alike room.stack k y y' → Alike room.stack k (or_sends x answer y) (or_sends x answer y')
+  or_alike (Some w) answer y y' h = same room.stack k (answer w)
+  or_alike None answer y y' h = h
 
   arithmetic_alike : (s : Plain) (f : Frame) (rest : List Frame) (position i : ℕ)
       → Alike room.stack k (arithmetic_sends room s f rest position i) (arithmetic_sends other s f rest position i)
@@ -269,9 +267,9 @@ module _ (room : Room) (k : ℕ) where
       begun_tested 0 (frame_size (objects s) m) _ (above (objects s) 0 (new_frame (objects s) 0 m receiver arguments) [])
   activated_begins s m receiver arguments unfit = begun_same _
 
-  found_begins : (s : Plain) (receiver : ℕ) (arguments : List ℕ) (x : Found) → BeginAlike (begin_found room s receiver arguments x) (begin_found other s receiver arguments x)
-  found_begins s receiver arguments Nothing = begun_same _
-  found_begins s receiver arguments (Method m) =
+  found_begins : (s : Plain) (receiver : ℕ) (arguments : List ℕ) (x : Rattle.std.specs.declared.option.Option.Option Pointer) → BeginAlike (begin_found room s receiver arguments x) (begin_found other s receiver arguments x)
+  found_begins s receiver arguments None = begun_same _
+  found_begins s receiver arguments (Some m) =
       begun_choice _ _ _ _ _
       (subst (λ (x : Activation). BeginAlike (begin_activated room s m.0 receiver arguments (activate s.registers.edition room (objects s) m.0 receiver arguments))
       (begin_activated other s m.0 receiver arguments x)) (activates s.registers.edition (objects s) m.0 receiver arguments)

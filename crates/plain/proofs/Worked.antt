@@ -5,7 +5,7 @@ use mathlib.Core.Bool.{true}
 use mathlib.Core.List.{List, [], ◌∷◌}
 use mathlib.Core.Option.{Option, some}
 use lib.IntN.{pos, negsuc}
-use Rattle.model.specs.declared.Computed.TheVariants.{Word, Failed}
+use Rattle.std.specs.Prelude.{Some, None}
 use Rattle.model.specs.Word.{word_of}
 use Rattle.model.specs.Arithmetic.{arithmetic}
 use Rattle.model.specs.Depth.{depthTable, successorsAt}
@@ -31,15 +31,15 @@ loop_table = depthTable loop_code 2 0 12 (λ i. true)
 pub record Worked : Type 0 where
   pub minus_one : minus 1 ≡ 65535
   pub least : minus 16384 ≡ 32769
-  pub sum_fails : arithmetic 1 (plus 16383) (plus 1) ≡ Failed
-  pub quotient_down : arithmetic 12 (minus 7) (plus 2) ≡ Word (minus 4)
-  pub remainder : arithmetic 11 (minus 7) (plus 2) ≡ Word (plus 1)
-  pub quotient_toward_zero : arithmetic 13 (minus 7) (plus 2) ≡ Word (minus 3)
-  pub exact_fails : arithmetic 10 (minus 16384) (minus 1) ≡ Failed
-  pub down_fails : arithmetic 12 (minus 16384) (minus 1) ≡ Failed
-  pub toward_zero_fails : arithmetic 13 (minus 16384) (minus 1) ≡ Failed
-  pub shift_thirteen : arithmetic 17 (plus 1) (plus 13) ≡ Word (plus 8192)
-  pub shift_fourteen_fails : arithmetic 17 (plus 1) (plus 14) ≡ Failed
+  pub sum_fails : arithmetic 1 (plus 16383) (plus 1) ≡ None
+  pub quotient_down : arithmetic 12 (minus 7) (plus 2) ≡ Some (minus 4)
+  pub remainder : arithmetic 11 (minus 7) (plus 2) ≡ Some (plus 1)
+  pub quotient_toward_zero : arithmetic 13 (minus 7) (plus 2) ≡ Some (minus 3)
+  pub exact_fails : arithmetic 10 (minus 16384) (minus 1) ≡ None
+  pub down_fails : arithmetic 12 (minus 16384) (minus 1) ≡ None
+  pub toward_zero_fails : arithmetic 13 (minus 16384) (minus 1) ≡ None
+  pub shift_thirteen : arithmetic 17 (plus 1) (plus 13) ≡ Some (plus 8192)
+  pub shift_fourteen_fails : arithmetic 17 (plus 1) (plus 14) ≡ None
   pub loop_sound : loop_table ≡ some (1 ∷ 0 ∷ [])
   pub loop_itself : successorsAt loop_code 2 0 ≡ 0 ∷ []
   -- phase 2 count 4 value 85

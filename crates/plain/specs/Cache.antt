@@ -1,10 +1,9 @@
 -- The cache of lookups (01, "Calls": "Cache", and "Check"; 02, M-105).
-use Rattle.std.specs.Prelude.{ℕ, ◌+◌, ◌*◌, ◌/◌, ◌%◌, Bool, true, false, ◌&&◌, List, [], ◌∷◌, eqb, get_or, replicate}
+use Rattle.std.specs.Prelude.{ℕ, ◌+◌, ◌*◌, ◌/◌, ◌%◌, Bool, true, false, ◌&&◌, List, [], ◌∷◌, eqb, get_or, replicate, Option, Some, None}
 use Rattle.std.proofs.lemmas.List.Edits.{sets}
 use Rattle.std.specs.Int.Bits.{bit_and}
 use Rattle.bytecode.specs.Test.{below}
-use Rattle.model.specs.declared.Found.{Found}
-use Rattle.model.specs.declared.Found.TheVariants.{Method, Nothing}
+use Rattle.model.specs.declared.Pointer.{Pointer}
 use Rattle.model.specs.Limits.{cache_entries, cache_entry_words, cache_words}
 use Rattle.model.specs.Objects.{Objects}
 use Rattle.model.specs.Lookup.{lookup, dictionaries_read}
@@ -27,9 +26,9 @@ abbrev pub empty_cache : List ℕ
 empty_cache = replicate cache_words 0
 
 -- An entry is empty, or holds what plain lookup finds and how many dictionaries it reads.
-abbrev pub finds : Found → ℕ → Bool
-finds (Method k) m = eqb k.0 m
-finds Nothing m = false
+abbrev pub finds : Option Pointer → ℕ → Bool
+finds (Some k) m = eqb k.0 m
+finds None m = false
 
 abbrev pub empty_or : Bool → Bool → Bool
 empty_or true b = true

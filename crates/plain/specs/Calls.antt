@@ -1,8 +1,7 @@
 -- The calls of the plain machine (01, "Plain machine", last paragraph, and "From the state"). It is never refused by 3 or 11.
-use Rattle.std.specs.Prelude.{ℕ, zero, suc, ◌+◌, max, Bool, true, false, List, [], ◌∷◌, eqb, length}
+use Rattle.std.specs.Prelude.{ℕ, zero, suc, ◌+◌, max, Bool, true, false, List, [], ◌∷◌, eqb, length, Option, Some, None}
 use Rattle.bytecode.specs.Test.{when◌then◌else◌}
-use Rattle.model.specs.declared.Found.{Found}
-use Rattle.model.specs.declared.Found.TheVariants.{Method, Nothing}
+use Rattle.model.specs.declared.Pointer.{Pointer}
 use Rattle.model.specs.Objects.{Objects, class_of}
 use Rattle.model.specs.Method.{argument_count, frame_size}
 use Rattle.model.specs.Lookup.{lookup}
@@ -47,9 +46,9 @@ begin_activated room s m receiver arguments entered =
 begin_activated room s m receiver arguments unfit = declined 9
 
 -- 9: no method is found; 10: it takes another number of arguments.
-abbrev pub begin_found : Room → Plain → ℕ → List ℕ → Found → Begun
-begin_found room s receiver arguments Nothing = declined 9
-begin_found room s receiver arguments (Method m) =
+abbrev pub begin_found : Room → Plain → ℕ → List ℕ → Option Pointer → Begun
+begin_found room s receiver arguments None = declined 9
+begin_found room s receiver arguments (Some m) =
     when eqb (argument_count (objects s) m.0) (length arguments)
     then begin_activated room s m.0 receiver arguments (activate s.registers.edition room (objects s) m.0 receiver arguments)
     else declined 10

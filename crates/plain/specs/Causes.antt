@@ -1,6 +1,6 @@
 -- Why a run halts (01, "Plain machine"): what stands at the top frame's position. A halt leaves the state before the bytecode, so its cause can be read
 -- from the state that it leaves.
-use Rattle.std.specs.Prelude.{ℕ, ◌+◌, ◌-◌, ◌≡◌, ◌⊎◌, ◌≢◌, Bool, true, false, List, [], ◌∷◌, length, drop}
+use Rattle.std.specs.Prelude.{ℕ, ◌+◌, ◌-◌, ◌≡◌, ◌⊎◌, ◌≢◌, Bool, true, false, List, [], ◌∷◌, length, drop, Some, None}
 use Rattle.std.proofs.Math.Option.{some}
 use Rattle.bytecode.specs.Constant.{false_word, true_word}
 use Rattle.bytecode.specs.Code.{decode_at}
@@ -8,7 +8,6 @@ use Rattle.bytecode.specs.Effect.{special_count}
 use Rattle.bytecode.specs.declared.Instruction.{Instruction}
 use Rattle.bytecode.specs.declared.Instruction.TheVariants.{Push, Store, PopStore, PushSelf, PushConstant, ReturnSelf, ReturnConstant, ReturnTop, Pop, Duplicate, Jump, JumpOn, Send, SuperSend, SpecialSend, Unused}
 use Rattle.model.specs.declared.Pointer.{Pointer}
-use Rattle.model.specs.declared.Found.TheVariants.{Method, Nothing}
 use Rattle.model.specs.Limits.{has_messages}
 use Rattle.model.specs.Word.{failure_selector}
 use Rattle.model.specs.Objects.{Objects, class_of, superclass_word}
@@ -66,8 +65,8 @@ activation_in room p o m receiver arguments = activate p.registers.edition room 
 -- another receiver").
 abbrev pub Fails : Room → (p : Plain) (f : Frame) {i : Instruction} → Sent (objects p) f i → Type 0
 Fails room p f s =
-    (lookup (objects p) s.selector s.class ≡ Nothing)
-    ⊎ ((m : Pointer) × (lookup (objects p) s.selector s.class ≡ Method m)
+    (lookup (objects p) s.selector s.class ≡ None)
+    ⊎ ((m : Pointer) × (lookup (objects p) s.selector s.class ≡ Some m)
     × (activation_in room p (objects p) m.0 s.receiver (arguments_of f s.count) ≡ unfit))
 
 -- The objects with the array and the message of a send
@@ -79,9 +78,9 @@ with_message p f s = message_made (objects p) s.selector (arguments_of f s.count
 abbrev pub Unsent : Room → (p : Plain) (f : Frame) {i : Instruction} → Sent (objects p) f i → Type 0
 Unsent room p f s =
     (has_messages p.registers.edition ≡ false)
-    ⊎ ((lookup (objects p) failure_selector s.class ≡ Nothing)
+    ⊎ ((lookup (objects p) failure_selector s.class ≡ None)
     ⊎ ((has_message_room room (objects p) (length (arguments_of f s.count)) ≡ false)
-    ⊎ ((m : Pointer) × (lookup (objects p) failure_selector s.class ≡ Method m)
+    ⊎ ((m : Pointer) × (lookup (objects p) failure_selector s.class ≡ Some m)
     × (activation_in room p (with_message p f s) m.0 s.receiver (message_word (objects p) ∷ []) ≡ unfit))))
 
 -- A method needs a frame, in objects o, and none fits behind the top one.
@@ -96,9 +95,9 @@ Because room p f i not_understood = (s : Sent (objects p) f i) × Fails room p f
 Because room p f i no_boolean = IsJump i × (w : ℕ) × (operand f 0 ≡ some w) × (w ≢ true_word) × (w ≢ false_word)
 Because room p f i no_stack_room =
     (s : Sent (objects p) f i)
-    × (((m : Pointer) × (lookup (objects p) s.selector s.class ≡ Method m) × FitsNot room p (objects p) f m.0 s.receiver (arguments_of f s.count))
+    × (((m : Pointer) × (lookup (objects p) s.selector s.class ≡ Some m) × FitsNot room p (objects p) f m.0 s.receiver (arguments_of f s.count))
     ⊎ (Fails room p f s × (has_messages p.registers.edition ≡ true) × (has_message_room room (objects p) (length (arguments_of f s.count)) ≡ true)
-    × (m : Pointer) × (lookup (objects p) failure_selector s.class ≡ Method m)
+    × (m : Pointer) × (lookup (objects p) failure_selector s.class ≡ Some m)
     × FitsNot room p (with_message p f s) f m.0 s.receiver (message_word (objects p) ∷ [])))
 
 -- The state stands before a bytecode that cannot be made, for this cause.

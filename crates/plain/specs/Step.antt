@@ -1,5 +1,5 @@
 -- One bytecode of the plain machine (01, "Plain machine").
-use Rattle.std.specs.Prelude.{ℕ, suc, ◌+◌, ◌-◌, Bool, true, false, ◌&&◌, ◌||◌, List, [], ◌∷◌, ◌++◌, leb, ltb, eqb, length, get_or, take, drop, set}
+use Rattle.std.specs.Prelude.{ℕ, suc, ◌+◌, ◌-◌, Bool, true, false, ◌&&◌, ◌||◌, List, [], ◌∷◌, ◌++◌, leb, ltb, eqb, length, get_or, take, drop, set, Some, None}
 use Rattle.std.proofs.Math.Option.{Option, none, some}
 use Rattle.std.proofs.Math.ListN.{get_elem?}
 use Rattle.bytecode.specs.Test.{when◌then◌else◌}
@@ -10,10 +10,7 @@ use Rattle.bytecode.specs.declared.Place.{Place}
 use Rattle.bytecode.specs.declared.Place.TheVariants.{Field, Temporary, Literal, LiteralVariable}
 use Rattle.bytecode.specs.declared.Instruction.{Instruction}
 use Rattle.bytecode.specs.declared.Instruction.TheVariants.{Push, Store, PopStore, PushSelf, PushConstant, ReturnSelf, ReturnConstant, ReturnTop, Pop, Duplicate, Jump, JumpOn, Send, SuperSend, SpecialSend, Unused}
-use Rattle.model.specs.declared.Found.{Found}
-use Rattle.model.specs.declared.Found.TheVariants.{Method, Nothing}
-use Rattle.model.specs.declared.Computed.{Computed}
-use Rattle.model.specs.declared.Computed.TheVariants.{Word, Failed}
+use Rattle.model.specs.declared.Pointer.{Pointer}
 use Rattle.model.specs.Limits.{has_messages, fields_kind, receiver_flag, field_flag, primitive_flag}
 use Rattle.model.specs.Word.{boolean_word, object_number, failure_selector}
 use Rattle.model.specs.Objects.{Objects, class_of, size, body_word, superclass_word, is_kind}
@@ -166,9 +163,9 @@ messaged s selector arguments = with_objects s (message_made (objects s) selecto
 
 -- The message is sent to the same receiver, with object 6 as its selector; phase 3 where that finds no method either, or one that cannot run on the
 -- receiver, or where there is no room for both objects.
-abbrev pub resent : Room → Plain → Frame → List Frame → ℕ → ℕ → ℕ → List ℕ → Found → Stepped
-resent room s f rest selector class receiver arguments Nothing = halts not_understood
-resent room s f rest selector class receiver arguments (Method m) =
+abbrev pub resent : Room → Plain → Frame → List Frame → ℕ → ℕ → ℕ → List ℕ → Rattle.std.specs.declared.option.Option.Option Pointer → Stepped
+resent room s f rest selector class receiver arguments None = halts not_understood
+resent room s f rest selector class receiver arguments (Some m) =
     when has_message_room room (objects s) (length arguments)
     then activated room (messaged s selector arguments) f rest m.0 receiver (message_word (objects s) ∷ []) (looked_up (objects s) failure_selector class m.0) (halts not_understood)
     (activate s.registers.edition room (message_made (objects s) selector arguments) m.0 receiver (message_word (objects s) ∷ []))
@@ -182,9 +179,9 @@ failed room s f rest selector class receiver arguments =
     then resent room s f rest selector class receiver arguments (lookup (objects s) failure_selector class)
     else halts not_understood
 
-abbrev pub after_lookup : Room → Plain → Frame → List Frame → ℕ → ℕ → ℕ → List ℕ → Found → Stepped
-after_lookup room s f rest selector class receiver arguments Nothing = failed room s f rest selector class receiver arguments
-after_lookup room s f rest selector class receiver arguments (Method m) =
+abbrev pub after_lookup : Room → Plain → Frame → List Frame → ℕ → ℕ → ℕ → List ℕ → Rattle.std.specs.declared.option.Option.Option Pointer → Stepped
+after_lookup room s f rest selector class receiver arguments None = failed room s f rest selector class receiver arguments
+after_lookup room s f rest selector class receiver arguments (Some m) =
     activated room s f rest m.0 receiver arguments (looked_up (objects s) selector class m.0) (failed room s f rest selector class receiver arguments)
     (activate s.registers.edition room (objects s) m.0 receiver arguments)
 
@@ -209,9 +206,9 @@ abbrev pub tried_primitive : ℕ → ℕ
 tried_primitive k =
     get_or (1 ∷ 2 ∷ 3 ∷ 4 ∷ 5 ∷ 6 ∷ 7 ∷ 8 ∷ 9 ∷ 10 ∷ 11 ∷ 0 ∷ 17 ∷ 12 ∷ 14 ∷ 15 ∷ []) k 0
 
-abbrev pub or_sends : Computed → (ℕ → Stepped) → Stepped → Stepped
-or_sends (Word w) answer otherwise = answer w
-or_sends Failed answer otherwise = otherwise
+abbrev pub or_sends : Rattle.std.specs.declared.option.Option.Option ℕ → (ℕ → Stepped) → Stepped → Stepped
+or_sends (Some w) answer otherwise = answer w
+or_sends None answer otherwise = otherwise
 
 unfoldable pub arithmetic_sends : Room → Plain → Frame → List Frame → ℕ → ℕ → Stepped
 arithmetic_sends room s f rest position k =

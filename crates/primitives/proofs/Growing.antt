@@ -1,19 +1,19 @@
 -- One more object at the end of the buffers (70, 71), an array and a message (02, M-104).
-use Prim.Native.Nat.{ℕ, suc, ◌+◌, ◌*◌, ◌/◌, ◌%◌, ◌≤◌, ◌<◌}
+use Prim.Native.Nat.{ℕ, suc, ◌+◌, ◌*◌, ◌/◌, ◌≤◌, ◌-◌}
 use mathlib.Core.Path.{◌≡◌, refl, sym, ap, ap₂, ◌∙◌, subst}
 use mathlib.Core.Logic.{◌≢◌}
 use mathlib.Core.Bool.{Bool, true, false, ◌&&◌}
 use mathlib.Core.List.{List, [], ◌∷◌, ◌++◌}
 use native.Mathlib.Omega.{arith}
-use borrow.Author.Tests.{eq-eqb, ne_eqb, le-leb, lt-leb}
-use lib.Dec.{leb, eqb}
+use native.Mathlib.Decide.{dec_le}
+use borrow.Author.Tests.{eq-eqb, ne_eqb, le-leb, lt-leb, le-ltb, lt-ltb}
+use lib.Dec.{leb, eqb, ltb}
 use lib.ListN.{length, take, set, replicate, length-append}
 use lib.Seq.{sets, length-sets, length-take-le, take-add}
 use Rattle.bytecode.specs.Constant.{nil_word}
 use Rattle.bytecode.proofs.Choice.{if_yes, if_no}
-use Rattle.model.specs.declared.Computed.{Computed}
-use Rattle.model.specs.declared.Computed.TheVariants.{Word, Failed}
-use Rattle.model.specs.Limits.{entry_words, largest_integer, fields_kind, bytes_kind, class_kind, fixed_form, indexed_form, bytes_form, message_fields}
+use Rattle.std.specs.Prelude.{Option, Some, None}
+use Rattle.model.specs.Limits.{entry_words, most_objects, largest_integer, fields_kind, bytes_kind, class_kind, fixed_form, indexed_form, bytes_form, message_fields}
 use Rattle.model.specs.Word.{is_natural, pointer, message_class, array_class}
 use Rattle.model.specs.Objects.{Objects, objects_at, is_kind, field_count, form, at_front, part}
 use Rattle.model.specs.Image.{Room}
@@ -36,7 +36,7 @@ entered l at c k s z h =
     rw (one, two, three) (behind l (c ∷ k ∷ s ∷ z ∷ []) at h)
 
 -- What leaves the objects, and one outcome for another
-pub does_computed : {e n b : ℕ} {contents bodies : List ℕ} {r : Done} {z : Outcome} (x : Computed) → Right e (objects_at n b contents bodies) → r ≡ done_with x n b
+pub does_computed : {e n b : ℕ} {contents bodies : List ℕ} {r : Done} {z : Outcome} (x : Option ℕ) → Right e (objects_at n b contents bodies) → r ≡ done_with x n b
     → computed (objects_at n b contents bodies) x ≡ z → Does (objects_at n b contents bodies) z r contents bodies contents bodies
 unfolding answer_of objects_after
 does_computed {n} {b} {contents} {bodies} {r} {z} x h e p =
@@ -49,13 +49,13 @@ does_computed {n} {b} {contents} {bodies} {r} {z} x h e p =
     words : bodies ≡ at_front (take b bodies) bodies
     words = sym (front_same b bodies (bodies_room n b contents bodies h))
 
-    go : (x : Computed) → Does (objects_at n b contents bodies) (computed (objects_at n b contents bodies) x) (done_with x n b) contents bodies contents bodies
-    go (Word w) = record { answer = refl; count = refl; size = refl; entries = entries; words = words }
-    go Failed = record { answer = refl; count = refl; size = refl; entries = entries; words = words }
+    go : (x : Option ℕ) → Does (objects_at n b contents bodies) (computed (objects_at n b contents bodies) x) (done_with x n b) contents bodies contents bodies
+    go (Some w) = record { answer = refl; count = refl; size = refl; entries = entries; words = words }
+    go None = record { answer = refl; count = refl; size = refl; entries = entries; words = words }
 
-pub does_none : {e n b : ℕ} {contents bodies : List ℕ} {r : Done} {z : Outcome} → Right e (objects_at n b contents bodies) → r ≡ done_with Failed n b → fails ≡ z
+pub does_none : {e n b : ℕ} {contents bodies : List ℕ} {r : Done} {z : Outcome} → Right e (objects_at n b contents bodies) → r ≡ done_with None n b → fails ≡ z
     → Does (objects_at n b contents bodies) z r contents bodies contents bodies
-does_none = does_computed Failed
+does_none = does_computed None
 
 pub does_same : {o : Objects} {z z' : Outcome} {r : Done} {contents bodies contents' bodies' : List ℕ} → z ≡ z' → Does o z r contents bodies contents' bodies'
     → Does o z' r contents bodies contents' bodies'
@@ -74,7 +74,7 @@ module _ (room : Room) (o : Objects) (class kd sz count w : ℕ) where
 -- The entry of an object whose body stands
 pub does_append : (n b class kd sz count : ℕ) (contents bodies : List ℕ) → entry_words * (n + 1) ≤ length contents → b + count ≤ length bodies
     → Does (objects_at n b contents bodies) (answers (pointer (n + 1)) (appended (objects_at n b contents bodies) class kd sz (part bodies b count)))
-    (done_with (Word (pointer (n + 1))) (n + 1) (b + count)) contents bodies
+    (done_with (Some (pointer (n + 1))) (n + 1) (b + count)) contents bodies
     (set (set (set (set contents (entry_words * n) class) (entry_words * n + 1) kd) (entry_words * n + 2) b) (entry_words * n + 3) sz) bodies
 unfolding answer_of objects_after appended
 does_append n b class kd sz count contents bodies h g =
@@ -192,28 +192,25 @@ module _ (room : Room) (o : Objects) (w : ℕ) where
     new_is e d p =
         ap (λ (j : ℕ). make room o w fields_kind j j nil_word) p ∙ sym (if_yes _ _ (ap₂ ◌&&◌ t (eq-eqb (form o w) fixed_form (sym e ∙ d))))
 
-    pub with_even : (x : ℕ) → x % 2 ≢ 1 → fails ≡ new_with room o w x
+    pub with_no_natural : (x : ℕ) → is_natural largest_integer x ≡ false → fails ≡ new_with room o w x
     unfolding new_with
-    with_even x d = sym (if_no _ _ (ap₂ ◌&&◌ t (ap (λ (y : Bool). y && leb (x / 2) largest_integer) (ne_eqb (x % 2) 1 d))))
+    with_no_natural x p = sym (if_no _ _ (ap₂ ◌&&◌ t p))
 
-    pub with_large : (x : ℕ) → x % 2 ≡ 1 → largest_integer < x / 2 → fails ≡ new_with room o w x
-    unfolding new_with
-    with_large x e l = sym (if_no _ _ (ap₂ ◌&&◌ t (ap₂ ◌&&◌ (eq-eqb (x % 2) 1 e) (lt-leb (x / 2) largest_integer l))))
-
-    module _ (x : ℕ) {f : ℕ} (a : x % 2 ≡ 1) (l : x / 2 ≤ largest_integer) (e : f ≡ form o w) where
+    module _ (x : ℕ) {f i : ℕ} (a : (is_natural largest_integer x ≡ true) × (i ≡ x / 2)) (e : f ≡ form o w) where
       fine : (is_kind o class_kind w && is_natural largest_integer x) ≡ true
-      fine = ap₂ ◌&&◌ t (ap₂ ◌&&◌ (eq-eqb (x % 2) 1 a) (le-leb (x / 2) largest_integer l))
+      fine = ap₂ ◌&&◌ t a.0
 
-      pub with_words : {k : ℕ} → f ≡ 1 → k ≡ field_count o w → make room o w fields_kind (k + x / 2) (k + x / 2) nil_word ≡ new_with room o w x
+      pub with_words : {k : ℕ} → f ≡ 1 → k ≡ field_count o w → make room o w fields_kind (k + i) (k + i) nil_word ≡ new_with room o w x
       unfolding new_with
       with_words d p =
-          ap (λ (j : ℕ). make room o w fields_kind (j + x / 2) (j + x / 2) nil_word) p
+          ap₂ (λ (j l : ℕ). make room o w fields_kind (j + l) (j + l) nil_word) p a.1
           ∙ sym (if_yes _ _ fine ∙ if_yes _ _ (eq-eqb (form o w) indexed_form (sym e ∙ d)))
 
-      pub with_bytes : f ≡ 2 → make room o w bytes_kind (x / 2) ((x / 2 + 1) / 2) 0 ≡ new_with room o w x
+      pub with_bytes : f ≡ 2 → make room o w bytes_kind i ((i + 1) / 2) 0 ≡ new_with room o w x
       unfolding new_with
       with_bytes d =
-          sym (if_yes _ _ fine ∙ if_no _ _ (ne_eqb (form o w) indexed_form one) ∙ if_yes _ _ (eq-eqb (form o w) bytes_form (sym e ∙ d)))
+          ap (λ (j : ℕ). make room o w bytes_kind j ((j + 1) / 2) 0) a.1
+          ∙ sym (if_yes _ _ fine ∙ if_no _ _ (ne_eqb (form o w) indexed_form one) ∙ if_yes _ _ (eq-eqb (form o w) bytes_form (sym e ∙ d)))
         where
           one : form o w ≢ indexed_form
           one q = omega arith
@@ -222,3 +219,18 @@ module _ (room : Room) (o : Objects) (w : ℕ) where
       unfolding new_with
       with_other c d =
           sym (if_yes _ _ fine ∙ if_no _ _ (ne_eqb (form o w) indexed_form (λ q. c (e ∙ q))) ∙ if_no _ _ (ne_eqb (form o w) bytes_form (λ q. d (e ∙ q))))
+
+-- one object more, or two, are as many as there may be
+pub one_more : (n : ℕ) → leb n (most_objects - 1) ≡ ltb n most_objects
+one_more n = by_size (dec_le n 2046)
+  where
+    by_size : Dec (n ≤ 2046) → leb n (most_objects - 1) ≡ ltb n most_objects
+    by_size (yes l) = le-leb n 2046 l ∙ sym (lt-ltb n 2047 (omega arith))
+    by_size (no g) = lt-leb n 2046 (omega arith) ∙ sym (le-ltb n 2047 (omega arith))
+
+pub two_more : (n : ℕ) → leb n (most_objects - 2) ≡ leb (n + 2) most_objects
+two_more n = by_size (dec_le n 2045)
+  where
+    by_size : Dec (n ≤ 2045) → leb n (most_objects - 2) ≡ leb (n + 2) most_objects
+    by_size (yes l) = le-leb n 2045 l ∙ sym (le-leb (n + 2) 2047 (omega arith))
+    by_size (no g) = lt-leb n 2045 (omega arith) ∙ sym (lt-leb (n + 2) 2047 (omega arith))

@@ -11,7 +11,7 @@ use lib.Dec.{leb, eqb}
 use lib.ListN.{length, get_or}
 use Rattle.bytecode.specs.Test.{when◌then◌else◌}
 use Rattle.bytecode.proofs.Choice.{if_yes, if_no, if_cases}
-use Rattle.model.specs.declared.Computed.{Computed}
+use Rattle.std.specs.Prelude.{Option}
 use Rattle.model.specs.Limits.{entry_words}
 use Rattle.model.specs.Word.{boolean_word}
 use Rattle.model.specs.Objects.{Objects, objects_at, class_of, at_front}
@@ -38,7 +38,7 @@ put_stays o w x v =
     (λ q. record { n = refl; b = refl; contents = refl }))
     (λ p. record { n = refl; b = refl; contents = refl })
 
-pub does_put : {e n b : ℕ} {contents bodies after : List ℕ} {y : Computed} {r : Done} {z : Outcome} (w x v : ℕ) → Right e (objects_at n b contents bodies) → r ≡ done_with y n b
+pub does_put : {e n b : ℕ} {contents bodies after : List ℕ} {y : Option ℕ} {r : Done} {z : Outcome} (w x v : ℕ) → Right e (objects_at n b contents bodies) → r ≡ done_with y n b
     → at_put (objects_at n b contents bodies) w x v ≡ z → Puts (objects_at n b contents bodies) (at_put (objects_at n b contents bodies) w x v) y bodies after
     → Does (objects_at n b contents bodies) z r contents bodies contents after
 does_put {n} {b} {contents} {bodies} {after} {y} {r} {z} w x v h e p q =

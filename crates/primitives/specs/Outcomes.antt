@@ -1,20 +1,20 @@
 -- What a primitive's outcome is in the code's answer and in the buffers.
-use Rattle.std.specs.Prelude.{ℕ, ◌+◌, ◌*◌, ◌/◌, ◌≤◌, ◌≡◌, List, T, length}
+use Rattle.std.specs.Prelude.{ℕ, ◌+◌, ◌-◌, ◌*◌, ◌/◌, ◌≤◌, ◌≡◌, Bool, ◌&&◌, eqb, leb, List, T, length, Option, Some, None}
 use Rattle.bytecode.specs.Test.{when◌then◌else◌}
-use Rattle.model.specs.declared.Computed.{Computed}
-use Rattle.model.specs.declared.Computed.TheVariants.{Word, Failed}
-use Rattle.model.specs.Limits.{entry_words, most_objects, most_body_words}
-use Rattle.model.specs.Word.{is_valid}
+use Rattle.model.specs.Limits.{entry_words, most_objects, most_body_words, bytes_form}
+use Rattle.model.specs.Word.{is_valid, is_natural}
 use Rattle.model.specs.Objects.{Objects, objects_at, class_of, form, at_front}
 use Rattle.model.specs.Rules.{IsRight}
 use Rattle.model.specs.Image.{Room}
-use Rattle.model.specs.Primitive.{Outcome, answers, fails, element_start, element_count, is_indexable, is_index}
+use Rattle.model.specs.Primitive.{Outcome, answers, fails, element_start, element_count, has_elements, is_indexable, is_index}
 use Rattle.primitives.specs.declared.Done.{Done}
 use Rattle.primitives.specs.declared.Elements.{Elements}
+use Rattle.primitives.specs.declared.ElementKind.{ElementKind}
+use Rattle.primitives.specs.declared.ElementKind.TheVariants.{Words, Bytes}
 
-unfoldable pub answer_of : Outcome → Computed
-answer_of (answers w o) = Word w
-answer_of fails = Failed
+unfoldable pub answer_of : Outcome → Option ℕ
+answer_of (answers w o) = Some w
+answer_of fails = None
 
 -- the objects after it: a failure leaves those before it
 unfoldable pub objects_after : Objects → Outcome → Objects
@@ -28,7 +28,7 @@ room_for contents bodies = record { contents = contents; bodies = bodies; stack 
 abbrev pub room_of : List ℕ → List ℕ → Room
 room_of contents bodies = room_for (length contents) (length bodies)
 
-abbrev pub done_with : Computed → ℕ → ℕ → Done
+abbrev pub done_with : Option ℕ → ℕ → ℕ → Done
 done_with answer n b = record { answer = answer; n = n; b = b }
 
 -- Right objects, and a valid word as receiver
@@ -37,7 +37,7 @@ pub record Receives (n b : ℕ) (contents bodies : List ℕ) (w : ℕ) : Type 0 
   pub valid : T (is_valid n w)
 
 -- An outcome that leaves entries, n and b
-pub record Puts (o : Objects) (z : Outcome) (r : Computed) (bodies after : List ℕ) : Type 0 where
+pub record Puts (o : Objects) (z : Outcome) (r : Option ℕ) (bodies after : List ℕ) : Type 0 where
   pub answer : r ≡ answer_of z
   pub words : after ≡ at_front (objects_after o z).bodies bodies
 
@@ -66,13 +66,27 @@ pub record MessageRoom (n b count : ℕ) (contents bodies : List ℕ) : Type 0 w
   pub entries : entry_words * (n + 2) ≤ length contents
   pub inside : b + (count + 2) ≤ length bodies
 
--- What 60 to 62 take of w: by the form of its class, where its elements start and how many there are; by 0 where they do not take it
-abbrev pub no_elements : Elements
-no_elements = record { by = 0; start = 0; count = 0 }
+-- What 60 to 62 take of w: by the form of its class, where its elements start and how many there are
+abbrev pub kind_of_form : ℕ → ElementKind
+kind_of_form form = when eqb form bytes_form then Bytes else Words
 
-unfoldable pub elements_of : Objects → ℕ → Elements
-elements_of o w = when is_indexable o w then record { by = form o (class_of o w); start = element_start o w; count = element_count o w } else no_elements
+unfoldable pub kind_of_elements : ℕ → Option ElementKind
+kind_of_elements form = when has_elements form then Some (kind_of_form form) else None
 
--- The number that an index holds, 0 where it is none
-unfoldable pub index_of : ℕ → ℕ → ℕ
-index_of count x = when is_index count x then x / 2 else 0
+abbrev pub elements : ElementKind → ℕ → ℕ → Elements
+elements by start count = record { by = by; start = start; count = count }
+
+unfoldable pub elements_of : Objects → ℕ → Option Elements
+elements_of o w = when is_indexable o w then Some (elements (kind_of_form (form o (class_of o w))) (element_start o w) (element_count o w)) else None
+
+-- The number that a word holds, if it is natural and at most so large; and that of an index
+unfoldable pub natural_of : ℕ → ℕ → Option ℕ
+natural_of most x = when is_natural most x then Some (x / 2) else None
+
+unfoldable pub index_of : ℕ → ℕ → Option ℕ
+index_of count x = when is_index count x then Some (x / 2) else None
+
+-- Room for so many more objects of so many body words together
+abbrev pub fits_buffers : ℕ → ℕ → ℕ → ℕ → ℕ → ℕ → Bool
+fits_buffers contents bodies n b objects words =
+    leb n (most_objects - objects) && (leb (b + words) most_body_words && (leb (entry_words * (n + objects)) contents && leb (b + words) bodies))

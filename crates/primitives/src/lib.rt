@@ -1,19 +1,21 @@
 // Primitives 60 to 62, 70, 71, 110 and 111. The definitions are model's specs/Primitive.antt; what fails changes nothing.
 #![tactic(auto)]
 
-ghost use Rattle.std.specs.Prelude.{◌≡◌, List, [], ◌∷◌, ℕ, ◌+◌, ◌*◌, ◌<◌, ◌≤◌, length, eqb};
+ghost use Rattle.std.specs.Prelude.{◌≡◌, List, [], ◌∷◌, ℕ, ◌+◌, ◌*◌, ◌<◌, ◌≤◌, length};
 ghost use Rattle.model.specs.Limits.{entry_words, most_objects, most_body_words, fields_kind, message_fields};
 ghost use Rattle.model.specs.Objects.{objects_at, part};
 ghost use Rattle.model.specs.Rules.{IsRight};
-ghost use Rattle.model.specs.Primitive.{answers, has_elements, at, at_put, size_answer, appended, has_room, array_made, message_made, has_message_room, make, new, new_with, computed, perform, primitive_count, primitive};
-ghost use Rattle.model.specs.Word.{pointer, boolean_word, message_class};
-ghost use Rattle.primitives.specs.Outcomes.{room_for, done_with, Receives, Puts, Does, DoesAt, Stand, MessageRoom, no_elements, elements_of, index_of};
+ghost use Rattle.model.specs.Primitive.{answers, at, at_put, size_answer, appended, has_room, array_made, message_made, has_message_room, make, new, new_with, computed, perform, primitive_count, primitive};
+ghost use Rattle.model.specs.Word.{pointer, message_class};
+ghost use Rattle.primitives.specs.Outcomes.{room_for, done_with, Receives, Puts, Does, DoesAt, Stand, MessageRoom, kind_of_elements, elements_of, natural_of, index_of, fits_buffers};
+ghost use Rattle.readers.specs.Lent.{objects_in, In};
 
-use model::{Computed, Pointer, limits};
+use model::{Pointer, limits};
+use readers::Memory;
 
-const MOST_OBJECTS: usize = 2047;
+const MOST_OBJECTS: usize = limits::MOST_OBJECTS as usize;
 
-const MOST_BODY_WORDS: usize = 24000;
+const MOST_BODY_WORDS: usize = limits::MOST_BODY_WORDS as usize;
 
 const LARGEST_INTEGER: usize = 16383;
 
@@ -21,131 +23,120 @@ const LARGEST_INTEGER: usize = 16383;
 const MOST_ELEMENTS: usize = 16383;
 
 // Words of a message.
-const MESSAGE_WORDS: usize = 2;
+const MESSAGE_WORDS: usize = limits::MESSAGE_FIELDS as usize;
 
-// Forms
-const FIXED: usize = 0;
+// The forms, as `objects::form_of` has them.
+const FIXED: usize = limits::FIXED as usize;
 
-const INDEXED: usize = 1;
+const INDEXED: usize = limits::INDEXED as usize;
 
-const OF_BYTES: usize = 2;
+const OF_BYTES: usize = limits::OF_BYTES as usize;
 
 // What a primitive gives: a word or failure, and how many objects and body words there are then.
 #[derive(Clone, Copy)]
 pub struct Done {
-    pub answer: Computed,
+    pub answer: Option<u16>,
     pub n: usize,
     pub b: usize,
 }
 
-// What 60 to 62 take of a receiver: 1 by words, 2 by bytes, 0 not at all; where in the body its elements start, and how many there are.
+// What elements are.
+#[derive(Clone, Copy)]
+pub enum ElementKind {
+    Words,
+    Bytes,
+}
+
+// What 60 to 62 take of a receiver: its elements, where in the body they start, and how many there are.
 #[derive(Clone, Copy)]
 pub struct Elements {
-    pub by: usize,
+    pub by: ElementKind,
     pub start: usize,
     pub count: usize,
 }
 
 // What is computed, or failure, with as many objects and body words as before.
-pub fn computed(answer: Computed, n: usize, b: usize) -> Done
+pub fn computed(answer: Option<u16>, n: usize, b: usize) -> Done
     ensures { result ≡ done_with answer n b }
 {
-    Done {
-        answer: answer,
-        n: n,
-        b: b,
-    }
+    Done { answer, n, b }
 }
 
 pub fn failed(n: usize, b: usize) -> Done
-    ensures { result ≡ done_with Computed.Failed n b }
+    ensures { result ≡ done_with None n b }
 {
-    computed(Computed::Failed, n, b)
+    computed(None, n, b)
 }
 
-// Whether 60 to 62 take objects of a form.
-fn has_elements(form: usize) -> bool
-    ensures { result ≡ has_elements form }
+// What the elements are of objects of a form, if 60 to 62 take them.
+fn element_kind(form: usize) -> Option<ElementKind>
+    ensures { result ≡ kind_of_elements form }
 {
-    (form == INDEXED) | (form == OF_BYTES)
-}
-
-fn no_elements() -> Elements
-    ensures { result ≡ no_elements }
-{
-    Elements {
-        by: 0,
-        start: 0,
-        count: 0,
+    match form {
+        INDEXED => Some(ElementKind::Words),
+        OF_BYTES => Some(ElementKind::Bytes),
+        _ => None,
     }
 }
 
 // The elements of a receiver, behind the named fields of its class.
-fn elements_of(contents: &[u16], bodies: &[u16], n: usize, b: usize, w: u16) -> Elements
-    requires { Receives n b contents.now bodies.now w }
-    ensures { result ≡ elements_of (objects_at n b contents.now bodies.now) w }
+fn elements_of(memory: &Memory, w: u16) -> Option<Elements>
+    requires { In Receives memory.now w }
+    ensures { result ≡ elements_of (objects_in memory.now) w }
 {
     if w % 2 == 1 {
-        return no_elements();
+        return None;
     }
-    let class = objects::class_of(contents, n, w);
-    let form = objects::form_of(contents, bodies, n, b, class);
-    if !has_elements(form) {
-        return no_elements();
-    }
-    let start = objects::field_count(contents, bodies, n, b, class);
-    let size = readers::size(contents, n, w as usize / 2) as usize;
+    let class = objects::class_of(memory, w);
+    let by = element_kind(objects::form_of(memory, class))?;
+    let start = objects::field_count(memory, class);
+    let size = memory.size(w as usize / 2) as usize;
     let count = size - start;
     if MOST_ELEMENTS < count {
-        return no_elements();
-    }
-    Elements {
-        by: form,
-        start: start,
-        count: count,
+        None
+    } else {
+        Some(Elements { by, start, count })
     }
 }
 
-// The number of an index word from 1 to a count, else 0.
-fn index(count: usize, x: u16) -> usize
-    ensures { result ≡ index_of count x }
+// The number that a word holds, if it is natural and at most this large.
+fn natural(most: usize, x: u16) -> Option<usize>
+    ensures { result ≡ natural_of most x }
 {
     if x % 2 != 1 {
-        return 0;
+        return None;
     }
     let i = x as usize / 2;
-    if LARGEST_INTEGER < i {
-        return 0;
+    if i <= most { Some(i) } else { None }
+}
+
+// The number of an index word, if it is from 1 to a count.
+fn index(count: usize, x: u16) -> Option<usize>
+    ensures { result ≡ index_of count x }
+{
+    let i = natural(LARGEST_INTEGER, x)?;
+    if (1..=count).contains(&i) {
+        Some(i)
+    } else {
+        None
     }
-    if i < 1 {
-        return 0;
-    }
-    if count < i {
-        return 0;
-    }
-    i
 }
 
 // 60
-pub fn at(contents: &[u16], bodies: &[u16], n: usize, b: usize, w: u16, x: u16) -> Computed
-    requires { Receives n b contents.now bodies.now w }
-    ensures { computed (objects_at n b contents.now bodies.now) result ≡ at (objects_at n b contents.now bodies.now) w x }
+pub fn at(memory: &Memory, w: u16, x: u16) -> Option<u16>
+    requires { In Receives memory.now w }
+    ensures { computed (objects_in memory.now) result ≡ at (objects_in memory.now) w x }
 {
-    let e = elements_of(contents, bodies, n, b, w);
-    if e.by == 0 {
-        return Computed::Failed;
+    let e = elements_of(memory, w)?;
+    let i = index(e.count, x)?;
+    let from = e.start + (i - 1);
+    match e.by {
+        ElementKind::Bytes => {
+            let v = objects::byte_of(memory, Pointer(w), from);
+            Some(2 * (v as u16) + 1)
+        }
+        ElementKind::Words => Some(memory.word_of(Pointer(w), from)),
     }
-    let i = index(e.count, x);
-    if i == 0 {
-        return Computed::Failed;
-    }
-    let start = e.start;
-    let from = start + (i - 1);
-    if e.by == OF_BYTES {
-        let v = objects::byte_of(contents, bodies, n, b, Pointer(w), from);
-        return Computed::Word(2 * (v as u16) + 1);
-    }
-    Computed::Word(readers::word_of(contents, bodies, n, b, Pointer(w), from))
 }
 
 // 61
@@ -157,45 +148,51 @@ pub fn at_put(
     w: u16,
     x: u16,
     v: u16,
-) -> Computed
+) -> Option<u16>
     requires { Receives n b contents.now bodies.old w }
     ensures { Puts (objects_at n b contents.now bodies.old)
         (at_put (objects_at n b contents.now bodies.old) w x v) result bodies.old bodies.new }
 {
-    let e = elements_of(contents, bodies, n, b, w);
-    if e.by == 0 {
-        return Computed::Failed;
-    }
-    let i = index(e.count, x);
-    if i == 0 {
-        return Computed::Failed;
-    }
-    let start = e.start;
-    let to = start + (i - 1);
-    if e.by == OF_BYTES {
-        if v % 2 != 1 {
-            return Computed::Failed;
+    let memory = &Memory {
+        contents,
+        bodies,
+        n,
+        b,
+    };
+    let e = elements_of(memory, w)?;
+    let i = index(e.count, x)?;
+    let to = e.start + (i - 1);
+    match e.by {
+        ElementKind::Bytes => {
+            let byte = natural(255, v)?;
+            objects::store_byte(contents, bodies, n, b, Pointer(w), to, byte as u8);
+            Some(v)
         }
-        if 255 < v / 2 {
-            return Computed::Failed;
+        ElementKind::Words => {
+            objects::store_word(contents, bodies, n, b, Pointer(w), to, v);
+            Some(v)
         }
-        objects::store_byte(contents, bodies, n, b, Pointer(w), to, (v / 2) as u8);
-        return Computed::Word(v);
     }
-    objects::store_word(contents, bodies, n, b, Pointer(w), to, v);
-    Computed::Word(v)
 }
 
 // 62
-pub fn size_answer(contents: &[u16], bodies: &[u16], n: usize, b: usize, w: u16) -> Computed
-    requires { Receives n b contents.now bodies.now w }
-    ensures { computed (objects_at n b contents.now bodies.now) result ≡ size_answer (objects_at n b contents.now bodies.now) w }
+pub fn size_answer(memory: &Memory, w: u16) -> Option<u16>
+    requires { In Receives memory.now w }
+    ensures { computed (objects_in memory.now) result ≡ size_answer (objects_in memory.now) w }
 {
-    let e = elements_of(contents, bodies, n, b, w);
-    if e.by == 0 {
-        return Computed::Failed;
-    }
-    Computed::Word((2 * e.count + 1) as u16)
+    let e = elements_of(memory, w)?;
+    Some((2 * e.count + 1) as u16)
+}
+
+// Room for so many more objects, one or two, of so many body words together, in buffers of these lengths.
+fn fits(contents: usize, bodies: usize, n: usize, b: usize, objects: usize, words: usize) -> bool
+    requires { (b ≤ most_body_words) × (objects ≤ 2) × (words < 131072) }
+    ensures { result ≡ fits_buffers contents bodies n b objects words }
+{
+    n <= MOST_OBJECTS - objects
+        && b + words <= MOST_BODY_WORDS
+        && limits::ENTRY_WORDS * (n + objects) <= contents
+        && b + words <= bodies
 }
 
 // Room for one more object of so many body words, in buffers of these lengths.
@@ -203,16 +200,7 @@ pub fn has_room(contents: usize, bodies: usize, n: usize, b: usize, count: usize
     requires { (b ≤ most_body_words) × (count < 65536) }
     ensures { (entries words : List ℕ) → result ≡ has_room (room_for contents bodies) (objects_at n b entries words) count }
 {
-    if MOST_OBJECTS <= n {
-        return false;
-    }
-    if MOST_BODY_WORDS < b + count {
-        return false;
-    }
-    if contents < limits::ENTRY_WORDS * (n + 1) {
-        return false;
-    }
-    b + count <= bodies
+    fits(contents, bodies, n, b, 1, count)
 }
 
 // The entry of one more object, whose body words stand behind the others already. No body is read, so it is the same whatever they hold.
@@ -238,7 +226,7 @@ pub fn append(
     contents[at + 2] = b as u16;
     contents[at + 3] = size;
     Done {
-        answer: Computed::Word((2 * (n + 1)) as u16),
+        answer: Some((2 * (n + 1)) as u16),
         n: n + 1,
         b: b + count,
     }
@@ -249,16 +237,7 @@ pub fn has_message_room(contents: usize, bodies: usize, n: usize, b: usize, coun
     requires { (n ≤ most_objects) × (b ≤ most_body_words) × (count < 65536) }
     ensures { (entries words : List ℕ) → result ≡ has_message_room (room_for contents bodies) (objects_at n b entries words) count }
 {
-    if MOST_OBJECTS < n + 2 {
-        return false;
-    }
-    if MOST_BODY_WORDS < b + (count + MESSAGE_WORDS) {
-        return false;
-    }
-    if contents < limits::ENTRY_WORDS * (n + 2) {
-        return false;
-    }
-    b + (count + MESSAGE_WORDS) <= bodies
+    fits(contents, bodies, n, b, 2, count + MESSAGE_WORDS)
 }
 
 // The array of a send's arguments, which stand in the stack.
@@ -369,14 +348,20 @@ pub fn new_object(contents: &mut [u16], bodies: &mut [u16], n: usize, b: usize, 
     ensures { DoesAt n b contents.old bodies.old (λ room o. new room o w) result
         contents.new bodies.new }
 {
-    if !readers::is_kind(contents, n, limits::CLASS, w) {
+    let memory = &Memory {
+        contents,
+        bodies,
+        n,
+        b,
+    };
+    if !memory.is_kind(limits::CLASS, w) {
         return failed(n, b);
     }
-    let form = objects::form_of(contents, bodies, n, b, Pointer(w));
+    let form = objects::form_of(memory, Pointer(w));
     if form != FIXED {
         return failed(n, b);
     }
-    let count = objects::field_count(contents, bodies, n, b, Pointer(w));
+    let count = objects::field_count(memory, Pointer(w));
     make(
         contents,
         bodies,
@@ -403,33 +388,34 @@ pub fn new_with(
     ensures { DoesAt n b contents.old bodies.old (λ room o. new_with room o w x) result
         contents.new bodies.new }
 {
-    if !readers::is_kind(contents, n, limits::CLASS, w) {
+    let memory = &Memory {
+        contents,
+        bodies,
+        n,
+        b,
+    };
+    if !memory.is_kind(limits::CLASS, w) {
         return failed(n, b);
     }
-    if x % 2 != 1 {
+    let Some(more) = natural(LARGEST_INTEGER, x) else {
         return failed(n, b);
-    }
-    let more = x as usize / 2;
-    if LARGEST_INTEGER < more {
-        return failed(n, b);
-    }
-    let form = objects::form_of(contents, bodies, n, b, Pointer(w));
-    if form == INDEXED {
-        let count = objects::field_count(contents, bodies, n, b, Pointer(w)) + more;
-        return make(
-            contents,
-            bodies,
-            n,
-            b,
-            Pointer(w),
-            limits::FIELDS,
-            count as u16,
-            count,
-            limits::NIL,
-        );
-    }
-    if form == OF_BYTES {
-        return make(
+    };
+    match objects::form_of(memory, Pointer(w)) {
+        INDEXED => {
+            let count = objects::field_count(memory, Pointer(w)) + more;
+            make(
+                contents,
+                bodies,
+                n,
+                b,
+                Pointer(w),
+                limits::FIELDS,
+                count as u16,
+                count,
+                limits::NIL,
+            )
+        }
+        OF_BYTES => make(
             contents,
             bodies,
             n,
@@ -439,38 +425,20 @@ pub fn new_with(
             more as u16,
             (more + 1) / 2,
             0,
-        );
+        ),
+        _ => failed(n, b),
     }
-    failed(n, b)
 }
 
 // How many arguments a primitive takes.
 pub fn primitive_count(k: usize) -> usize
     ensures { result ≡ primitive_count k }
 {
-    if k == 61 {
-        return 2;
+    match k {
+        61 => 2,
+        62 | 70 | 111 => 0,
+        _ => 1,
     }
-    if k == 62 {
-        return 0;
-    }
-    if k == 70 {
-        return 0;
-    }
-    if k == 111 {
-        return 0;
-    }
-    1
-}
-
-// 110
-fn same(w: u16, x: u16) -> u16
-    ensures { result ≡ boolean_word (eqb w x) }
-{
-    if w == x {
-        return limits::TRUE;
-    }
-    limits::FALSE
 }
 
 // A primitive that is none of 1 to 17, on a receiver and two arguments, those that it takes.
@@ -489,32 +457,22 @@ pub fn perform(
     ensures { DoesAt n b contents.old bodies.old (λ room o. perform edition room o k w x y) result
         contents.new bodies.new }
 {
-    if k == 60 {
-        let answer = at(contents, bodies, n, b, w, x);
-        return computed(answer, n, b);
+    let memory = &Memory {
+        contents,
+        bodies,
+        n,
+        b,
+    };
+    match k {
+        60 => computed(at(memory, w, x), n, b),
+        61 => computed(at_put(contents, bodies, n, b, w, x, y), n, b),
+        62 => computed(size_answer(memory, w), n, b),
+        70 => new_object(contents, bodies, n, b, w),
+        71 => new_with(contents, bodies, n, b, w, x),
+        110 => computed(Some(model::boolean_word(w == x)), n, b),
+        111 => computed(Some(objects::class_of(memory, w).0), n, b),
+        _ => failed(n, b),
     }
-    if k == 61 {
-        let answer = at_put(contents, bodies, n, b, w, x, y);
-        return computed(answer, n, b);
-    }
-    if k == 62 {
-        let answer = size_answer(contents, bodies, n, b, w);
-        return computed(answer, n, b);
-    }
-    if k == 70 {
-        return new_object(contents, bodies, n, b, w);
-    }
-    if k == 71 {
-        return new_with(contents, bodies, n, b, w, x);
-    }
-    if k == 110 {
-        return computed(Computed::Word(same(w, x)), n, b);
-    }
-    if k == 111 {
-        let class = objects::class_of(contents, n, w);
-        return computed(Computed::Word(class.0), n, b);
-    }
-    failed(n, b)
 }
 
 // The same with the count that the primitive is called with: another than its own fails.
@@ -534,8 +492,7 @@ pub fn primitive(
     ensures { DoesAt n b contents.old bodies.old (λ room o. primitive edition room o k count w (x ∷ y ∷ [])) result
         contents.new bodies.new }
 {
-    let takes = primitive_count(k);
-    if count != takes {
+    if count != primitive_count(k) {
         return failed(n, b);
     }
     perform(contents, bodies, edition, n, b, k, w, x, y)

@@ -1,5 +1,5 @@
 -- How many words a body has by its kind, and where its words stand in the buffer.
-use Prim.Native.Nat.{ℕ, ◌+◌, ◌/◌, ◌%◌, ◌≤◌, ◌<◌}
+use Prim.Native.Nat.{ℕ, min, ◌+◌, ◌/◌, ◌%◌, ◌≤◌, ◌<◌}
 use mathlib.Core.Path.{◌≡◌, sym, ap, ◌∙◌}
 use mathlib.Core.Bool.{true, false}
 use mathlib.Core.List.{List}
@@ -12,7 +12,7 @@ use Rattle.model.specs.Objects.{Objects, objects_at, kind, start, size, sized_in
 use Rattle.model.proofs.Parts.{part_same}
 use Rattle.model.proofs.Facts.{in_bytes}
 
-pub body_bytes : (o : Objects) (k s : ℕ) → s ≡ size o k → sized_in_bytes (kind o k) ≡ true → s / 2 + s % 2 ≡ body_words o k
+pub body_bytes : (o : Objects) (k s : ℕ) → s ≡ size o k → sized_in_bytes (kind o k) ≡ true → s / 2 + min 1 (s % 2) ≡ body_words o k
 body_bytes o k s e t = let q = in_bytes o k (true→T t) in omega arith
 
 pub body_plain : (o : Objects) (k : ℕ) → sized_in_bytes (kind o k) ≡ false → body_words o k ≡ size o k

@@ -3,3 +3,4 @@ pub mod Names
 pub mod Bodies
 pub mod InsideLaws
 pub mod HeaderLaws
+pub mod Ranges

@@ -2,13 +2,11 @@
 use Prim.Native.Nat.{ℕ, ◌+◌, ◌≤◌, ◌<◌}
 use mathlib.Core.Path.{◌≡◌, refl, sym, ap, subst}
 use mathlib.Core.Bool.{Bool, true, false, ◌&&◌}
-use mathlib.Core.List.{List}
 use native.Mathlib.Omega.{arith}
 use native.Mathlib.Decide.{ℕ_discrete}
 use lib.Dec.{T}
-use lib.ListN.{get_or, length}
-use Rattle.bytecode.specs.Test.{up_to, below, every}
-use Rattle.bytecode.proofs.TestLaws.{true→T, T→true, never, up_to_at, at_up_to, below_at, at_below, every_at, at_every}
+use Rattle.bytecode.specs.Test.{up_to, below}
+use Rattle.bytecode.proofs.TestLaws.{true→T, T→true, never, up_to_at, at_up_to, below_at, at_below}
 
 -- a test that failed did not pass
 pub failed : {b : Bool} → b ≡ false → T b → ⊥
@@ -49,13 +47,6 @@ below_all n k f l h = T→true (below n f) (at_below n f (λ j a. h j (omega ari
 pub below_no : (n : ℕ) (f : ℕ → Bool) (k : ℕ) → k < n → f k ≡ false → below n f ≡ false
 below_no n f k h e = never (below n f) (λ t. failed e (below_at n f t k h))
 
--- the same over the elements of a list
-pub every_all : (f : ℕ → Bool) (l : List ℕ) (k : ℕ) → length l ≤ k → Before (λ i. f (get_or l i 0)) k → every f l ≡ true
-every_all f l k g h = T→true (every f l) (at_every f l (λ j a. h j (omega arith)))
-
-pub every_no : (f : ℕ → Bool) (l : List ℕ) (k : ℕ) → k < length l → f (get_or l k 0) ≡ false → every f l ≡ false
-every_no f l k h e = never (every f l) (λ t. failed e (every_at f l t k h))
-
 pub and_true : (b : Bool) → (b && true) ≡ b
 and_true true = refl
 and_true false = refl
@@ -65,15 +56,3 @@ stop a b e = ap (λ (x : Bool). x && b) e
 
 pub pass : (a b : Bool) → a ≡ true → (a && b) ≡ b
 pass a b e = ap (λ (x : Bool). x && b) e
-
--- before turn k of a loop over the objects 1 to n
-pub record Turn (n : ℕ) (f : ℕ → Bool) (k : ℕ) : Type 0 where
-  pub least : 1 ≤ k
-  pub most : k ≤ n + 1
-  pub passed : UpBefore f k
-
-pub turn_first : (n : ℕ) (f : ℕ → Bool) → Turn n f 1
-turn_first n f = record { least = omega arith; most = omega arith; passed = up_none f }
-
-pub turn_next : (n : ℕ) (f : ℕ → Bool) (k : ℕ) → k ≤ n → Turn n f k → f k ≡ true → Turn n f (k + 1)
-turn_next n f k h t e = record { least = omega arith; most = omega arith; passed = up_more f k t.passed e }

@@ -7,7 +7,7 @@ use model::limits;
 pub fn is_edition(edition: u16) -> bool
     ensures { result ≡ is_edition edition }
 {
-    (1 <= edition) & (edition <= 2)
+    (1..=2).contains(&edition)
 }
 
 // Whether a send that fails is sent once more, as a message.
@@ -20,10 +20,7 @@ pub fn has_messages(edition: u16) -> bool
 pub fn least_objects(edition: u16) -> u16
     ensures { result ≡ least_objects edition }
 {
-    if has_messages(edition) {
-        return 8;
-    }
-    5
+    if has_messages(edition) { 8 } else { 5 }
 }
 
 pub fn last_kind(edition: u16) -> u16

@@ -13,12 +13,12 @@ use Rattle.plain.proofs.Theorem.{from_load}
 use Rattle.calls.specs.Plays.{calls_made, Plays}
 use Rattle.plain.proofs.Consequences.{last_checks}
 use Rattle.machine.specs.declared.Registers.{Registers}
-use Rattle.loads.specs.declared.Loaded.{Loaded}
+use Rattle.std.specs.Prelude.{Ok, Err}
+use Rattle.model.specs.declared.numbers.Refusal.{Refusal}
+use Rattle.model.specs.Numbers.{number_of}
 use Rattle.machine.specs.State.{state}
 use Rattle.loads.specs.Answers.{loadGives}
-use Rattle.loads.proofs.Loading.{none_given}
 use Rattle.replay.specs.Replays.{Makes, Declines}
-use Rattle.loads.specs.declared.Loaded.TheVariants as L
 
 is_done : Given → Type 0
 is_done (gives done s) = Unit {0}
@@ -39,42 +39,38 @@ module _ (g : R.Registers) (image calls answers contents bodies stack cache cont
   abbrev s : Flat
   s = flat g contents bodies stack cache
 
-  module _ (x : Loaded) (e : loadGives x contents₁ bodies₁ stack cache₁ ≡ flat_load s image) where
-    pub declines : (k : ℕ) (r : Registers) → x ≡ L.Refused k r → Declines s image answers k (flat R.no_registers contents₁ bodies₁ stack cache₁) answers
+  pub declines : (k : Refusal) → loadGives (Err k) contents₁ bodies₁ stack cache₁ ≡ flat_load s image
+      → Declines s image answers (number_of k) (flat R.no_registers contents₁ bodies₁ stack cache₁) answers
+  unfolding loadGives
+  declines k e = record { load = sym e; unwritten = refl }
+
+  module _ (r : Registers) (e : loadGives (Ok r) contents₁ bodies₁ stack cache₁ ≡ flat_load s image) where
+    abbrev start : Flat
+    start = state r contents₁ bodies₁ stack cache₁
+
+    loads : flat_load s image ≡ gives done start
     unfolding loadGives
-    declines k r q =
-        let t = state r contents₁ bodies₁ stack cache₁ in
-        let given : flat_load s image ≡ gives (refused_by k) t = sym e ∙ ap (λ (y : Loaded). loadGives y contents₁ bodies₁ stack cache₁) q in
-        let z = none_given s image k t (sym given) in
-        record { load = given ∙ (λ i. gives (refused_by k) (flat (z i) contents₁ bodies₁ stack cache₁)); unwritten = refl }
+    loads = sym e
 
-    module _ (r : Registers) (q : x ≡ L.Accepted r) where
-      abbrev start : Flat
-      start = state r contents₁ bodies₁ stack cache₁
+    from : Loads s image start
+    from =
+        let l = from_load s image (verdict_of s image start loads) in
+        subst (Loads s image) (ap (next_state s) (sym l.1.gave ∙ loads)) l.1
 
-      loads : flat_load s image ≡ gives done start
-      unfolding loadGives
-      loads = sym e ∙ ap (λ (y : Loaded). loadGives y contents₁ bodies₁ stack cache₁) q
+    -- what load leaves was checked
+    pub start_checks : check start ≡ accepted
+    start_checks = from.checks
 
-      from : Loads s image start
-      from =
-          let l = from_load s image (verdict_of s image start loads) in
-          subst (Loads s image) (ap (next_state s) (sym l.1.gave ∙ loads)) l.1
-
-      -- what load leaves was checked
-      pub start_checks : check start ≡ accepted
-      start_checks = from.checks
-
-      pub makes : (k : ℕ) (s' : Flat) (answers' : List ℕ) → Plays calls answers start k s' answers' → Makes s image calls answers k s' answers'
-      makes k s' answers' p =
-          record {
-            start = start;
-            load = loads;
-            plain = from.start;
-            agrees = from.agrees (calls_made calls answers);
-            last = p.last;
-            made = p.made;
-            written =
-                p.written;
-            checks = ap check p.last ∙ last_checks (room_of s) (calls_made calls answers) start (loaded image) (from.agrees (calls_made calls answers)) from.checks;
-          }
+    pub makes : (k : ℕ) (s' : Flat) (answers' : List ℕ) → Plays calls answers start k s' answers' → Makes s image calls answers k s' answers'
+    makes k s' answers' p =
+        record {
+          start = start;
+          load = loads;
+          plain = from.start;
+          agrees = from.agrees (calls_made calls answers);
+          last = p.last;
+          made = p.made;
+          written =
+              p.written;
+          checks = ap check p.last ∙ last_checks (room_of s) (calls_made calls answers) start (loaded image) (from.agrees (calls_made calls answers)) from.checks;
+        }

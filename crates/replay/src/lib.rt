@@ -5,17 +5,11 @@ ghost use Rattle.plain.specs.Registers as R;
 ghost use Rattle.plain.specs.Flat.{flat};
 ghost use Rattle.replay.specs.Replays.{Replays};
 
-use loads::Loaded;
 use machine::Made;
+use model::Refusal;
 
-// The calls were made, or the image is refused and nothing else is done.
-#[derive(Clone, Copy)]
-pub enum Replayed {
-    Made(Made),
-    Refused(u32),
-}
-
-// The image is loaded, then the calls are made as `Registers::play` makes them. Load leaves a state that check accepts, so nothing is checked twice.
+// The image is loaded, then the calls are made as `Registers::play` makes them. Load leaves a state that check accepts, so nothing is checked twice. A
+// refused image is all that is done.
 pub fn replay(
     image: &[u8],
     calls: &[u16],
@@ -24,17 +18,13 @@ pub fn replay(
     stack: &mut [u16],
     cache: &mut [u16],
     answers: &mut [u32],
-) -> Replayed
+) -> Result<Made, Refusal>
     ensures { (g : R.Registers)
         → Replays (flat g contents.old bodies.old stack.old cache.old) image.now
         calls.now answers.old contents.new bodies.new stack.new cache.new
         answers.new result }
 {
-    match loads::load(image, contents, bodies, cache) {
-        Loaded::Accepted(start) => {
-            let made = start.play_checked(contents, bodies, stack, cache, calls, answers);
-            Replayed::Made(made)
-        }
-        Loaded::Refused(k, _) => Replayed::Refused(k),
-    }
+    let start = loads::load(image, contents, bodies, cache)?;
+    let made = start.play_checked(contents, bodies, stack, cache, calls, answers);
+    Ok(made)
 }

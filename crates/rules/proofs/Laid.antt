@@ -2,9 +2,10 @@
 use Prim.Native.Nat.{ℕ, zero, suc, ◌+◌, ◌-◌, ◌/◌, ◌%◌, ◌≤◌}
 use mathlib.Core.Path.{◌≡◌, refl, sym, ap, ◌∙◌, subst}
 use mathlib.Core.Logic.{◌≢◌}
-use mathlib.Core.Bool.{Bool, true, false}
+use mathlib.Core.Bool.{Bool, true, false, not, ◌||◌}
 use mathlib.Core.List.{List}
 use native.Mathlib.Omega.{arith}
+use native.Mathlib.Decide.{ℕ_discrete}
 use borrow.Author.Tests.{eq-eqb, ne_eqb}
 use lib.Dec.{eqb, eqb→eq}
 use lib.ListN.{get_or}
@@ -39,12 +40,6 @@ start_next o k h = if_no _ _ (ne_eqb (k + 1) 1 (λ e. omega arith)) ∙ ap (body
     before : (k : ℕ) → k + 1 - 1 ≡ k
     before k = omega arith
 
-pub start_yes : (o : Objects) (k : ℕ) → start o k ≡ start_of o k → start_fine_of o k ≡ true
-start_yes o k e = start_fine o k ∙ eq-eqb (start o k) (start_of o k) e
-
-pub start_no : (o : Objects) (k : ℕ) → start o k ≢ start_of o k → start_fine_of o k ≡ false
-start_no o k e = start_fine o k ∙ ne_eqb (start o k) (start_of o k) e
-
 -- padding
 pub padding_none : (o : Objects) (k : ℕ) → sized_in_bytes (kind o k) ≡ false → padding_fine o k ≡ true
 unfolding padding_fine
@@ -61,6 +56,16 @@ padding_odd o k t h = rw (t, eq-eqb (size o k % 2) 1 h) (ap (λ (i : ℕ). eqb (
   where
     last : start o k + (body_words o k - 1) ≡ start o k + size o k / 2
     last = let q = in_bytes o k (true→T t) in omega arith
+
+pub padding_is : (o : Objects) (k : ℕ)
+    → padding_fine o k ≡ ((not (sized_in_bytes (kind o k)) || eqb (size o k % 2) 0) || eqb (get_or o.bodies (start o k + size o k / 2) 0 % 256) 0)
+padding_is o k = go (sized_in_bytes (kind o k)) refl (ℕ_discrete (size o k % 2) 1)
+  where
+    go : (t : Bool) → sized_in_bytes (kind o k) ≡ t → Dec (size o k % 2 ≡ 1)
+        → padding_fine o k ≡ ((not t || eqb (size o k % 2) 0) || eqb (get_or o.bodies (start o k + size o k / 2) 0 % 256) 0)
+    go false e d = padding_none o k e
+    go true e (yes h) = padding_odd o k e h ∙ sym (ap (λ (x : Bool). x || eqb (get_or o.bodies (start o k + size o k / 2) 0 % 256) 0) (ne_eqb (size o k % 2) 0 (λ q. omega arith)))
+    go true e (no h) = padding_even o k e h ∙ sym (ap (λ (x : Bool). x || eqb (get_or o.bodies (start o k + size o k / 2) 0 % 256) 0) (eq-eqb (size o k % 2) 0 (omega arith)))
 
 -- the whole rule, from each object
 pub laid_no : (e : ℕ) (o : Objects) (k : ℕ) → 1 ≤ k → k ≤ o.n → all_of (layout_rules e o k) ≡ false → rule4 e o ≡ false

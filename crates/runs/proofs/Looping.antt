@@ -4,6 +4,8 @@ use mathlib.Core.Path.{◌≡◌, refl, sym, ap, ◌∙◌, subst}
 use mathlib.Core.List.{List}
 use native.Mathlib.Omega.{arith}
 use lib.ListN.{length}
+use Rattle.model.specs.Numbers.{phase_of as halt_phase}
+use Rattle.model.specs.declared.numbers.Halt.{Halt}
 use Rattle.model.specs.Limits.{longest_chain}
 use Rattle.model.specs.Image.{Room, accepted}
 use Rattle.model.specs.Objects.{objects_at}
@@ -241,10 +243,10 @@ module _ {s₀ : Flat} {grant edition receiver selector n b : ℕ} {a : Active} 
     loop_finished w e =
         finished_at s₀ grant edition receiver selector n b a.base.0 contents bodies v cache (grant - left) reach read l.at fewer contents' bodies' stack' cache' w (told (A.Finished w) e)
 
-    pub loop_halted : (k : ℕ) → y ≡ A.Halted k
-        → RunsTo s₀ grant edition receiver selector contents' bodies' stack' cache' (record { n = n; b = b; phase = k; top = a.base.0; value = 0; count = grant - left; reach = reach; dictionaries = read })
-    loop_halted k e =
-        halted_at s₀ grant edition receiver selector n b a.base.0 contents bodies v cache (grant - left) reach read l.at fewer contents' bodies' stack' cache' k (told (A.Halted k) e)
+    pub loop_halted : (h : Halt) → y ≡ A.Halted h
+        → RunsTo s₀ grant edition receiver selector contents' bodies' stack' cache' (record { n = n; b = b; phase = halt_phase h; top = a.base.0; value = 0; count = grant - left; reach = reach; dictionaries = read })
+    loop_halted h e =
+        halted_at s₀ grant edition receiver selector n b a.base.0 contents bodies v cache (grant - left) reach read l.at fewer contents' bodies' stack' cache' (halt_phase h) (told (A.Halted h) e)
 
     -- a send that failed, and the frame's words are written
     pub loop_failed : (m : Message) → y ≡ A.Failed m → RunsFail s₀ grant edition receiver selector contents' bodies' stack' cache' m n b a.base.0 left reach read

@@ -13,7 +13,8 @@ use Rattle.plain.specs.Registers as R
 use Rattle.frames.specs.declared.Message.{Message}
 use Rattle.runs.specs.declared.Ended.{Ended}
 use Rattle.runs.specs.declared.Stretched.{Stretched}
-use Rattle.runs.specs.declared.Stretched.TheVariants.{Over, Failed}
+use Rattle.runs.specs.declared.Stretched.TheVariants.{Over}
+use Rattle.runs.specs.declared.Stretched.TheVariants as S
 
 abbrev pub start_of : (e receiver selector n b top : ℕ) → List ℕ → List ℕ → List ℕ → List ℕ → Flat
 start_of e receiver selector n b top contents bodies stack cache = flat (running_with e receiver selector n b top) contents bodies stack cache
@@ -54,8 +55,8 @@ pub record RunsFail (s : Flat) (grant e receiver selector : ℕ) (contents bodie
 
 abbrev pub StretchedIs : (s : Flat) (grant e receiver selector : ℕ) (contents bodies stack cache : List ℕ) → Stretched → Type 0
 StretchedIs s grant e receiver selector contents bodies stack cache (Over r) = RunsTo s grant e receiver selector contents bodies stack cache r
-StretchedIs s grant e receiver selector contents bodies stack cache (Failed m n b top left reach read) =
-    RunsFail s grant e receiver selector contents bodies stack cache m n b top.0 left reach read
+StretchedIs s grant e receiver selector contents bodies stack cache (S.Failed f) =
+    RunsFail s grant e receiver selector contents bodies stack cache f.message f.n f.b f.top.0 f.left f.reach f.dictionaries
 
 -- With all start words that check accepts
 abbrev pub StretchesOn : (e n b top : ℕ) (contents bodies stack cache : List ℕ) (grant : ℕ) (contents' bodies' stack' cache' : List ℕ) → Stretched → Type 0

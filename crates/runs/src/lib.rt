@@ -6,10 +6,12 @@ ghost use Rattle.model.specs.Limits.{longest_chain};
 ghost use Rattle.plain.specs.Running.{Runs};
 ghost use Rattle.frames.specs.Active.{frame_end};
 ghost use Rattle.runs.specs.Ends.{reach_in, dictionaries_in, Goes, StretchesOn};
+ghost use Rattle.readers.specs.Lent.{On};
 
 use frames::Message;
 use interpreter::Advanced;
 use model::{Pointer, StackPosition, limits};
+use readers::Memory;
 
 // How a run ended: the registers but for the start words, the bytecodes made, reach, the largest end of a frame that stood in it, and the dictionaries that its lookups read.
 #[derive(Clone, Copy)]
@@ -24,36 +26,32 @@ pub struct Ended {
     pub dictionaries: u64,
 }
 
-// How a stretch of a run ended: with the run, or at a send that failed, with so many bytecodes left, reach and dictionaries so far.
+// A send of a run that failed: the number of objects and body words then, the top frame, so many bytecodes left, reach and dictionaries so far.
+#[derive(Clone, Copy)]
+pub struct Failed {
+    pub message: Message,
+    pub n: usize,
+    pub b: usize,
+    pub top: StackPosition,
+    pub left: u32,
+    pub reach: usize,
+    pub dictionaries: u64,
+}
+
+// How a stretch of a run ended: with the run, or at a send that failed, which is no error: its message is sent, and the run goes on.
 #[derive(Clone, Copy)]
 pub enum Stretched {
     Over(Ended),
-    Failed {
-        message: Message,
-        n: usize,
-        b: usize,
-        top: StackPosition,
-        left: u32,
-        reach: usize,
-        dictionaries: u64,
-    },
+    Failed(Failed),
 }
 
 // Where the top frame ends.
-fn frame_end(
-    contents: &[u16],
-    bodies: &[u16],
-    stack: &[u16],
-    n: usize,
-    b: usize,
-    top: StackPosition,
-) -> usize
-    requires { Runs n b top.0 contents.now bodies.now stack.now }
-    ensures { (result ≡ frame_end n b top.0 contents.now bodies.now stack.now) × (result ≤ 65536) }
+fn frame_end(memory: &Memory, stack: &[u16], top: StackPosition) -> usize
+    requires { On Runs memory.now top.0 stack.now }
+    ensures { (result ≡ frame_end memory.now.n memory.now.b top.0 memory.now.contents.now memory.now.bodies.now stack.now) × (result ≤ 65536) }
 {
-    let base = top.0;
-    let method = Pointer(stack[base + limits::FRAME_METHOD]);
-    frames::end_of(contents, bodies, n, b, top, method)
+    let method = Pointer(stack[top.0 + limits::FRAME_METHOD]);
+    frames::end_of(memory, top, method)
 }
 
 // Reach and dictionaries so far are one number, the tally: so much for each dictionary, and reach. A loop that carries one number more takes more machine instructions at every bytecode.
@@ -99,8 +97,14 @@ pub fn stretch(
     let mut words = b;
     let start = StackPosition(top);
     let mut left = grant;
-    let mut tally = frame_end(contents, bodies, stack, objects, words, start);
-    let mut active = frames::hold(contents, bodies, stack, objects, words, start);
+    let memory = &Memory {
+        contents,
+        bodies,
+        n,
+        b,
+    };
+    let mut tally = frame_end(memory, stack, start);
+    let mut active = frames::hold(memory, stack, start);
     while 0 < left {
         match interpreter::advance(
             contents, bodies, stack, cache, edition, objects, words, active,
@@ -151,22 +155,21 @@ pub fn stretch(
                 });
             }
             Advanced::Failed(message) => {
-                let base = active.base;
-                return Stretched::Failed {
-                    message: message,
+                return Stretched::Failed(Failed {
+                    message,
                     n: objects,
                     b: words,
-                    top: base,
-                    left: left,
+                    top: active.base,
+                    left,
                     reach: tally % TALLY,
                     dictionaries: (tally / TALLY) as u64,
-                };
+                });
             }
-            Advanced::Halted(k) => {
+            Advanced::Halted(halt) => {
                 return Stretched::Over(Ended {
                     n: objects as u16,
                     b: words as u16,
-                    phase: k,
+                    phase: halt.phase(),
                     top: active.base.0 as u16,
                     value: 0,
                     count: grant - left,
@@ -176,7 +179,7 @@ pub fn stretch(
             }
         }
     }
-    frames::leave(stack, active);
+    active.leave(stack);
     Stretched::Over(Ended {
         n: objects as u16,
         b: words as u16,

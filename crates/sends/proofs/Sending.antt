@@ -13,7 +13,7 @@ use Rattle.model.specs.Word.{is_valid}
 use Rattle.model.specs.Objects.{Objects, objects_at, class_of, part}
 use Rattle.model.specs.Method.{home, frame_size}
 use Rattle.model.specs.Lookup.{found, lookup, dictionaries_read, in_chain}
-use Rattle.model.specs.declared.Found.TheVariants.{Nothing}
+use Rattle.std.specs.Prelude.{None}
 use Rattle.model.specs.Image.{Room}
 use Rattle.model.proofs.LookupLaws.{read_few}
 use Rattle.plain.specs.Registers.{no_stack_room}
@@ -96,7 +96,7 @@ module _ {n b : ℕ} {contents bodies stack : List ℕ} {a : Active} {q : Messag
   left_is = let k = sent_needs in let e = ends r in let d = depth_read r in omega arith
 
   -- no method
-  pub made_nothing : (cache : List ℕ) (edition receiver₀ selector₀ : ℕ) → lookup o q.selector q.class.0 ≡ Nothing
+  pub made_nothing : (cache : List ℕ) (edition receiver₀ selector₀ : ℕ) → lookup o q.selector q.class.0 ≡ None
       → Fails (step cache edition receiver₀ selector₀) (otherwise cache edition receiver₀ selector₀) contents bodies stack cache contents bodies stack cache
   made_nothing cache edition receiver₀ selector₀ e =
       record {

@@ -3,7 +3,7 @@
 
 ghost use Rattle.std.specs.Prelude.{◌≡◌, true, ◌+◌, ◌≤◌, ◌<◌, length, get_or, set};
 ghost use Rattle.std.proofs.lemmas.List.Edits.{sets};
-ghost use Rattle.model.specs.Objects.{objects_at, class_of, part};
+ghost use Rattle.model.specs.Objects.{class_of, part};
 ghost use Rattle.model.specs.Method.{home};
 ghost use Rattle.model.specs.Lookup.{in_chain};
 ghost use Rattle.plain.specs.Running.{Sending};
@@ -12,12 +12,15 @@ ghost use Rattle.frames.specs.Words.{new_words};
 ghost use Rattle.frames.specs.Active.{written, IsActive};
 ghost use Rattle.activation.specs.Activating.{Activable, Activates};
 ghost use Rattle.sends.specs.Sends.{Guarded, Framing, BaseIs, Enters, Sends};
+ghost use Rattle.readers.specs.Lent.{objects_in, In, On};
 
 use activation::Activated;
 use frames::{Active, Message};
-use model::{CodePosition, Found, Pointer, StackPosition, limits};
+use model::{CodePosition, Pointer, StackPosition, limits};
+use readers::Memory;
 
-// The frame of a method, how many temporaries it has and where it ends; or the stack is full; or the receiver is none for the method.
+// The frame of a method, how many temporaries it has and where it ends; or the stack is full; or the receiver is none for the method. Three
+// outcomes, of which two differ in what follows: a Result of an enum of the two would be matched twice.
 #[derive(Clone, Copy)]
 enum Base {
     At {
@@ -29,8 +32,8 @@ enum Base {
     Unfit,
 }
 
-// What a send leads to: an answer, with the number of objects and body words then; a new top frame, and where it ends; either with the dictionaries that its lookup read; or a halt, with the
-// phase that says why.
+// What a send leads to: an answer, with the number of objects and body words then; or a new top frame, and where it ends; either with the
+// dictionaries that its lookup read. Or the stack is full, and the handler halts; or the send fails, which is no error, since its message may be sent.
 #[derive(Clone, Copy)]
 pub enum Sent {
     Answered {
@@ -47,15 +50,12 @@ pub enum Sent {
     Failed,
 }
 
-// Argument i of `count` in the stack, 0 where there is none.
+// Argument i of `count` in the stack. 0 is no missing value here: it is what a primitive is handed for an argument that the send has not.
 fn argument(stack: &[u16], from: usize, count: usize, i: usize) -> u16
     requires { from + count ≤ length stack.now }
     ensures { result ≡ get_or (part stack.now from count) i 0 }
 {
-    if count <= i {
-        return 0;
-    }
-    stack[from + i]
+    if i < count { stack[from + i] } else { 0 }
 }
 
 // What a method does on the receiver at a place and the arguments above it. Most run in a frame at once: their flag alone is read here.
@@ -75,7 +75,13 @@ fn acted(
         (get_or (part stack.now (place + 1) count) 0 0) (get_or (part stack.now (place + 1) count) 1 0)
         contents.new bodies.new result }
 {
-    if readers::flag(objects::header(contents, bodies, n, b, method)) < limits::ANSWER_SELF {
+    let memory = &Memory {
+        contents,
+        bodies,
+        n,
+        b,
+    };
+    if readers::flag(objects::header(memory, method)) < limits::ANSWER_SELF {
         return Activated::Frame;
     }
     let receiver = stack[place];
@@ -87,34 +93,23 @@ fn acted(
 }
 
 // Whether the method's home is in the receiver's class chain; a sure send need not look.
-pub fn runs_on(
-    contents: &[u16],
-    bodies: &[u16],
-    n: usize,
-    b: usize,
-    method: Pointer,
-    receiver: u16,
-    sure: bool,
-) -> bool
-    requires { Guarded n b contents.now bodies.now method.0 receiver sure }
-    ensures { result ≡ in_chain (objects_at n b contents.now bodies.now)
-        (home (objects_at n b contents.now bodies.now) method.0)
-        (class_of (objects_at n b contents.now bodies.now) receiver) }
+pub fn runs_on(memory: &Memory, method: Pointer, receiver: u16, sure: bool) -> bool
+    requires { In Guarded memory.now method.0 receiver sure }
+    ensures { result ≡ in_chain (objects_in memory.now)
+        (home (objects_in memory.now) method.0)
+        (class_of (objects_in memory.now) receiver) }
 {
     if sure {
         return true;
     }
-    let home = objects::home(contents, bodies, n, b, method);
-    let class = objects::class_of(contents, n, receiver);
-    objects::in_chain(contents, bodies, n, b, home, class)
+    let home = objects::home(memory, method);
+    let class = objects::class_of(memory, receiver);
+    objects::in_chain(memory, home, class)
 }
 
 // The frame of a method above that of the running one, in a stack of `room` words.
 fn new_frame(
-    contents: &[u16],
-    bodies: &[u16],
-    n: usize,
-    b: usize,
+    memory: &Memory,
     room: usize,
     top: StackPosition,
     running: Pointer,
@@ -122,34 +117,31 @@ fn new_frame(
     receiver: u16,
     sure: bool,
 ) -> Base
-    requires { Framing n b top.0 contents.now bodies.now running.0 method.0 receiver sure }
-    ensures { BaseIs (objects_at n b contents.now bodies.now) room top.0 running.0 method.0 receiver result }
+    requires { On Framing memory.now top.0 running.0 method.0 receiver sure }
+    ensures { BaseIs (objects_in memory.now) room top.0 running.0 method.0 receiver result }
 {
-    if !runs_on(contents, bodies, n, b, method, receiver, sure) {
+    if !runs_on(memory, method, receiver, sure) {
         return Base::Unfit;
     }
-    let base = StackPosition(frames::end_of(contents, bodies, n, b, top, running));
-    let end = frames::end_of(contents, bodies, n, b, base, method);
-    if room < end {
+    let base = StackPosition(frames::end_of(memory, top, running));
+    let end = frames::end_of(memory, base, method);
+    if room < end || limits::MOST_STACK_WORDS < end {
         return Base::Full;
     }
-    if limits::MOST_STACK_WORDS < end {
-        return Base::Full;
-    }
-    let code = objects::code_of(contents, bodies, n, b, method);
-    let temporaries = readers::temporary_count(objects::header(contents, bodies, n, b, method));
+    let code = objects::code_of(memory, method);
+    let temporaries = readers::temporary_count(objects::header(memory, method));
     let operands = StackPosition(frames::first_temporary(base) + temporaries);
     Base::At {
         frame: Active {
-            base: base,
+            base,
             code: code.from,
             limit: code.end,
-            operands: operands,
+            operands,
             position: CodePosition(0),
             end: operands,
         },
-        temporaries: temporaries,
-        end: end,
+        temporaries,
+        end,
     }
 }
 
@@ -208,10 +200,15 @@ pub fn send(
     let selector = message.selector;
     let class = message.class;
     let count = message.count;
-    let lookup = cache::cached(contents, bodies, cache, n, b, selector, class);
-    let found = lookup.found;
+    let memory = &Memory {
+        contents,
+        bodies,
+        n,
+        b,
+    };
+    let lookup = cache::cached(memory, cache, selector, class);
     let dictionaries = lookup.dictionaries;
-    let Found::Method(method) = found else {
+    let Some(method) = lookup.found else {
         return Sent::Failed;
     };
     let top = active.base;
@@ -220,39 +217,26 @@ pub fn send(
     let receiver = stack[place];
     let done = acted(contents, bodies, stack, edition, n, b, method, place, count);
     match done {
-        Activated::Answer {
-            word: word,
-            n: objects,
-            b: words,
-        } => {
+        Activated::Answer { word, n, b } => {
             stack[place] = word;
             cache::fill(cache, selector, class, method, dictionaries);
-            Sent::Answered {
-                n: objects,
-                b: words,
-                dictionaries: dictionaries,
-            }
+            Sent::Answered { n, b, dictionaries }
         }
         Activated::Unfit => Sent::Failed,
         Activated::Frame => {
-            let room = stack.len();
-            let fit = new_frame(
+            let memory = &Memory {
                 contents,
                 bodies,
                 n,
                 b,
-                room,
-                top,
-                running,
-                method,
-                receiver,
-                message.sure,
-            );
+            };
+            let room = stack.len();
+            let fit = new_frame(memory, room, top, running, method, receiver, message.sure);
             match fit {
                 Base::At {
-                    frame: frame,
-                    temporaries: temporaries,
-                    end: end,
+                    frame,
+                    temporaries,
+                    end,
                 } => {
                     make_frame(
                         stack,
@@ -268,9 +252,9 @@ pub fn send(
                     );
                     cache::fill(cache, selector, class, method, dictionaries);
                     Sent::Entered {
-                        frame: frame,
-                        end: end,
-                        dictionaries: dictionaries,
+                        frame,
+                        end,
+                        dictionaries,
                     }
                 }
                 Base::Full => Sent::Full,

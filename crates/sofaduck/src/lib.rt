@@ -11,10 +11,9 @@ ghost use Rattle.calls.specs.Plays.{flat_play};
 ghost use Rattle.machine.specs.State.{registers_of};
 ghost use Rattle.sofaduck.specs.Border.{registers_at, state_of, answer_of, verdict_of, KeptIfRefused, run_answer, save_answer, play_answer};
 
-use loads::{Loaded, Saved};
-use machine::{Begun, Checked, Dropped, Forgotten, Played, Ran, Registers};
+use machine::Registers;
 
-// C's eight registers, written and read.
+// C's eight registers, written and read. By hand: a `From` would have to stand with `Registers`, which knows nothing of C's order of the words.
 fn write_registers(registers: &mut [u16; 8], r: Registers)
     ensures { registers_at registers.new ≡ registers_of r }
 {
@@ -50,13 +49,13 @@ pub fn sofaduck_load(
         ≡ flat_load (flat g contents.old bodies.old stack cache.old) image.now }
 {
     match loads::load(image, contents, bodies, cache) {
-        Loaded::Accepted(r) => {
-            write_registers(registers, r);
+        Ok(loaded) => {
+            write_registers(registers, loaded);
             0
         }
-        Loaded::Refused(k, r) => {
-            write_registers(registers, r);
-            k
+        Err(refusal) => {
+            write_registers(registers, loads::no_registers());
+            refusal.number()
         }
     }
 }
@@ -80,14 +79,11 @@ pub fn sofaduck_begin(
     match before.begin(
         contents, bodies, stack, cache, receiver, selector, arguments,
     ) {
-        Begun::Started(r) => {
-            write_registers(registers, r);
+        Ok(begun) => {
+            write_registers(registers, begun);
             0
         }
-        Begun::Refused(k, r) => {
-            write_registers(registers, r);
-            k
-        }
+        Err(refusal) => refusal.number(),
     }
 }
 
@@ -110,22 +106,14 @@ pub fn sofaduck_run(
 {
     let before = read_registers(registers);
     match before.run(contents, bodies, stack, cache, grant) {
-        Ran::Done {
-            registers: r,
-            count: made,
-            reach: highest,
-            dictionaries: read,
-        } => {
-            write_registers(registers, r);
-            *count = made;
-            *reach = highest;
-            *dictionaries = read;
+        Ok(ran) => {
+            write_registers(registers, ran.registers);
+            *count = ran.count;
+            *reach = ran.reach;
+            *dictionaries = ran.dictionaries;
             0
         }
-        Ran::Refused(k, r) => {
-            write_registers(registers, r);
-            k
-        }
+        Err(refusal) => refusal.number(),
     }
 }
 
@@ -142,14 +130,11 @@ pub fn sofaduck_drop(
 {
     let before = read_registers(registers);
     match before.drop(contents, bodies, stack, cache) {
-        Dropped::Dropped(r) => {
-            write_registers(registers, r);
+        Ok(dropped) => {
+            write_registers(registers, dropped);
             0
         }
-        Dropped::Refused(k, r) => {
-            write_registers(registers, r);
-            k
-        }
+        Err(refusal) => refusal.number(),
     }
 }
 
@@ -171,15 +156,12 @@ pub fn sofaduck_play(
 {
     let before = read_registers(registers);
     match before.play(contents, bodies, stack, cache, calls, answers) {
-        Played::Made(played) => {
+        Ok(played) => {
             write_registers(registers, played.registers);
             *made = played.calls;
             0
         }
-        Played::Refused(k, r) => {
-            write_registers(registers, r);
-            k
-        }
+        Err(refusal) => refusal.number(),
     }
 }
 
@@ -195,8 +177,8 @@ pub fn sofaduck_forget(
         ≡ flat_forget (state_of registers.now contents.now bodies.now stack.now cache.old) }
 {
     match machine::forget(read_registers(registers), contents, bodies, stack, cache) {
-        Forgotten::Emptied => 0,
-        Forgotten::Refused(k) => k,
+        Ok(()) => 0,
+        Err(refusal) => refusal.number(), // as check answers
     }
 }
 
@@ -210,8 +192,8 @@ pub fn sofaduck_check(
     ensures { verdict_of result ≡ K.check (state_of registers.now contents.now bodies.now stack.now cache.now) }
 {
     match machine::check(read_registers(registers), contents, bodies, stack, cache) {
-        Checked::Right => 0,
-        Checked::Refused(k) => k,
+        Ok(()) => 0,
+        Err(refusal) => refusal.number(), // 3 or 11
     }
 }
 
@@ -237,10 +219,10 @@ pub fn sofaduck_save(
         cache,
         output,
     ) {
-        Saved::Wrote(bytes) => {
+        Ok(bytes) => {
             *length = bytes;
             0
         }
-        Saved::Refused(k) => k,
+        Err(refusal) => refusal.number(), // 3 for a short output too
     }
 }

@@ -2,54 +2,38 @@
 #![tactic(auto)]
 
 ghost use Rattle.std.specs.Prelude.{◌≡◌};
-ghost use Rattle.model.specs.Objects.{objects_at};
 ghost use Rattle.checks.specs.Frame.{Noted};
 ghost use Rattle.state.specs.Parts.{registers_fine, standing_fine};
+ghost use Rattle.readers.specs.Lent.{objects_in, In};
 
 use model::StackPosition;
+use readers::Memory;
 
 // A phase from 0 to 5; a value that is valid in phase 2, else 0.
 pub fn registers_fine(n: usize, phase: u16, value: u16) -> bool
     ensures { result ≡ registers_fine n phase value }
 {
-    if 5 < phase {
-        return false;
+    match phase {
+        2 => readers::is_valid(n, value),
+        0..=5 => value == 0,
+        _ => false,
     }
-    if phase == 2 {
-        return readers::is_valid(n, value);
-    }
-    value == 0
 }
 
 // The frames, in the phases that have any.
 pub fn standing_fine(
-    contents: &[u16],
-    bodies: &[u16],
+    memory: &Memory,
     stack: &[u16],
     notes: &[u8],
     edition: u16,
-    n: usize,
-    b: usize,
     phase: u16,
     top: u16,
 ) -> bool
-    requires { Noted edition n b contents.now bodies.now notes.now }
-    ensures { result ≡ standing_fine edition (objects_at n b contents.now bodies.now) stack.now phase top }
+    requires { In (Noted edition) memory.now notes.now }
+    ensures { result ≡ standing_fine edition (objects_in memory.now) stack.now phase top }
 {
-    if phase == 0 {
-        return top == 0;
+    match phase {
+        0 | 2 => top == 0,
+        _ => checks::frames_fine(memory, stack, notes, edition, StackPosition(top as usize)),
     }
-    if phase == 2 {
-        return top == 0;
-    }
-    checks::frames_fine(
-        contents,
-        bodies,
-        stack,
-        notes,
-        edition,
-        n,
-        b,
-        StackPosition(top as usize),
-    )
 }

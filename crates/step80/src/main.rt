@@ -6,9 +6,10 @@ ghost use Rattle.plain.specs.Program.{step80};
 ghost use Rattle.plain.specs.Text.{line_bytes};
 ghost use Rattle.step80.specs.Counts.{IsPrefixLen};
 ghost use Rattle.step80.specs.Input.{bytes_read};
+ghost use Rattle.step80.specs.Lines.{line_by};
 
-use loads::Loaded;
-use machine::{Begun, Ran};
+use machine::Ran;
+use model::Refusal;
 use std::io;
 use std::io::Read;
 
@@ -16,6 +17,7 @@ use std::io::Read;
 const MOST: usize = 655361;
 
 // Standard input, to its end or until the buffer is full. An error is that of the read that failed; the buffer keeps what was read before it.
+// By hand: `read_to_end` wants memory of its own, and `read_exact` fails at a shorter input.
 fn read_all(rt: &impl Input, image: &mut [u8]) -> io::Result<usize>
     ensures read { bytes_read result ≤ length image.new }
     ensures kept { length image.new ≡ length image.old }
@@ -32,7 +34,39 @@ fn read_all(rt: &impl Input, image: &mut [u8]) -> io::Result<usize>
     Ok(done)
 }
 
-// Load, begin with the start words and no arguments, and in phase 1 run 1,000 bytecodes; the line stands at the front of `out`.
+// Load, begin with the start words and no arguments, and in phase 1 run 1,000 bytecodes.
+fn outcome(
+    image: &[u8],
+    contents: &mut [u16],
+    bodies: &mut [u16],
+    stack: &mut [u16],
+    cache: &mut [u16],
+) -> Result<Ran, Refusal>
+    requires { (length contents.old ≡ 8188) × (length bodies.old ≡ 24000) × (length stack.old ≡ 1024) × (length cache.old ≡ 256) }
+    ensures { line_by result ≡ step80 image.now }
+{
+    let loaded = loads::load(image, contents, bodies, cache)?;
+    let begun = loaded.begin(
+        contents,
+        bodies,
+        stack,
+        cache,
+        loaded.receiver,
+        loaded.selector,
+        &[],
+    )?;
+    if begun.phase != 1 {
+        return Ok(Ran {
+            registers: begun,
+            count: 0,
+            reach: 0,
+            dictionaries: 0,
+        });
+    }
+    begun.run(contents, bodies, stack, cache, 1000)
+}
+
+// The line of an image at the front of `out`, and how many bytes it has.
 fn answer(
     image: &[u8],
     contents: &mut [u16],
@@ -45,28 +79,9 @@ fn answer(
     ensures prefix_len { IsPrefixLen result out.new }
     ensures value { (result ≡ length (line_bytes (step80 image.now))) × (out.new ≡ line_bytes (step80 image.now) ++ drop result out.old) }
 {
-    match loads::load(image, contents, bodies, cache) {
-        Loaded::Refused(k, _) => lines::write_refusal(out, k),
-        Loaded::Accepted(loaded) => {
-            let receiver = loaded.receiver;
-            let selector = loaded.selector;
-            match loaded.begin(contents, bodies, stack, cache, receiver, selector, &[]) {
-                Begun::Refused(k, _) => lines::write_refusal(out, k),
-                Begun::Started(begun) => {
-                    if begun.phase != 1 {
-                        return lines::write_run(out, begun.phase, 0, begun.value);
-                    }
-                    match begun.run(contents, bodies, stack, cache, 1000) {
-                        Ran::Refused(k, _) => lines::write_refusal(out, k),
-                        Ran::Done {
-                            registers,
-                            count,
-                            ..
-                        } => lines::write_run(out, registers.phase, count, registers.value),
-                    }
-                }
-            }
-        }
+    match outcome(image, contents, bodies, stack, cache) {
+        Ok(ran) => lines::write_run(out, ran.registers.phase, ran.count, ran.registers.value),
+        Err(refusal) => lines::write_refusal(out, refusal.number()),
     }
 }
 

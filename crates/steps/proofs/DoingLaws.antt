@@ -23,8 +23,7 @@ use Rattle.model.specs.Primitive.{store_word}
 use Rattle.model.specs.Image.{Room}
 use Rattle.model.specs.declared.StackPosition.{StackPosition}
 use Rattle.model.specs.declared.Pointer.{Pointer}
-use Rattle.model.specs.declared.Computed.{Computed}
-use Rattle.model.specs.declared.Computed.TheVariants.{Word, Failed}
+use Rattle.std.specs.Prelude.{Option, Some, None}
 use Rattle.plain.specs.Registers.{no_boolean}
 use Rattle.plain.specs.Step.{Stepped, read, tried_primitive}
 use Rattle.plain.specs.Flat.{frame_method, frame_receiver}
@@ -37,6 +36,7 @@ use Rattle.frames.specs.declared.Active.{Active}
 use Rattle.frames.specs.Active.{written, moved_on, Onward}
 use Rattle.frames.proofs.ActiveLaws.{active_method, length_written, word_written, moves_on, puts, put_method, Ends, ends, method_read, receiver_read}
 use Rattle.steps.specs.declared.Event.{Event}
+use Rattle.model.specs.declared.numbers.Halt.TheVariants.{NoBoolean}
 use Rattle.steps.specs.declared.Event.TheVariants.{Next, Return, Halt}
 use Rattle.steps.specs.Events.{StepIs, Becomes, Doing, Computing, Pushing, Pushed, left_by, Storing, StoringAt, Sends, here_of, Says}
 use Rattle.steps.proofs.HereLaws.{bounds, operand_valid}
@@ -268,7 +268,7 @@ module _ {n b : ℕ} {contents bodies stack : List ℕ} {a : Active} {next ahead
       either (inr x) = inr (operand_read d 0 at on_one p ∙ x)
 
   pub halts_there : (w at : ℕ) → at ≡ a.end.0 - 1 → w ≡ boolean_word condition → (get_or stack at 0 ≡ w → ⊥) → (get_or stack at 0 ≡ 6 → ⊥)
-      → (get_or stack at 0 ≡ 4 → ⊥) → Says n b contents a bodies stack bodies stack (Halt 4)
+      → (get_or stack at 0 ≡ 4 → ⊥) → Says n b contents a bodies stack bodies stack (Halt NoBoolean)
   halts_there w at p e t u v =
       record {
         cause = no_boolean;
@@ -429,7 +429,7 @@ module _ {n b : ℕ} {contents bodies stack : List ℕ} {a : Active} {next k : �
     operands_read t under last p q = ap₂ (λ (u w : ℕ). arithmetic t u w) (sym (operand_read d 1 under two p)) (sym (operand_read d 0 last special_one q))
 
     -- what its primitive computed, where the call names it by its number
-    pub computing : {j : ℕ} {x : Computed} → x ≡ arithmetic (tried_primitive j) (get_or stack (a.end.0 - 2) 0) (get_or stack (a.end.0 - 1) 0) → k ≡ j
+    pub computing : {j : ℕ} {x : Option ℕ} → x ≡ arithmetic (tried_primitive j) (get_or stack (a.end.0 - 2) 0) (get_or stack (a.end.0 - 1) 0) → k ≡ j
         → Computing n b contents bodies stack a next k x
     computing e p =
         record { doing = d; small = small; computed = e ∙ ap (λ (t : ℕ). arithmetic (tried_primitive t) (get_or stack (a.end.0 - 2) 0) (get_or stack (a.end.0 - 1) 0)) (sym p) }
@@ -456,7 +456,7 @@ module _ {n b : ℕ} {contents bodies stack : List ℕ} {a : Active} {next k : �
   pub special_done : (s count : ℕ) → 16 ≤ k → k ≢ 22 → k ≢ 23 → s ≡ special_selector (objects_at n b contents bodies) k → count ≡ special_count k → Sends n b contents bodies stack a next s count
   special_done s count g p q e c = record { active = d.active; sends = special_sends_lem (here d) s count g p q e c }
 
-module _ {n b : ℕ} {contents bodies stack : List ℕ} {a : Active} {next k : ℕ} {x : Computed} (z : Computing n b contents bodies stack a next k x) where
+module _ {n b : ℕ} {contents bodies stack : List ℕ} {a : Active} {next k : ℕ} {x : Option ℕ} (z : Computing n b contents bodies stack a next k x) where
   pub computing_two : 2 ≤ a.end.0 - a.operands.0
   computing_two = two z.doing z.small
 
@@ -467,7 +467,7 @@ module _ {n b : ℕ} {contents bodies stack : List ℕ} {a : Active} {next k : �
       (get_or (written a stack) (a.operands.0 + (a.end.0 - a.operands.0 - 1)) 0)
   computed_here = z.computed ∙ operands_read z.doing z.small (tried_primitive k) (a.end.0 - 2) (a.end.0 - 1) refl refl
 
-  pub computed_done : (w : ℕ) (e : StackPosition) (stack' : List ℕ) → x ≡ Word w → e.0 ≡ a.end.0 - 1 → stack' ≡ set stack (a.end.0 - 2) w
+  pub computed_done : (w : ℕ) (e : StackPosition) (stack' : List ℕ) → x ≡ Some w → e.0 ≡ a.end.0 - 1 → stack' ≡ set stack (a.end.0 - 2) w
       → Says n b contents a bodies stack bodies stack' (Next (record { 0 = next }) e)
   computed_done w e stack' y u s =
       let o = computing_two in
@@ -475,6 +475,6 @@ module _ {n b : ℕ} {contents bodies stack : List ℕ} {a : Active} {next k : �
       says_answered z.doing 2 w (a.end.0 - 2) (record { 0 = next }) e stack' s refl refl (omega arith) o
       (λ l r. arithmetic_says (here z.doing) z.small (tried_primitive k) w x l refl computed_here y r)
 
-  pub failed_sends : (s : ℕ) → x ≡ Failed → s ≡ special_selector (objects_at n b contents bodies) k → Sends n b contents bodies stack a next s 1
+  pub failed_sends : (s : ℕ) → x ≡ None → s ≡ special_selector (objects_at n b contents bodies) k → Sends n b contents bodies stack a next s 1
   failed_sends s y u =
       record { active = z.doing.active; sends = arithmetic_sends_lem (here z.doing) z.small (tried_primitive k) s x refl computed_here y u }

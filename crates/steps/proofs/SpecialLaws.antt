@@ -15,8 +15,7 @@ use Rattle.bytecode.specs.Effect.{special_count, need, leaves, successors}
 use Rattle.bytecode.specs.declared.Instruction.TheVariants.{SpecialSend}
 use Rattle.bytecode.proofs.Choice.{if_yes, if_no, if_lt, if_ge}
 use Rattle.bytecode.proofs.TestLaws.{below_at}
-use Rattle.model.specs.declared.Computed.{Computed}
-use Rattle.model.specs.declared.Computed.TheVariants.{Word, Failed}
+use Rattle.std.specs.Prelude.{Some, None}
 use Rattle.model.specs.Word.{boolean_word}
 use Rattle.model.specs.Objects.{Objects, objects_at, class_of}
 use Rattle.model.specs.Method.{code_words, code_size}
@@ -146,26 +145,26 @@ module _ {n b top : ℕ} {contents bodies stack : List ℕ} {h : Here} {k : ℕ}
     arithmetic_noted : note_at (method_table a.at.runs.edition o (frame_method stack top)) h.next ≡ suc (suc (h.depth - 2))
     arithmetic_noted = noted_as 1 (special_one k small)
 
-    computes : (t : ℕ) (x : Computed) → t ≡ tried_primitive k → x ≡ arithmetic t under last
+    computes : (t : ℕ) (x : Rattle.std.specs.declared.option.Option.Option ℕ) → t ≡ tried_primitive k → x ≡ arithmetic t under last
         → Does a (λ p room. or_sends x (λ w. pushed p f rest h.next (without f 2) w no_lookup) (sends room p f rest h.next (class_of o) (special_selector o k) 1))
     unfolding execute special_sends arithmetic_sends
     computes t x e d edition receiver selector room =
         if_lt k 16 _ _ small
         ∙ both arithmetic_two (λ u v. or_sends (arithmetic (tried_primitive k) u v) (λ w. pushed (at edition receiver selector) f rest h.next (without f 2) w
         no_lookup) (sends room (at edition receiver selector) f rest h.next (class_of o) (special_selector o k) 1))
-        ∙ ap (λ (y : Computed). or_sends y (λ w. pushed (at edition receiver selector) f rest h.next (without f 2) w no_lookup)
+        ∙ ap (λ (y : Rattle.std.specs.declared.option.Option.Option ℕ). or_sends y (λ w. pushed (at edition receiver selector) f rest h.next (without f 2) w no_lookup)
         (sends room (at edition receiver selector) f rest h.next (class_of o) (special_selector o k) 1)) (sym (d ∙ ap (λ (y : ℕ). arithmetic y under last) e))
 
-    pub arithmetic_says : (t w : ℕ) (x : Computed) (stack' : List ℕ) → t ≡ tried_primitive k → x ≡ arithmetic t under last → x ≡ Word w
+    pub arithmetic_says : (t w : ℕ) (x : Rattle.std.specs.declared.option.Option.Option ℕ) (stack' : List ℕ) → t ≡ tried_primitive k → x ≡ arithmetic t under last → x ≡ Some w
         → stack' ≡ answered stack top h 2 w → Moved n b top contents bodies stack bodies stack'
     arithmetic_says t w x stack' e d g q =
         subst (λ (l : List ℕ). Moved n b top contents bodies stack bodies l) (sym q)
-        (answers a 2 w arithmetic_two arithmetic_noted (computes t (Word w) e (sym g ∙ d)))
+        (answers a 2 w arithmetic_two arithmetic_noted (computes t (Some w) e (sym g ∙ d)))
 
-    pub arithmetic_sends_lem : (t s : ℕ) (x : Computed) → t ≡ tried_primitive k → x ≡ arithmetic t under last → x ≡ Failed → s ≡ special_selector o k → SendsAt n b top contents bodies stack h s 1
+    pub arithmetic_sends_lem : (t s : ℕ) (x : Rattle.std.specs.declared.option.Option.Option ℕ) → t ≡ tried_primitive k → x ≡ arithmetic t under last → x ≡ None → s ≡ special_selector o k → SendsAt n b top contents bodies stack h s 1
     arithmetic_sends_lem t s x e d g q =
         sent_when s 1 q (sym (special_one k small)) (λ y. omega arith) (λ y. omega arith)
-        (λ edition receiver selector room. computes t Failed e (sym g ∙ d) edition receiver selector room ∙ ap (λ (c : ℕ). sends room (at edition receiver selector) f rest h.next
+        (λ edition receiver selector room. computes t None e (sym g ∙ d) edition receiver selector room ∙ ap (λ (c : ℕ). sends room (at edition receiver selector) f rest h.next
         (class_of o) (special_selector o k) c) (sym (special_one k small)))
 
   -- 198

@@ -1,5 +1,5 @@
 -- What a bytecode is to the run loop.
-use Rattle.std.specs.Prelude.{ℕ, suc, ◌+◌, ◌-◌, ◌≤◌, ◌<◌, ◌≡◌, Bool, true, false, List, T, length, get_or, set}
+use Rattle.std.specs.Prelude.{ℕ, suc, ◌+◌, ◌-◌, ◌≤◌, ◌<◌, ◌≡◌, Bool, true, false, List, T, length, get_or, set, Option}
 use Rattle.bytecode.specs.declared.Place.{Place}
 use Rattle.bytecode.specs.declared.Instruction.{Instruction}
 use Rattle.bytecode.specs.declared.Instruction.TheVariants.{Store, PopStore, SpecialSend}
@@ -8,11 +8,12 @@ use Rattle.model.specs.Depth.{note_at}
 use Rattle.model.specs.Rules.{send_fine, method_table}
 use Rattle.model.specs.Image.{Room}
 use Rattle.model.specs.Arithmetic.{arithmetic}
-use Rattle.model.specs.declared.Computed.{Computed}
+use Rattle.model.specs.Numbers.{phase_of as halt_phase}
 use Rattle.plain.specs.Registers.{Cause, phase_of}
 use Rattle.plain.specs.Step.{Stepped, halts, returned, sends, step, tried_primitive}
 use Rattle.plain.specs.Flat.{frame_depth, frame_method, operands_start}
 use Rattle.plain.specs.Running.{At, Moved, Sending, send_step, running_at, top_frame, rest_frames}
+use Rattle.readers.specs.declared.Memory.{Memory}
 use Rattle.frames.specs.declared.Active.{Active}
 use Rattle.frames.specs.Active.{written, moved_on, Onward, IsActive}
 use Rattle.steps.specs.declared.Event.{Event}
@@ -86,7 +87,7 @@ pub record SendsAt (n b top : ℕ) (contents bodies stack : List ℕ) (h : Here)
       (top_frame n b top contents bodies stack) (rest_frames n b top contents bodies stack) h.next (class_of (objects_at n b contents bodies)) s count
 
 -- 176 plus k, and what its primitive gives for the two uppermost operands
-pub record Computing (n b : ℕ) (contents bodies stack : List ℕ) (a : Active) (next k : ℕ) (x : Computed) : Type 0 where
+pub record Computing (n b : ℕ) (contents bodies stack : List ℕ) (a : Active) (next k : ℕ) (x : Option ℕ) : Type 0 where
   pub doing : Doing n b contents bodies stack a next (SpecialSend k)
   pub small : k < 16
   pub computed : x ≡ arithmetic (tried_primitive k) (get_or stack (a.end.0 - 2) 0) (get_or stack (a.end.0 - 1) 0)
@@ -131,4 +132,8 @@ Says n b contents a bodies stack bodies' stack' (Return w) =
     (λ room edition receiver selector.
     returned (running_at edition receiver selector n b a.base.0 contents bodies (written a stack))
     (top_frame n b a.base.0 contents bodies (written a stack)) (rest_frames n b a.base.0 contents bodies (written a stack)) w)
-Says n b contents a bodies stack bodies' stack' (Halt k) = Halting n b contents a bodies stack bodies' stack' k
+Says n b contents a bodies stack bodies' stack' (Halt h) = Halting n b contents a bodies stack bodies' stack' (halt_phase h)
+
+-- of a step that leaves the bodies as they are
+abbrev pub SaysIn : Memory → Active → List ℕ → List ℕ → Event → Type 0
+SaysIn m a stack stack' e = Says m.n m.b m.contents.now a m.bodies.now stack m.bodies.now stack' e

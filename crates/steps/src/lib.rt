@@ -5,19 +5,19 @@ ghost use Rattle.std.specs.Prelude.{◌≡◌, ◌<◌, ◌≤◌};
 ghost use Rattle.std.proofs.Math.Option.{some};
 ghost use Rattle.bytecode.specs.Effect.{special_count};
 ghost use Rattle.bytecode.specs.declared.Instruction.TheVariants.{Push, JumpOn, Send, SuperSend, SpecialSend};
-ghost use Rattle.model.specs.Objects.{objects_at};
-ghost use Rattle.model.specs.Word.{boolean_word};
 ghost use Rattle.plain.specs.Step.{read};
 ghost use Rattle.plain.specs.Running.{top_frame};
 ghost use Rattle.frames.specs.Active.{written, IsActive};
-ghost use Rattle.steps.specs.Events.{Doing, Computing, Pushing, Pushed, Storing, Sends, Says};
+ghost use Rattle.steps.specs.Events.{Doing, Computing, Pushing, Pushed, Storing, Sends, Says, SaysIn};
+ghost use Rattle.readers.specs.Lent.{objects_in, In};
 
 use bytecode::{Decoded, Instruction, Place};
 use frames::{Active, Message};
-use model::{CodePosition, Computed, Pointer, StackPosition, limits};
+use model::{CodePosition, Halt, Pointer, StackPosition, limits};
+use readers::Memory;
 
 // What a bytecode is to the run loop: the frame goes on, at another position and with operands up to another end; or a send is to be made, or
-// a return of a word; or it halts, with the phase that says why.
+// a return of a word; or it halts.
 #[derive(Clone, Copy)]
 pub enum Event {
     Next {
@@ -26,48 +26,29 @@ pub enum Event {
     },
     Send(Message),
     Return(u16),
-    Halt(u16),
+    Halt(Halt),
 }
 
 // The instruction at the position, from the code's words as a part of the bodies.
-fn decoded(
-    contents: &[u16],
-    bodies: &[u16],
-    stack: &[u16],
-    n: usize,
-    b: usize,
-    active: Active,
-) -> Decoded
-    requires { IsActive n b contents.now bodies.now stack.now active }
-    ensures { Doing n b contents.now bodies.now stack.now active result.next result.instruction }
+fn decoded(memory: &Memory, stack: &[u16], active: Active) -> Decoded
+    requires { In IsActive memory.now stack.now active }
+    ensures { In Doing memory.now stack.now active result.next result.instruction }
 {
-    let from = active.code;
-    let end = active.limit;
-    let at = active.position.0;
-    objects::instruction_at(bodies, from, end, at)
+    objects::instruction_at(memory.bodies, active.code, active.limit, active.position.0)
 }
 
 // The word of a place.
-fn read(
-    contents: &[u16],
-    bodies: &[u16],
-    stack: &[u16],
-    n: usize,
-    b: usize,
-    active: Active,
-    next: CodePosition,
-    place: Place,
-) -> u16
-    requires { Doing n b contents.now bodies.now stack.now active next.0 (Push place) }
-    ensures { read (objects_at n b contents.now bodies.now)
-        (top_frame n b active.base.0 contents.now bodies.now (written active stack.now)) place
+fn read(memory: &Memory, stack: &[u16], active: Active, next: CodePosition, place: Place) -> u16
+    requires { In Doing memory.now stack.now active next.0 (Push place) }
+    ensures { read (objects_in memory.now)
+        (top_frame memory.now.n memory.now.b active.base.0 memory.now.contents.now memory.now.bodies.now (written active stack.now)) place
         ≡ some result }
 {
     let base = active.base.0;
     match place {
         Place::Field(i) => {
             let receiver = stack[base + limits::FRAME_RECEIVER];
-            readers::word_of(contents, bodies, n, b, Pointer(receiver), i)
+            memory.word_of(Pointer(receiver), i)
         }
         Place::Temporary(i) => {
             let at = frames::first_temporary(active.base) + i;
@@ -75,12 +56,12 @@ fn read(
         }
         Place::Literal(i) => {
             let method = Pointer(stack[base + limits::FRAME_METHOD]);
-            objects::literal(contents, bodies, n, b, method, i)
+            objects::literal(memory, method, i)
         }
         Place::LiteralVariable(i) => {
             let method = Pointer(stack[base + limits::FRAME_METHOD]);
-            let v = objects::literal(contents, bodies, n, b, method, i);
-            readers::word_of(contents, bodies, n, b, Pointer(v), 1)
+            let v = objects::literal(memory, method, i);
+            memory.word_of(Pointer(v), 1)
         }
     }
 }
@@ -99,19 +80,16 @@ fn push_word(stack: &mut [u16], active: Active, next: CodePosition, w: u16) -> E
 }
 
 fn push(
-    contents: &[u16],
-    bodies: &[u16],
+    memory: &Memory,
     stack: &mut [u16],
-    n: usize,
-    b: usize,
     active: Active,
     next: CodePosition,
     place: Place,
 ) -> Event
-    requires { Doing n b contents.now bodies.now stack.old active next.0 (Push place) }
-    ensures { Says n b contents.now active bodies.now stack.old bodies.now stack.new result }
+    requires { In Doing memory.now stack.old active next.0 (Push place) }
+    ensures { SaysIn memory.now active stack.old stack.new result }
 {
-    let w = read(contents, bodies, stack, n, b, active, next, place);
+    let w = read(memory, stack, active, next, place);
     push_word(stack, active, next, w)
 }
 
@@ -146,126 +124,105 @@ fn store(
         Place::Literal(_) => {}
         Place::LiteralVariable(i) => {
             let method = Pointer(stack[base + limits::FRAME_METHOD]);
-            let v = objects::literal(contents, bodies, n, b, method, i);
+            let memory = &Memory {
+                contents,
+                bodies,
+                n,
+                b,
+            };
+            let v = objects::literal(memory, method, i);
             objects::store_word(contents, bodies, n, b, Pointer(v), 1, w);
         }
     }
     Event::Next {
         position: next,
-        end: end,
+        end,
     }
-}
-
-fn boolean(b: bool) -> u16
-    ensures { result ≡ boolean_word b }
-{
-    if b {
-        return limits::TRUE;
-    }
-    limits::FALSE
 }
 
 // A jump where the top operand is the condition; on where it is the other boolean.
 fn jump_on(
-    contents: &[u16],
-    bodies: &[u16],
+    memory: &Memory,
     stack: &[u16],
-    n: usize,
-    b: usize,
     active: Active,
     next: CodePosition,
     condition: bool,
     ahead: usize,
 ) -> Event
-    requires { Doing n b contents.now bodies.now stack.now active next.0 (JumpOn condition ahead) }
-    ensures { Says n b contents.now active bodies.now stack.now bodies.now stack.now result }
+    requires { In Doing memory.now stack.now active next.0 (JumpOn condition ahead) }
+    ensures { SaysIn memory.now active stack.now stack.now result }
 {
     let end = active.end.0 - 1;
     let w = stack[end];
-    if w == boolean(condition) {
+    if w == model::boolean_word(condition) {
         return Event::Next {
             position: CodePosition(next.0 + ahead),
             end: StackPosition(end),
         };
     }
-    if w == limits::TRUE {
+    if w == limits::TRUE || w == limits::FALSE {
         return Event::Next {
             position: next,
             end: StackPosition(end),
         };
     }
-    if w == limits::FALSE {
-        return Event::Next {
-            position: next,
-            end: StackPosition(end),
-        };
-    }
-    Event::Halt(limits::NO_BOOLEAN)
+    Event::Halt(Halt::NoBoolean)
 }
 
 // A send to the receiver below `count` arguments.
 fn sent(
-    contents: &[u16],
-    bodies: &[u16],
+    memory: &Memory,
     stack: &[u16],
-    n: usize,
-    b: usize,
     active: Active,
     next: CodePosition,
     selector: u16,
     count: usize,
 ) -> Event
-    requires { Sends n b contents.now bodies.now stack.now active next.0 selector count }
-    ensures { Says n b contents.now active bodies.now stack.now bodies.now stack.now result }
+    requires { In Sends memory.now stack.now active next.0 selector count }
+    ensures { SaysIn memory.now active stack.now stack.now result }
 {
     let at = active.end.0 - 1 - count;
     let receiver = stack[at];
-    let class = objects::class_of(contents, n, receiver);
+    let class = objects::class_of(memory, receiver);
     Event::Send(Message {
-        count: count,
-        next: next,
-        selector: selector,
-        class: class,
+        count,
+        next,
+        selector,
+        class,
         sure: true,
     })
 }
 
 // A send of a literal.
 fn send(
-    contents: &[u16],
-    bodies: &[u16],
+    memory: &Memory,
     stack: &[u16],
-    n: usize,
-    b: usize,
     active: Active,
     next: CodePosition,
     literal: u8,
     arguments: u8,
 ) -> Event
-    requires { Doing n b contents.now bodies.now stack.now active next.0 (Send literal arguments) }
-    ensures { Says n b contents.now active bodies.now stack.now bodies.now stack.now result }
+    requires { In Doing memory.now stack.now active next.0 (Send literal arguments) }
+    ensures { SaysIn memory.now active stack.now stack.now result }
 {
     let base = active.base.0;
     let method = Pointer(stack[base + limits::FRAME_METHOD]);
-    let s = objects::literal(contents, bodies, n, b, method, literal as usize);
+    let s = objects::literal(memory, method, literal as usize);
     let count = arguments as usize;
-    sent(contents, bodies, stack, n, b, active, next, s, count)
+    sent(memory, stack, active, next, s, count)
 }
 
 // The search starts above the method's home. Only the frame's own receiver is sure to have the home of what is found.
 fn super_send(
-    contents: &[u16],
-    bodies: &[u16],
+    memory: &Memory,
     stack: &[u16],
-    n: usize,
-    b: usize,
     active: Active,
     next: CodePosition,
     literal: u8,
     arguments: u8,
 ) -> Event
-    requires { Doing n b contents.now bodies.now stack.now active next.0 (SuperSend literal arguments) }
-    ensures { Says n b contents.now active bodies.now stack.now bodies.now stack.now result }
+    requires { In Doing memory.now stack.now active next.0 (SuperSend literal arguments) }
+    ensures { SaysIn memory.now active stack.now stack.now result }
 {
     let base = active.base.0;
     let method = Pointer(stack[base + limits::FRAME_METHOD]);
@@ -273,35 +230,32 @@ fn super_send(
     let at = active.end.0 - 1 - count;
     let receiver = stack[at];
     let own = stack[base + limits::FRAME_RECEIVER];
-    let selector = objects::literal(contents, bodies, n, b, method, literal as usize);
-    let home = objects::home(contents, bodies, n, b, method);
-    let class = objects::superclass(contents, bodies, n, b, home);
+    let selector = objects::literal(memory, method, literal as usize);
+    let home = objects::home(memory, method);
+    let class = objects::superclass(memory, home);
     Event::Send(Message {
-        count: count,
-        next: next,
-        selector: selector,
-        class: class,
+        count,
+        next,
+        selector,
+        class,
         sure: receiver == own,
     })
 }
 
 // What 176 to 191 compute in the place of the two uppermost operands, or a send where it fails.
 fn answer(
-    contents: &[u16],
-    bodies: &[u16],
+    memory: &Memory,
     stack: &mut [u16],
-    n: usize,
-    b: usize,
     active: Active,
     next: CodePosition,
     k: u8,
-    computed: Computed,
+    computed: Option<u16>,
 ) -> Event
-    requires { Computing n b contents.now bodies.now stack.old active next.0 k computed }
-    ensures { Says n b contents.now active bodies.now stack.old bodies.now stack.new result }
+    requires { In Computing memory.now stack.old active next.0 k computed }
+    ensures { SaysIn memory.now active stack.old stack.new result }
 {
     match computed {
-        Computed::Word(w) => {
+        Some(w) => {
             let end = active.end.0;
             stack[end - 2] = w;
             Event::Next {
@@ -309,33 +263,24 @@ fn answer(
                 end: StackPosition(end - 1),
             }
         }
-        Computed::Failed => {
-            let s = readers::word_of(
-                contents,
-                bodies,
-                n,
-                b,
-                Pointer(limits::SELECTORS),
-                k as usize,
-            );
-            sent(contents, bodies, stack, n, b, active, next, s, 1)
+        None => {
+            let s = memory.word_of(Pointer(limits::SELECTORS), k as usize);
+            sent(memory, stack, active, next, s, 1)
         }
     }
 }
 
-// 176 to 191. Each primitive is named, so that it is compiled where it is tried, and answers in its own arm.
+// 176 to 191. `k` is the send's number in the bytecode; the primitive's is its number in a method's header. An arm for each primitive: it is
+// compiled where it is tried and answers there. With one answer behind them all the loop is slower.
 fn arithmetic_send(
-    contents: &[u16],
-    bodies: &[u16],
+    memory: &Memory,
     stack: &mut [u16],
-    n: usize,
-    b: usize,
     active: Active,
     next: CodePosition,
     k: u8,
 ) -> Event
-    requires { Doing n b contents.now bodies.now stack.old active next.0 (SpecialSend k) × (k < 16) }
-    ensures { Says n b contents.now active bodies.now stack.old bodies.now stack.new result }
+    requires { In Doing memory.now stack.old active next.0 (SpecialSend k) × (k < 16) }
+    ensures { SaysIn memory.now active stack.old stack.new result }
 {
     let end = active.end.0;
     let w = stack[end - 1];
@@ -343,125 +288,113 @@ fn arithmetic_send(
     match k {
         0 => {
             let r = arithmetic::arithmetic(1, v, w);
-            answer(contents, bodies, stack, n, b, active, next, k, r)
+            answer(memory, stack, active, next, k, r)
         }
         1 => {
             let r = arithmetic::arithmetic(2, v, w);
-            answer(contents, bodies, stack, n, b, active, next, k, r)
+            answer(memory, stack, active, next, k, r)
         }
         2 => {
             let r = arithmetic::arithmetic(3, v, w);
-            answer(contents, bodies, stack, n, b, active, next, k, r)
+            answer(memory, stack, active, next, k, r)
         }
         3 => {
             let r = arithmetic::arithmetic(4, v, w);
-            answer(contents, bodies, stack, n, b, active, next, k, r)
+            answer(memory, stack, active, next, k, r)
         }
         4 => {
             let r = arithmetic::arithmetic(5, v, w);
-            answer(contents, bodies, stack, n, b, active, next, k, r)
+            answer(memory, stack, active, next, k, r)
         }
         5 => {
             let r = arithmetic::arithmetic(6, v, w);
-            answer(contents, bodies, stack, n, b, active, next, k, r)
+            answer(memory, stack, active, next, k, r)
         }
         6 => {
             let r = arithmetic::arithmetic(7, v, w);
-            answer(contents, bodies, stack, n, b, active, next, k, r)
+            answer(memory, stack, active, next, k, r)
         }
         7 => {
             let r = arithmetic::arithmetic(8, v, w);
-            answer(contents, bodies, stack, n, b, active, next, k, r)
+            answer(memory, stack, active, next, k, r)
         }
         8 => {
             let r = arithmetic::arithmetic(9, v, w);
-            answer(contents, bodies, stack, n, b, active, next, k, r)
+            answer(memory, stack, active, next, k, r)
         }
         9 => {
             let r = arithmetic::compute(10, v, w);
-            answer(contents, bodies, stack, n, b, active, next, k, r)
+            answer(memory, stack, active, next, k, r)
         }
         10 => {
             let r = arithmetic::compute(11, v, w);
-            answer(contents, bodies, stack, n, b, active, next, k, r)
+            answer(memory, stack, active, next, k, r)
         }
         11 => {
             let r = arithmetic::compute(0, v, w); // none, which fails
-            answer(contents, bodies, stack, n, b, active, next, k, r)
+            answer(memory, stack, active, next, k, r)
         }
         12 => {
             let r = arithmetic::compute(17, v, w);
-            answer(contents, bodies, stack, n, b, active, next, k, r)
+            answer(memory, stack, active, next, k, r)
         }
         13 => {
             let r = arithmetic::compute(12, v, w);
-            answer(contents, bodies, stack, n, b, active, next, k, r)
+            answer(memory, stack, active, next, k, r)
         }
         14 => {
             let r = arithmetic::arithmetic(14, v, w);
-            answer(contents, bodies, stack, n, b, active, next, k, r)
+            answer(memory, stack, active, next, k, r)
         }
         _ => {
             let r = arithmetic::arithmetic(15, v, w);
-            answer(contents, bodies, stack, n, b, active, next, k, r)
+            answer(memory, stack, active, next, k, r)
         }
     }
 }
 
-// The arguments of 192 to 207.
+// The arguments of 192 to 207. The run loop is lent no table, from which `code` takes these counts.
 const COUNTS: [u8; 16] = [1, 2, 0, 0, 1, 0, 1, 0, 1, 0, 1, 1, 0, 1, 0, 0];
 
 fn special_count(k: u8) -> usize
     requires { (16 ≤ k) × (k < 32) }
     ensures { result ≡ special_count k }
 {
-    let table = COUNTS;
-    let i = k as usize - 16;
-    table[i] as usize
+    COUNTS[k as usize - 16] as usize
 }
 
 // 192 to 207: 198 and 199 send nothing.
 fn special_send(
-    contents: &[u16],
-    bodies: &[u16],
+    memory: &Memory,
     stack: &mut [u16],
-    n: usize,
-    b: usize,
     active: Active,
     next: CodePosition,
     k: u8,
 ) -> Event
-    requires { Doing n b contents.now bodies.now stack.old active next.0 (SpecialSend k) × (16 ≤ k) }
-    ensures { Says n b contents.now active bodies.now stack.old bodies.now stack.new result }
+    requires { In Doing memory.now stack.old active next.0 (SpecialSend k) × (16 ≤ k) }
+    ensures { SaysIn memory.now active stack.old stack.new result }
 {
     let end = active.end.0;
     let last = stack[end - 1];
     if k == 22 {
         let under = stack[end - 2];
-        stack[end - 2] = boolean(under == last);
+        stack[end - 2] = model::boolean_word(under == last);
         return Event::Next {
             position: next,
             end: StackPosition(end - 1),
         };
     }
     if k == 23 {
-        let class = objects::class_of(contents, n, last);
+        let class = objects::class_of(memory, last);
         stack[end - 1] = class.0;
         return Event::Next {
             position: next,
             end: StackPosition(end),
         };
     }
-    let s = readers::word_of(
-        contents,
-        bodies,
-        n,
-        b,
-        Pointer(limits::SELECTORS),
-        k as usize,
-    );
+    let s = memory.word_of(Pointer(limits::SELECTORS), k as usize);
     let count = special_count(k);
-    sent(contents, bodies, stack, n, b, active, next, s, count)
+    sent(memory, stack, active, next, s, count)
 }
 
 // One bytecode. The run loop alone calls it: a function with one caller is compiled into it.
@@ -477,11 +410,17 @@ pub fn step(
     ensures { Says n b contents.now active bodies.old stack.old bodies.new stack.new result }
 {
     let base = active.base.0;
-    let decoded = decoded(contents, bodies, stack, n, b, active);
+    let memory = &Memory {
+        contents,
+        bodies,
+        n,
+        b,
+    };
+    let decoded = decoded(memory, stack, active);
     let next = CodePosition(decoded.next);
     let instruction = decoded.instruction;
     match instruction {
-        Instruction::Push(place) => push(contents, bodies, stack, n, b, active, next, place),
+        Instruction::Push(place) => push(memory, stack, active, next, place),
         Instruction::Store(place) => {
             let end = active.end;
             store(contents, bodies, stack, n, b, active, next, place, end)
@@ -511,36 +450,32 @@ pub fn step(
             push_word(stack, active, next, w)
         }
         Instruction::Jump { ahead, back } => {
-            let end = active.end;
             Event::Next {
                 position: CodePosition(next.0 + ahead as usize - back as usize),
-                end: end,
+                end: active.end,
             }
         }
         Instruction::JumpOn { condition, ahead } => jump_on(
-            contents,
-            bodies,
+            memory,
             stack,
-            n,
-            b,
             active,
             next,
             condition,
             ahead as usize,
         ),
         Instruction::Send { literal, arguments } => send(
-            contents, bodies, stack, n, b, active, next, literal, arguments,
+            memory, stack, active, next, literal, arguments,
         ),
         Instruction::SuperSend { literal, arguments } => super_send(
-            contents, bodies, stack, n, b, active, next, literal, arguments,
+            memory, stack, active, next, literal, arguments,
         ),
         Instruction::SpecialSend(k) => {
             if k < 16 {
-                return arithmetic_send(contents, bodies, stack, n, b, active, next, k);
+                return arithmetic_send(memory, stack, active, next, k);
             }
-            special_send(contents, bodies, stack, n, b, active, next, k)
+            special_send(memory, stack, active, next, k)
         }
         // never reached
-        Instruction::Unused => Event::Halt(limits::NO_BOOLEAN),
+        Instruction::Unused => Event::Halt(Halt::NoBoolean),
     }
 }

@@ -1,15 +1,15 @@
--- The answer of reading an image, by load's verdict.
-use Rattle.std.specs.Prelude.{ℕ}
-use Rattle.model.specs.Image.{Header, Verdict, accepted, refused}
-use Rattle.store.specs.declared.Reading.{Reading}
-use Rattle.store.specs.declared.Reading.TheVariants.{Accepted, Refused}
+-- A call that may be refused, by 01's numbers.
+use Rattle.std.specs.Prelude.{ℕ, Result, Ok, Err}
+use Rattle.model.specs.declared.numbers.Refusal.{Refusal}
+use Rattle.model.specs.Numbers as Numbers
+use Rattle.model.specs.Image.{Verdict, accepted, refused}
 
--- 01's number, 0 for an accepted image
-unfoldable pub reading_number : Reading → ℕ
-reading_number (Accepted edition n b receiver selector) = 0
-reading_number (Refused k) = k
+-- 01's number, 0 where the call is not refused
+abbrev pub refusal_number : {A : Type 0} → Result A Refusal → ℕ
+refusal_number (Ok x) = 0
+refusal_number (Err k) = Numbers.number_of k
 
--- with the header's values where the image is accepted
-unfoldable pub reading_of : Verdict → Header → Reading
-reading_of accepted h = Accepted h.edition h.n h.b h.receiver h.selector
-reading_of (refused k) h = Refused k
+-- accepted, or refused by 01's number
+abbrev pub verdict_by : {A : Type 0} → Result A Refusal → Verdict
+verdict_by (Ok x) = accepted
+verdict_by (Err k) = refused (Numbers.number_of k)

@@ -1,13 +1,21 @@
 -- Runs of stores: one more at the end, and at the front of a buffer.
+use Rattle.std.proofs.Common.{append_assoc}
 use Prim.Native.Nat.{ℕ, ◌+◌, ◌≤◌, ◌<◌}
+use borrow.Rule.Slice.PartMut.{put_mid}
 use mathlib.Core.Path.{◌≡◌, sym, ap, ap₂, ◌∙◌}
 use mathlib.Core.List.{List, [], ◌∷◌, ◌++◌}
 use native.Mathlib.Omega.{arith}
 use native.Mathlib.Numerals.{add-one}
-use lib.ListN.{length, get_or, set, take, drop, replicate, length-append, length-drop, length-replicate, replicate-append-replicate}
-use lib.Seq.{sets, sets-eq, take_at, take-suc, length-take-le, get_or-drop}
+use lib.ListN.{length, get_or, set, take, drop, replicate, length-append, length-drop, length-replicate}
+use lib.Seq.{sets, drop-drop, sets-eq, take_at, take-suc, length-take-le, get_or-drop}
 use Rattle.model.specs.Objects.{part, at_front}
 use Rattle.model.proofs.Parts.{length_part, sets_append}
+
+-- what a write to a part of a buffer leaves
+pub stored : (l ws : List ℕ) (at k : ℕ) → length ws ≡ k → at + k ≤ length l → put_mid at k l ws ≡ sets l at ws
+stored l ws at k e h =
+    ap (λ (r : List ℕ). take at l ++ (ws ++ r)) (drop-drop k at l) ∙ ap (λ (i : ℕ). take at l ++ (ws ++ drop (at + i) l)) (sym e)
+    ∙ sym (sets-eq ws l at (omega arith) ∙ append_assoc (take at l) ws (drop (at + length ws) l))
 
 -- one more word of a part that is copied
 pub copied_more : (l a : List ℕ) (at from i : ℕ) → from + i < length a
@@ -27,12 +35,6 @@ copied_one l a at from h = ap₂ (λ (i j : ℕ). set l i (get_or a j 0)) (add_n
 
 pub copied_two : (l a : List ℕ) (at from : ℕ) → from + 1 < length a → set (set l at (get_or a from 0)) (at + 1) (get_or a (from + 1) 0) ≡ sets l at (part a from 2)
 copied_two l a at from h = ap (λ (x : List ℕ). set x (at + 1) (get_or a (from + 1) 0)) (copied_one l a at from (omega arith)) ∙ sym (copied_more l a at from 1 h)
-
--- one more of a word that is repeated
-pub filled_more : (l : List ℕ) (at i w : ℕ) → sets l at (replicate (i + 1) w) ≡ set (sets l at (replicate i w)) (at + i) w
-filled_more l at i w =
-    ap (sets l at) (sym (replicate-append-replicate i 1 w)) ∙ sets_append l at (replicate i w) (w ∷ [])
-    ∙ ap (λ (k : ℕ). set (sets l at (replicate i w)) (at + k) w) (length-replicate i w)
 
 -- A run behind words that stay, and one at the front
 pub behind : (l ws : List ℕ) (b : ℕ) → b + length ws ≤ length l → sets l b ws ≡ at_front (take b l ++ ws) l

@@ -1,4 +1,4 @@
-// Runs of words in a buffer: the one loop that fills with a word, and the one that copies.
+// Runs of words in a buffer: one that fills with a word, and one that copies.
 #![tactic(auto)]
 
 ghost use Rattle.std.specs.Prelude.{◌≡◌, ◌+◌, ◌≤◌, length, replicate};
@@ -9,14 +9,11 @@ pub fn fill(words: &mut [u16], at: usize, count: usize, w: u16)
     requires { at + count ≤ length words.old }
     ensures { words.new ≡ sets words.old at (replicate count w) }
 {
-    let mut i: usize = 0;
-    while i < count {
-        words[at + i] = w;
-        i += 1;
-    }
+    words[at..at + count].fill(w);
 }
 
-// The first two words by themselves: the loop is compiled to a call, and few sends have more arguments.
+// The first two words by themselves: a loop is compiled to a call, and few sends have more arguments. By hand, as `copy_from_slice` calls
+// memmove, and of C's library only memcpy and memset are called (tests/package).
 pub fn copy(words: &mut [u16], at: usize, source: &[u16], from: usize, count: usize)
     requires { (at + count ≤ length words.old) × (from + count ≤ length source.now) }
     ensures { words.new ≡ sets words.old at (part source.now from count) }
@@ -29,9 +26,7 @@ pub fn copy(words: &mut [u16], at: usize, source: &[u16], from: usize, count: us
         return;
     }
     words[at + 1] = source[from + 1];
-    let mut i: usize = 2;
-    while i < count {
+    for i in 2..count {
         words[at + i] = source[from + i];
-        i += 1;
     }
 }

@@ -1,10 +1,10 @@
 use Rattle.activation.specs.Activating.{outcome}
 use Rattle.activation.proofs.outcome.Goals as goal
 
-pub returns-in-Word : goal.returns-in-Word
+pub returns-in-Some : goal.returns-in-Some
 unfolding outcome
-returns-in-Word c = rw c.in-Word.is
+returns-in-Some c = rw c.in-Some.is
 
-pub returns-in-Failed : goal.returns-in-Failed
+pub returns-in-None : goal.returns-in-None
 unfolding outcome
-returns-in-Failed c = rw c.in-Failed.is
+returns-in-None c = rw c.in-None.is

@@ -20,6 +20,6 @@ overflow_cast-k c = let r = arithmetic_range c.args.k _ c.is_arithmetic.ensures 
 
 pub returns : goal.returns
 returns c =
-    does_computed c.compute-answer.result c.requires.right.1 c.computed.ensures
-    (arithmetic_is _ _ _ _ _ _ _ _ c.compute-answer.result (arithmetic_range _ _ c.is_arithmetic.ensures
-    (c.if-not-is_arithmetic.false)) c.if-count-ne1.false c.compute-answer.ensures)
+    does_computed c.compute.result c.requires.right.1 c.computed.ensures
+    (arithmetic_is _ _ _ _ _ _ _ _ c.compute.result (arithmetic_range _ _ c.is_arithmetic.ensures
+    (c.if-not-is_arithmetic.false)) c.if-count-ne1.false c.compute.ensures)

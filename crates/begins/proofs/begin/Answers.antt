@@ -49,9 +49,9 @@ argument_count-count-requires c =
     record {
       right = (_, c.requires.right);
       kinds = (lookup_facts c.requires.right args.selector
-          (class_of (objects_at args.n args.b args.contents.now args.bodies.now) args.receiver) c.in-Method.method.0
+          (class_of (objects_at args.n args.b args.contents.now args.bodies.now) args.receiver) c.in-Some.method.0
           ((ap (lookup (objects_at args.n args.b args.contents.now args.bodies.now) args.selector)
-          (sym (c.class_of-class.ensures args.b args.bodies.now)) ∙ sym c.lookup-search.ensures.finds) ∙ c.in-Method.is)).method;
+          (sym (c.class_of-class.ensures args.b args.bodies.now)) ∙ sym c.lookup-search.ensures.finds) ∙ c.in-Some.is)).method;
     }
 
 pub returns-then-count-arguments : goal.returns-then-count-arguments
@@ -59,7 +59,7 @@ returns-then-count-arguments c =
     let args = c.args in
     refused_10 c.requires (sym (c.words_fine.ensures args.b args.bodies.now) ∙ c.if-not-words_fine.false) _
     ((ap (lookup (objects_at args.n args.b args.contents.now args.bodies.now) args.selector)
-    (sym (c.class_of-class.ensures args.b args.bodies.now)) ∙ sym c.lookup-search.ensures.finds) ∙ c.in-Method.is)
+    (sym (c.class_of-class.ensures args.b args.bodies.now)) ∙ sym c.lookup-search.ensures.finds) ∙ c.in-Some.is)
     (λ q. c.if-count-arguments.true (c.argument_count-count.ensures ∙ q))
 
 pub header-header-requires : goal.header-header-requires
@@ -68,9 +68,9 @@ header-header-requires c =
     record {
       right = (_, c.requires.right);
       kinds = (lookup_facts c.requires.right args.selector
-          (class_of (objects_at args.n args.b args.contents.now args.bodies.now) args.receiver) c.in-Method.method.0
+          (class_of (objects_at args.n args.b args.contents.now args.bodies.now) args.receiver) c.in-Some.method.0
           ((ap (lookup (objects_at args.n args.b args.contents.now args.bodies.now) args.selector)
-          (sym (c.class_of-class.ensures args.b args.bodies.now)) ∙ sym c.lookup-search.ensures.finds) ∙ c.in-Method.is)).method;
+          (sym (c.class_of-class.ensures args.b args.bodies.now)) ∙ sym c.lookup-search.ensures.finds) ∙ c.in-Some.is)).method;
     }
 
 pub activate-requires : goal.activate-requires
@@ -79,9 +79,9 @@ activate-requires c =
     record {
       right = (_, c.requires.right);
       method = (lookup_facts c.requires.right args.selector
-          (class_of (objects_at args.n args.b args.contents.now args.bodies.now) args.receiver) c.in-Method.method.0
+          (class_of (objects_at args.n args.b args.contents.now args.bodies.now) args.receiver) c.in-Some.method.0
           ((ap (lookup (objects_at args.n args.b args.contents.now args.bodies.now) args.selector)
-          (sym (c.class_of-class.ensures args.b args.bodies.now)) ∙ sym c.lookup-search.ensures.finds) ∙ c.in-Method.is)).method;
+          (sym (c.class_of-class.ensures args.b args.bodies.now)) ∙ sym c.lookup-search.ensures.finds) ∙ c.in-Some.is)).method;
       valid =
           receiver_valid c.requires (sym (c.words_fine.ensures args.b args.bodies.now) ∙ c.if-not-words_fine.false);
     }
@@ -96,12 +96,12 @@ returns-then-stack-frame_words c =
       starts = c.requires;
       words = (sym (c.words_fine.ensures args.b args.bodies.now) ∙ c.if-not-words_fine.false);
       finds = ((ap (lookup (objects_at args.n args.b args.contents.now args.bodies.now) args.selector)
-          (sym (c.class_of-class.ensures args.b args.bodies.now)) ∙ sym c.lookup-search.ensures.finds) ∙ c.in-Method.is);
+          (sym (c.class_of-class.ensures args.b args.bodies.now)) ∙ sym c.lookup-search.ensures.finds) ∙ c.in-Some.is);
       count =
           (sym c.argument_count-count.ensures ∙ c.if-count-arguments.false);
     }) _ _ _ _ _ c.activate.ensures c.argument-x.ensures
     c.argument-y.ensures c.in-Frame.is
-    (let k = frame_is (objects_at args.n args.b args.contents.now args.bodies.now) c.in-Method.method.0
+    (let k = frame_is (objects_at args.n args.b args.contents.now args.bodies.now) c.in-Some.method.0
     c.header-header.ensures c.frame_words.ensures in let t = c.if-stack-frame_words.true in omega arith)
 
 pub write_frame-requires : goal.write_frame-requires
@@ -112,12 +112,12 @@ write_frame-requires c =
       words = (sym (c.words_fine.ensures args.b args.bodies.now)
           ∙ c.if-not-words_fine.false);
       finds = ((ap (lookup (objects_at args.n args.b args.contents.now args.bodies.now) args.selector)
-          (sym (c.class_of-class.ensures args.b args.bodies.now)) ∙ sym c.lookup-search.ensures.finds) ∙ c.in-Method.is);
+          (sym (c.class_of-class.ensures args.b args.bodies.now)) ∙ sym c.lookup-search.ensures.finds) ∙ c.in-Some.is);
       count =
           (sym c.argument_count-count.ensures ∙ c.if-count-arguments.false);
     }) _ _ _ _ _ c.activate.ensures c.argument-x.ensures
     c.argument-y.ensures c.in-Frame.is in let k = frame_is (objects_at args.n args.b args.contents.now
-    args.bodies.now) c.in-Method.method.0 c.header-header.ensures c.frame_words.ensures in let t =
+    args.bodies.now) c.in-Some.method.0 c.header-header.ensures c.frame_words.ensures in let t =
     c.if-stack-frame_words.false in let e = (c.temporary_count-temporaries.ensures ∙ ap (λ (h : ℕ). h / 256 % 32) c.header-header.ensures) in let c =
     c.if-count-arguments.false in (omega arith, omega arith, omega arith, omega arith)
 
@@ -128,7 +128,7 @@ returns-in-Answer c =
       starts = c.requires;
       words = (sym (c.words_fine.ensures args.b args.bodies.now) ∙ c.if-not-words_fine.false);
       finds = ((ap (lookup (objects_at args.n args.b args.contents.now args.bodies.now) args.selector)
-          (sym (c.class_of-class.ensures args.b args.bodies.now)) ∙ sym c.lookup-search.ensures.finds) ∙ c.in-Method.is);
+          (sym (c.class_of-class.ensures args.b args.bodies.now)) ∙ sym c.lookup-search.ensures.finds) ∙ c.in-Some.is);
       count =
           (sym c.argument_count-count.ensures ∙ c.if-count-arguments.false);
     }) _ _ _ _ _ c.activate.ensures c.argument-x.ensures
@@ -141,7 +141,7 @@ returns-in-Unfit c =
       starts = c.requires;
       words = (sym (c.words_fine.ensures args.b args.bodies.now) ∙ c.if-not-words_fine.false);
       finds = ((ap (lookup (objects_at args.n args.b args.contents.now args.bodies.now) args.selector)
-          (sym (c.class_of-class.ensures args.b args.bodies.now)) ∙ sym c.lookup-search.ensures.finds) ∙ c.in-Method.is);
+          (sym (c.class_of-class.ensures args.b args.bodies.now)) ∙ sym c.lookup-search.ensures.finds) ∙ c.in-Some.is);
       count =
           (sym c.argument_count-count.ensures ∙ c.if-count-arguments.false);
     }) _ _ _ _ _ c.activate.ensures c.argument-x.ensures
@@ -154,12 +154,12 @@ returns-else-stack-frame_words c =
       starts = c.requires;
       words = (sym (c.words_fine.ensures args.b args.bodies.now) ∙ c.if-not-words_fine.false);
       finds = ((ap (lookup (objects_at args.n args.b args.contents.now args.bodies.now) args.selector)
-          (sym (c.class_of-class.ensures args.b args.bodies.now)) ∙ sym c.lookup-search.ensures.finds) ∙ c.in-Method.is);
+          (sym (c.class_of-class.ensures args.b args.bodies.now)) ∙ sym c.lookup-search.ensures.finds) ∙ c.in-Some.is);
       count =
           (sym c.argument_count-count.ensures ∙ c.if-count-arguments.false);
     }) _ _ _ _ _ c.activate.ensures c.argument-x.ensures
     c.argument-y.ensures c.in-Frame.is
-    (let k = frame_is (objects_at args.n args.b args.contents.now args.bodies.now) c.in-Method.method.0
+    (let k = frame_is (objects_at args.n args.b args.contents.now args.bodies.now) c.in-Some.method.0
     c.header-header.ensures c.frame_words.ensures in let t = c.if-stack-frame_words.false in omega arith) _ (c.write_frame.ensures
-    ∙ first_words args.stack.now c.in-Method.method.0 args.receiver _ _ _ args.arguments.now
+    ∙ first_words args.stack.now c.in-Some.method.0 args.receiver _ _ _ args.arguments.now
     (c.temporary_count-temporaries.ensures ∙ ap (λ (h : ℕ). h / 256 % 32) c.header-header.ensures) c.if-count-arguments.false)

@@ -20,10 +20,10 @@ pub lookup-search-requires : goal.lookup-search-requires
 lookup-search-requires c =
     let a = c.args in (right a.registers.now a.contents.now a.bodies.now a.stack.now a.cache.now a.selector a.class 0 0 0 c.sofaduck_check.ensures c.if-sofaduck_check-ne0.false, starts a.registers.now a.contents.now a.bodies.now a.stack.now a.cache.now a.selector a.class 0 0 0 c.sofaduck_check.ensures c.if-sofaduck_check-ne0.false (c.is_class.ensures (get_or a.registers.now 1 0) a.bodies.now) (ap not c.if-not-is_class.false))
 
-pub returns-in-Method : goal.returns-in-Method
-returns-in-Method c =
-    let a = c.args in looked a.registers.now a.contents.now a.bodies.now a.stack.now a.cache.now a.selector a.class _ _ _ c.sofaduck_check.ensures c.if-sofaduck_check-ne0.false (c.is_class.ensures (get_or a.registers.now 1 0) a.bodies.now) (ap not c.if-not-is_class.false) c.lookup-search.ensures.finds c.lookup-search.ensures.reads c.lookup-search.ensures.walks c.in-Method.is
+pub returns-in-Some : goal.returns-in-Some
+returns-in-Some c =
+    let a = c.args in looked a.registers.now a.contents.now a.bodies.now a.stack.now a.cache.now a.selector a.class _ _ _ c.sofaduck_check.ensures c.if-sofaduck_check-ne0.false (c.is_class.ensures (get_or a.registers.now 1 0) a.bodies.now) (ap not c.if-not-is_class.false) c.lookup-search.ensures.finds c.lookup-search.ensures.reads c.lookup-search.ensures.walks c.in-Some.is
 
-pub returns-in-Nothing : goal.returns-in-Nothing
-returns-in-Nothing c =
-    let a = c.args in looked a.registers.now a.contents.now a.bodies.now a.stack.now a.cache.now a.selector a.class _ _ _ c.sofaduck_check.ensures c.if-sofaduck_check-ne0.false (c.is_class.ensures (get_or a.registers.now 1 0) a.bodies.now) (ap not c.if-not-is_class.false) c.lookup-search.ensures.finds c.lookup-search.ensures.reads c.lookup-search.ensures.walks c.in-Nothing.is
+pub returns-in-None : goal.returns-in-None
+returns-in-None c =
+    let a = c.args in looked a.registers.now a.contents.now a.bodies.now a.stack.now a.cache.now a.selector a.class _ _ _ c.sofaduck_check.ensures c.if-sofaduck_check-ne0.false (c.is_class.ensures (get_or a.registers.now 1 0) a.bodies.now) (ap not c.if-not-is_class.false) c.lookup-search.ensures.finds c.lookup-search.ensures.reads c.lookup-search.ensures.walks c.in-None.is

@@ -4,6 +4,6 @@ use Rattle.bytecode.specs.Code.{byte_at}
 use Rattle.bytecode.proofs.Choice.{if_same}
 use Rattle.bytecode.proofs.byte.Goals as goal
 
-pub returns-then-words-at : goal.returns-then-words-at
+pub returns-else-at-words : goal.returns-else-at-words
 unfolding byte_at
-returns-then-words-at c = let h = c.if-words-at.true in simp (get_or-eq_default, if_same)
+returns-else-at-words c = let h = c.if-at-words.false in simp (get_or-eq_default, if_same)

@@ -6,6 +6,6 @@ use Rattle.bytecode.specs.Code.{byte_at}
 use Rattle.bytecode.proofs.Choice.{if_same}
 use Rattle.bytecode.proofs.byte_after.Goals as goal
 
-pub returns-then-words-at : goal.returns-then-words-at
+pub returns-else-at-words : goal.returns-else-at-words
 unfolding byte_at
-returns-then-words-at c = let h : length c.before.before.args.words.now ≤ (c.before.before.args.at + c.before.before.args.k) / 2 = omega arith in simp (get_or-eq_default, if_same)
+returns-else-at-words c = let h : length c.before.args.words.now ≤ (c.before.args.at + c.before.args.k) / 2 = omega arith in simp (get_or-eq_default, if_same)

@@ -1,13 +1,10 @@
 -- `instruction_at` is the instruction at the position, and the position behind it.
 use Prim.Native.Nat.{◌/◌, ◌%◌}
 use mathlib.Core.Path.{refl, sym, ap, ◌∙◌}
-use native.Mathlib.Omega.{arith}
 use Rattle.bytecode.specs.Test.{when◌then◌else◌}
 use Rattle.bytecode.specs.Code.{place_of, constant_of, extended_of, instruction_of, length_of}
 use Rattle.bytecode.specs.declared.Instruction.TheVariants.{Push, Store, PopStore, Send, SuperSend}
-use Rattle.bytecode.proofs.Choice.{past}
-use Rattle.bytecode.proofs.KindLaws.{last_kind_lem, first_there, further_extended, further_jump, is_single, is_push_field, is_push_temporary, is_push_literal, is_push_variable, is_pop_field, is_pop_temporary, is_unused_low, is_unused_high, is_near, is_near_on, is_far_jump, is_far_on_true, is_far_on_false, is_special, is_literal_send}
-use borrow.Author.Rules.{rules}
+use Rattle.bytecode.proofs.KindLaws.{first_there, further_extended, further_jump, is_single, is_push_field, is_push_temporary, is_push_literal, is_push_variable, is_pop_field, is_pop_temporary, is_unused_low, is_unused_high, is_near, is_near_on, is_far_jump, is_far_on_true, is_far_on_false, is_special, is_literal_send}
 use Rattle.bytecode.proofs.instruction_at.Goals as goal
 
 pub fetch-b-requires : goal.fetch-b-requires
@@ -15,303 +12,301 @@ fetch-b-requires c = first_there _ _ c.requires.0
 
 pub fetch-requires : goal.fetch-requires
 unfolding length_of when◌then◌else◌
-fetch-requires c = further_extended _ _ c.fetch-b.ensures c.kind.ensures c.in-20.is 1 tt tt c.requires.0
+fetch-requires c = further_extended _ _ c.fetch-b.ensures c.of.ensures c.in-ExtendedPush.is 1 tt tt c.requires.0
 
-pub fetch-requires-in-21 : goal.fetch-requires-in-21
+pub fetch-requires-in-ExtendedStore : goal.fetch-requires-in-ExtendedStore
 unfolding length_of when◌then◌else◌
-fetch-requires-in-21 c = further_extended _ _ c.fetch-b.ensures c.kind.ensures c.in-21.is 1 tt tt c.requires.0
+fetch-requires-in-ExtendedStore c = further_extended _ _ c.fetch-b.ensures c.of.ensures c.in-ExtendedStore.is 1 tt tt c.requires.0
 
-pub fetch-requires-in-22 : goal.fetch-requires-in-22
+pub fetch-requires-in-ExtendedPop : goal.fetch-requires-in-ExtendedPop
 unfolding length_of when◌then◌else◌
-fetch-requires-in-22 c = further_extended _ _ c.fetch-b.ensures c.kind.ensures c.in-22.is 1 tt tt c.requires.0
+fetch-requires-in-ExtendedPop c = further_extended _ _ c.fetch-b.ensures c.of.ensures c.in-ExtendedPop.is 1 tt tt c.requires.0
 
 pub fetch-x-requires : goal.fetch-x-requires
 unfolding length_of when◌then◌else◌
-fetch-x-requires c = further_extended _ _ c.fetch-b.ensures c.kind.ensures c.in-23.is 1 tt tt c.requires.0
+fetch-x-requires c = further_extended _ _ c.fetch-b.ensures c.of.ensures c.in-ExtendedSend.is 1 tt tt c.requires.0
 
-pub fetch-x-requires-in-24 : goal.fetch-x-requires-in-24
+pub fetch-x-requires-in-LongSend : goal.fetch-x-requires-in-LongSend
 unfolding length_of when◌then◌else◌
-fetch-x-requires-in-24 c = further_extended _ _ c.fetch-b.ensures c.kind.ensures c.in-24.is 1 tt tt c.requires.0
+fetch-x-requires-in-LongSend c = further_extended _ _ c.fetch-b.ensures c.of.ensures c.in-LongSend.is 1 tt tt c.requires.0
 
 pub fetch-y-requires : goal.fetch-y-requires
 unfolding length_of when◌then◌else◌
 fetch-y-requires c =
-    further_extended _ _ c.fetch-b.ensures c.kind.ensures c.in-24.is 2 tt tt
+    further_extended _ _ c.fetch-b.ensures c.of.ensures c.in-LongSend.is 2 tt tt
     c.requires.0
 
-pub fetch-x-requires-in-25 : goal.fetch-x-requires-in-25
+pub fetch-x-requires-in-ExtendedSuper : goal.fetch-x-requires-in-ExtendedSuper
 unfolding length_of when◌then◌else◌
-fetch-x-requires-in-25 c = further_extended _ _ c.fetch-b.ensures c.kind.ensures c.in-25.is 1 tt tt c.requires.0
+fetch-x-requires-in-ExtendedSuper c = further_extended _ _ c.fetch-b.ensures c.of.ensures c.in-ExtendedSuper.is 1 tt tt c.requires.0
 
-pub fetch-x-requires-in-26 : goal.fetch-x-requires-in-26
+pub fetch-x-requires-in-LongSuper : goal.fetch-x-requires-in-LongSuper
 unfolding length_of when◌then◌else◌
-fetch-x-requires-in-26 c = further_extended _ _ c.fetch-b.ensures c.kind.ensures c.in-26.is 1 tt tt c.requires.0
+fetch-x-requires-in-LongSuper c = further_extended _ _ c.fetch-b.ensures c.of.ensures c.in-LongSuper.is 1 tt tt c.requires.0
 
-pub fetch-y-requires-in-26 : goal.fetch-y-requires-in-26
+pub fetch-y-requires-in-LongSuper : goal.fetch-y-requires-in-LongSuper
 unfolding length_of when◌then◌else◌
-fetch-y-requires-in-26 c =
-    further_extended _ _ c.fetch-b.ensures c.kind.ensures c.in-26.is 2 tt tt
+fetch-y-requires-in-LongSuper c =
+    further_extended _ _ c.fetch-b.ensures c.of.ensures c.in-LongSuper.is 2 tt tt
     c.requires.0
 
-pub fetch-requires-in-32 : goal.fetch-requires-in-32
-fetch-requires-in-32 c = further_jump _ _ c.fetch-b.ensures c.kind.ensures c.in-32.is tt c.requires.0
+pub fetch-requires-in-Jump : goal.fetch-requires-in-Jump
+fetch-requires-in-Jump c = further_jump _ _ c.fetch-b.ensures c.of.ensures c.in-Jump.is tt c.requires.0
 
-pub fetch-requires-in-33 : goal.fetch-requires-in-33
-fetch-requires-in-33 c = further_jump _ _ c.fetch-b.ensures c.kind.ensures c.in-33.is tt c.requires.0
+pub fetch-requires-in-JumpOnTrue : goal.fetch-requires-in-JumpOnTrue
+fetch-requires-in-JumpOnTrue c = further_jump _ _ c.fetch-b.ensures c.of.ensures c.in-JumpOnTrue.is tt c.requires.0
 
-pub fetch-requires-in-34 : goal.fetch-requires-in-34
-fetch-requires-in-34 c = further_jump _ _ c.fetch-b.ensures c.kind.ensures c.in-34.is tt c.requires.0
+pub fetch-requires-in-JumpOnFalse : goal.fetch-requires-in-JumpOnFalse
+fetch-requires-in-JumpOnFalse c = further_jump _ _ c.fetch-b.ensures c.of.ensures c.in-JumpOnFalse.is tt c.requires.0
 
-pub returns-in-0 : goal.returns-in-0
-returns-in-0 c = is_push_field _ _ c.fetch-b.ensures c.kind.ensures c.in-0.is tt c.ends.ensures
+pub returns-in-PushField : goal.returns-in-PushField
+returns-in-PushField c = is_push_field _ _ c.fetch-b.ensures c.of.ensures c.in-PushField.is tt c.ends.ensures
 
-pub returns-in-1 : goal.returns-in-1
-returns-in-1 c = is_push_temporary _ _ c.fetch-b.ensures c.kind.ensures c.in-1.is tt c.ends-in-1.ensures
+pub returns-in-PushTemporary : goal.returns-in-PushTemporary
+returns-in-PushTemporary c = is_push_temporary _ _ c.fetch-b.ensures c.of.ensures c.in-PushTemporary.is tt c.ends-in-PushTemporary.ensures
 
-pub returns-in-2 : goal.returns-in-2
-returns-in-2 c = is_push_literal _ _ c.fetch-b.ensures c.kind.ensures c.in-2.is tt c.ends-in-2.ensures
+pub returns-in-PushLiteral : goal.returns-in-PushLiteral
+returns-in-PushLiteral c = is_push_literal _ _ c.fetch-b.ensures c.of.ensures c.in-PushLiteral.is tt c.ends-in-PushLiteral.ensures
 
-pub returns-in-3 : goal.returns-in-3
-returns-in-3 c = is_push_variable _ _ c.fetch-b.ensures c.kind.ensures c.in-3.is tt c.ends-in-3.ensures
+pub returns-in-PushLiteralVariable : goal.returns-in-PushLiteralVariable
+returns-in-PushLiteralVariable c = is_push_variable _ _ c.fetch-b.ensures c.of.ensures c.in-PushLiteralVariable.is tt c.ends-in-PushLiteralVariable.ensures
 
-pub returns-in-4 : goal.returns-in-4
-returns-in-4 c = is_pop_field _ _ c.fetch-b.ensures c.kind.ensures c.in-4.is tt c.ends-in-4.ensures
+pub returns-in-PopField : goal.returns-in-PopField
+returns-in-PopField c = is_pop_field _ _ c.fetch-b.ensures c.of.ensures c.in-PopField.is tt c.ends-in-PopField.ensures
 
-pub returns-in-5 : goal.returns-in-5
-returns-in-5 c = is_pop_temporary _ _ c.fetch-b.ensures c.kind.ensures c.in-5.is tt c.ends-in-5.ensures
+pub returns-in-PopTemporary : goal.returns-in-PopTemporary
+returns-in-PopTemporary c = is_pop_temporary _ _ c.fetch-b.ensures c.of.ensures c.in-PopTemporary.is tt c.ends-in-PopTemporary.ensures
 
-pub returns-in-6 : goal.returns-in-6
+pub returns-in-PushSelf : goal.returns-in-PushSelf
 unfolding instruction_of constant_of length_of when◌then◌else◌
-returns-in-6 c = is_single _ _ c.fetch-b.ensures c.kind.ensures c.in-6.is tt refl c.ends-in-6.ensures
+returns-in-PushSelf c = is_single _ _ c.fetch-b.ensures c.of.ensures c.in-PushSelf.is tt refl c.ends-in-PushSelf.ensures
 
-pub returns-in-7 : goal.returns-in-7
+pub returns-in-PushTrue : goal.returns-in-PushTrue
 unfolding instruction_of constant_of length_of when◌then◌else◌
-returns-in-7 c = is_single _ _ c.fetch-b.ensures c.kind.ensures c.in-7.is tt refl c.ends-in-7.ensures
+returns-in-PushTrue c = is_single _ _ c.fetch-b.ensures c.of.ensures c.in-PushTrue.is tt refl c.ends-in-PushTrue.ensures
 
-pub returns-in-8 : goal.returns-in-8
+pub returns-in-PushFalse : goal.returns-in-PushFalse
 unfolding instruction_of constant_of length_of when◌then◌else◌
-returns-in-8 c = is_single _ _ c.fetch-b.ensures c.kind.ensures c.in-8.is tt refl c.ends-in-8.ensures
+returns-in-PushFalse c = is_single _ _ c.fetch-b.ensures c.of.ensures c.in-PushFalse.is tt refl c.ends-in-PushFalse.ensures
 
-pub returns-in-9 : goal.returns-in-9
+pub returns-in-PushNil : goal.returns-in-PushNil
 unfolding instruction_of constant_of length_of when◌then◌else◌
-returns-in-9 c = is_single _ _ c.fetch-b.ensures c.kind.ensures c.in-9.is tt refl c.ends-in-9.ensures
+returns-in-PushNil c = is_single _ _ c.fetch-b.ensures c.of.ensures c.in-PushNil.is tt refl c.ends-in-PushNil.ensures
 
-pub returns-in-10 : goal.returns-in-10
+pub returns-in-PushMinusOne : goal.returns-in-PushMinusOne
 unfolding instruction_of constant_of length_of when◌then◌else◌
-returns-in-10 c = is_single _ _ c.fetch-b.ensures c.kind.ensures c.in-10.is tt refl c.ends-in-10.ensures
+returns-in-PushMinusOne c = is_single _ _ c.fetch-b.ensures c.of.ensures c.in-PushMinusOne.is tt refl c.ends-in-PushMinusOne.ensures
 
-pub returns-in-11 : goal.returns-in-11
+pub returns-in-PushZero : goal.returns-in-PushZero
 unfolding instruction_of constant_of length_of when◌then◌else◌
-returns-in-11 c = is_single _ _ c.fetch-b.ensures c.kind.ensures c.in-11.is tt refl c.ends-in-11.ensures
+returns-in-PushZero c = is_single _ _ c.fetch-b.ensures c.of.ensures c.in-PushZero.is tt refl c.ends-in-PushZero.ensures
 
-pub returns-in-12 : goal.returns-in-12
+pub returns-in-PushOne : goal.returns-in-PushOne
 unfolding instruction_of constant_of length_of when◌then◌else◌
-returns-in-12 c = is_single _ _ c.fetch-b.ensures c.kind.ensures c.in-12.is tt refl c.ends-in-12.ensures
+returns-in-PushOne c = is_single _ _ c.fetch-b.ensures c.of.ensures c.in-PushOne.is tt refl c.ends-in-PushOne.ensures
 
-pub returns-in-13 : goal.returns-in-13
+pub returns-in-PushTwo : goal.returns-in-PushTwo
 unfolding instruction_of constant_of length_of when◌then◌else◌
-returns-in-13 c = is_single _ _ c.fetch-b.ensures c.kind.ensures c.in-13.is tt refl c.ends-in-13.ensures
+returns-in-PushTwo c = is_single _ _ c.fetch-b.ensures c.of.ensures c.in-PushTwo.is tt refl c.ends-in-PushTwo.ensures
 
-pub returns-in-14 : goal.returns-in-14
+pub returns-in-ReturnSelf : goal.returns-in-ReturnSelf
 unfolding instruction_of constant_of length_of when◌then◌else◌
-returns-in-14 c = is_single _ _ c.fetch-b.ensures c.kind.ensures c.in-14.is tt refl c.ends-in-14.ensures
+returns-in-ReturnSelf c = is_single _ _ c.fetch-b.ensures c.of.ensures c.in-ReturnSelf.is tt refl c.ends-in-ReturnSelf.ensures
 
-pub returns-in-15 : goal.returns-in-15
+pub returns-in-ReturnTrue : goal.returns-in-ReturnTrue
 unfolding instruction_of constant_of length_of when◌then◌else◌
-returns-in-15 c = is_single _ _ c.fetch-b.ensures c.kind.ensures c.in-15.is tt refl c.ends-in-15.ensures
+returns-in-ReturnTrue c = is_single _ _ c.fetch-b.ensures c.of.ensures c.in-ReturnTrue.is tt refl c.ends-in-ReturnTrue.ensures
 
-pub returns-in-16 : goal.returns-in-16
+pub returns-in-ReturnFalse : goal.returns-in-ReturnFalse
 unfolding instruction_of constant_of length_of when◌then◌else◌
-returns-in-16 c = is_single _ _ c.fetch-b.ensures c.kind.ensures c.in-16.is tt refl c.ends-in-16.ensures
+returns-in-ReturnFalse c = is_single _ _ c.fetch-b.ensures c.of.ensures c.in-ReturnFalse.is tt refl c.ends-in-ReturnFalse.ensures
 
-pub returns-in-17 : goal.returns-in-17
+pub returns-in-ReturnNil : goal.returns-in-ReturnNil
 unfolding instruction_of constant_of length_of when◌then◌else◌
-returns-in-17 c = is_single _ _ c.fetch-b.ensures c.kind.ensures c.in-17.is tt refl c.ends-in-17.ensures
+returns-in-ReturnNil c = is_single _ _ c.fetch-b.ensures c.of.ensures c.in-ReturnNil.is tt refl c.ends-in-ReturnNil.ensures
 
-pub returns-in-18 : goal.returns-in-18
+pub returns-in-ReturnTop : goal.returns-in-ReturnTop
 unfolding instruction_of constant_of length_of when◌then◌else◌
-returns-in-18 c = is_single _ _ c.fetch-b.ensures c.kind.ensures c.in-18.is tt refl c.ends-in-18.ensures
+returns-in-ReturnTop c = is_single _ _ c.fetch-b.ensures c.of.ensures c.in-ReturnTop.is tt refl c.ends-in-ReturnTop.ensures
 
-pub returns-in-19 : goal.returns-in-19
-returns-in-19 c = is_unused_low _ _ c.fetch-b.ensures c.kind.ensures c.in-19.is tt c.ends-in-19.ensures
+pub returns-in-UnusedShort : goal.returns-in-UnusedShort
+returns-in-UnusedShort c = is_unused_low _ _ c.fetch-b.ensures c.of.ensures c.in-UnusedShort.is tt c.ends-in-UnusedShort.ensures
 
-pub returns-in-20 : goal.returns-in-20
+pub returns-in-ExtendedPush : goal.returns-in-ExtendedPush
 unfolding instruction_of extended_of length_of when◌then◌else◌
-returns-in-20 c =
-    is_single _ _ c.fetch-b.ensures c.kind.ensures c.in-20.is tt
-    (ap Push (ap place_of (sym c.fetch.ensures) ∙ sym c.place_of.ensures)) c.ends-in-20.ensures
+returns-in-ExtendedPush c =
+    is_single _ _ c.fetch-b.ensures c.of.ensures c.in-ExtendedPush.is tt
+    (ap Push (ap place_of (sym c.fetch.ensures) ∙ sym c.place_of.ensures)) c.ends-in-ExtendedPush.ensures
 
-pub returns-in-21 : goal.returns-in-21
+pub returns-in-ExtendedStore : goal.returns-in-ExtendedStore
 unfolding instruction_of extended_of length_of when◌then◌else◌
-returns-in-21 c =
-    is_single _ _ c.fetch-b.ensures c.kind.ensures c.in-21.is tt
-    (ap Store (ap place_of (sym c.fetch-in-21.ensures) ∙ sym c.place_of-in-21.ensures)) c.ends-in-21.ensures
+returns-in-ExtendedStore c =
+    is_single _ _ c.fetch-b.ensures c.of.ensures c.in-ExtendedStore.is tt
+    (ap Store (ap place_of (sym c.fetch-in-ExtendedStore.ensures) ∙ sym c.place_of-in-ExtendedStore.ensures)) c.ends-in-ExtendedStore.ensures
 
-pub returns-in-22 : goal.returns-in-22
+pub returns-in-ExtendedPop : goal.returns-in-ExtendedPop
 unfolding instruction_of extended_of length_of when◌then◌else◌
-returns-in-22 c =
-    is_single _ _ c.fetch-b.ensures c.kind.ensures c.in-22.is tt
-    (ap PopStore (ap place_of (sym c.fetch-in-22.ensures) ∙ sym c.place_of-in-22.ensures)) c.ends-in-22.ensures
+returns-in-ExtendedPop c =
+    is_single _ _ c.fetch-b.ensures c.of.ensures c.in-ExtendedPop.is tt
+    (ap PopStore (ap place_of (sym c.fetch-in-ExtendedPop.ensures) ∙ sym c.place_of-in-ExtendedPop.ensures)) c.ends-in-ExtendedPop.ensures
 
-pub returns-in-23 : goal.returns-in-23
+pub returns-in-ExtendedSend : goal.returns-in-ExtendedSend
 unfolding instruction_of extended_of length_of when◌then◌else◌
-returns-in-23 c =
-    is_single _ _ c.fetch-b.ensures c.kind.ensures c.in-23.is tt
-    (ap (λ x. Send (x % 32) (x / 32)) (sym c.fetch-x.ensures)) c.ends-in-23.ensures
+returns-in-ExtendedSend c =
+    is_single _ _ c.fetch-b.ensures c.of.ensures c.in-ExtendedSend.is tt
+    (ap (λ x. Send (x % 32) (x / 32)) (sym c.fetch-x.ensures)) c.ends-in-ExtendedSend.ensures
 
-pub returns-in-24 : goal.returns-in-24
+pub returns-in-LongSend : goal.returns-in-LongSend
 unfolding instruction_of extended_of length_of when◌then◌else◌
-returns-in-24 c =
-    is_single _ _ c.fetch-b.ensures c.kind.ensures c.in-24.is tt
-    (λ i. Send (sym c.fetch-y.ensures i) (sym c.fetch-x-in-24.ensures i)) c.ends-in-24.ensures
+returns-in-LongSend c =
+    is_single _ _ c.fetch-b.ensures c.of.ensures c.in-LongSend.is tt
+    (λ i. Send (sym c.fetch-y.ensures i) (sym c.fetch-x-in-LongSend.ensures i)) c.ends-in-LongSend.ensures
 
-pub returns-in-25 : goal.returns-in-25
+pub returns-in-ExtendedSuper : goal.returns-in-ExtendedSuper
 unfolding instruction_of extended_of length_of when◌then◌else◌
-returns-in-25 c =
-    is_single _ _ c.fetch-b.ensures c.kind.ensures c.in-25.is tt
-    (ap (λ x. SuperSend (x % 32) (x / 32)) (sym c.fetch-x-in-25.ensures)) c.ends-in-25.ensures
+returns-in-ExtendedSuper c =
+    is_single _ _ c.fetch-b.ensures c.of.ensures c.in-ExtendedSuper.is tt
+    (ap (λ x. SuperSend (x % 32) (x / 32)) (sym c.fetch-x-in-ExtendedSuper.ensures)) c.ends-in-ExtendedSuper.ensures
 
-pub returns-in-26 : goal.returns-in-26
+pub returns-in-LongSuper : goal.returns-in-LongSuper
 unfolding instruction_of extended_of length_of when◌then◌else◌
-returns-in-26 c =
-    is_single _ _ c.fetch-b.ensures c.kind.ensures c.in-26.is tt
-    (λ i. SuperSend (sym c.fetch-y-in-26.ensures i) (sym c.fetch-x-in-26.ensures i)) c.ends-in-26.ensures
+returns-in-LongSuper c =
+    is_single _ _ c.fetch-b.ensures c.of.ensures c.in-LongSuper.is tt
+    (λ i. SuperSend (sym c.fetch-y-in-LongSuper.ensures i) (sym c.fetch-x-in-LongSuper.ensures i)) c.ends-in-LongSuper.ensures
 
-pub returns-in-27 : goal.returns-in-27
+pub returns-in-Pop : goal.returns-in-Pop
 unfolding instruction_of extended_of length_of when◌then◌else◌
-returns-in-27 c = is_single _ _ c.fetch-b.ensures c.kind.ensures c.in-27.is tt refl c.ends-in-27.ensures
+returns-in-Pop c = is_single _ _ c.fetch-b.ensures c.of.ensures c.in-Pop.is tt refl c.ends-in-Pop.ensures
 
-pub returns-in-28 : goal.returns-in-28
+pub returns-in-Duplicate : goal.returns-in-Duplicate
 unfolding instruction_of extended_of length_of when◌then◌else◌
-returns-in-28 c = is_single _ _ c.fetch-b.ensures c.kind.ensures c.in-28.is tt refl c.ends-in-28.ensures
+returns-in-Duplicate c = is_single _ _ c.fetch-b.ensures c.of.ensures c.in-Duplicate.is tt refl c.ends-in-Duplicate.ensures
 
-pub returns-in-29 : goal.returns-in-29
-returns-in-29 c = is_unused_high _ _ c.fetch-b.ensures c.kind.ensures c.in-29.is tt c.ends-in-29.ensures
+pub returns-in-UnusedLong : goal.returns-in-UnusedLong
+returns-in-UnusedLong c = is_unused_high _ _ c.fetch-b.ensures c.of.ensures c.in-UnusedLong.is tt c.ends-in-UnusedLong.ensures
 
-pub returns-in-30 : goal.returns-in-30
-returns-in-30 c = is_near _ _ c.fetch-b.ensures c.kind.ensures c.in-30.is tt c.ends-in-30.ensures
+pub returns-in-ShortJump : goal.returns-in-ShortJump
+returns-in-ShortJump c = is_near _ _ c.fetch-b.ensures c.of.ensures c.in-ShortJump.is tt c.ends-in-ShortJump.ensures
 
-pub returns-in-31 : goal.returns-in-31
-returns-in-31 c = is_near_on _ _ c.fetch-b.ensures c.kind.ensures c.in-31.is tt c.ends-in-31.ensures
+pub returns-in-ShortJumpOn : goal.returns-in-ShortJumpOn
+returns-in-ShortJumpOn c = is_near_on _ _ c.fetch-b.ensures c.of.ensures c.in-ShortJumpOn.is tt c.ends-in-ShortJumpOn.ensures
 
-pub returns-in-32 : goal.returns-in-32
-returns-in-32 c =
-    is_far_jump _ _ c.fetch-b.ensures c.kind.ensures c.in-32.is tt
-    c.fetch-in-32.ensures c.ends-in-32.ensures
+pub returns-in-Jump : goal.returns-in-Jump
+returns-in-Jump c =
+    is_far_jump _ _ c.fetch-b.ensures c.of.ensures c.in-Jump.is tt
+    c.fetch-in-Jump.ensures c.ends-in-Jump.ensures
 
-pub returns-in-33 : goal.returns-in-33
-returns-in-33 c =
-    is_far_on_true _ _ c.fetch-b.ensures c.kind.ensures c.in-33.is tt
-    c.fetch-in-33.ensures c.ends-in-33.ensures
+pub returns-in-JumpOnTrue : goal.returns-in-JumpOnTrue
+returns-in-JumpOnTrue c =
+    is_far_on_true _ _ c.fetch-b.ensures c.of.ensures c.in-JumpOnTrue.is tt
+    c.fetch-in-JumpOnTrue.ensures c.ends-in-JumpOnTrue.ensures
 
-pub returns-in-34 : goal.returns-in-34
-returns-in-34 c =
-    is_far_on_false _ _ c.fetch-b.ensures c.kind.ensures c.in-34.is tt
-    c.fetch-in-34.ensures c.ends-in-34.ensures
+pub returns-in-JumpOnFalse : goal.returns-in-JumpOnFalse
+returns-in-JumpOnFalse c =
+    is_far_on_false _ _ c.fetch-b.ensures c.of.ensures c.in-JumpOnFalse.is tt
+    c.fetch-in-JumpOnFalse.ensures c.ends-in-JumpOnFalse.ensures
 
-pub returns-in-35 : goal.returns-in-35
-returns-in-35 c = is_special _ _ c.fetch-b.ensures c.kind.ensures c.in-35.is tt tt c.ends-in-35.ensures
+pub returns-in-Special0 : goal.returns-in-Special0
+returns-in-Special0 c = is_special _ _ c.fetch-b.ensures c.of.ensures c.in-Special0.is tt tt c.ends-in-Special0.ensures
 
-pub returns-in-36 : goal.returns-in-36
-returns-in-36 c = is_special _ _ c.fetch-b.ensures c.kind.ensures c.in-36.is tt tt c.ends-in-36.ensures
+pub returns-in-Special1 : goal.returns-in-Special1
+returns-in-Special1 c = is_special _ _ c.fetch-b.ensures c.of.ensures c.in-Special1.is tt tt c.ends-in-Special1.ensures
 
-pub returns-in-37 : goal.returns-in-37
-returns-in-37 c = is_special _ _ c.fetch-b.ensures c.kind.ensures c.in-37.is tt tt c.ends-in-37.ensures
+pub returns-in-Special2 : goal.returns-in-Special2
+returns-in-Special2 c = is_special _ _ c.fetch-b.ensures c.of.ensures c.in-Special2.is tt tt c.ends-in-Special2.ensures
 
-pub returns-in-38 : goal.returns-in-38
-returns-in-38 c = is_special _ _ c.fetch-b.ensures c.kind.ensures c.in-38.is tt tt c.ends-in-38.ensures
+pub returns-in-Special3 : goal.returns-in-Special3
+returns-in-Special3 c = is_special _ _ c.fetch-b.ensures c.of.ensures c.in-Special3.is tt tt c.ends-in-Special3.ensures
 
-pub returns-in-39 : goal.returns-in-39
-returns-in-39 c = is_special _ _ c.fetch-b.ensures c.kind.ensures c.in-39.is tt tt c.ends-in-39.ensures
+pub returns-in-Special4 : goal.returns-in-Special4
+returns-in-Special4 c = is_special _ _ c.fetch-b.ensures c.of.ensures c.in-Special4.is tt tt c.ends-in-Special4.ensures
 
-pub returns-in-40 : goal.returns-in-40
-returns-in-40 c = is_special _ _ c.fetch-b.ensures c.kind.ensures c.in-40.is tt tt c.ends-in-40.ensures
+pub returns-in-Special5 : goal.returns-in-Special5
+returns-in-Special5 c = is_special _ _ c.fetch-b.ensures c.of.ensures c.in-Special5.is tt tt c.ends-in-Special5.ensures
 
-pub returns-in-41 : goal.returns-in-41
-returns-in-41 c = is_special _ _ c.fetch-b.ensures c.kind.ensures c.in-41.is tt tt c.ends-in-41.ensures
+pub returns-in-Special6 : goal.returns-in-Special6
+returns-in-Special6 c = is_special _ _ c.fetch-b.ensures c.of.ensures c.in-Special6.is tt tt c.ends-in-Special6.ensures
 
-pub returns-in-42 : goal.returns-in-42
-returns-in-42 c = is_special _ _ c.fetch-b.ensures c.kind.ensures c.in-42.is tt tt c.ends-in-42.ensures
+pub returns-in-Special7 : goal.returns-in-Special7
+returns-in-Special7 c = is_special _ _ c.fetch-b.ensures c.of.ensures c.in-Special7.is tt tt c.ends-in-Special7.ensures
 
-pub returns-in-43 : goal.returns-in-43
-returns-in-43 c = is_special _ _ c.fetch-b.ensures c.kind.ensures c.in-43.is tt tt c.ends-in-43.ensures
+pub returns-in-Special8 : goal.returns-in-Special8
+returns-in-Special8 c = is_special _ _ c.fetch-b.ensures c.of.ensures c.in-Special8.is tt tt c.ends-in-Special8.ensures
 
-pub returns-in-44 : goal.returns-in-44
-returns-in-44 c = is_special _ _ c.fetch-b.ensures c.kind.ensures c.in-44.is tt tt c.ends-in-44.ensures
+pub returns-in-Special9 : goal.returns-in-Special9
+returns-in-Special9 c = is_special _ _ c.fetch-b.ensures c.of.ensures c.in-Special9.is tt tt c.ends-in-Special9.ensures
 
-pub returns-in-45 : goal.returns-in-45
-returns-in-45 c = is_special _ _ c.fetch-b.ensures c.kind.ensures c.in-45.is tt tt c.ends-in-45.ensures
+pub returns-in-Special10 : goal.returns-in-Special10
+returns-in-Special10 c = is_special _ _ c.fetch-b.ensures c.of.ensures c.in-Special10.is tt tt c.ends-in-Special10.ensures
 
-pub returns-in-46 : goal.returns-in-46
-returns-in-46 c = is_special _ _ c.fetch-b.ensures c.kind.ensures c.in-46.is tt tt c.ends-in-46.ensures
+pub returns-in-Special11 : goal.returns-in-Special11
+returns-in-Special11 c = is_special _ _ c.fetch-b.ensures c.of.ensures c.in-Special11.is tt tt c.ends-in-Special11.ensures
 
-pub returns-in-47 : goal.returns-in-47
-returns-in-47 c = is_special _ _ c.fetch-b.ensures c.kind.ensures c.in-47.is tt tt c.ends-in-47.ensures
+pub returns-in-Special12 : goal.returns-in-Special12
+returns-in-Special12 c = is_special _ _ c.fetch-b.ensures c.of.ensures c.in-Special12.is tt tt c.ends-in-Special12.ensures
 
-pub returns-in-48 : goal.returns-in-48
-returns-in-48 c = is_special _ _ c.fetch-b.ensures c.kind.ensures c.in-48.is tt tt c.ends-in-48.ensures
+pub returns-in-Special13 : goal.returns-in-Special13
+returns-in-Special13 c = is_special _ _ c.fetch-b.ensures c.of.ensures c.in-Special13.is tt tt c.ends-in-Special13.ensures
 
-pub returns-in-49 : goal.returns-in-49
-returns-in-49 c = is_special _ _ c.fetch-b.ensures c.kind.ensures c.in-49.is tt tt c.ends-in-49.ensures
+pub returns-in-Special14 : goal.returns-in-Special14
+returns-in-Special14 c = is_special _ _ c.fetch-b.ensures c.of.ensures c.in-Special14.is tt tt c.ends-in-Special14.ensures
 
-pub returns-in-50 : goal.returns-in-50
-returns-in-50 c = is_special _ _ c.fetch-b.ensures c.kind.ensures c.in-50.is tt tt c.ends-in-50.ensures
+pub returns-in-Special15 : goal.returns-in-Special15
+returns-in-Special15 c = is_special _ _ c.fetch-b.ensures c.of.ensures c.in-Special15.is tt tt c.ends-in-Special15.ensures
 
-pub returns-in-51 : goal.returns-in-51
-returns-in-51 c = is_special _ _ c.fetch-b.ensures c.kind.ensures c.in-51.is tt tt c.ends-in-51.ensures
+pub returns-in-Special16 : goal.returns-in-Special16
+returns-in-Special16 c = is_special _ _ c.fetch-b.ensures c.of.ensures c.in-Special16.is tt tt c.ends-in-Special16.ensures
 
-pub returns-in-52 : goal.returns-in-52
-returns-in-52 c = is_special _ _ c.fetch-b.ensures c.kind.ensures c.in-52.is tt tt c.ends-in-52.ensures
+pub returns-in-Special17 : goal.returns-in-Special17
+returns-in-Special17 c = is_special _ _ c.fetch-b.ensures c.of.ensures c.in-Special17.is tt tt c.ends-in-Special17.ensures
 
-pub returns-in-53 : goal.returns-in-53
-returns-in-53 c = is_special _ _ c.fetch-b.ensures c.kind.ensures c.in-53.is tt tt c.ends-in-53.ensures
+pub returns-in-Special18 : goal.returns-in-Special18
+returns-in-Special18 c = is_special _ _ c.fetch-b.ensures c.of.ensures c.in-Special18.is tt tt c.ends-in-Special18.ensures
 
-pub returns-in-54 : goal.returns-in-54
-returns-in-54 c = is_special _ _ c.fetch-b.ensures c.kind.ensures c.in-54.is tt tt c.ends-in-54.ensures
+pub returns-in-Special19 : goal.returns-in-Special19
+returns-in-Special19 c = is_special _ _ c.fetch-b.ensures c.of.ensures c.in-Special19.is tt tt c.ends-in-Special19.ensures
 
-pub returns-in-55 : goal.returns-in-55
-returns-in-55 c = is_special _ _ c.fetch-b.ensures c.kind.ensures c.in-55.is tt tt c.ends-in-55.ensures
+pub returns-in-Special20 : goal.returns-in-Special20
+returns-in-Special20 c = is_special _ _ c.fetch-b.ensures c.of.ensures c.in-Special20.is tt tt c.ends-in-Special20.ensures
 
-pub returns-in-56 : goal.returns-in-56
-returns-in-56 c = is_special _ _ c.fetch-b.ensures c.kind.ensures c.in-56.is tt tt c.ends-in-56.ensures
+pub returns-in-Special21 : goal.returns-in-Special21
+returns-in-Special21 c = is_special _ _ c.fetch-b.ensures c.of.ensures c.in-Special21.is tt tt c.ends-in-Special21.ensures
 
-pub returns-in-57 : goal.returns-in-57
-returns-in-57 c = is_special _ _ c.fetch-b.ensures c.kind.ensures c.in-57.is tt tt c.ends-in-57.ensures
+pub returns-in-Special22 : goal.returns-in-Special22
+returns-in-Special22 c = is_special _ _ c.fetch-b.ensures c.of.ensures c.in-Special22.is tt tt c.ends-in-Special22.ensures
 
-pub returns-in-58 : goal.returns-in-58
-returns-in-58 c = is_special _ _ c.fetch-b.ensures c.kind.ensures c.in-58.is tt tt c.ends-in-58.ensures
+pub returns-in-Special23 : goal.returns-in-Special23
+returns-in-Special23 c = is_special _ _ c.fetch-b.ensures c.of.ensures c.in-Special23.is tt tt c.ends-in-Special23.ensures
 
-pub returns-in-59 : goal.returns-in-59
-returns-in-59 c = is_special _ _ c.fetch-b.ensures c.kind.ensures c.in-59.is tt tt c.ends-in-59.ensures
+pub returns-in-Special24 : goal.returns-in-Special24
+returns-in-Special24 c = is_special _ _ c.fetch-b.ensures c.of.ensures c.in-Special24.is tt tt c.ends-in-Special24.ensures
 
-pub returns-in-60 : goal.returns-in-60
-returns-in-60 c = is_special _ _ c.fetch-b.ensures c.kind.ensures c.in-60.is tt tt c.ends-in-60.ensures
+pub returns-in-Special25 : goal.returns-in-Special25
+returns-in-Special25 c = is_special _ _ c.fetch-b.ensures c.of.ensures c.in-Special25.is tt tt c.ends-in-Special25.ensures
 
-pub returns-in-61 : goal.returns-in-61
-returns-in-61 c = is_special _ _ c.fetch-b.ensures c.kind.ensures c.in-61.is tt tt c.ends-in-61.ensures
+pub returns-in-Special26 : goal.returns-in-Special26
+returns-in-Special26 c = is_special _ _ c.fetch-b.ensures c.of.ensures c.in-Special26.is tt tt c.ends-in-Special26.ensures
 
-pub returns-in-62 : goal.returns-in-62
-returns-in-62 c = is_special _ _ c.fetch-b.ensures c.kind.ensures c.in-62.is tt tt c.ends-in-62.ensures
+pub returns-in-Special27 : goal.returns-in-Special27
+returns-in-Special27 c = is_special _ _ c.fetch-b.ensures c.of.ensures c.in-Special27.is tt tt c.ends-in-Special27.ensures
 
-pub returns-in-63 : goal.returns-in-63
-returns-in-63 c = is_special _ _ c.fetch-b.ensures c.kind.ensures c.in-63.is tt tt c.ends-in-63.ensures
+pub returns-in-Special28 : goal.returns-in-Special28
+returns-in-Special28 c = is_special _ _ c.fetch-b.ensures c.of.ensures c.in-Special28.is tt tt c.ends-in-Special28.ensures
 
-pub returns-in-64 : goal.returns-in-64
-returns-in-64 c = is_special _ _ c.fetch-b.ensures c.kind.ensures c.in-64.is tt tt c.ends-in-64.ensures
+pub returns-in-Special29 : goal.returns-in-Special29
+returns-in-Special29 c = is_special _ _ c.fetch-b.ensures c.of.ensures c.in-Special29.is tt tt c.ends-in-Special29.ensures
 
-pub returns-in-65 : goal.returns-in-65
-returns-in-65 c = is_special _ _ c.fetch-b.ensures c.kind.ensures c.in-65.is tt tt c.ends-in-65.ensures
+pub returns-in-Special30 : goal.returns-in-Special30
+returns-in-Special30 c = is_special _ _ c.fetch-b.ensures c.of.ensures c.in-Special30.is tt tt c.ends-in-Special30.ensures
 
-pub returns-in-66 : goal.returns-in-66
-returns-in-66 c = is_special _ _ c.fetch-b.ensures c.kind.ensures c.in-66.is tt tt c.ends-in-66.ensures
+pub returns-in-Special31 : goal.returns-in-Special31
+returns-in-Special31 c = is_special _ _ c.fetch-b.ensures c.of.ensures c.in-Special31.is tt tt c.ends-in-Special31.ensures
 
-pub returns-in-67 : goal.returns-in-67
-returns-in-67 c = is_literal_send _ _ c.fetch-b.ensures c.kind.ensures c.in-67.is tt c.ends-in-67.ensures
+pub returns-in-SendNone : goal.returns-in-SendNone
+returns-in-SendNone c = is_literal_send _ _ c.fetch-b.ensures c.of.ensures c.in-SendNone.is tt c.ends-in-SendNone.ensures
 
-pub returns-in-68 : goal.returns-in-68
-returns-in-68 c = is_literal_send _ _ c.fetch-b.ensures c.kind.ensures c.in-68.is tt c.ends-in-68.ensures
+pub returns-in-SendOne : goal.returns-in-SendOne
+returns-in-SendOne c = is_literal_send _ _ c.fetch-b.ensures c.of.ensures c.in-SendOne.is tt c.ends-in-SendOne.ensures
 
-pub returns-in_default : goal.returns-in_default
-returns-in_default c =
-    let key = last_kind_lem c.kind.ensures (past 0 69 _ (omega arith) c.in_default.in_default-own.rest) (search rules) in
-    is_literal_send _ _ c.fetch-b.ensures c.kind.ensures key tt c.ends-in_default.ensures
+pub returns-in-SendTwo : goal.returns-in-SendTwo
+returns-in-SendTwo c = is_literal_send _ _ c.fetch-b.ensures c.of.ensures c.in-SendTwo.is tt c.ends-in-SendTwo.ensures

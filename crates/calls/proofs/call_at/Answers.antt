@@ -13,31 +13,33 @@ bounds-calls-i c = within c.args.calls.now c.args.i c.requires
 pub begin_at-requires : goal.begin_at-requires
 begin_at-requires c =
     let args = c.args in
-    begin_fits args.calls.now args.i (within args.calls.now args.i c.requires) c.if-kind-eq0.true c.requires
+    begin_fits args.calls.now args.i (within args.calls.now args.i c.requires) c.in-0.is c.requires
 
-pub returns-then-kind-eq0 : goal.returns-then-kind-eq0
-returns-then-kind-eq0 c =
+pub returns-in-0 : goal.returns-in-0
+returns-in-0 c =
     let args = c.args in
-    (c.begin_at.ensures.0 ∙ reads_begin args.calls.now args.i c.if-kind-eq0.true, c.begin_at.ensures.1)
+    (c.begin_at.ensures.0 ∙ reads_begin args.calls.now args.i c.in-0.is, c.begin_at.ensures.1)
 
 pub run_at-requires : goal.run_at-requires
 run_at-requires c =
     let args = c.args in
-    run_fits args.calls.now args.i (within args.calls.now args.i c.requires) c.if-kind-eq1.true c.requires
+    run_fits args.calls.now args.i (within args.calls.now args.i c.requires) c.in-1.is c.requires
 
-pub returns-then-kind-eq1 : goal.returns-then-kind-eq1
-returns-then-kind-eq1 c =
+pub returns-in-1 : goal.returns-in-1
+returns-in-1 c =
     let args = c.args in
-    (c.run_at.ensures.0 ∙ reads_run args.calls.now args.i c.if-kind-eq0.false c.if-kind-eq1.true, c.run_at.ensures.1)
+    let e = c.in-1.is in
+    (c.run_at.ensures.0 ∙ reads_run args.calls.now args.i (λ z. omega arith) e, c.run_at.ensures.1)
 
-pub returns-then-kind-eq2 : goal.returns-then-kind-eq2
+pub returns-in-2 : goal.returns-in-2
 unfolding listed
-returns-then-kind-eq2 c =
+returns-in-2 c =
     let args = c.args in
-    (reads_drop args.calls.now args.i c.if-kind-eq0.false c.if-kind-eq1.false c.if-kind-eq2.true, tt)
+    let e = c.in-2.is in
+    (reads_drop args.calls.now args.i (λ z. omega arith) (λ z. omega arith) e, tt)
 
-pub returns : goal.returns
+pub returns-in_default : goal.returns-in_default
 unfolding listed
-returns c =
+returns-in_default c =
     let args = c.args in
-    (reads_forget args.calls.now args.i c.if-kind-eq0.false c.if-kind-eq1.false c.if-kind-eq2.false, tt)
+    (reads_forget args.calls.now args.i (λ z. omega arith) (λ z. omega arith) (λ z. omega arith), tt)

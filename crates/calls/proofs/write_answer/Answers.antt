@@ -1,31 +1,15 @@
+use mathlib.Core.Path.{refl, ap, ◌∙◌}
+use mathlib.Core.List.{List, [], ◌∷◌}
+use Prim.Native.Nat.{ℕ, ◌+◌, ◌-◌}
 use native.Mathlib.Omega.{arith}
-use lib.ListN.{length-set}
-use Rattle.calls.proofs.Lists.{puts}
+use borrow.Rule.Slice.PartMut.{put_mid}
+use Rattle.calls.specs.Encoding.{high_word, low_word}
+use Rattle.calls.proofs.Lists.{put_part}
 use Rattle.calls.proofs.write_answer.Goals as goal
 
-pub bounds-answers-at-2 : goal.bounds-answers-at-2
-bounds-answers-at-2 c = simp length-set (omega arith)
-
-pub bounds-answers-at-3 : goal.bounds-answers-at-3
-bounds-answers-at-3 c = simp length-set (omega arith)
-
-pub bounds-answers-at-4 : goal.bounds-answers-at-4
-bounds-answers-at-4 c = simp length-set (omega arith)
-
-pub bounds-answers-at-5 : goal.bounds-answers-at-5
-bounds-answers-at-5 c = simp length-set (omega arith)
-
-pub overflow_cast-answers : goal.overflow_cast-answers
-overflow_cast-answers c = omega arith
-
-pub bounds-answers-at-6 : goal.bounds-answers-at-6
-bounds-answers-at-6 c = simp length-set (omega arith)
-
-pub overflow_cast-answers-2 : goal.overflow_cast-answers-2
-overflow_cast-answers-2 c = omega arith
-
-pub bounds-answers-at-7 : goal.bounds-answers-at-7
-bounds-answers-at-7 c = simp length-set (omega arith)
-
 pub returns : goal.returns
-returns c = puts c.args.answers.now c.args.at c.args.number c.args.phase c.args.count c.args.value c.args.reach _ _
+returns c =
+    let a = c.args.answer in
+    let words : List ℕ = a.number ∷ a.phase ∷ a.count ∷ a.value ∷ a.reach ∷ high_word a.dictionaries ∷ low_word a.dictionaries ∷ [] in
+    ap (λ (ws : List ℕ). put_mid c.args.at (c.args.at + 7 - c.args.at) c.args.answers.now ws) c.copy_from_slice.ensures.after
+    ∙ put_part c.args.answers.now words c.args.at 7 (c.args.at + 7 - c.args.at) refl (omega arith) c.requires

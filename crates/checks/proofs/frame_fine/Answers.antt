@@ -9,7 +9,7 @@ use Rattle.checks.proofs.frame_fine.Goals as goal
 pub returns-then-not-six_words_fine : goal.returns-then-not-six_words_fine
 returns-then-not-six_words_fine c =
     let a = c.args in
-    rules_no a.edition (objects_at a.n a.b a.contents.now a.bodies.now) a.stack.now a.at.0 a.uppermost _ c.six_words_fine.ensures (ap not c.if-not-six_words_fine.true)
+    rules_no a.edition (objects_at a.memory.now.n a.memory.now.b a.memory.now.contents.now a.memory.now.bodies.now) a.stack.now a.at.0 a.uppermost _ c.six_words_fine.ensures (ap not c.if-not-six_words_fine.true)
 
 pub overflow_add-m : goal.overflow_add-m
 overflow_add-m c = let h = header_inside c.requires in omega arith
@@ -41,13 +41,13 @@ header-requires c = holds_method c.requires
 pub overflow_add-end : goal.overflow_add-end
 overflow_add-end c =
     let a = c.args in
-    let w = words_end a.edition (objects_at a.n a.b a.contents.now a.bodies.now) a.stack.now a.at.0 a.uppermost c.requires.frame _
+    let w = words_end a.edition (objects_at a.memory.now.n a.memory.now.b a.memory.now.contents.now a.memory.now.bodies.now) a.stack.now a.at.0 a.uppermost c.requires.frame _
     c.six_words_fine.ensures (ap not c.if-not-six_words_fine.false) _ _ c.header.ensures c.temporary_count.ensures in omega arith
 
 pub overflow_add-end-2 : goal.overflow_add-end-2
 overflow_add-end-2 c =
     let a = c.args in
-    let w = words_end a.edition (objects_at a.n a.b a.contents.now a.bodies.now) a.stack.now a.at.0 a.uppermost c.requires.frame _
+    let w = words_end a.edition (objects_at a.memory.now.n a.memory.now.b a.memory.now.contents.now a.memory.now.bodies.now) a.stack.now a.at.0 a.uppermost c.requires.frame _
     c.six_words_fine.ensures (ap not c.if-not-six_words_fine.false) _ _ c.header.ensures c.temporary_count.ensures in omega arith
 
 pub offset_bounds-stack-from : goal.offset_bounds-stack-from
@@ -57,12 +57,12 @@ offset_bounds-stack-from c =
 pub slice_bounds-valid_words-end : goal.slice_bounds-valid_words-end
 slice_bounds-valid_words-end c =
     let a = c.args in
-    let w = words_end a.edition (objects_at a.n a.b a.contents.now a.bodies.now) a.stack.now a.at.0 a.uppermost c.requires.frame _
+    let w = words_end a.edition (objects_at a.memory.now.n a.memory.now.b a.memory.now.contents.now a.memory.now.bodies.now) a.stack.now a.at.0 a.uppermost c.requires.frame _
     c.six_words_fine.ensures (ap not c.if-not-six_words_fine.false) _ _ c.header.ensures c.temporary_count.ensures in omega arith
 
 pub returns : goal.returns
 returns c =
     let a = c.args in
-    rules_here a.edition (objects_at a.n a.b a.contents.now a.bodies.now) a.stack.now a.at.0 a.uppermost c.requires.frame _
+    rules_here a.edition (objects_at a.memory.now.n a.memory.now.b a.memory.now.contents.now a.memory.now.bodies.now) a.stack.now a.at.0 a.uppermost c.requires.frame _
     c.six_words_fine.ensures (ap not c.if-not-six_words_fine.false) _ _ c.header.ensures c.temporary_count.ensures _
     c.valid_words.ensures

@@ -2,68 +2,57 @@ use mathlib.Core.Path.{ap}
 use mathlib.Core.Bool.{true, not}
 use native.Mathlib.Omega.{arith}
 use Rattle.model.specs.Objects.{objects_at}
-use Rattle.checks.proofs.Standing.{standing, end_no}
-use Rattle.checks.proofs.Walking.{from_unstood, going_first, going_wrong, going_bottom, going_apart, going_lower, going_down}
+use Rattle.checks.proofs.Standing.{standing}
+use Rattle.checks.proofs.Walking.{from_unstood, going_first, going_wrong, going_bottom, going_alone, going_apart, going_down}
 use Rattle.checks.proofs.frames_fine.Goals as goal
 
-pub frame_end-end-requires : goal.frame_end-end-requires
-frame_end-end-requires c = (_, c.requires.right)
+pub frame_end-requires : goal.frame_end-requires
+frame_end-requires c = (_, c.requires.right)
 
-pub returns-then-end-eq0 : goal.returns-then-end-eq0
-returns-then-end-eq0 c =
+pub loop-base-init : goal.loop-base-init
+loop-base-init c =
     let a = c.args in
-    let o = objects_at a.n a.b a.contents.now a.bodies.now in
-    from_unstood a.edition o a.stack.now true a.top.0 a.top.0 (end_no o a.stack.now a.top.0 _ c.frame_end-end.ensures c.if-end-eq0.true)
-
-pub loop-edition-init : goal.loop-edition-init
-loop-edition-init c =
-    let a = c.args in
-    going_first a.edition (objects_at a.n a.b a.contents.now a.bodies.now) a.stack.now a.top.0 _ c.frame_end-end.ensures c.if-end-eq0.false
+    going_first a.edition (objects_at a.memory.now.n a.memory.now.b a.memory.now.contents.now a.memory.now.bodies.now) a.stack.now a.top.0 c.in-Some.ensures.stands
 
 pub frame_fine-requires : goal.frame_fine-requires
-frame_fine-requires c = record { image = c.requires; frame = c.loop-edition.invariant.stands }
+frame_fine-requires c = record { image = c.requires; frame = c.loop-base.invariant.stands }
 
 pub returns-then-not-frame_fine : goal.returns-then-not-frame_fine
 returns-then-not-frame_fine c =
     let a = c.args in
-    going_wrong a.edition (objects_at a.n a.b a.contents.now a.bodies.now) a.stack.now c.loop-edition.invariant _ c.frame_fine.ensures (ap not c.if-not-frame_fine.true)
-
-pub offset_bounds-stack-base : goal.offset_bounds-stack-base
-offset_bounds-stack-base c =
-    let a = c.args in
-    let s = (standing (objects_at a.n a.b a.contents.now a.bodies.now) a.stack.now c.loop-edition.base c.loop-edition.invariant.stands).header in omega arith
-
-pub bounds-stack-base : goal.bounds-stack-base
-bounds-stack-base c =
-    let a = c.args in
-    let s = (standing (objects_at a.n a.b a.contents.now a.bodies.now) a.stack.now c.loop-edition.base c.loop-edition.invariant.stands).header in omega arith
-
-pub overflow_cast-sender : goal.overflow_cast-sender
-overflow_cast-sender c = omega (arith, c.type_inv.stack c.loop-edition.base)
+    going_wrong a.edition (objects_at a.memory.now.n a.memory.now.b a.memory.now.contents.now a.memory.now.bodies.now) a.stack.now c.loop-base.invariant _ c.frame_fine.ensures (ap not c.if-not-frame_fine.true)
 
 pub returns-then-base-eq0 : goal.returns-then-base-eq0
 returns-then-base-eq0 c =
     let a = c.args in
-    going_bottom a.edition (objects_at a.n a.b a.contents.now a.bodies.now) a.stack.now c.loop-edition.invariant _ c.frame_fine.ensures
-    (ap not c.if-not-frame_fine.false) c.if-base-eq0.true
+    rw c.sender-sender.ensures (going_bottom a.edition (objects_at a.memory.now.n a.memory.now.b a.memory.now.contents.now a.memory.now.bodies.now) a.stack.now c.loop-base.invariant _ c.frame_fine.ensures
+    (ap not c.if-not-frame_fine.false) c.if-base-eq0.true)
 
-pub frame_end-below-requires : goal.frame_end-below-requires
-frame_end-below-requires c = (_, c.requires.right)
-
-pub returns-then-below-base : goal.returns-then-below-base
-returns-then-below-base c =
+pub sender-sender-requires : goal.sender-sender-requires
+sender-sender-requires c =
     let a = c.args in
-    going_apart a.edition (objects_at a.n a.b a.contents.now a.bodies.now) a.stack.now c.loop-edition.invariant _ c.frame_fine.ensures
-    (ap not c.if-not-frame_fine.false) c.if-base-eq0.false _ c.frame_end-below.ensures c.if-below-base.true
+    let s = (standing (objects_at a.memory.now.n a.memory.now.b a.memory.now.contents.now a.memory.now.bodies.now) a.stack.now c.loop-base.base.0 c.loop-base.invariant.stands).header in
+    (omega arith, omega (arith, (standing (objects_at a.memory.now.n a.memory.now.b a.memory.now.contents.now a.memory.now.bodies.now) a.stack.now c.loop-base.base.0 c.loop-base.invariant.stands).low), omega (arith, c.type_inv.stack c.loop-base.base.0))
 
-pub loop-edition-smaller : goal.loop-edition-smaller
-loop-edition-smaller c =
+pub returns-in_default : goal.returns-in_default
+returns-in_default c =
     let a = c.args in
-    going_lower a.edition (objects_at a.n a.b a.contents.now a.bodies.now) a.stack.now c.loop-edition.invariant _ c.frame_fine.ensures
-    (ap not c.if-not-frame_fine.false) c.if-base-eq0.false _ c.frame_end-below.ensures c.if-below-base.false
+    from_unstood a.edition (objects_at a.memory.now.n a.memory.now.b a.memory.now.contents.now a.memory.now.bodies.now) a.stack.now true a.top.0 a.top.0 c.in_default.ensures
 
-pub loop-edition-preserved : goal.loop-edition-preserved
-loop-edition-preserved c =
+pub returns-in_default-frame_end : goal.returns-in_default-frame_end
+returns-in_default-frame_end c =
     let a = c.args in
-    going_down a.edition (objects_at a.n a.b a.contents.now a.bodies.now) a.stack.now c.loop-edition.invariant _ c.frame_fine.ensures
-    (ap not c.if-not-frame_fine.false) c.if-base-eq0.false _ c.frame_end-below.ensures c.if-below-base.false
+    going_alone a.edition (objects_at a.memory.now.n a.memory.now.b a.memory.now.contents.now a.memory.now.bodies.now) a.stack.now c.loop-base.invariant _ c.frame_fine.ensures (ap not c.if-not-frame_fine.false) c.if-base-eq0.false
+    (rw c.sender-sender.ensures at c.in_default-frame_end.ensures)
+
+pub returns-then-end-base : goal.returns-then-end-base
+returns-then-end-base c =
+    let a = c.args in
+    going_apart a.edition (objects_at a.memory.now.n a.memory.now.b a.memory.now.contents.now a.memory.now.bodies.now) a.stack.now c.loop-base.invariant _ c.frame_fine.ensures (ap not c.if-not-frame_fine.false) c.if-base-eq0.false
+    (rw c.sender-sender.ensures at c.in-Some-frame_end.ensures) c.if-end-base.true
+
+pub loop-base-preserved : goal.loop-base-preserved
+loop-base-preserved c =
+    let a = c.args in
+    rw c.sender-sender.ensures (going_down a.edition (objects_at a.memory.now.n a.memory.now.b a.memory.now.contents.now a.memory.now.bodies.now) a.stack.now c.loop-base.invariant _ c.frame_fine.ensures (ap not c.if-not-frame_fine.false) c.if-base-eq0.false
+    (rw c.sender-sender.ensures at c.in-Some-frame_end.ensures) c.if-end-base.false)

@@ -7,12 +7,12 @@ pub returns-then-code-p : goal.returns-then-code-p
 returns-then-code-p c =
     note_outside c.requires.0 _ c.requires.1 _ c.code_of-code.ensures _ c.if-code-p.true
 
-pub overflow_add-i : goal.overflow_add-i
-overflow_add-i c =
+pub overflow_add-result : goal.overflow_add-result
+overflow_add-result c =
     let r = note_room c.requires.0 _ c.requires.1 _ c.code_of-code.ensures _ c.if-code-p.false in omega arith
 
-pub bounds-notes-i : goal.bounds-notes-i
-bounds-notes-i c =
+pub bounds-notes-code : goal.bounds-notes-code
+bounds-notes-code c =
     let r = note_room c.requires.0 _ c.requires.1 _ c.code_of-code.ensures _ c.if-code-p.false in omega arith
 
 pub overflow_cast-result : goal.overflow_cast-result

@@ -1,3 +1,4 @@
+use Prim.Native.Nat.{◌+◌}
 use mathlib.Core.Path.{refl, ◌∙◌}
 use native.Mathlib.Omega.{arith}
 use Rattle.code.proofs.PassLaws.{going_first, going_on, going_over, codes_stop, lent_again}
@@ -26,13 +27,6 @@ pub returns-then-not-code_object : goal.returns-then-not-code_object
 returns-then-not-code_object c =
     codes_stop _ _ c.loop-k.k _ _ _ c.loop-k.invariant.0.least c.loop-k-test.true c.code_object.ensures (c.if-not-code_object.true)
 
-pub overflow_add-k : goal.overflow_add-k
-overflow_add-k c =
-    let q = c.requires.0.ready.laid.most in let l = c.loop-k-test.true in omega arith
-
-pub loop-k-smaller : goal.loop-k-smaller
-loop-k-smaller c = let l = c.loop-k-test.true in omega arith
-
 pub loop-k-preserved : goal.loop-k-preserved
 loop-k-preserved c = (
   going_on _ _ _ c.requires.0.ready.layout c.loop-k.k _ _ _ c.loop-k.invariant.0 c.loop-k-test.true c.code_object.ensures
@@ -49,3 +43,16 @@ shape_of-pending c = c.loop-k.invariant.2
 
 pub returns : goal.returns
 returns c = going_over _ _ c.loop-k.k _ c.loop-k.invariant.0 c.loop-k-test.false
+
+pub shape_of-notes-else-not-code_object : goal.shape_of-notes-else-not-code_object
+shape_of-notes-else-not-code_object c =
+    c.code_object.auto.notes ∙ c.loop-k.invariant.1
+
+pub shape_of-pending-else-not-code_object : goal.shape_of-pending-else-not-code_object
+shape_of-pending-else-not-code_object c =
+    c.code_object.auto.pending ∙ c.loop-k.invariant.2
+
+pub returns-else-not-code_object : goal.returns-else-not-code_object
+returns-else-not-code_object c =
+    going_over _ _ (c.loop-k.k + 1) _ (going_on _ _ _ c.requires.0.ready.layout c.loop-k.k _ _ _ c.loop-k.invariant.0 c.loop-k-test.true c.code_object.ensures
+    (c.if-not-code_object.false)) (omega arith)

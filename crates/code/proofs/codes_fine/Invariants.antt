@@ -1,4 +1,3 @@
-use Prim.Native.Nat.{◌-◌, suc}
 use mathlib.Core.Path.{◌≡◌}
 use lib.ListN.{length}
 use Rattle.model.specs.Objects.{objects_at}
@@ -6,8 +5,5 @@ use Rattle.code.proofs.PassLaws.{Going}
 use Rattle.code.proofs.codes_fine.Given as goal
 
 abbrev pub invariant-loop-k : goal.invariant-loop-k
-invariant-loop-k l = Going l.edition (objects_at l.n l.b l.contents l.bodies) l.k l.notes × (length l.notes ≡ length l.initial.notes) ×
+invariant-loop-k l = Going l.edition (objects_at l.memory.n l.memory.b l.memory.contents.now l.memory.bodies.now) l.k l.notes × (length l.notes ≡ length l.initial.notes) ×
     (length l.pending ≡ length l.initial.pending)
-
-abbrev pub decreases-loop-k : goal.decreases-loop-k
-decreases-loop-k l = suc l.n - l.k

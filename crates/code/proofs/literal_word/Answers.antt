@@ -6,4 +6,4 @@ use Rattle.code.proofs.literal_word.Goals as goal
 pub returns : goal.returns
 returns c =
     let args = c.args in
-    c.word_at.ensures ∙ ap (λ (x : ℕ). get_or (take args.b args.bodies.now) (x + (2 + args.i)) 0) c.start.ensures
+    c.word_at.ensures ∙ ap (λ (x : ℕ). get_or (take args.memory.now.b args.memory.now.bodies.now) (x + (2 + args.i)) 0) c.start.ensures

@@ -42,18 +42,18 @@ overflow_add-last c = let l = c.literal_count-skip.ensures in search rules
 pub slice_bounds-code_notes-count : goal.slice_bounds-code_notes-count
 slice_bounds-code_notes-count c =
     let l = c.literal_count-skip.ensures ∙ ap literals_of c.word_of-header.ensures in
-    let s = c.start.ensures in let e = c.body_end-end.ensures c.args.b c.args.bodies.now in
+    let s = c.start.ensures in let e = c.body_end-end.ensures c.args.memory.now.b c.args.memory.now.bodies.now in
     let k = code_starts c.requires.0 in let q = body_size c.requires.0 in omega arith
 
 pub slice_bounds-code_notes-start : goal.slice_bounds-code_notes-start
 slice_bounds-code_notes-start c =
     let l = c.literal_count-skip.ensures ∙ ap literals_of c.word_of-header.ensures in
-    let s = c.start.ensures in let e = c.body_end-end.ensures c.args.b c.args.bodies.now in
+    let s = c.start.ensures in let e = c.body_end-end.ensures c.args.memory.now.b c.args.memory.now.bodies.now in
     let k = code_starts c.requires.0 in let q = body_size c.requires.0 in omega arith
 
 pub slice_bounds-code_notes-end : goal.slice_bounds-code_notes-end
 slice_bounds-code_notes-end c =
-    let e = c.body_end-end.ensures c.args.b c.args.bodies.now in
+    let e = c.body_end-end.ensures c.args.memory.now.b c.args.memory.now.bodies.now in
     let i = body_inside c.requires.0 in let t = c.requires.0.ready.laid.words in omega arith
 
 pub slice_bounds-code_notes-end-2 : goal.slice_bounds-code_notes-end-2
@@ -68,7 +68,7 @@ code_notes-requires c =
     let args = c.args in
     let p = c.requires in
     let l = c.literal_count-skip.ensures ∙ ap literals_of c.word_of-header.ensures in
-    let e = c.body_end-end.ensures args.b args.bodies.now in
+    let e = c.body_end-end.ensures args.memory.now.b args.memory.now.bodies.now in
     let k = code_lent p.0 args.notes.now l c.start.ensures e c.size.ensures p.1 in
     let s = code_short p.0 args.notes.now l c.start.ensures e c.size.ensures p.1 in (
       p.0,
@@ -82,6 +82,6 @@ returns c =
     let args = c.args in
     let p = c.requires in
     let l = c.literal_count-skip.ensures ∙ ap literals_of c.word_of-header.ensures in
-    let e = c.body_end-end.ensures args.b args.bodies.now in
+    let e = c.body_end-end.ensures args.memory.now.b args.memory.now.bodies.now in
     walked_put p.0 args.notes.now l c.start.ensures e c.size.ensures p.1 _ c.code_notes.auto.notes _ _
     c.code_notes.ensures

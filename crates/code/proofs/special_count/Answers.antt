@@ -3,7 +3,7 @@ use Rattle.code.proofs.LinkFine.{special_need}
 use Rattle.code.proofs.special_count.Goals as goal
 
 pub overflow_sub-result : goal.overflow_sub-result
-overflow_sub-result c = let q = special_need _ _ c.requires.1 c.entry-e.ensures in let r = c.entry_need.ensures in omega arith
+overflow_sub-result c = let q = special_need _ _ c.requires.1 c.of.ensures in let r = c.need.ensures in omega arith
 
 pub returns : goal.returns
-returns c = let q = special_need _ _ c.requires.1 c.entry-e.ensures in let r = c.entry_need.ensures in omega arith
+returns c = let q = special_need _ _ c.requires.1 c.of.ensures in let r = c.need.ensures in omega arith

@@ -5,8 +5,8 @@ use Rattle.flow.proofs.CodeWalk.{at_asks, at_fetch, at_here, turn_refused, turn_
 use Rattle.code.proofs.TurnLaws.{queued, next_refused, next_fresh, next_known}
 use Rattle.code.proofs.turn.Goals as goal
 
-pub fetch-op-requires : goal.fetch-op-requires
-fetch-op-requires c =
+pub fetch-byte-requires : goal.fetch-byte-requires
+fetch-byte-requires c =
     at_fetch c.requires.fact c.requires.walking_at
 
 pub here_fine-requires : goal.here_fine-requires
@@ -19,7 +19,7 @@ returns-then-not-here_fine c =
 
 pub expand-requires : goal.expand-requires
 expand-requires c =
-    record { asks = at_asks c.requires.fact c.requires.walking_at; here = at_here c.requires.fact c.requires.walking_at _ _ c.fetch-op.ensures c.entry-e.ensures }
+    record { asks = at_asks c.requires.fact c.requires.walking_at; stands = at_here c.requires.fact c.requires.walking_at _ _ c.fetch-byte.ensures c.of-entry.ensures }
 
 pub last_pending-requires : goal.last_pending-requires
 last_pending-requires c =

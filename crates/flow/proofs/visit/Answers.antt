@@ -1,17 +1,15 @@
 -- `visit` notes a position and pushes it, or is refused (`Visit`).
 use mathlib.Core.Logic.{inl, inr}
-use native.Mathlib.Omega.{arith}
 use Rattle.flow.proofs.VisitLaws.{visit_fresh, visit_known, visit_stuck, has_room, visited_new, visited_same, clash}
 use Rattle.flow.proofs.visit.Goals as goal
+use Rattle.flow.proofs.visit.Goals.{then-room-depth-via-then-room-depth, then-room-depth-via-else-room-depth+then-notes-at}
 
 pub returns-then-room-depth : goal.returns-then-room-depth
-returns-then-room-depth c = visit_stuck (inl c.if-room-depth.true)
-
-pub returns-then-notes-at : goal.returns-then-notes-at
-returns-then-notes-at c = visit_stuck (inr (inl c.if-notes-at.true))
-
-pub overflow_cast-old : goal.overflow_cast-old
-overflow_cast-old c = omega (arith, c.type_inv.notes c.args.at)
+returns-then-room-depth c =
+    elim c.then-room-depth.branch [
+      | then-room-depth-via-then-room-depth w ↦ visit_stuck (inl w.if-room-depth.true)
+      | then-room-depth-via-else-room-depth+then-notes-at w ↦ visit_stuck (inr (inl w.if-notes-at.true))
+    ]
 
 pub bounds-pending-waiting : goal.bounds-pending-waiting
 bounds-pending-waiting c = has_room _ _ c.requires c.if-room-depth.false c.if-notes-at.false c.if-old-eq0.true

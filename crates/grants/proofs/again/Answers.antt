@@ -11,12 +11,12 @@ pub overflow_cast-result : goal.overflow_cast-result
 overflow_cast-result c =
     let f = c.requires.run in let k = failed_small f in omega arith
 
-pub overflow_cast-result-in-Halted : goal.overflow_cast-result-in-Halted
-overflow_cast-result-in-Halted c =
+pub overflow_cast-result-in-Err : goal.overflow_cast-result-in-Err
+overflow_cast-result-in-Err c =
     let f = c.requires.run in let k = failed_small f in omega arith
 
-pub overflow_cast-result-in-Halted-2 : goal.overflow_cast-result-in-Halted-2
-overflow_cast-result-in-Halted-2 c =
+pub overflow_cast-result-in-Err-2 : goal.overflow_cast-result-in-Err-2
+overflow_cast-result-in-Err-2 c =
     let f = c.requires.run in let k = failed_small f in omega arith
 
 pub overflow_sub-result : goal.overflow_sub-result
@@ -29,11 +29,11 @@ overflow_sub-rest c =
 
 pub overflow_add-so_far : goal.overflow_add-so_far
 overflow_add-so_far c =
-    let w = c.requires in let f = w.run in let l = resent_at f _ _ _ _ c.resend.result (c.resend.ensures w.receiver w.selector) _ _ _ _ _ c.in-Sent.is _ refl in let few = l.turn.few in let word = c.ranges in omega arith
+    let w = c.requires in let f = w.run in let l = resent_at f _ _ _ _ c.resend.result (c.resend.ensures w.receiver w.selector) _ c.in-Ok.is _ refl in let few = l.turn.few in let word = c.ranges in omega arith
 
 pub stretch-requires : goal.stretch-requires
 stretch-requires c =
-    let w = c.requires in let f = w.run in let receiver = w.receiver in let selector = w.selector in resent_goes f _ _ _ _ c.resend.result (c.resend.ensures receiver selector) _ _ _ _ _ c.in-Sent.is
+    let w = c.requires in let f = w.run in let receiver = w.receiver in let selector = w.selector in resent_goes f _ _ _ _ c.resend.result (c.resend.ensures receiver selector) _ c.in-Ok.is
 
 pub overflow_sub-result-in-Over : goal.overflow_sub-result-in-Over
 overflow_sub-result-in-Over c =
@@ -41,19 +41,19 @@ overflow_sub-result-in-Over c =
 
 pub overflow_add-result : goal.overflow_add-result
 overflow_add-result c =
-    let w = c.requires in let f = w.run in let receiver = w.receiver in let selector = w.selector in let l = resent_at f _ _ _ _ c.resend.result (c.resend.ensures receiver selector) _ _ _ _ _ c.in-Sent.is _ c.higher-high.ensures in let made = (stretched_over _ _ _ _ _ _ _ _ _ c.stretch.result (c.stretch.ensures receiver selector l.turn.checked) _ c.in-Over.is).within in let most = f.within in let word = c.ranges in omega arith
+    let w = c.requires in let f = w.run in let receiver = w.receiver in let selector = w.selector in let l = resent_at f _ _ _ _ c.resend.result (c.resend.ensures receiver selector) _ c.in-Ok.is _ c.max-high.ensures in let made = (stretched_over _ _ _ _ _ _ _ _ _ c.stretch.result (c.stretch.ensures receiver selector l.turn.checked) _ c.in-Over.is).within in let most = f.within in let word = c.ranges in omega arith
 
 pub overflow_add-result-in-Over : goal.overflow_add-result-in-Over
 overflow_add-result-in-Over c =
-    let w = c.requires in let f = w.run in let receiver = w.receiver in let selector = w.selector in let l = resent_at f _ _ _ _ c.resend.result (c.resend.ensures receiver selector) _ _ _ _ _ c.in-Sent.is _ c.higher-high.ensures in let over = stretched_over _ _ _ _ _ _ _ _ _ c.stretch.result (c.stretch.ensures receiver selector l.turn.checked) _ c.in-Over.is in let few = l.turn.few in let more = over.few in let made = over.within in let most = f.within in let word = c.ranges in omega arith
+    let w = c.requires in let f = w.run in let receiver = w.receiver in let selector = w.selector in let l = resent_at f _ _ _ _ c.resend.result (c.resend.ensures receiver selector) _ c.in-Ok.is _ c.max-high.ensures in let over = stretched_over _ _ _ _ _ _ _ _ _ c.stretch.result (c.stretch.ensures receiver selector l.turn.checked) _ c.in-Over.is in let few = l.turn.few in let more = over.few in let made = over.within in let most = f.within in let word = c.ranges in omega arith
 
 pub overflow_add-result-in-Failed : goal.overflow_add-result-in-Failed
 overflow_add-result-in-Failed c =
-    let w = c.requires in let f = w.run in let receiver = w.receiver in let selector = w.selector in let l = resent_at f _ _ _ _ c.resend.result (c.resend.ensures receiver selector) _ _ _ _ _ c.in-Sent.is _ c.higher-high.ensures in let g = stretched_failed _ _ _ _ _ _ _ _ _ c.stretch.result (c.stretch.ensures receiver selector l.turn.checked) _ _ _ _ _ _ _ c.in-Failed.is in let few = l.turn.few in let more = g.turn.few in let most = f.within in let word = c.ranges in omega arith
+    let w = c.requires in let f = w.run in let receiver = w.receiver in let selector = w.selector in let l = resent_at f _ _ _ _ c.resend.result (c.resend.ensures receiver selector) _ c.in-Ok.is _ c.max-high.ensures in let g = stretched_failed _ _ _ _ _ _ _ _ _ c.stretch.result (c.stretch.ensures receiver selector l.turn.checked) _ c.in-Failed.is in let few = l.turn.few in let more = g.turn.few in let most = f.within in let word = c.ranges in omega arith
 
-pub returns-in-Halted : goal.returns-in-Halted
-returns-in-Halted c =
-    λ start receiver selector f. resent_halted f _ _ _ _ c.resend.result (c.resend.ensures receiver selector) _ c.in-Halted.is
+pub returns-in-Err : goal.returns-in-Err
+returns-in-Err c =
+    λ start receiver selector f. rw c.phase.ensures (resent_halted f _ _ _ _ c.resend.result (c.resend.ensures receiver selector) _ c.in-Err.is)
 
 pub shape_of-contents-in-Over : goal.shape_of-contents-in-Over
 shape_of-contents-in-Over c =
@@ -73,7 +73,7 @@ shape_of-cache-in-Over c =
 
 pub returns-in-Over : goal.returns-in-Over
 returns-in-Over c =
-    λ start receiver selector f. let l = resent_at f _ _ _ _ c.resend.result (c.resend.ensures receiver selector) _ _ _ _ _ c.in-Sent.is _ c.higher-high.ensures in let most = f.within in runs_then l (omega arith) (stretched_over _ _ _ _ _ _ _ _ _ c.stretch.result (c.stretch.ensures receiver selector l.turn.checked) _ c.in-Over.is) _ c.higher.ensures
+    λ start receiver selector f. let l = resent_at f _ _ _ _ c.resend.result (c.resend.ensures receiver selector) _ c.in-Ok.is _ c.max-high.ensures in let most = f.within in runs_then l (omega arith) (stretched_over _ _ _ _ _ _ _ _ _ c.stretch.result (c.stretch.ensures receiver selector l.turn.checked) _ c.in-Over.is) _ c.max.ensures
 
 pub shape_of-contents-in-Failed : goal.shape_of-contents-in-Failed
 shape_of-contents-in-Failed c =
@@ -93,4 +93,4 @@ shape_of-cache-in-Failed c =
 
 pub returns-in-Failed : goal.returns-in-Failed
 returns-in-Failed c =
-    λ start receiver selector f. let l = resent_at f _ _ _ _ c.resend.result (c.resend.ensures receiver selector) _ _ _ _ _ c.in-Sent.is _ c.higher-high.ensures in let less = f.more in let most = f.within in let g = stretched_failed _ _ _ _ _ _ _ _ _ c.stretch.result (c.stretch.ensures receiver selector l.turn.checked) _ _ _ _ _ _ _ c.in-Failed.is in let still = g.within in (fails_then l (omega arith) g _ c.higher-in-Failed.ensures, omega arith)
+    λ start receiver selector f. let l = resent_at f _ _ _ _ c.resend.result (c.resend.ensures receiver selector) _ c.in-Ok.is _ c.max-high.ensures in let less = f.more in let most = f.within in let g = stretched_failed _ _ _ _ _ _ _ _ _ c.stretch.result (c.stretch.ensures receiver selector l.turn.checked) _ c.in-Failed.is in let still = g.within in (fails_then l (omega arith) g _ c.max-in-Failed.ensures, omega arith)

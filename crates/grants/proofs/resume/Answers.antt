@@ -31,8 +31,8 @@ returns-in-Over c =
 
 pub loop-e-smaller : goal.loop-e-smaller
 loop-e-smaller c =
-    let w = c.requires in (again_failed _ _ _ _ _ _ _ _ _ _ c.again.result (c.again.ensures w.start w.receiver w.selector (c.loop-e.invariant w.start w.receiver w.selector w.run)) _ _ _ _ _ _ _ c.in-Failed.is).1
+    let w = c.requires in (again_failed _ _ _ _ _ _ _ _ _ _ c.again.result (c.again.ensures w.start w.receiver w.selector (c.loop-e.invariant w.start w.receiver w.selector w.run)) _ c.in-Failed.is).1
 
 pub loop-e-preserved : goal.loop-e-preserved
 loop-e-preserved c =
-    λ start receiver selector f. (again_failed _ _ _ _ _ _ _ _ _ _ c.again.result (c.again.ensures start receiver selector (c.loop-e.invariant start receiver selector f)) _ _ _ _ _ _ _ c.in-Failed.is).0
+    λ start receiver selector f. (again_failed _ _ _ _ _ _ _ _ _ _ c.again.result (c.again.ensures start receiver selector (c.loop-e.invariant start receiver selector f)) _ c.in-Failed.is).0

@@ -4,7 +4,7 @@ use Rattle.grants.proofs.run.Goals as goal
 
 pub resume-requires : goal.resume-requires
 resume-requires c =
-    let w = c.requires in let receiver = w.receiver in let selector = w.selector in let checks = w.checks in let f = stretched_failed _ _ _ _ _ _ _ _ _ c.stretch.result (c.stretch.ensures receiver selector checks) _ _ _ _ _ _ _ c.in-Failed.is in record { start = _; receiver = receiver; selector = selector; run = f }
+    let w = c.requires in let receiver = w.receiver in let selector = w.selector in let checks = w.checks in let f = stretched_failed _ _ _ _ _ _ _ _ _ c.stretch.result (c.stretch.ensures receiver selector checks) _ c.in-Failed.is in record { start = _; receiver = receiver; selector = selector; run = f }
 
 pub returns-in-Over : goal.returns-in-Over
 returns-in-Over c =
@@ -28,4 +28,4 @@ shape_of-cache-in-Failed c =
 
 pub returns-in-Failed : goal.returns-in-Failed
 returns-in-Failed c =
-    λ receiver selector checks. c.resume.ensures _ receiver selector (stretched_failed _ _ _ _ _ _ _ _ _ c.stretch.result (c.stretch.ensures receiver selector checks) _ _ _ _ _ _ _ c.in-Failed.is)
+    λ receiver selector checks. c.resume.ensures _ receiver selector (stretched_failed _ _ _ _ _ _ _ _ _ c.stretch.result (c.stretch.ensures receiver selector checks) _ c.in-Failed.is)

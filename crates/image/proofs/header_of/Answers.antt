@@ -5,5 +5,4 @@ use Rattle.image.proofs.header_of.Goals as goal
 
 pub returns : goal.returns
 unfolding image_header header_of
-returns c = header_eq c.header_word-edition.ensures c.header_word-n.ensures
-    c.header_word-b.ensures c.header_word-receiver.ensures c.header_word-selector.ensures
+returns c = header_eq c.header_word.ensures c.header_word-2.ensures c.header_word-3.ensures c.header_word-4.ensures c.header_word-5.ensures

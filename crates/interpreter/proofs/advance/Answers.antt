@@ -27,13 +27,13 @@ pub leave-requires-in-Return : goal.leave-requires-in-Return
 leave-requires-in-Return c =
     leaves_return c.requires.0 c.step.new.bodies c.step.new.stack c.step.result c.step.ensures _ c.in-Return.is
 
-pub returns-then-base-eq0 : goal.returns-then-base-eq0
-returns-then-base-eq0 c =
-    finishes c.requires.0 c.step.new.bodies c.step.new.stack c.step.result c.step.ensures _ c.in-Return.is _ c.leave-in-Return.ensures _ c.if-base-eq0.true c.args.edition
+pub returns-then-active-eq0 : goal.returns-then-active-eq0
+returns-then-active-eq0 c =
+    finishes c.requires.0 c.step.new.bodies c.step.new.stack c.step.result c.step.ensures _ c.in-Return.is _ c.leave-in-Return.ensures _ c.if-active-eq0.true c.args.edition
 
 pub return_to-requires : goal.return_to-requires
 return_to-requires c =
-    (return_runs c.requires.0 c.step.new.bodies c.step.new.stack c.step.result c.step.ensures _ c.in-Return.is _ c.leave-in-Return.ensures, (let h = c.if-base-eq0.false in omega arith))
+    (return_runs c.requires.0 c.step.new.bodies c.step.new.stack c.step.result c.step.ensures _ c.in-Return.is _ c.leave-in-Return.ensures, (let h = c.if-active-eq0.false in omega arith))
 
 pub leave-requires-in-Halt : goal.leave-requires-in-Halt
 leave-requires-in-Halt c =
@@ -63,9 +63,9 @@ pub returns-in-Failed : goal.returns-in-Failed
 returns-in-Failed c =
     misses c.requires.0 c.step.new.bodies c.step.new.stack c.step.result c.step.ensures _ c.in-Send.is c.args.edition c.args.cache.now c.send.new.contents c.send.new.bodies c.send.new.stack c.send.new.cache c.send.result c.send.ensures c.in-Failed.is _ c.leave-in-Failed.ensures
 
-pub returns-else-base-eq0 : goal.returns-else-base-eq0
-returns-else-base-eq0 c =
-    returned_below c.requires.0 c.step.new.bodies c.step.new.stack c.step.result c.step.ensures _ c.in-Return.is _ c.leave-in-Return.ensures (let h = c.if-base-eq0.false in omega arith) _ c.return_to.result c.return_to.ensures _ c.args.edition
+pub returns-else-active-eq0 : goal.returns-else-active-eq0
+returns-else-active-eq0 c =
+    returned_below c.requires.0 c.step.new.bodies c.step.new.stack c.step.result c.step.ensures _ c.in-Return.is _ c.leave-in-Return.ensures (let h = c.if-active-eq0.false in omega arith) _ c.return_to.result c.return_to.ensures _ c.args.edition
 
 pub returns-in-Halt : goal.returns-in-Halt
 returns-in-Halt c =

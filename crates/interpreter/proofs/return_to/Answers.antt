@@ -24,8 +24,8 @@ pub bounds-stack-end : goal.bounds-stack-end
 bounds-stack-end c =
     (end_room c.requires.0 c.requires.1 (taken_from c.sender-sender.ensures c.hold-active.ensures)).0
 
-pub overflow_add-behind : goal.overflow_add-behind
-overflow_add-behind c =
+pub overflow_add-active : goal.overflow_add-active
+overflow_add-active c =
     let k = end_room c.requires.0 c.requires.1 (taken_from c.sender-sender.ensures c.hold-active.ensures) in
     omega arith
 

@@ -1,13 +1,15 @@
-use Rattle.machine.proofs.Answers.{forgets-not, forgets}
+use Rattle.std.proofs.lemmas.Result.{err_from_is_err_and}
+use Rattle.machine.specs.State.{registers_of, state}
+use Rattle.machine.proofs.Calling.{forget_refused, forget_done}
 use Rattle.machine.proofs.forget.Goals as goal
 
-pub returns-in-Refused : goal.returns-in-Refused
-returns-in-Refused c =
-    let args = c.args in
-    forgets-not args.registers args.contents.now args.bodies.now args.stack.now args.cache.now c.check.result c.check.ensures _ c.in-Refused.is
+pub returns-in_err-check : goal.returns-in_err-check
+returns-in_err-check c =
+    let a = c.args in
+    let p = err_from_is_err_and c.from_residual.result c.from_residual.ensures.1 in
+    rw (p.1, p.2) (forget_refused (state a.registers a.contents.now a.bodies.now a.stack.now a.cache.now) _ c.in_err-check.ensures)
 
-pub returns-in-Right : goal.returns-in-Right
-returns-in-Right c =
-    let args = c.args in
-    forgets args.registers args.contents.now args.bodies.now args.stack.now args.cache.now c.check.result
-    c.check.ensures c.in-Right.is _ c.fill.ensures
+pub returns : goal.returns
+returns c =
+    let a = c.args in
+    forget_done (registers_of a.registers) a.contents.now a.bodies.now a.stack.now a.cache.now _ c.in_ok-check.ensures (c.fill.ensures.after (λ y q. q))

@@ -1,5 +1,6 @@
 use mathlib.Core.Path.{sym, ◌∙◌}
-use Rattle.state.proofs.PartLaws.{header_no, registers_no}
+use native.Mathlib.Omega.{arith}
+use Rattle.state.proofs.PartLaws.{header_no, registers_no, notes_room}
 use Rattle.machine.specs.State.{registers_of}
 use Rattle.machine.proofs.state_fine.Goals as goal
 
@@ -11,20 +12,20 @@ pub returns-then-not-registers_fine : goal.returns-then-not-registers_fine
 returns-then-not-registers_fine c =
     registers_no (registers_of c.args.registers) _ _ _ _ (sym c.registers_fine.ensures ∙ c.if-not-registers_fine.true)
 
-pub few_noted-requires : goal.few_noted-requires
-few_noted-requires c =
+pub noted-requires : goal.noted-requires
+noted-requires c =
     let header = sym c.header_fine.ensures ∙ c.if-not-header_fine.false in
     let registers = sym c.registers_fine.ensures ∙ c.if-not-registers_fine.false in
-    record { t = c.requires; first_parts = (record { header = header; registers = registers }, c.if-b-le2000.true) }
+    record { t = c.requires; first_parts = (record { header = header; registers = registers }, omega (arith, c.if-registers-le2000.true), omega arith) }
 
-pub some_noted-requires : goal.some_noted-requires
-some_noted-requires c =
+pub noted-requires-then-registers-le8000 : goal.noted-requires-then-registers-le8000
+noted-requires-then-registers-le8000 c =
     let header = sym c.header_fine.ensures ∙ c.if-not-header_fine.false in
     let registers = sym c.registers_fine.ensures ∙ c.if-not-registers_fine.false in
-    record { t = c.requires; first_parts = (record { header = header; registers = registers }, c.if-b-le8000.true) }
+    record { t = c.requires; first_parts = (record { header = header; registers = registers }, omega (arith, c.if-registers-le8000.true), omega arith) }
 
-pub most_noted-requires : goal.most_noted-requires
-most_noted-requires c =
+pub noted-requires-2 : goal.noted-requires-2
+noted-requires-2 c =
     let header = sym c.header_fine.ensures ∙ c.if-not-header_fine.false in
     let registers = sym c.registers_fine.ensures ∙ c.if-not-registers_fine.false in
-    record { t = c.requires; first_parts = record { header = header; registers = registers } }
+    record { t = c.requires; first_parts = (record { header = header; registers = registers }, notes_room (registers_of c.args.registers) _ _ c.args.stack.now c.args.cache.now header c.requires, omega arith) }

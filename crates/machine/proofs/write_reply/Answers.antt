@@ -1,14 +1,16 @@
+use mathlib.Core.Path.{ap, ◌∙◌}
+use Rattle.std.specs.Prelude.{Ok}
 use Rattle.machine.proofs.Replying.{noted_done, noted_refused, noted_ran}
 use Rattle.machine.proofs.write_reply.Goals as goal
 
-pub returns-in-Done : goal.returns-in-Done
-returns-in-Done c =
-    let args = c.args in noted_done args.reply args.answers.now _ args.at _ c.in-Done.is c.write_answer.ensures
+pub returns-in-Ok-Done : goal.returns-in-Ok-Done
+returns-in-Ok-Done c =
+    let a = c.args in noted_done a.before a.reply a.answers.now _ a.at _ (c.in-Ok-Done.is ∙ ap Ok (rw c.in-Ok-Done.is at c.in-Ok-Done.field-0-is)) c.write_answer.ensures
 
-pub returns-in-Refused : goal.returns-in-Refused
-returns-in-Refused c =
-    let args = c.args in noted_refused args.reply args.answers.now _ args.at _ _ c.in-Refused.is c.write_answer-in-Refused.ensures
+pub returns-in-Err : goal.returns-in-Err
+returns-in-Err c =
+    let a = c.args in noted_refused a.before a.reply a.answers.now _ a.at _ _ c.number.ensures c.in-Err.is c.write_answer-in-Err.ensures
 
-pub returns-in-Ran : goal.returns-in-Ran
-returns-in-Ran c =
-    let args = c.args in noted_ran args.reply args.answers.now _ args.at _ _ _ _ c.in-Ran.is c.write_answer-in-Ran.ensures
+pub returns-in-Ok-Ran : goal.returns-in-Ok-Ran
+returns-in-Ok-Ran c =
+    let a = c.args in noted_ran a.before a.reply a.answers.now _ a.at _ (c.in-Ok-Ran.is ∙ ap Ok (rw c.in-Ok-Ran.is at c.in-Ok-Ran.field-0-is)) c.write_answer-in-Ok-Ran.ensures

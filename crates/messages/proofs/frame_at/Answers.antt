@@ -1,4 +1,5 @@
 use mathlib.Core.Path.{ap, ◌∙◌}
+use mathlib.Core.Logic.{inl, inr}
 use native.Mathlib.Omega.{arith}
 use Rattle.model.specs.Objects.{objects_at}
 use Rattle.model.specs.Method.{frame_size}
@@ -12,11 +13,10 @@ end_of-end-requires c =
 
 pub returns-then-room-end : goal.returns-then-room-end
 returns-then-room-end c =
-    fits_not c.args.room c.args.base.0 (frame_size (objects_at c.args.n c.args.b c.args.contents.now c.args.bodies.now) c.args.method.0) (let e = c.end_of-end.ensures.0 in let q = c.if-room-end.true in omega arith)
-
-pub returns-then-end-gt-MOST_STACK_WORDS : goal.returns-then-end-gt-MOST_STACK_WORDS
-returns-then-end-gt-MOST_STACK_WORDS c =
-    fits_over c.args.room c.args.base.0 (frame_size (objects_at c.args.n c.args.b c.args.contents.now c.args.bodies.now) c.args.method.0) (let e = c.end_of-end.ensures.0 in let q = c.if-room-end.false in omega arith) (let e = c.end_of-end.ensures.0 in let q = c.if-end-gt-MOST_STACK_WORDS.true in omega arith)
+    elim c.then-room-end.either [
+      | inl q ↦ fits_not c.args.room c.args.base.0 (frame_size (objects_at c.args.memory.now.n c.args.memory.now.b c.args.memory.now.contents.now c.args.memory.now.bodies.now) c.args.method.0) (let e = c.end_of-end.ensures.0 in omega arith)
+      | inr q ↦ fits_over c.args.room c.args.base.0 (frame_size (objects_at c.args.memory.now.n c.args.memory.now.b c.args.memory.now.contents.now c.args.memory.now.bodies.now) c.args.method.0) (let e = c.end_of-end.ensures.0 in let l = q.0 in omega arith) (let e = c.end_of-end.ensures.0 in let l = q.1 in omega arith)
+    ]
 
 pub header-requires : goal.header-requires
 header-requires c =
@@ -24,4 +24,4 @@ header-requires c =
 
 pub returns : goal.returns
 returns c =
-    record { holds = c.temporary_count.ensures ∙ ap temporaries_of c.header.ensures; ends = c.end_of-end.ensures.0; fits = fits_both c.args.room c.args.base.0 (frame_size (objects_at c.args.n c.args.b c.args.contents.now c.args.bodies.now) c.args.method.0) (let e = c.end_of-end.ensures.0 in let q = c.if-room-end.false in omega arith) (let e = c.end_of-end.ensures.0 in let q = c.if-end-gt-MOST_STACK_WORDS.false in omega arith) }
+    record { holds = c.temporary_count.ensures ∙ ap temporaries_of c.header.ensures; ends = c.end_of-end.ensures.0; fits = fits_both c.args.room c.args.base.0 (frame_size (objects_at c.args.memory.now.n c.args.memory.now.b c.args.memory.now.contents.now c.args.memory.now.bodies.now) c.args.method.0) (let e = c.end_of-end.ensures.0 in let q = c.if-room-end.false in omega arith) (let e = c.end_of-end.ensures.0 in let q = c.if-end-gt-MOST_STACK_WORDS.false in omega arith) }

@@ -19,8 +19,8 @@ has_message_room-requires c =
 
 pub returns-then-not-has_message_room : goal.returns-then-not-has_message_room
 returns-then-not-has_message_room c =
-    not_sought c.args.edition _ _ _ _ _ _ c.nothing-then-not-has_message_room.ensures (inr (inr (sym (c.has_message_room.ensures c.args.contents.now c.args.bodies.now) ∙ c.if-not-has_message_room.true)))
+    not_sought c.args.edition _ _ _ _ _ _ c.nothing-then-not-has_message_room.ensures (inr (inr (sym (c.has_message_room.ensures c.args.memory.now.contents.now c.args.memory.now.bodies.now) ∙ c.if-not-has_message_room.true)))
 
 pub returns : goal.returns
 returns c =
-    sought_found c.args.edition _ _ _ _ _ _ _ c.cached-lookup.ensures.finds c.cached-lookup.ensures.reads (sym c.has_messages.ensures ∙ c.if-not-has_messages.false) (sym (c.has_message_room.ensures c.args.contents.now c.args.bodies.now) ∙ c.if-not-has_message_room.false)
+    sought_found c.args.edition _ _ _ _ _ _ _ c.cached-lookup.ensures.finds c.cached-lookup.ensures.reads (sym c.has_messages.ensures ∙ c.if-not-has_messages.false) (sym (c.has_message_room.ensures c.args.memory.now.contents.now c.args.memory.now.bodies.now) ∙ c.if-not-has_message_room.false)

@@ -54,7 +54,7 @@ pub note_count-requires : goal.note_count-requires
 note_count-requires c =
     let args = c.args in
     let p = c.requires in
-    let o = objects_at args.n args.b args.contents.now args.bodies.now in
+    let o = objects_at args.memory.now.n args.memory.now.b args.memory.now.contents.now args.memory.now.bodies.now in
     let s = c.word_of-s.ensures ∙ ap (λ (x : ℕ). body_word o (x / 2) (2 * args.i)) c.word_of-d.ensures in
     omega (arith, p.long, selector_most p.ready args.class p.is_class args.i p.inside s)
 

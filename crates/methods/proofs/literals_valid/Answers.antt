@@ -11,7 +11,7 @@ use Rattle.methods.proofs.literals_valid.Goals as goal
 pub loop-i-init : goal.loop-i-init
 loop-i-init c =
     let args = c.args in
-    (omega arith, before_none (λ j. is_valid args.n (literal (objects_at args.n args.b args.contents.now args.bodies.now) args.m j)))
+    before_none (λ j. is_valid args.memory.now.n (literal (objects_at args.memory.now.n args.memory.now.b args.memory.now.contents.now args.memory.now.bodies.now) args.m j))
 
 pub overflow_add-i : goal.overflow_add-i
 overflow_add-i c =
@@ -27,24 +27,19 @@ word_of-w-requires c =
 pub returns-then-not-is_valid : goal.returns-then-not-is_valid
 returns-then-not-is_valid c =
     let args = c.args in
-    sym (below_no args.literals (λ j. is_valid args.n (literal (objects_at args.n args.b args.contents.now args.bodies.now) args.m j))
-    c.loop-i.i c.loop-i-test.true (ap (is_valid args.n) (sym c.word_of-w.ensures)
+    sym (below_no args.literals (λ j. is_valid args.memory.now.n (literal (objects_at args.memory.now.n args.memory.now.b args.memory.now.contents.now args.memory.now.bodies.now) args.m j))
+    c.loop-i.i c.loop-i-test.true (ap (is_valid args.memory.now.n) (sym c.word_of-w.ensures)
     ∙ sym c.is_valid.ensures ∙ c.if-not-is_valid.true))
-
-pub loop-i-smaller : goal.loop-i-smaller
-loop-i-smaller c = omega arith
 
 pub loop-i-preserved : goal.loop-i-preserved
 loop-i-preserved c =
-    let args = c.args in (
-      omega arith,
-      before_more (λ j. is_valid args.n (literal (objects_at args.n args.b args.contents.now args.bodies.now) args.m j))
-          c.loop-i.i c.loop-i.invariant.1 (ap (is_valid args.n) (sym c.word_of-w.ensures) ∙ sym c.is_valid.ensures
-          ∙ c.if-not-is_valid.false),
-    )
+    let args = c.args in
+    before_more (λ j. is_valid args.memory.now.n (literal (objects_at args.memory.now.n args.memory.now.b args.memory.now.contents.now args.memory.now.bodies.now) args.m j))
+    c.loop-i.i c.loop-i.invariant (ap (is_valid args.memory.now.n) (sym c.word_of-w.ensures) ∙ sym c.is_valid.ensures
+    ∙ c.if-not-is_valid.false)
 
 pub returns : goal.returns
 returns c =
     let args = c.args in
     sym (below_all args.literals c.loop-i.i
-    (λ j. is_valid args.n (literal (objects_at args.n args.b args.contents.now args.bodies.now) args.m j)) c.loop-i-test.false c.loop-i.invariant.1)
+    (λ j. is_valid args.memory.now.n (literal (objects_at args.memory.now.n args.memory.now.b args.memory.now.contents.now args.memory.now.bodies.now) args.m j)) c.loop-i-test.false c.loop-i.invariant)

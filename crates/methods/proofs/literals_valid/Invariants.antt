@@ -1,4 +1,3 @@
-use Prim.Native.Nat.{◌-◌, ◌≤◌}
 use Rattle.model.specs.Word.{is_valid}
 use Rattle.model.specs.Objects.{objects_at}
 use Rattle.model.specs.Method.{literal}
@@ -6,7 +5,4 @@ use Rattle.readers.proofs.Loops.{Before}
 use Rattle.methods.proofs.literals_valid.Given as goal
 
 abbrev pub invariant-loop-i : goal.invariant-loop-i
-invariant-loop-i l = (l.i ≤ l.literals) × Before (λ j. is_valid l.n (literal (objects_at l.n l.b l.contents l.bodies) l.m j)) l.i
-
-abbrev pub decreases-loop-i : goal.decreases-loop-i
-decreases-loop-i l = l.literals - l.i
+invariant-loop-i l = Before (λ j. is_valid l.memory.n (literal (objects_at l.memory.n l.memory.b l.memory.contents.now l.memory.bodies.now) l.m j)) l.i

@@ -1,16 +1,11 @@
-use mathlib.Core.Path.{refl}
-use mathlib.Core.Logic.{inl, inr}
+use Rattle.std.proofs.Common.{rules, tests}
 use Rattle.methods.specs.Counts.{Noted}
 use Rattle.methods.proofs.note_count.Goals as goal
 
-pub returns-then-old-eq0 : goal.returns-then-old-eq0
+pub returns-then-fits : goal.returns-then-fits
 unfolding Noted
-returns-then-old-eq0 c = (refl, inl c.if-old-eq0.true)
+returns-then-fits c = rw c.if-fits.true (search (tests, rules))
 
-pub returns-then-old-note : goal.returns-then-old-note
+pub returns-else-fits : goal.returns-else-fits
 unfolding Noted
-returns-then-old-note c = (refl, inr c.if-old-note.true)
-
-pub returns : goal.returns
-unfolding Noted
-returns c = (c.if-old-eq0.false, c.if-old-note.false)
+returns-else-fits c = rw c.if-fits.false (search (tests, rules))

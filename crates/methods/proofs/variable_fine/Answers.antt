@@ -10,21 +10,21 @@ use Rattle.model.specs.Rules.{variable_fine}
 use Rattle.model.proofs.ChainLaws as C
 use Rattle.methods.proofs.variable_fine.Goals as goal
 
-pub returns-then-not-is_kind : goal.returns-then-not-is_kind
+pub returns-else-is_kind : goal.returns-else-is_kind
 unfolding variable_fine
-returns-then-not-is_kind c = λ b bodies. sym (ap (λ (x : Bool). x && leb 2
-    (size (objects_at c.args.n b c.args.contents.now bodies) (c.args.w / 2)))
-    (sym (c.is_kind.ensures b bodies) ∙ c.if-not-is_kind.true))
+returns-else-is_kind c = λ b bodies. c.if-is_kind.false ∙ sym (ap (λ (x : Bool). x && leb 2
+    (size (objects_at c.args.memory.now.n b c.args.memory.now.contents.now bodies) (c.args.w / 2)))
+    (sym (c.is_kind.ensures b bodies) ∙ c.if-is_kind.false))
 
 pub size-requires : goal.size-requires
 size-requires c =
     let args = c.args in
-    let h = C.named (objects_at args.n 0 args.contents.now []) fields_kind args.w
-    (true→T (sym (c.is_kind.ensures 0 []) ∙ c.if-not-is_kind.false)) in record { entries = c.requires; least = h.least; most = h.most }
+    let h = C.named (objects_at args.memory.now.n 0 args.memory.now.contents.now []) fields_kind args.w
+    (true→T (sym (c.is_kind.ensures 0 []) ∙ c.if-is_kind.true)) in record { entries = c.requires; least = h.least; most = h.most }
 
-pub returns : goal.returns
+pub returns-then-is_kind : goal.returns-then-is_kind
 unfolding variable_fine
-returns c =
+returns-then-is_kind c =
     let args = c.args in
-    λ b bodies. ap (leb 2) c.size.ensures ∙ sym (ap (λ (x : Bool). x && leb 2 (size (objects_at args.n b args.contents.now bodies) (args.w / 2)))
-    (sym (c.is_kind.ensures b bodies) ∙ c.if-not-is_kind.false))
+    λ b bodies. ap (leb 2) c.size.ensures ∙ sym (ap (λ (x : Bool). x && leb 2 (size (objects_at args.memory.now.n b args.memory.now.contents.now bodies) (args.w / 2)))
+    (sym (c.is_kind.ensures b bodies) ∙ c.if-is_kind.true))

@@ -10,6 +10,6 @@ pub returns-then-i-eq0 : goal.returns-then-i-eq0
 unfolding object_byte
 returns-then-i-eq0 c = ap (λ (x : ℕ). x / 256) c.word_of-w.ensures ∙ sym (if_yes _ _ (eq-eqb _ _ c.if-i-eq0.true))
 
-pub returns : goal.returns
+pub returns-else-i-eq0 : goal.returns-else-i-eq0
 unfolding object_byte
-returns c = ap (λ (x : ℕ). x % 256) c.word_of-w.ensures ∙ sym (if_no _ _ (ne_eqb _ _ c.if-i-eq0.false))
+returns-else-i-eq0 c = ap (λ (x : ℕ). x % 256) c.word_of-w.ensures ∙ sym (if_no _ _ (ne_eqb _ _ c.if-i-eq0.false))

@@ -18,5 +18,5 @@ literal-requires c =
 pub returns : goal.returns
 returns c =
     let args = c.args in
-    c.literal.ensures ∙ ap (λ (k : ℕ). literal (objects_at args.n args.b args.contents.now args.bodies.now) args.m.0 (k - 2))
+    c.literal.ensures ∙ ap (λ (k : ℕ). literal (objects_at args.memory.now.n args.memory.now.b args.memory.now.contents.now args.memory.now.bodies.now) args.m.0 (k - 2))
     (c.literal_count-count.ensures ∙ ap literals_of c.header.ensures)

@@ -24,27 +24,27 @@ first_place-at-requires c =
     let l : 0 < c.size.result / 2 = omega arith in
     (l, pairs_inside c.requires c.args.s c.start-from.ensures (ap (λ (x : ℕ). x / 2) c.size.ensures) l)
 
-pub bounds-bodies-at : goal.bounds-bodies-at
-bounds-bodies-at c =
+pub bounds-memory-at : goal.bounds-memory-at
+bounds-memory-at c =
     let l = place_fits c.requires c.args.s c.start-from.ensures (ap (λ (x : ℕ). x / 2) c.size.ensures)
     c.first_place-at.ensures in omega arith
 
-pub bounds-bodies-at-then-bodies-at : goal.bounds-bodies-at-then-bodies-at
-bounds-bodies-at-then-bodies-at c =
+pub bounds-memory-at-then-memory-at : goal.bounds-memory-at-then-memory-at
+bounds-memory-at-then-memory-at c =
     place_fits c.requires c.args.s c.start-from.ensures (ap (λ (x : ℕ). x / 2) c.size.ensures) c.first_place-at.ensures
 
-pub returns-then-bodies-at : goal.returns-then-bodies-at
-returns-then-bodies-at c =
+pub returns-then-memory-at : goal.returns-then-memory-at
+returns-then-memory-at c =
     let s = c.args.s in
     let from = c.start-from.ensures in
     let count = ap (λ (x : ℕ). x / 2) c.size.ensures in
     let place = c.first_place-at.ensures in
-    record { finds = place_found c.requires s from count place c.if-bodies-at.true; walks = refl; reads = place_read c.requires s from count place }
+    record { finds = place_found c.requires s from count place c.if-memory-at.true; walks = refl; reads = place_read c.requires s from count place }
 
-pub returns : goal.returns
-returns c =
+pub returns-else-memory-at : goal.returns-else-memory-at
+returns-else-memory-at c =
     let s = c.args.s in
     let from = c.start-from.ensures in
     let count = ap (λ (x : ℕ). x / 2) c.size.ensures in
     let place = c.first_place-at.ensures in
-    record { finds = place_missed c.requires s from count place c.if-bodies-at.false; walks = refl; reads = place_read c.requires s from count place }
+    record { finds = place_missed c.requires s from count place c.if-memory-at.false; walks = refl; reads = place_read c.requires s from count place }

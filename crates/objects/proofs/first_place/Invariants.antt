@@ -1,10 +1,6 @@
--- All pairs before a place have smaller selectors.
-use Prim.Native.Nat.{◌-◌}
-use Rattle.objects.proofs.Searches.{Passed}
+-- All pairs before one have smaller selectors.
+use Rattle.std.proofs.Common.{ℕ, ◌+◌, ◌*◌, ◌<◌, get_or}
 use Rattle.objects.proofs.first_place.Given as goal
 
-abbrev pub invariant-loop-at : goal.invariant-loop-at
-invariant-loop-at l = Passed l.bodies l.from l.count l.s l.at
-
-abbrev pub decreases-loop-at : goal.decreases-loop-at
-decreases-loop-at l = l.last - l.at
+abbrev pub invariant-loop-i : goal.invariant-loop-i
+invariant-loop-i l = (j : ℕ) → j < l.i → get_or l.bodies (l.from + 2 * j) 0 < l.s

@@ -1,18 +1,13 @@
 -- The counts, one by one.
+use Rattle.std.proofs.Common.{inl, inr, arith}
 use Rattle.primitives.proofs.Performing.{count_61, count_62, count_70, count_111, count_one}
 use Rattle.primitives.proofs.primitive_count.Goals as goal
 
-pub returns-then-k-eq61 : goal.returns-then-k-eq61
-returns-then-k-eq61 c = count_61 c.if-k-eq61.true
+pub returns-in-61 : goal.returns-in-61
+returns-in-61 c = count_61 c.in-61.is
 
-pub returns-then-k-eq62 : goal.returns-then-k-eq62
-returns-then-k-eq62 c = count_62 c.if-k-eq62.true
+pub returns-in-62 : goal.returns-in-62
+returns-in-62 c = elim c.in-62.is [ inl e ↦ count_62 e | inr f ↦ elim f [ inl e ↦ count_70 e | inr e ↦ count_111 e ] ]
 
-pub returns-then-k-eq70 : goal.returns-then-k-eq70
-returns-then-k-eq70 c = count_70 c.if-k-eq70.true
-
-pub returns-then-k-eq111 : goal.returns-then-k-eq111
-returns-then-k-eq111 c = count_111 c.if-k-eq111.true
-
-pub returns : goal.returns
-returns c = count_one c.if-k-eq61.false c.if-k-eq62.false c.if-k-eq70.false c.if-k-eq111.false
+pub returns-in_default : goal.returns-in_default
+returns-in_default c = count_one (λ e. grind arith) (λ e. grind arith) (λ e. grind arith) (λ e. grind arith)

@@ -7,6 +7,6 @@ pub returns-then-header-eq1 : goal.returns-then-header-eq1
 unfolding frame_of
 returns-then-header-eq1 c = search ranges
 
-pub returns : goal.returns
+pub returns-else-header-eq1 : goal.returns-else-header-eq1
 unfolding frame_of
-returns c = search ranges
+returns-else-header-eq1 c = search ranges

@@ -1,12 +1,12 @@
 -- `is_valid` is `is_valid`.
-use borrow.Author.Tests.{eq-eqb, ne_eqb}
+use Rattle.std.proofs.Common.{rules, tests}
 use Rattle.model.specs.Word.{is_valid}
 use Rattle.readers.proofs.is_valid.Goals as goal
 
 pub returns-then-w-eq1 : goal.returns-then-w-eq1
 unfolding is_valid
-returns-then-w-eq1 c = simp (eq-eqb _ _ c.if-w-eq1.true)
+returns-then-w-eq1 c = search (tests, rules)
 
-pub returns : goal.returns
+pub returns-else-w-eq1 : goal.returns-else-w-eq1
 unfolding is_valid
-returns c = simp (ne_eqb _ _ c.if-w-eq1.false) c.is_pointer.ensures
+returns-else-w-eq1 c = search (tests, rules)

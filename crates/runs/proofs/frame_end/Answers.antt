@@ -7,13 +7,13 @@ overflow_add-method c =
     let t = top_bounds c.requires in
     omega arith
 
-pub offset_bounds-stack-base : goal.offset_bounds-stack-base
-offset_bounds-stack-base c =
+pub offset_bounds-stack-top : goal.offset_bounds-stack-top
+offset_bounds-stack-top c =
     let t = top_bounds c.requires in
     omega arith
 
-pub bounds-stack-base : goal.bounds-stack-base
-bounds-stack-base c =
+pub bounds-stack-top : goal.bounds-stack-top
+bounds-stack-top c =
     let t = top_bounds c.requires in
     omega arith
 

@@ -170,7 +170,7 @@ shape_of-cache-in-Halted c =
 
 pub returns-in-Halted : goal.returns-in-Halted
 returns-in-Halted c =
-    λ receiver selector e. loop_halted (c.loop-left.invariant receiver selector e) c.loop-left-test.true _ _ _ _ c.advance.result (c.advance.ensures receiver selector) _ c.in-Halted.is
+    λ receiver selector e. rw c.phase.ensures (loop_halted (c.loop-left.invariant receiver selector e) c.loop-left-test.true _ _ _ _ c.advance.result (c.advance.ensures receiver selector) _ c.in-Halted.is)
 
 pub leave-requires : goal.leave-requires
 leave-requires c =

@@ -6,6 +6,7 @@ use Rattle.model.specs.Method.{frame_size}
 use Rattle.readers.specs.Header.{temporaries_of}
 use Rattle.plain.proofs.RunningLaws.{words_cases}
 use Rattle.sends.proofs.Placing.{fits_not, fits_over, fits_both}
+use Rattle.sends.proofs.new_frame.Goals.{then-room-end-via-then-room-end, then-room-end-via-else-room-end+then-end-gt-MOST_STACK_WORDS}
 use Rattle.sends.proofs.new_frame.Goals as goal
 
 pub runs_on-requires : goal.runs_on-requires
@@ -28,23 +29,18 @@ end_of-end-requires c = (
 pub returns-then-room-end : goal.returns-then-room-end
 returns-then-room-end c =
     let args = c.args in
-    let o = objects_at args.n args.b args.contents.now args.bodies.now in
+    let o = objects_at args.memory.now.n args.memory.now.b args.memory.now.contents.now args.memory.now.bodies.now in
     let e = c.end_of.ensures.0 in
     let e2 = c.end_of-end.ensures.0 in
+    let below = args.top.0 + frame_size o args.running.0 in
+    let size = frame_size o args.method.0 in
     record {
       chain = sym c.runs_on.ensures ∙ c.if-not-runs_on.false;
-      fits = fits_not args.room (args.top.0 + frame_size o args.running.0) (frame_size o args.method.0) (let q = c.if-room-end.true in omega arith);
-    }
-
-pub returns-then-end-gt-MOST_STACK_WORDS : goal.returns-then-end-gt-MOST_STACK_WORDS
-returns-then-end-gt-MOST_STACK_WORDS c =
-    let args = c.args in
-    let o = objects_at args.n args.b args.contents.now args.bodies.now in
-    let e = c.end_of.ensures.0 in
-    let e2 = c.end_of-end.ensures.0 in
-    record {
-      chain = sym c.runs_on.ensures ∙ c.if-not-runs_on.false;
-      fits = fits_over args.room (args.top.0 + frame_size o args.running.0) (frame_size o args.method.0) (let q = c.if-room-end.false in omega arith) (let q = c.if-end-gt-MOST_STACK_WORDS.true in omega arith);
+      fits = elim c.then-room-end.branch [
+        | then-room-end-via-then-room-end w ↦ fits_not args.room below size (let q = w.if-room-end.true in omega arith)
+        | then-room-end-via-else-room-end+then-end-gt-MOST_STACK_WORDS w ↦
+            fits_over args.room below size (let q = w.if-room-end.false in omega arith) (let q = w.if-end-gt-MOST_STACK_WORDS.true in omega arith)
+      ];
     }
 
 pub code_of-code-requires : goal.code_of-code-requires
@@ -58,7 +54,7 @@ header-requires c =
 pub first_temporary-requires : goal.first_temporary-requires
 first_temporary-requires c =
     let args = c.args in
-    let o = objects_at args.n args.b args.contents.now args.bodies.now in
+    let o = objects_at args.memory.now.n args.memory.now.b args.memory.now.contents.now args.memory.now.bodies.now in
     let e = c.end_of.ensures.0 in
     let e2 = c.end_of-end.ensures.0 in
     let q = c.if-end-gt-MOST_STACK_WORDS.false in
@@ -68,7 +64,7 @@ first_temporary-requires c =
 pub overflow_add-operands : goal.overflow_add-operands
 overflow_add-operands c =
     let args = c.args in
-    let o = objects_at args.n args.b args.contents.now args.bodies.now in
+    let o = objects_at args.memory.now.n args.memory.now.b args.memory.now.contents.now args.memory.now.bodies.now in
     let e2 = c.end_of-end.ensures.0 in
     let q = c.if-end-gt-MOST_STACK_WORDS.false in
     let f = c.first_temporary.ensures in
@@ -79,7 +75,7 @@ overflow_add-operands c =
 pub returns : goal.returns
 returns c =
     let args = c.args in
-    let o = objects_at args.n args.b args.contents.now args.bodies.now in
+    let o = objects_at args.memory.now.n args.memory.now.b args.memory.now.contents.now args.memory.now.bodies.now in
     let e = c.end_of.ensures.0 in
     let e2 = c.end_of-end.ensures.0 in
     let h = c.temporary_count-temporaries.ensures ∙ ap temporaries_of c.header.ensures in

@@ -13,14 +13,14 @@ returns-then-sure c = sym (T→true _ (c.requires.homes c.if-sure.true))
 pub class_of-class-requires : goal.class_of-class-requires
 class_of-class-requires c =
     let args = c.args in
-    (c.requires.valid, contents_room args.n args.b args.contents.now args.bodies.now c.requires.right.1)
+    (c.requires.valid, contents_room args.memory.now.n args.memory.now.b args.memory.now.contents.now args.memory.now.bodies.now c.requires.right.1)
 
 pub in_chain-requires : goal.in_chain-requires
 in_chain-requires c =
-    (c.requires.right, class_starts c.requires.right.1 _ _ c.requires.valid (c.class_of-class.ensures c.args.b c.args.bodies.now))
+    (c.requires.right, class_starts c.requires.right.1 _ _ c.requires.valid (c.class_of-class.ensures c.args.memory.now.b c.args.memory.now.bodies.now))
 
 pub returns : goal.returns
 returns c =
     let args = c.args in
-    c.in_chain.ensures ∙ ap₂ (λ (h k : ℕ). in_chain (objects_at args.n args.b args.contents.now args.bodies.now) h k)
-    c.home-home.ensures (c.class_of-class.ensures args.b args.bodies.now)
+    c.in_chain.ensures ∙ ap₂ (λ (h k : ℕ). in_chain (objects_at args.memory.now.n args.memory.now.b args.memory.now.contents.now args.memory.now.bodies.now) h k)
+    c.home-home.ensures (c.class_of-class.ensures args.memory.now.b args.memory.now.bodies.now)

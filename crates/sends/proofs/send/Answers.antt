@@ -38,7 +38,7 @@ bounds-stack-place c =
 
 pub acted-done-requires : goal.acted-done-requires
 acted-done-requires c =
-    (activable c.requires.0 c.requires.1 _ (sym c.cached-lookup.ensures.finds ∙ c.in-Method.is), (let k = sent_needs c.requires.0 c.requires.1 in let e = sent_ends c.requires.0 c.requires.1 in omega arith))
+    (activable c.requires.0 c.requires.1 _ (sym c.cached-lookup.ensures.finds ∙ c.in-Some.is), (let k = sent_needs c.requires.0 c.requires.1 in let e = sent_ends c.requires.0 c.requires.1 in omega arith))
 
 pub offset_bounds-stack-place-in-Answer : goal.offset_bounds-stack-place-in-Answer
 offset_bounds-stack-place-in-Answer c =
@@ -50,11 +50,11 @@ bounds-stack-place-in-Answer c =
 
 pub fill-requires : goal.fill-requires
 fill-requires c =
-    (c.requires.2.long, found_kept c.requires.2 c.requires.1.named (sym c.cached-lookup.ensures.finds ∙ c.in-Method.is) c.cached-lookup.ensures.reads, read_fits c.requires.0 c.requires.1 c.cached-lookup.ensures.reads)
+    (c.requires.2.long, found_kept c.requires.2 c.requires.1.named (sym c.cached-lookup.ensures.finds ∙ c.in-Some.is) c.cached-lookup.ensures.reads, read_fits c.requires.0 c.requires.1 c.cached-lookup.ensures.reads)
 
 pub new_frame-fit-requires : goal.new_frame-fit-requires
 new_frame-fit-requires c =
-    framing c.requires.0 c.requires.1 _ (sym c.cached-lookup.ensures.finds ∙ c.in-Method.is) c.args.edition c.args.cache.now c.acted-done.new.contents c.acted-done.new.bodies c.acted-done.result c.acted-done.ensures c.in-Frame.is
+    framing c.requires.0 c.requires.1 _ (sym c.cached-lookup.ensures.finds ∙ c.in-Some.is) c.args.edition c.args.cache.now c.acted-done.new.contents c.acted-done.new.bodies c.acted-done.result c.acted-done.ensures c.in-Frame.is
 
 pub overflow_sub-place-in-At : goal.overflow_sub-place-in-At
 overflow_sub-place-in-At c =
@@ -66,19 +66,19 @@ overflow_add-place c =
 
 pub make_frame-requires : goal.make_frame-requires
 make_frame-requires c =
-    enters_there c.requires.0 c.requires.1 _ (sym c.cached-lookup.ensures.finds ∙ c.in-Method.is) c.args.edition c.args.cache.now c.acted-done.new.contents c.acted-done.new.bodies c.acted-done.result c.acted-done.ensures c.in-Frame.is c.new_frame-fit.result c.new_frame-fit.ensures _ _ _ c.in-At.is c.requires.3
+    enters_there c.requires.0 c.requires.1 _ (sym c.cached-lookup.ensures.finds ∙ c.in-Some.is) c.args.edition c.args.cache.now c.acted-done.new.contents c.acted-done.new.bodies c.acted-done.result c.acted-done.ensures c.in-Frame.is c.new_frame-fit.result c.new_frame-fit.ensures _ _ _ c.in-At.is c.requires.3
 
 pub fill-requires-in-At : goal.fill-requires-in-At
 fill-requires-in-At c =
-    (c.requires.2.long, found_kept c.requires.2 c.requires.1.named (sym c.cached-lookup.ensures.finds ∙ c.in-Method.is) c.cached-lookup.ensures.reads, read_fits c.requires.0 c.requires.1 c.cached-lookup.ensures.reads)
+    (c.requires.2.long, found_kept c.requires.2 c.requires.1.named (sym c.cached-lookup.ensures.finds ∙ c.in-Some.is) c.cached-lookup.ensures.reads, read_fits c.requires.0 c.requires.1 c.cached-lookup.ensures.reads)
 
 pub returns-in-Answer : goal.returns-in-Answer
 returns-in-Answer c =
-    made_answer c.requires.0 c.requires.1 _ (sym c.cached-lookup.ensures.finds ∙ c.in-Method.is) c.args.edition c.args.cache.now c.acted-done.new.contents c.acted-done.new.bodies c.acted-done.result c.acted-done.ensures _ _ _ _ _ c.cached-lookup.ensures.reads c.in-Answer.is refl c.fill.ensures
+    made_answer c.requires.0 c.requires.1 _ (sym c.cached-lookup.ensures.finds ∙ c.in-Some.is) c.args.edition c.args.cache.now c.acted-done.new.contents c.acted-done.new.bodies c.acted-done.result c.acted-done.ensures _ _ _ _ _ c.cached-lookup.ensures.reads c.in-Answer.is refl c.fill.ensures
 
 pub returns-in-Unfit : goal.returns-in-Unfit
 returns-in-Unfit c =
-    made_none c.requires.0 c.requires.1 _ (sym c.cached-lookup.ensures.finds ∙ c.in-Method.is) c.args.edition c.args.cache.now c.acted-done.new.contents c.acted-done.new.bodies c.acted-done.result c.acted-done.ensures c.in-Unfit.is
+    made_none c.requires.0 c.requires.1 _ (sym c.cached-lookup.ensures.finds ∙ c.in-Some.is) c.args.edition c.args.cache.now c.acted-done.new.contents c.acted-done.new.bodies c.acted-done.result c.acted-done.ensures c.in-Unfit.is
 
 pub shape_of-contents-in-At : goal.shape_of-contents-in-At
 shape_of-contents-in-At c =
@@ -90,12 +90,12 @@ shape_of-bodies-in-At c =
 
 pub returns-in-At : goal.returns-in-At
 returns-in-At c =
-    made_frame c.requires.0 c.requires.1 _ (sym c.cached-lookup.ensures.finds ∙ c.in-Method.is) c.args.edition c.args.cache.now c.acted-done.new.contents c.acted-done.new.bodies c.acted-done.result c.acted-done.ensures c.in-Frame.is c.new_frame-fit.result c.new_frame-fit.ensures _ _ _ c.in-At.is _ _ c.make_frame.ensures c.cached-lookup.ensures.reads c.fill-in-At.ensures
+    made_frame c.requires.0 c.requires.1 _ (sym c.cached-lookup.ensures.finds ∙ c.in-Some.is) c.args.edition c.args.cache.now c.acted-done.new.contents c.acted-done.new.bodies c.acted-done.result c.acted-done.ensures c.in-Frame.is c.new_frame-fit.result c.new_frame-fit.ensures _ _ _ c.in-At.is _ _ c.make_frame.ensures c.cached-lookup.ensures.reads c.fill-in-At.ensures
 
 pub returns-in-Full : goal.returns-in-Full
 returns-in-Full c =
-    made_full c.requires.0 c.requires.1 _ (sym c.cached-lookup.ensures.finds ∙ c.in-Method.is) c.args.edition c.args.cache.now c.acted-done.new.contents c.acted-done.new.bodies c.acted-done.result c.acted-done.ensures c.in-Frame.is c.new_frame-fit.result c.new_frame-fit.ensures c.in-Full.is
+    made_full c.requires.0 c.requires.1 _ (sym c.cached-lookup.ensures.finds ∙ c.in-Some.is) c.args.edition c.args.cache.now c.acted-done.new.contents c.acted-done.new.bodies c.acted-done.result c.acted-done.ensures c.in-Frame.is c.new_frame-fit.result c.new_frame-fit.ensures c.in-Full.is
 
 pub returns-in-Unfit-fit : goal.returns-in-Unfit-fit
 returns-in-Unfit-fit c =
-    made_unfit c.requires.0 c.requires.1 _ (sym c.cached-lookup.ensures.finds ∙ c.in-Method.is) c.args.edition c.args.cache.now c.acted-done.new.contents c.acted-done.new.bodies c.acted-done.result c.acted-done.ensures c.in-Frame.is c.new_frame-fit.result c.new_frame-fit.ensures c.in-Unfit-fit.is
+    made_unfit c.requires.0 c.requires.1 _ (sym c.cached-lookup.ensures.finds ∙ c.in-Some.is) c.args.edition c.args.cache.now c.acted-done.new.contents c.acted-done.new.bodies c.acted-done.result c.acted-done.ensures c.in-Frame.is c.new_frame-fit.result c.new_frame-fit.ensures c.in-Unfit-fit.is

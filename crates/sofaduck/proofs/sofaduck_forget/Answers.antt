@@ -1,14 +1,14 @@
-use Rattle.sofaduck.proofs.Crossing.{forget_done, forget_refused}
+use mathlib.Core.Path.{sym}
+use Rattle.plain.specs.FlatCalls.{flat_forget}
+use Rattle.sofaduck.proofs.Crossing.{crossed, crossed_refused}
 use Rattle.sofaduck.proofs.sofaduck_forget.Goals as goal
 
-pub returns-in-Emptied : goal.returns-in-Emptied
-returns-in-Emptied c =
-    let args = c.args in
-    forget_done args.registers.now args.contents.now args.bodies.now args.stack.now args.cache.now c.read_registers.result
-    c.read_registers.ensures _ c.forget.result c.forget.ensures c.in-Emptied.is
+pub returns-in-Ok : goal.returns-in-Ok
+returns-in-Ok c =
+    let a = c.args in
+    crossed a.registers.now a.contents.now a.bodies.now a.stack.now a.cache.now c.read_registers.result c.read_registers.ensures flat_forget _ _ _ _ _ _ c.in-Ok.ensures (sym c.read_registers.ensures)
 
-pub returns-in-Refused : goal.returns-in-Refused
-returns-in-Refused c =
-    let args = c.args in
-    forget_refused args.registers.now args.contents.now args.bodies.now args.stack.now args.cache.now c.read_registers.result
-    c.read_registers.ensures _ c.forget.result c.forget.ensures _ c.in-Refused.is
+pub returns-in-Err : goal.returns-in-Err
+returns-in-Err c =
+    let a = c.args in
+    crossed_refused a.registers.now a.contents.now a.bodies.now a.stack.now a.cache.now c.read_registers.result c.read_registers.ensures flat_forget _ _ _ _ _ _ c.number.ensures c.in-Err.ensures

@@ -1,13 +1,14 @@
+use native.Mathlib.Omega.{arith}
 use Rattle.state.proofs.PartLaws.{late_phase, finished_value, other_value}
 use Rattle.state.proofs.registers_fine.Goals as goal
 
-pub returns-then-phase-gt5 : goal.returns-then-phase-gt5
-returns-then-phase-gt5 c = late_phase c.args.n c.args.phase c.args.value c.if-phase-gt5.true
-
-pub returns-then-phase-eq2 : goal.returns-then-phase-eq2
-returns-then-phase-eq2 c =
+pub returns-in-2 : goal.returns-in-2
+returns-in-2 c =
     let args = c.args in
-    finished_value args.n args.phase args.value _ c.if-phase-gt5.false c.if-phase-eq2.true c.is_valid.ensures
+    finished_value args.n args.phase args.value _ (omega arith) c.in-2.is c.is_valid.ensures
 
-pub returns : goal.returns
-returns c = other_value c.args.n c.args.phase c.args.value c.if-phase-gt5.false c.if-phase-eq2.false
+pub returns-in-0-to-5 : goal.returns-in-0-to-5
+returns-in-0-to-5 c = other_value c.args.n c.args.phase c.args.value (omega arith) (λ e. omega arith)
+
+pub returns-in_default : goal.returns-in_default
+returns-in_default c = late_phase c.args.n c.args.phase c.args.value (omega arith)

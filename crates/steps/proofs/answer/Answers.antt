@@ -34,8 +34,8 @@ word_of-s-requires c =
 
 pub sent-requires : goal.sent-requires
 sent-requires c =
-    failed_sends c.requires _ c.in-Failed.is c.word_of-s.ensures
+    failed_sends c.requires _ c.in-None.is c.word_of-s.ensures
 
-pub returns-in-Word : goal.returns-in-Word
-returns-in-Word c =
-    computed_done c.requires _ _ _ c.in-Word.is refl refl
+pub returns-in-Some : goal.returns-in-Some
+returns-in-Some c =
+    computed_done c.requires _ _ _ c.in-Some.is refl refl

@@ -17,16 +17,12 @@ bounds-stack-end c = let k = on_ends c.requires in let o = on_one c.requires in 
 pub overflow_add-result : goal.overflow_add-result
 overflow_add-result c = let k = on_room c.requires in omega arith
 
-pub returns-then-w-boolean : goal.returns-then-w-boolean
-returns-then-w-boolean c = jumps c.requires _ _ refl c.boolean.ensures c.if-w-boolean.true
+pub returns-then-w-boolean_word : goal.returns-then-w-boolean_word
+returns-then-w-boolean_word c = jumps c.requires _ _ refl c.boolean_word.ensures c.if-w-boolean_word.true
 
 pub returns-then-w-eq-TRUE : goal.returns-then-w-eq-TRUE
-returns-then-w-eq-TRUE c = passes c.requires _ _ refl c.boolean.ensures c.if-w-boolean.false (inl c.if-w-eq-TRUE.true)
-
-pub returns-then-w-eq-FALSE : goal.returns-then-w-eq-FALSE
-returns-then-w-eq-FALSE c =
-    passes c.requires _ _ refl c.boolean.ensures c.if-w-boolean.false (inr c.if-w-eq-FALSE.true)
+returns-then-w-eq-TRUE c = passes c.requires _ _ refl c.boolean_word.ensures c.if-w-boolean_word.false (elim c.then-w-eq-TRUE.either [ inl e ↦ inl e | inr e ↦ inr e.1 ])
 
 pub returns : goal.returns
 returns c =
-    halts_there c.requires _ _ refl c.boolean.ensures c.if-w-boolean.false c.if-w-eq-TRUE.false c.if-w-eq-FALSE.false
+    halts_there c.requires _ _ refl c.boolean_word.ensures c.if-w-boolean_word.false c.if-w-eq-TRUE.false c.if-w-eq-FALSE.false

@@ -38,7 +38,7 @@ pub overflow_sub-result : goal.overflow_sub-result
 overflow_sub-result c = let k = special_one c.requires.0 in omega arith
 
 pub returns-then-k-eq22 : goal.returns-then-k-eq22
-returns-then-k-eq22 c = same_done c.requires.0 c.if-k-eq22.true _ _ _ _ _ refl refl c.boolean.ensures refl refl
+returns-then-k-eq22 c = same_done c.requires.0 c.if-k-eq22.true _ _ _ _ _ refl refl c.boolean_word.ensures refl refl
 
 pub class_of-class-requires : goal.class_of-class-requires
 class_of-class-requires c =

@@ -55,9 +55,6 @@ bounds-words-at-in-loop-i c =
     let args = c.args in
     let l = before-loop args.words.now args.source.now args.at args.from in let k = c.loop-i.invariant.1 in omega arith
 
-pub loop-i-smaller : goal.loop-i-smaller
-loop-i-smaller c = omega arith
-
 pub loop-i-preserved : goal.loop-i-preserved
 loop-i-preserved c =
     let args = c.args in

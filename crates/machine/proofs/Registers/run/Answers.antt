@@ -1,16 +1,13 @@
 use mathlib.Core.Path.{sym}
-use Rattle.machine.proofs.Answers.{was-refused, was-right}
+use Rattle.std.proofs.lemmas.Result.{err_from_is_err_and}
 use Rattle.machine.proofs.RunCalls.{runs_not}
 use Rattle.machine.proofs.Registers.run.Goals as goal
 
 pub run_checked-requires : goal.run_checked-requires
-run_checked-requires c =
-    let a = c.args in
-    sym
-    (was-right a.self a.contents.now a.bodies.now a.stack.now a.cache.now c.check.result c.check.ensures c.in-Right.is)
+run_checked-requires c = sym c.in_ok-check.ensures
 
-pub returns-in-Refused : goal.returns-in-Refused
-returns-in-Refused c =
+pub returns-in_err-check : goal.returns-in_err-check
+returns-in_err-check c =
     let a = c.args in
-    runs_not a.self a.contents.now a.bodies.now a.stack.now a.cache.now a.grant _
-    (was-refused a.self a.contents.now a.bodies.now a.stack.now a.cache.now c.check.result c.check.ensures _ c.in-Refused.is)
+    let p = err_from_is_err_and c.from_residual.result c.from_residual.ensures.1 in
+    rw (p.1, p.2) (runs_not a.self a.contents.now a.bodies.now a.stack.now a.cache.now a.grant _ c.in_err-check.ensures)

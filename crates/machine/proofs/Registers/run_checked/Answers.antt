@@ -16,4 +16,4 @@ overflow_cast-result c =
 
 pub returns : goal.returns
 returns c =
-    let a = c.args in runs_done a.self a.contents.now a.bodies.now a.stack.now a.cache.now a.grant c.requires c.if-self-ne1.false _ _ _ _ c.run-ended.result c.run-ended.ensures _ _ c.with_sizes-grown.ensures c.with_phase-registers.ensures
+    let a = c.args in runs_done a.self a.contents.now a.bodies.now a.stack.now a.cache.now a.grant c.requires c.if-self-ne1.false _ _ _ _ c.run-ended.result c.run-ended.ensures _ _ c.with_sizes-grown.ensures c.with_phase.ensures

@@ -1,13 +1,11 @@
 -- `ends` is `ends_within` 24: before each turn the turns left from the word decide.
+use Prim.Native.Nat.{◌-◌}
 use mathlib.Core.Path.{◌≡◌}
 use Rattle.model.specs.Limits.{longest_chain}
 use Rattle.model.specs.Objects.{objects_at}
 use Rattle.model.specs.Lookup.{ends_within}
 use Rattle.rules.proofs.class_rules.ends.Given as goal
 
-abbrev pub invariant-loop-left : goal.invariant-loop-left
-invariant-loop-left l =
-    ends_within longest_chain (objects_at l.n l.b l.contents l.bodies) l.c ≡ ends_within l.left (objects_at l.n l.b l.contents l.bodies) l.at
-
-abbrev pub decreases-loop-left : goal.decreases-loop-left
-decreases-loop-left l = l.left
+abbrev pub invariant-loop : goal.invariant-loop
+invariant-loop l =
+    ends_within longest_chain (objects_at l.memory.n l.memory.b l.memory.contents.now l.memory.bodies.now) l.c ≡ ends_within (longest_chain - l.counter) (objects_at l.memory.n l.memory.b l.memory.contents.now l.memory.bodies.now) l.at

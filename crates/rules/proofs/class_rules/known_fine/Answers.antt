@@ -1,43 +1,32 @@
 -- `known_fine` is `known_object_rules`.
-use Prim.Native.Nat.{ℕ, ◌/◌}
-use mathlib.Core.Path.{sym, ap, ◌∙◌}
-use Rattle.model.specs.Objects.{objects_at}
-use Rattle.rules.proofs.ClassLaws.{no_kinds, no_form, no_selectors, by_messages, integer_class_kind}
+use Rattle.std.proofs.Common.{rules, tests}
+use mathlib.Core.Bool.{◌&&◌}
+use mathlib.Core.Path.{◌≡◌, sym, ◌∙◌}
 use native.Mathlib.Omega.{arith}
 use Rattle.bytecode.proofs.TestLaws.{true→T}
+use Rattle.model.specs.Objects.{objects_at}
 use Rattle.readers.proofs.InsideLaws.{class_inside}
+use Rattle.rules.specs.Shape.{kinds_fine, selectors_fine}
+use Rattle.rules.proofs.ClassLaws.{F, M, known_split, integer_class_kind}
 use Rattle.rules.proofs.class_rules.known_fine.Goals as goal
-
-pub returns-then-not-known_kinds : goal.returns-then-not-known_kinds
-returns-then-not-known_kinds c =
-    let a = c.args in
-    let o = objects_at a.n a.b a.contents.now a.bodies.now in
-    sym (no_kinds a.edition o (sym c.known_kinds.ensures ∙ c.if-not-known_kinds.true))
 
 pub word_of-requires : goal.word_of-requires
 word_of-requires c =
     let a = c.args in
+    let o = objects_at a.memory.now.n a.memory.now.b a.memory.now.contents.now a.memory.now.bodies.now in
     let p = c.requires.0 in
-    let o = objects_at a.n a.b a.contents.now a.bodies.now in
-    class_inside p (true→T (integer_class_kind o p.known (sym c.known_kinds.ensures ∙ c.if-not-known_kinds.false))) (omega arith)
+    class_inside p (true→T (integer_class_kind o p.known (sym c.known_kinds.ensures ∙ c.if-known_kinds.true))) (omega arith)
 
-pub returns-then-word_of-ne-OTHER : goal.returns-then-word_of-ne-OTHER
-returns-then-word_of-ne-OTHER c =
+pub returns-then-selectors_fine : goal.returns-then-selectors_fine
+returns-then-selectors_fine c =
     let a = c.args in
-    let o = objects_at a.n a.b a.contents.now a.bodies.now in
-    sym (no_form a.edition o (sym c.known_kinds.ensures ∙ c.if-not-known_kinds.false)
-    (λ e. c.if-word_of-ne-OTHER.true (ap (λ (x : ℕ). x / 2) c.word_of.ensures ∙ e)))
+    let o = objects_at a.memory.now.n a.memory.now.b a.memory.now.contents.now a.memory.now.bodies.now in
+    let s : c.messages_fine.result ≡ (kinds_fine o && (F a.edition o && (selectors_fine o && M a.edition o))) = search (tests, rules) in
+    s ∙ sym (known_split a.edition o)
 
-pub returns-then-not-selectors_fine : goal.returns-then-not-selectors_fine
-returns-then-not-selectors_fine c =
+pub returns-else-selectors_fine : goal.returns-else-selectors_fine
+returns-else-selectors_fine c =
     let a = c.args in
-    let o = objects_at a.n a.b a.contents.now a.bodies.now in
-    sym (no_selectors a.edition o (sym c.known_kinds.ensures ∙ c.if-not-known_kinds.false)
-    (ap (λ (x : ℕ). x / 2) (sym c.word_of.ensures) ∙ c.if-word_of-ne-OTHER.false) (sym c.selectors_fine.ensures ∙ c.if-not-selectors_fine.true))
-
-pub returns : goal.returns
-returns c =
-    let a = c.args in
-    let o = objects_at a.n a.b a.contents.now a.bodies.now in
-    c.messages_fine.ensures ∙ sym (by_messages a.edition o (sym c.known_kinds.ensures ∙ c.if-not-known_kinds.false)
-    (ap (λ (x : ℕ). x / 2) (sym c.word_of.ensures) ∙ c.if-word_of-ne-OTHER.false) (sym c.selectors_fine.ensures ∙ c.if-not-selectors_fine.false))
+    let o = objects_at a.memory.now.n a.memory.now.b a.memory.now.contents.now a.memory.now.bodies.now in
+    let s : c.if-word_of-eq-OTHER.value ≡ (kinds_fine o && (F a.edition o && (selectors_fine o && M a.edition o))) = search (tests, rules) in
+    s ∙ sym (known_split a.edition o)

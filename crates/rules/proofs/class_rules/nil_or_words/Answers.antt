@@ -1,46 +1,20 @@
-use mathlib.Core.List.{[]}
-use mathlib.Core.Path.{sym, ◌∙◌}
-use native.Mathlib.Omega.{arith}
-use lib.ListN.{get_or}
-use Rattle.model.specs.Objects.{is_nil_or, entries_at}
-use Rattle.readers.proofs.Loops.{before_none, before_more, every_all, every_no}
+-- `nil_or_words` tests every word. What is nil or of a kind does not depend on the bodies.
+use Prim.Native.Nat.{ℕ}
+use Rattle.std.proofs.Common.{rules, tests}
+use mathlib.Core.Bool.{Bool}
+use mathlib.Core.List.{List, []}
+use mathlib.Core.Path.{◌≡◌}
+use Rattle.std.proofs.lemmas.Iterator.{YieldsList-from_slice}
+use Rattle.std.proofs.lemmas.Iterator.Search.{all_from_yields_List}
+use Rattle.model.specs.Objects.{objects_at, is_nil_or, entries_at}
 use Rattle.rules.proofs.class_rules.nil_or_words.Goals as goal
 
-pub loop-i-init : goal.loop-i-init
-loop-i-init c =
-    let a = c.args in
-    (omega arith, before_none (λ j. is_nil_or (entries_at a.n a.contents.now) a.of (get_or a.words.now j 0)))
-
-pub offset_bounds-words-i : goal.offset_bounds-words-i
-offset_bounds-words-i c = omega arith
-
-pub bounds-words-i : goal.bounds-words-i
-bounds-words-i c = omega arith
-
-pub is_nil_or-requires : goal.is_nil_or-requires
-is_nil_or-requires c = c.requires
-
-pub returns-then-not-is_nil_or : goal.returns-then-not-is_nil_or
-returns-then-not-is_nil_or c =
-    let a = c.args in
-    sym (every_no (λ w. is_nil_or (entries_at a.n a.contents.now) a.of w) a.words.now c.loop-i.i c.loop-i-test.true
-    (sym (c.is_nil_or.ensures 0 []) ∙ c.if-not-is_nil_or.true))
-
-pub overflow_add-i : goal.overflow_add-i
-overflow_add-i c = omega arith
-
-pub loop-i-smaller : goal.loop-i-smaller
-loop-i-smaller c = omega arith
-
-pub loop-i-preserved : goal.loop-i-preserved
-loop-i-preserved c =
-    let a = c.args in (
-      omega arith,
-      before_more (λ j. is_nil_or (entries_at a.n a.contents.now) a.of (get_or a.words.now j 0)) c.loop-i.i
-          c.loop-i.invariant.1 (sym (c.is_nil_or.ensures 0 []) ∙ c.if-not-is_nil_or.false),
-    )
+alone : (r : Bool) (n of w : ℕ) (contents : List ℕ) → ((b : ℕ) (bodies : List ℕ) → r ≡ is_nil_or (objects_at n b contents bodies) of w)
+    → r ≡ is_nil_or (entries_at n contents) of w
+alone r n of w contents e = e 0 []
 
 pub returns : goal.returns
 returns c =
     let a = c.args in
-    sym (every_all (λ w. is_nil_or (entries_at a.n a.contents.now) a.of w) a.words.now c.loop-i.i c.loop-i-test.false c.loop-i.invariant.1)
+    all_from_yields_List (is_nil_or (entries_at a.memory.now.n a.memory.now.contents.now) a.of) _ _ c.all.result c.all.ensures.ran (YieldsList-from_slice a.words.now cc)
+    (λ x b q k. (search (rules, tests), alone b a.memory.now.n a.of x.now a.memory.now.contents.now (search (rules, tests))))
