@@ -1,6 +1,6 @@
 -- The kinds of first bytes, and the instruction at a position by the kind of its byte.
 use Prim.Native.Nat.{ℕ, suc, ◌+◌, ◌-◌, ◌*◌, ◌/◌, ◌%◌, ◌≤◌, ◌<◌}
-use mathlib.Core.Path.{◌≡◌, sym, ap, ◌∙◌}
+use mathlib.Core.Path.{◌≡◌, refl, sym, ap, ◌∙◌}
 use mathlib.Core.Bool.{Bool, true, false, ◌&&◌}
 use mathlib.Core.List.{List}
 use native.Mathlib.Omega.{arith}
@@ -11,6 +11,7 @@ use Rattle.bytecode.specs.Code.{byte_at, bytes_after, jump_of, send_of, instruct
 use Rattle.bytecode.specs.Kinds.{first, behind, OfKind}
 use Rattle.bytecode.specs.declared.kinds.Kind.{Kind}
 use Rattle.bytecode.specs.declared.kinds.Kind.TheVariants.{SendTwo}
+use Rattle.bytecode.specs.declared.kinds.Kind.TheVariants as Is
 use Rattle.bytecode.specs.declared.Place.TheVariants.{Field, Temporary, Literal, LiteralVariable}
 use Rattle.bytecode.specs.declared.Instruction.{Instruction}
 use Rattle.bytecode.specs.declared.Instruction.TheVariants.{Push, PopStore, Jump, JumpOn, Send, SpecialSend, Unused}
@@ -43,6 +44,82 @@ lies {b} {n} {k} e t =
 pub lies_last : {b : ℕ} → 255 ≤ b → b < 256 → OfKind b SendTwo
 unfolding first behind
 lies_last l h = record { from = omega arith; below = omega arith }
+
+-- no kind is above the last
+pub last_kind_lem : {b : ℕ} {k : Kind} → OfKind b k → first SendTwo ≤ first k → b < 256 → k ≡ SendTwo
+last_kind_lem {b} {k} of h small = last k h
+  where
+    last : (k : Kind) → first SendTwo ≤ first k → k ≡ SendTwo
+    last Is.PushField h = absurd (omega arith)
+    last Is.PushTemporary h = absurd (omega arith)
+    last Is.PushLiteral h = absurd (omega arith)
+    last Is.PushLiteralVariable h = absurd (omega arith)
+    last Is.PopField h = absurd (omega arith)
+    last Is.PopTemporary h = absurd (omega arith)
+    last Is.PushSelf h = absurd (omega arith)
+    last Is.PushTrue h = absurd (omega arith)
+    last Is.PushFalse h = absurd (omega arith)
+    last Is.PushNil h = absurd (omega arith)
+    last Is.PushMinusOne h = absurd (omega arith)
+    last Is.PushZero h = absurd (omega arith)
+    last Is.PushOne h = absurd (omega arith)
+    last Is.PushTwo h = absurd (omega arith)
+    last Is.ReturnSelf h = absurd (omega arith)
+    last Is.ReturnTrue h = absurd (omega arith)
+    last Is.ReturnFalse h = absurd (omega arith)
+    last Is.ReturnNil h = absurd (omega arith)
+    last Is.ReturnTop h = absurd (omega arith)
+    last Is.UnusedShort h = absurd (omega arith)
+    last Is.ExtendedPush h = absurd (omega arith)
+    last Is.ExtendedStore h = absurd (omega arith)
+    last Is.ExtendedPop h = absurd (omega arith)
+    last Is.ExtendedSend h = absurd (omega arith)
+    last Is.LongSend h = absurd (omega arith)
+    last Is.ExtendedSuper h = absurd (omega arith)
+    last Is.LongSuper h = absurd (omega arith)
+    last Is.Pop h = absurd (omega arith)
+    last Is.Duplicate h = absurd (omega arith)
+    last Is.UnusedLong h = absurd (omega arith)
+    last Is.ShortJump h = absurd (omega arith)
+    last Is.ShortJumpOn h = absurd (omega arith)
+    last Is.Jump h = absurd (omega arith)
+    last Is.JumpOnTrue h = absurd (omega arith)
+    last Is.JumpOnFalse h = absurd (omega arith)
+    last Is.Special0 h = absurd (omega arith)
+    last Is.Special1 h = absurd (omega arith)
+    last Is.Special2 h = absurd (omega arith)
+    last Is.Special3 h = absurd (omega arith)
+    last Is.Special4 h = absurd (omega arith)
+    last Is.Special5 h = absurd (omega arith)
+    last Is.Special6 h = absurd (omega arith)
+    last Is.Special7 h = absurd (omega arith)
+    last Is.Special8 h = absurd (omega arith)
+    last Is.Special9 h = absurd (omega arith)
+    last Is.Special10 h = absurd (omega arith)
+    last Is.Special11 h = absurd (omega arith)
+    last Is.Special12 h = absurd (omega arith)
+    last Is.Special13 h = absurd (omega arith)
+    last Is.Special14 h = absurd (omega arith)
+    last Is.Special15 h = absurd (omega arith)
+    last Is.Special16 h = absurd (omega arith)
+    last Is.Special17 h = absurd (omega arith)
+    last Is.Special18 h = absurd (omega arith)
+    last Is.Special19 h = absurd (omega arith)
+    last Is.Special20 h = absurd (omega arith)
+    last Is.Special21 h = absurd (omega arith)
+    last Is.Special22 h = absurd (omega arith)
+    last Is.Special23 h = absurd (omega arith)
+    last Is.Special24 h = absurd (omega arith)
+    last Is.Special25 h = absurd (omega arith)
+    last Is.Special26 h = absurd (omega arith)
+    last Is.Special27 h = absurd (omega arith)
+    last Is.Special28 h = absurd (omega arith)
+    last Is.Special29 h = absurd (omega arith)
+    last Is.Special30 h = absurd (omega arith)
+    last Is.Special31 h = absurd (omega arith)
+    last Is.SendNone h = absurd (omega arith)
+    last Is.SendOne h = absurd (omega arith)
+    last Is.SendTwo h = refl
 
 -- What `instruction_at` promises
 abbrev pub IsAt : List ℕ → ℕ → Decoded → Type 0

@@ -32,6 +32,10 @@ module _ (o : Objects) (m : ℕ) where
       ap (λ (x : ℕ). ltb x (w / 2)) et ∙ ap (λ (x : ℕ). ltb (temporary_count o m) (x / 2)) (ew ∙ ap (fields_word o) ec)
       ∙ sym (ap (λ (x : Bool). implies x (ltb (temporary_count o m) (field_count o (home o m)))) (eq-eqb (flag o m) field_flag (sym e ∙ d)))
 
+  pub primitive_flag_lem : {f : ℕ} {r : Bool} → f ≡ flag o m → f ≡ primitive_flag → r ≡ extension_fine o m → r ≡ primitive_rule o m
+  unfolding primitive_rule
+  primitive_flag_lem e d q = q ∙ sym (ap (λ (x : Bool). implies x (extension_fine o m)) (eq-eqb (flag o m) primitive_flag (sym e ∙ d)))
+
   -- the extension is where the last but one literal is
   pub extension_word : {l w : ℕ} → l ≡ literal_count o m → 2 ≤ l → w ≡ body_word o (m / 2) l → w ≡ extension o m
   extension_word {l} e h q = q ∙ ap (body_word o (m / 2)) (omega arith)

@@ -55,7 +55,7 @@ module _ {e : ℕ} {o : Objects} (r : Right e o) where
       sym (chain_class o (left - 1) a c (T→true (is_kind o class_kind c) h) ∙ ap (λ (x : Bool). x || in_chain_within (left - 1) o a (superclass_word o c)) (eq-eqb a c e))
       ∙ ap (λ (k : ℕ). in_chain_within k o a c) (one_left left l)
 
-  chain_up : (left a c d : ℕ) → 0 < left → T (is_kind o class_kind c) → (a ≡ c → ⊥) → d ≡ superclass_word o c
+  pub chain_up : (left a c d : ℕ) → 0 < left → T (is_kind o class_kind c) → (a ≡ c → ⊥) → d ≡ superclass_word o c
       → in_chain_within (left - 1) o a d ≡ in_chain_within left o a c
   chain_up left a c d l h e g =
       ap (in_chain_within (left - 1) o a) g

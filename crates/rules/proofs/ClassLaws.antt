@@ -85,6 +85,11 @@ pub selectors_words : (o : Objects) → kind o selectors_object ≡ list_kind �
 unfolding selectors_fine
 selectors_words o h g = rw (eq-eqb (kind o selectors_object) list_kind h, eq-eqb (size o selectors_object) special_selectors g)
 
+-- a class with a fixed number, of another form
+pub other_form_lem : (o : Objects) (k of fields : ℕ) → kind o k ≡ class_kind → form o (pointer k) ≢ of → false ≡ class_is o k of fields
+unfolding class_is
+other_form_lem o k of fields h g = rw (eq-eqb (kind o k) class_kind h, ne_eqb (form o (pointer k)) of g)
+
 -- the objects of messages
 message_order : (s k f n l g m : Bool) → (s && (k && (f && (n && (l && (g && (m && true))))))) ≡ (s && ((k && (f && n)) && (l && (g && m))))
 message_order false k f n l g m = refl
